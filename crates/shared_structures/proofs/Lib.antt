@@ -1,0 +1,4 @@
+pub mod Called
+pub mod Changed
+pub mod Counted
+pub mod Refused

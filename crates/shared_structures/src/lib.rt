@@ -5,12 +5,14 @@
 //! finds that one or none.
 //!
 //! - `queue`: objects in the order in which they came, each with a number; several threads put some in and take some out.
-//! - `map`: objects under keys; several threads put some in, exchange them and take them out.
-//! - `hands`: which variables of a mutator the two use, and which are the caller's.
+//! - `map`: objects under keys; several threads put some in, exchange them and take them out. `chain`: a chain of it.
+//! - `hands`: which variables of a mutator the two use, and which are the caller's. `calls`: what they do with theirs.
 //!
 //! No call asks for a proof. Each answers by name why it was refused, as those of `shared_heap` do.
 #![tactic(auto)]
 
+mod calls;
+mod chain;
 mod hands;
 mod map;
 mod queue;

@@ -5,11 +5,19 @@
 //! without a node, and producers and consumers work at its two ends.
 //!
 //! A node is put in by one exchange of the last node's reference, which must be nil, and taken out by one exchange of the queue's first. The queue's last follows:
-//! where it lags behind, whoever finds it so moves it on.
+//! where it lags behind, whoever finds it so moves it on. What a taken node had is read before the exchange: until that is won no other changes it.
 ghost use Rattle.std.specs.Arc.{arc_value};
-ghost use Rattle.std.specs.Prelude.{◌≡◌, ◌<◌, ◌≤◌, IfNone, IfSome};
+ghost use Rattle.std.specs.Prelude.{◌≡◌, ◌<◌, ◌≤◌, IfErr, IfNone, IfOk, IfSome, ◌⊎◌, if◌then◌else◌};
+ghost use Rattle.shared_heap.specs.Calls.{field_count_of};
+ghost use Rattle.shared_heap.specs.declared.mutator.Place.TheVariants.{Inside};
+ghost use Rattle.shared_structures.specs.Changes.{IsTold};
+ghost use Rattle.shared_structures.specs.Making.{Lays};
+ghost use Rattle.shared_structures.specs.Queues.{Moves, taken_by};
+ghost use Rattle.shared_structures.specs.Looks.{taken_by_look};
+ghost use Rattle.shared_structures.specs.Refusing.{GivenUp, IsFor, IsRefused};
 
-use crate::hands::{CALLERS, callers, let_go};
+use crate::calls::{copy, forget, get, is_nil, lay, make, pass, same, see, value};
+use crate::hands::{CALLERS, OWN, SEEN, begin};
 use shared_heap::{Refused, SharedMutator};
 use std::sync::Wait;
 
@@ -23,17 +31,12 @@ const NEXT: u8 = 0;
 
 const ITEM: u8 = 1;
 
-/// The variables: the node that is put in, the first, the last and the next node.
-const NODE: u8 = 20;
-
-const HEAD: u8 = 21;
-
+/// The variables beside the node that is put in, and what is seen: the last node, the one behind the first, and its object.
 const TAIL: u8 = 22;
 
 const BEHIND: u8 = 23;
 
-/// How many variables a look at the queue uses.
-const HELD: u8 = 4;
+const OBJECT: u8 = 24;
 
 /// What one look at the queue came to.
 #[derive(Drop)]
@@ -50,6 +53,7 @@ enum Look {
 #[derive(Clone, Copy, Debug, PartialEq, Eq, Drop)]
 pub struct SharedQueue {
     queue: u8,
+    ghost caller: { queue < 20 },
 }
 
 impl SharedQueue {
@@ -66,13 +70,17 @@ impl SharedQueue {
 
     /// Makes an empty queue, to which the variable refers from then on.
     pub fn make<R: Wait>(self, rt: &R, m: &mut SharedMutator) -> Result<(), Refused>
+        ensures made { IfOk result (λ _. (m.new.place ≡ Inside) × Lays self.queue 2 m.old m.new) }
+        ensures refused { IfErr result (λ e. IsRefused e (IsFor self.queue 2 m.old) m.old m.new × Lays self.queue 0 m.old m.new) }
         ensures world { arc_value m.new.heap ≡ arc_value m.old.heap }
     {
-        m.make(rt, NODE, 0)?;
-        m.make(rt, self.queue, 0)?;
-        m.set(self.queue, FIRST, NODE)?;
-        m.set(self.queue, LAST, NODE)?;
-        m.forget(NODE)
+        begin(m, self.queue, 2)?;
+        make(rt, m, OWN, 0)?;
+        make(rt, m, self.queue, 0)?;
+        lay(m, self.queue, FIRST);
+        lay(m, self.queue, LAST);
+        forget(m, OWN);
+        Ok(())
     }
 
     /// Puts in a number, and the object of variable `item`, if it refers to one. It is a safe point.
@@ -83,53 +91,108 @@ impl SharedQueue {
         item: u8,
         number: u32,
     ) -> Result<(), Refused>
+        ensures put { IfOk result (λ _. (m.new.place ≡ Inside) × Moves self.queue 1 0 m.old m.new) }
+        ensures refused { IfErr result (λ e. IsRefused e (IsFor item 2 m.old) m.old m.new × Moves self.queue 0 0 m.old m.new) }
         ensures world { arc_value m.new.heap ≡ arc_value m.old.heap }
     {
-        callers(item)?;
-        m.make(rt, NODE, number)?;
-        m.set(NODE, ITEM, item)?;
+        begin(m, item, 2)?;
+        make(rt, m, OWN, number)?;
+        self.keep(m, OWN, item);
+        let mut is_in = false;
         for _round in rt.forever() {
-            if self.append(m)? {
+            if is_in {
                 break;
             }
-            m.safe_point(rt)?;
+            is_in = self.try_put(rt, m)?;
         }
-        m.forget(NODE)
+        forget(m, OWN);
+        Ok(())
+    }
+
+    /// The node in hand comes behind the last, if that is found to be last: true where it was. Else it is a safe point.
+    fn try_put<R: Wait>(self, rt: &R, m: &mut SharedMutator) -> Result<bool, Refused>
+        requires inside { m.old.place ≡ Inside }
+        requires wide { 2 ≤ field_count_of m.old }
+        ensures put { IfOk result (λ won. (m.new.place ≡ Inside) × Moves self.queue (if won then 1 else 0) 0 m.old m.new) }
+        ensures refused { IfErr result (λ e. GivenUp e m.new × Moves self.queue 0 0 m.old m.new) }
+        ensures world { arc_value m.new.heap ≡ arc_value m.old.heap }
+    {
+        if self.append(m)? {
+            return Ok(true);
+        }
+        pass(rt, m)?;
+        Ok(false)
     }
 
     /// The node in hand comes behind the last, if that is found to be last: true where it was. Else the queue's last moves on.
     fn append(self, m: &mut SharedMutator) -> Result<bool, Refused>
+        requires inside { m.old.place ≡ Inside }
+        requires wide { 2 ≤ field_count_of m.old }
+        ensures put { IfOk result (λ won. (m.new.place ≡ Inside) × Moves self.queue (if won then 1 else 0) 0 m.old m.new) }
+        ensures refused { IfErr result (λ e. GivenUp e m.new × Moves self.queue 0 0 m.old m.new) }
         ensures world { arc_value m.new.heap ≡ arc_value m.old.heap }
     {
-        m.get(TAIL, self.queue, LAST)?;
-        m.get(BEHIND, TAIL, NEXT)?;
-        if m.is_nil(BEHIND)? {
+        get(m, TAIL, self.queue, LAST);
+        see(m, TAIL, NEXT);
+        if is_nil(m, SEEN) {
             return self.link(m);
         }
-        self.move_on(m)?;
+        self.follow(m, SEEN);
+        forget(m, SEEN);
+        forget(m, TAIL);
         Ok(false)
     }
 
-    /// The node in hand comes behind the last, if no other does first: true where it did, and then the queue's last moves on.
+    /// The node in hand comes behind the last, behind which nothing was seen, if no other does first: true where it did, and then the queue's last moves on.
     fn link(self, m: &mut SharedMutator) -> Result<bool, Refused>
+        requires inside { m.old.place ≡ Inside }
+        requires wide { 2 ≤ field_count_of m.old }
+        requires told { IsTold 21 m.old }
+        ensures put { IfOk result (λ won. (m.new.place ≡ Inside) × Moves self.queue (if won then 1 else 0) 0 m.old m.new) }
+        ensures refused { IfErr result (λ e. GivenUp e m.new × Moves self.queue 0 0 m.old m.new) }
         ensures world { arc_value m.new.heap ≡ arc_value m.old.heap }
     {
-        if !m.exchange(TAIL, NEXT, BEHIND, NODE)? {
-            m.forget(TAIL)?;
-            return Ok(false);
+        let won = self.come_behind(m)?;
+        if won {
+            self.follow(m, OWN);
         }
-        m.exchange(self.queue, LAST, TAIL, NODE)?;
-        m.forget(TAIL)?;
-        Ok(true)
+        forget(m, TAIL);
+        Ok(won)
     }
 
-    /// The queue's last, which lags behind, moves on.
-    fn move_on(self, m: &mut SharedMutator) -> Result<(), Refused>
+    /// One exchange, by which the node in hand comes behind the last: true where it was won. Nil where no last one was found.
+    fn come_behind(self, m: &mut SharedMutator) -> Result<bool, Refused>
+        requires inside { m.old.place ≡ Inside }
+        requires wide { 2 ≤ field_count_of m.old }
+        requires told { IsTold 21 m.old }
+        ensures put { IfOk result (λ won. (m.new.place ≡ Inside) × Moves self.queue (if won then 1 else 0) 0 m.old m.new) }
+        ensures refused { IfErr result (λ e. GivenUp e m.new × Moves self.queue 0 0 m.old m.new) }
         ensures world { arc_value m.new.heap ≡ arc_value m.old.heap }
     {
-        m.exchange(self.queue, LAST, TAIL, BEHIND)?;
-        m.forget(BEHIND)?;
-        m.forget(TAIL)
+        m.exchange(TAIL, NEXT, SEEN, OWN)
+    }
+
+    /// The queue's last moves on to what this variable refers to, if no other moved it.
+    fn follow(self, m: &mut SharedMutator, to: u8)
+        requires inside { m.old.place ≡ Inside }
+        requires wide { (to < 32) × (2 ≤ field_count_of m.old) }
+        ensures inside { m.new.place ≡ Inside }
+        ensures moves { Moves self.queue 0 0 m.old m.new }
+        ensures world { arc_value m.new.heap ≡ arc_value m.old.heap }
+    {
+        let _moved = m.exchange(self.queue, LAST, TAIL, to);
+    }
+
+    /// What a node in hand keeps beside its number becomes what this variable refers to.
+    fn keep(self, m: &mut SharedMutator, node: u8, item: u8)
+        requires inside { m.old.place ≡ Inside }
+        requires wide { (item < 32) × (2 ≤ field_count_of m.old) }
+        requires node { (node ≡ 20) ⊎ (node ≡ 23) }
+        ensures inside { m.new.place ≡ Inside }
+        ensures moves { Moves self.queue 0 0 m.old m.new }
+        ensures world { arc_value m.new.heap ≡ arc_value m.old.heap }
+    {
+        let _done = m.set(node, ITEM, item);
     }
 
     /// Takes the first out: its number. Variable `item` refers to its object, if it has one. None where the queue was empty at some moment of the call.
@@ -139,14 +202,16 @@ impl SharedQueue {
         m: &mut SharedMutator,
         item: u8,
     ) -> Result<Option<u64>, Refused>
+        ensures taken { IfOk result (λ some. (m.new.place ≡ Inside) × Moves self.queue 0 (taken_by some) m.old m.new) }
+        ensures refused { IfErr result (λ e. IsRefused e (IsFor item 2 m.old) m.old m.new × Moves self.queue 0 0 m.old m.new) }
         ensures world { arc_value m.new.heap ≡ arc_value m.old.heap }
     {
-        callers(item)?;
+        begin(m, item, 2)?;
         for _round in rt.forever() {
             match self.look(m, item)? {
                 Look::Taken(number) => return Ok(Some(number)),
                 Look::Empty => return Ok(None),
-                Look::Again => m.safe_point(rt)?,
+                Look::Again => pass(rt, m)?,
             }
         }
         Ok(None)
@@ -154,49 +219,74 @@ impl SharedQueue {
 
     /// One look at the queue, which takes the first out if it can. Afterwards no variable keeps a node, and with it all that came behind it.
     fn look(self, m: &mut SharedMutator, item: u8) -> Result<Look, Refused>
+        requires inside { m.old.place ≡ Inside }
+        requires wide { IsFor item 2 m.old }
+        ensures taken { IfOk result (λ look. (m.new.place ≡ Inside) × Moves self.queue 0 (taken_by_look look) m.old m.new) }
+        ensures refused { IfErr result (λ e. GivenUp e m.new × Moves self.queue 0 0 m.old m.new) }
         ensures world { arc_value m.new.heap ≡ arc_value m.old.heap }
     {
-        m.get(HEAD, self.queue, FIRST)?;
-        m.get(TAIL, self.queue, LAST)?;
-        m.get(BEHIND, HEAD, NEXT)?;
-        let look = self.decide(m, item)?;
-        let_go(m, HELD)?;
+        see(m, self.queue, FIRST);
+        get(m, TAIL, self.queue, LAST);
+        get(m, BEHIND, SEEN, NEXT);
+        let look = if same(m, SEEN, TAIL) {
+            self.look_behind(m)?
+        } else {
+            self.try_take(m, item)?
+        };
+        forget(m, SEEN);
+        forget(m, TAIL);
+        forget(m, BEHIND);
+        forget(m, OBJECT);
         Ok(look)
-    }
-
-    /// What is done with the first node, the last, and the one behind the first, as they were found.
-    fn decide(self, m: &mut SharedMutator, item: u8) -> Result<Look, Refused>
-        ensures world { arc_value m.new.heap ≡ arc_value m.old.heap }
-    {
-        if m.same(HEAD, TAIL)? {
-            return self.look_behind(m);
-        }
-        if !m.exchange(self.queue, FIRST, HEAD, BEHIND)? {
-            return Ok(Look::Again);
-        }
-        let number = empty(m, item)?;
-        Ok(Look::Taken(number))
     }
 
     /// The first node was the last one too: the queue is empty, or its last lags behind and moves on.
     fn look_behind(self, m: &mut SharedMutator) -> Result<Look, Refused>
+        requires inside { m.old.place ≡ Inside }
+        requires wide { 2 ≤ field_count_of m.old }
+        ensures taken { IfOk result (λ look. (m.new.place ≡ Inside) × Moves self.queue 0 (taken_by_look look) m.old m.new) }
+        ensures refused { IfErr result (λ e. GivenUp e m.new × Moves self.queue 0 0 m.old m.new) }
         ensures world { arc_value m.new.heap ≡ arc_value m.old.heap }
     {
-        if m.is_nil(BEHIND)? {
+        if is_nil(m, SEEN) {
+            return Err(Refused::Nil);
+        }
+        if is_nil(m, BEHIND) {
             return Ok(Look::Empty);
         }
-        self.move_on(m)?;
+        self.follow(m, BEHIND);
         Ok(Look::Again)
     }
-}
 
-/// The number of the node that became the first, with its object, which the node lets go of.
-fn empty(m: &mut SharedMutator, item: u8) -> Result<u64, Refused>
-    ensures world { arc_value m.new.heap ≡ arc_value m.old.heap }
-{
-    let number = m.value(BEHIND)?;
-    m.get(item, BEHIND, ITEM)?;
-    m.forget(HEAD)?;
-    m.set(BEHIND, ITEM, HEAD)?;
-    Ok(number)
+    /// The node behind the first becomes the first, if no other thread was faster: then its number is taken, and its object, which it lets go of.
+    fn try_take(self, m: &mut SharedMutator, item: u8) -> Result<Look, Refused>
+        requires inside { m.old.place ≡ Inside }
+        requires wide { IsFor item 2 m.old }
+        requires told { IsTold 21 m.old }
+        ensures taken { IfOk result (λ look. (m.new.place ≡ Inside) × Moves self.queue 0 (taken_by_look look) m.old m.new) }
+        ensures refused { IfErr result (λ e. GivenUp e m.new × Moves self.queue 0 0 m.old m.new) }
+        ensures world { arc_value m.new.heap ≡ arc_value m.old.heap }
+    {
+        let number = value(m, BEHIND)?;
+        get(m, OBJECT, BEHIND, ITEM);
+        if !self.come_first(m)? {
+            return Ok(Look::Again);
+        }
+        copy(m, item, OBJECT);
+        forget(m, OBJECT);
+        self.keep(m, BEHIND, OBJECT);
+        Ok(Look::Taken(number))
+    }
+
+    /// One exchange, by which the node behind the first becomes the first: true where it was won.
+    fn come_first(self, m: &mut SharedMutator) -> Result<bool, Refused>
+        requires inside { m.old.place ≡ Inside }
+        requires wide { 2 ≤ field_count_of m.old }
+        requires told { IsTold 21 m.old }
+        ensures taken { IfOk result (λ won. (m.new.place ≡ Inside) × Moves self.queue 0 (if won then 1 else 0) m.old m.new) }
+        ensures refused { IfErr result (λ e. GivenUp e m.new × Moves self.queue 0 0 m.old m.new) }
+        ensures world { arc_value m.new.heap ≡ arc_value m.old.heap }
+    {
+        m.exchange(self.queue, FIRST, SEEN, BEHIND)
+    }
 }
