@@ -19,7 +19,9 @@ printf '#include "managed_heap.h"\nint main(void) { mh_world w = {0}; return mh_
 cp "$work/alone.c" "$work/alone.cpp"
 compile() {
     command -v "$1" >/dev/null || { echo "no $1 here"; return; }
-    "$1" -std="$2" -Wall -Wextra -pedantic -Wconversion -Werror -I "$top/c/include" -c "$work/alone.$3" -o "$work/alone.o" || fail "the header isn't $2 for $1"
+    for checked in "" -DMH_CHECKED; do
+        "$1" -std="$2" -Wall -Wextra -pedantic -Wconversion -Werror $checked -I "$top/c/include" -c "$work/alone.$3" -o "$work/alone.o" || fail "the header isn't $2 for $1 $checked"
+    done
 }
 for compiler in gcc clang; do for standard in c99 c11 gnu17; do compile $compiler $standard c; done; done
 for compiler in g++ clang++; do for standard in c++11 c++17; do compile $compiler $standard cpp; done; done

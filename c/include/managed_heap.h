@@ -83,10 +83,21 @@ static inline const char *mh_status_text(mh_status s) {
     return "no status of managed_heap";
 }
 
-/* Handles. One that is all zero is given back, or was never taken. A handle is not copied: a copy doesn't know that the other was given back. */
+/* Handles. One that is all zero is given back, or was never taken. A handle is not copied: a copy doesn't know that the other was given back.
+ *
+ * One thread uses a handle at a time. A call marks what is behind its handle, and a second one that finds the mark is MH_IN_USE: one that comes while a step of
+ * a collection runs, or that a signal handler makes. Two threads whose calls begin within some nanoseconds may both miss it, and then the heap may be spoiled.
+ * Where MH_CHECKED is defined, for all files of a program, each call exchanges a word of the handle, and a second one is always MH_IN_USE. That is for tests: it
+ * adds some 7 nanoseconds to a call.
+ */
 typedef struct mh_world { void *at; } mh_world;
+#ifdef MH_CHECKED
+typedef struct mh_mutator { void *at; uint32_t used; } mh_mutator;
+typedef struct mh_tracer { void *at; uint32_t used; } mh_tracer;
+#else
 typedef struct mh_mutator { void *at; } mh_mutator;
 typedef struct mh_tracer { void *at; } mh_tracer;
+#endif
 
 /* Names from this one on are those that mh_open gives. */
 #define MH_NAMES 0x80000000u
@@ -144,6 +155,18 @@ mh_status mhl_give_back_tracer(mh_world *world, mh_tracer *t);
 mh_status mhl_trace_turn(mh_tracer *t);
 mh_status mhl_dismiss_step(mh_world *world);
 
+/* A call by the handle of a mutator or of a tracer. */
+#ifdef MH_CHECKED
+static inline uint32_t mh_is_used(uint32_t *used) { return __atomic_exchange_n(used, 1u, __ATOMIC_SEQ_CST); }
+static inline mh_status mh_was_used(uint32_t *used, mh_status s) {
+    __atomic_store_n(used, 0u, __ATOMIC_RELEASE);
+    return s;
+}
+#define MH_BY(h, call) (mh_is_used(&(h)->used) ? MH_IN_USE : mh_was_used(&(h)->used, (h)->at ? (call) : MH_GIVEN_BACK))
+#else
+#define MH_BY(h, call) ((h)->at ? (call) : MH_GIVEN_BACK)
+#endif
+
 /* The world: for one thread at a time. */
 
 /* How many worlds got their names here. Each file that includes this has the variable, and the linker keeps one. */
@@ -160,33 +183,26 @@ static inline mh_status mh_open(const mh_sizes *sizes, mh_world *w) {
 }
 /* Takes one of its mutators: it is outside, with the variables as who had it last left them, or all nil. */
 static inline mh_status mh_take_mutator(mh_world *w, mh_mutator *m) { return !w->at ? MH_GIVEN_BACK : m->at ? MH_TAKEN : mhl_take_mutator(w, m); }
-/* Gives a mutator back, which leaves first. Its handle is all zero afterwards. What its variables refer to is kept, for whoever takes it next. */
-static inline mh_status mh_give_back(mh_world *w, mh_mutator *m) {
-    mh_status s = w->at && m->at ? mhl_give_back(w, m) : MH_GIVEN_BACK;
-    if (s == MH_OK) { free(m->at); m->at = 0; }
+/* What lay behind a handle that was given back is the program's to free. */
+static inline mh_status mh_emptied(void **at, mh_status s) {
+    if (s == MH_OK) { free(*at); *at = 0; }
     return s;
 }
+/* Gives a mutator back, which leaves first. Its handle is all zero afterwards. What its variables refer to is kept, for whoever takes it next. */
+static inline mh_status mh_give_back(mh_world *w, mh_mutator *m) { return MH_BY(m, w->at ? mh_emptied(&m->at, mhl_give_back(w, m)) : MH_GIVEN_BACK); }
 static inline mh_status mh_statistics(mh_world *w, mh_numbers *numbers) { return w->at ? mhl_statistics(w, numbers) : MH_GIVEN_BACK; }
 /* Takes one of its tracers. */
 static inline mh_status mh_take_tracer(mh_world *w, mh_tracer *t) { return !w->at ? MH_GIVEN_BACK : t->at ? MH_TAKEN : mhl_take_tracer(w, t); }
 /* Gives a tracer back. Its handle is all zero afterwards. */
 static inline mh_status mh_give_back_tracer(mh_world *w, mh_tracer *t) {
-    mh_status s = w->at && t->at ? mhl_give_back_tracer(w, t) : MH_GIVEN_BACK;
-    if (s == MH_OK) { free(t->at); t->at = 0; }
-    return s;
+    return MH_BY(t, w->at ? mh_emptied(&t->at, mhl_give_back_tracer(w, t)) : MH_GIVEN_BACK);
 }
 /* Tells the tracers that they are dismissed, for good; MH_STOPPED where a stop is under way, and nothing is told. */
 static inline mh_status mh_dismiss_step(mh_world *w) { return w->at ? mhl_dismiss_step(w) : MH_GIVEN_BACK; }
 /* Frees the heap; MH_STILL_LENT where a mutator or a tracer isn't back. The handle is all zero afterwards. */
-static inline mh_status mh_close(mh_world *w) {
-    mh_status s = w->at ? mhl_close(w) : MH_GIVEN_BACK;
-    if (s == MH_OK) { free(w->at); w->at = 0; }
-    return s;
-}
+static inline mh_status mh_close(mh_world *w) { return w->at ? mh_emptied(&w->at, mhl_close(w)) : MH_GIVEN_BACK; }
 
 /* A mutator: for one thread at a time. */
-
-#define MH_BY(m, call) ((m)->at ? (call) : MH_GIVEN_BACK)
 
 /* Enters the world, where no stop is under way. */
 static inline mh_status mh_enter_step(mh_mutator *m) { return MH_BY(m, mhl_enter_step(m)); }
@@ -247,7 +263,7 @@ static inline mh_status mh_number(mh_mutator *m, uint32_t v, uint32_t *section, 
 
 /* One turn, which marks at most 64 objects and passes at most 1,024 cards: MH_OK where a cycle is marking, MH_IDLE where none is, MH_STOPPED where a stop is
    under way, MH_DISMISSED and MH_FULL where no turn is to follow. */
-static inline mh_status mh_trace_turn(mh_tracer *t) { return t->at ? mhl_trace_turn(t) : MH_GIVEN_BACK; }
+static inline mh_status mh_trace_turn(mh_tracer *t) { return MH_BY(t, mhl_trace_turn(t)); }
 
 /* The calls that wait. Each goes on until it is done, and so rests on the other threads' safe points. */
 

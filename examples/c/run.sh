@@ -36,8 +36,9 @@ run() {
     timeout "$seconds" "$work/$program" "$@" || fail "$program $* ended with status $?"
 }
 
-programs="binary_trees gcbench rewriter fuzz fills_up edges billion speed queue map counter torture places"
+programs="binary_trees gcbench rewriter fuzz fills_up edges billion speed queue map counter torture places misuse"
 for name in $programs; do build "$name" "$name"; done
+for name in misuse fuzz speed; do build "$name" "$name.guarded" -DMH_CHECKED; done
 
 echo "== trees on 1, 2, 4 threads beside 0, 1, 2 tracers, and terms"
 for threads in 1 2 4; do
@@ -57,6 +58,11 @@ run 300 fuzz 1000000 4 3
 run 300 fuzz 1000000 1 1 1
 run 300 fuzz 1000000 4 3 1
 
+echo "== one handle used by two, and calls that exchange its word"
+run 60 misuse
+run 60 misuse.guarded 500000 4
+run 300 fuzz.guarded 300000 4 3 1
+
 echo "== threads that share objects"
 for tracers in 0 2; do
     run 300 queue 1 1 3000 64 $tracers
@@ -75,6 +81,7 @@ if timeout 300 "$work/places" 1 1 320 1 >"$work/log"; then fail "a place is used
 echo "== many objects in few cells, and what a call takes"
 run 300 billion 20 65536
 run 300 speed 10
+run 300 speed.guarded 10
 
 if cc -o "$work/gc_there" -x c - -lgc 2>"$work/log" <<'END'
 #include <gc.h>

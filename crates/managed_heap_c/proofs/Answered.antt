@@ -4,7 +4,7 @@ use Rattle.std.specs.Prelude.{IsTrue}
 use Rattle.seat_steps.specs.Stepping.{is_collecting}
 use Rattle.seat_steps.specs.declared.stepper.Came.{Came}
 use Rattle.seat_steps.specs.declared.stepper.Stepper.{Stepper}
-use Rattle.managed_heap_c.specs.Answering.{Answers, AnswersOnce, GivesBack, StaysWith, status_of_came}
+use Rattle.managed_heap_c.specs.Answering.{Answers, GivesBack, StaysWith, status_of_came}
 use Rattle.managed_heap_c.specs.Kinds.{Refuses, TakesBack}
 use Rattle.managed_heap_c.specs.declared.hands.AnyWorld.{AnyWorld}
 
@@ -26,7 +26,3 @@ kept w s o y e k c = kept_on 5 w w s s o y e k (inl (refl, c, refl, refl))
 -- the world refused it
 pub refused : (w x : AnyWorld) (s t : Stepper) (o y : Option Stepper) → o ≡ Some s → y ≡ Some t → Refuses s t w x → GivesBack 14 w x o y
 refused w x s t o y e k r = kept_on 14 w x s t o y e k (inr (refl, r))
-
--- the handle has what the call had, before and after
-pub once : (P : Came → Stepper → Stepper → Type 0) (n : ℕ) (x u y v : Option Stepper) → u ≡ x → v ≡ y → Answers P n u y → AnswersOnce P n x v
-once P n x u y v e k a = inl (subst (λ q. Answers P n q v) e (subst (λ q. Answers P n u q) (sym k) a))

@@ -1,11 +1,12 @@
 -- What an export answers.
-use Rattle.std.specs.Prelude.{ℕ, ◌≡◌, ◌⊎◌, Option, Some, None, IsTrue}
+use Rattle.std.specs.Prelude.{ℕ, ◌≡◌, ◌⊎◌, Option, Some, None, IsFalse, IsTrue}
 use Rattle.seat_steps.specs.Stepping.{ReadsValue, is_collecting}
 use Rattle.seat_steps.specs.declared.stepper.Came.{Came}
 use Rattle.seat_steps.specs.declared.stepper.Came.TheVariants as cames
 use Rattle.seat_steps.specs.declared.stepper.Stepper.{Stepper}
 use Rattle.managed_heap_c.specs.Kinds.{Counts, HasAll, Refuses, TakesBack}
 use Rattle.managed_heap_c.specs.declared.hands.AnyWorld.{AnyWorld}
+use Rattle.managed_heap_c.specs.declared.hands.Hand.{Hand}
 use Rattle.managed_heap_c.specs.declared.sizes.CNumbers.{CNumbers}
 
 -- the number of what a mutator's call came to
@@ -22,18 +23,18 @@ status_of_came cames.Full = 8
 status_of_came cames.Spent = 9
 status_of_came cames.NotShared = 19
 
--- the handle is in use by another thread, and nothing changed
-abbrev pub IsInUse : ℕ → Option Stepper → Option Stepper → Type 0
-IsInUse n x y = (n ≡ 12) × (y ≡ x)
+-- another call uses the handle, and nothing changed
+abbrev pub IsInUse : ℕ → Hand → Hand → Type 0
+IsInUse n x y = (n ≡ 12) × IsTrue x.busy × (y ≡ x)
 
 -- the handle was given back, or else the call came to what the answer says, and did this
 abbrev pub Answers : (Came → Stepper → Stepper → Type 0) → ℕ → Option Stepper → Option Stepper → Type 0
 Answers P n None y = (n ≡ 11) × (y ≡ None)
 Answers P n (Some s) y = (came : Came) × (t : Stepper) × (n ≡ status_of_came came) × (y ≡ Some t) × P came s t
 
--- the answer of a call; or the handle is in use, and nothing changed
-abbrev pub AnswersOnce : (Came → Stepper → Stepper → Type 0) → ℕ → Option Stepper → Option Stepper → Type 0
-AnswersOnce P n x y = Answers P n x y ⊎ IsInUse n x y
+-- the answer of a call by a handle that no other uses, and none does afterwards; or another uses it, and nothing changed
+abbrev pub AnswersOnce : (Came → Stepper → Stepper → Type 0) → ℕ → Hand → Hand → Type 0
+AnswersOnce P n x y = (IsFalse x.busy × IsFalse y.busy × Answers P n x.stepper y.stepper) ⊎ IsInUse n x y
 
 -- what reading a value came to, by what the variable of C was and is
 abbrev pub ReadsTo : ℕ → ℕ → ℕ → Came → Stepper → Stepper → Type 0
@@ -43,6 +44,10 @@ ReadsTo v before after came x y = ReadsValue came v x y before after
 abbrev pub SparesGone : Option Stepper → ℕ → ℕ → Type 0
 SparesGone None before after = after ≡ before
 SparesGone (Some s) before after = Unit {0}
+
+-- nothing is written by a handle that another call uses, or that was given back
+abbrev pub SparesUnused : Hand → ℕ → ℕ → Type 0
+SparesUnused h before after = (IsTrue h.busy → after ≡ before) × SparesGone h.stepper before after
 
 -- the mutator is between two steps of a collection and stays, and nothing changed; or the world refused it
 abbrev pub StaysWith : ℕ → AnyWorld → AnyWorld → Stepper → Stepper → Type 0
@@ -61,9 +66,9 @@ Gives n None y s t = (n ≡ 11) × (y ≡ None) × (t ≡ s)
 Gives n (Some w) None s t = ⊥
 Gives n (Some w) (Some x) s t = GivesBack n w x s t
 
--- the answer of giving a mutator back; or its handle is in use, and nothing changed
-abbrev pub GivesOnce : ℕ → Option AnyWorld → Option AnyWorld → Option Stepper → Option Stepper → Type 0
-GivesOnce n w x s t = Gives n w x s t ⊎ ((n ≡ 12) × (x ≡ w) × (t ≡ s))
+-- the answer of giving a mutator back by a handle that no other call uses; or another uses it, and nothing changed
+abbrev pub GivesOnce : ℕ → Option AnyWorld → Option AnyWorld → Hand → Hand → Type 0
+GivesOnce n w x h k = (IsFalse h.busy × IsFalse k.busy × Gives n w x h.stepper k.stepper) ⊎ (IsInUse n h k × (x ≡ w))
 
 -- the world was closed as all were back, or it was closed before, or not all are back
 abbrev pub ClosesWorld : ℕ → Option AnyWorld → Option AnyWorld → Type 0

@@ -1,5 +1,5 @@
 -- What opening a world and taking a mutator come to.
-use Rattle.std.specs.Prelude.{ℕ, ◌≡◌, ◌⊎◌, Option, Some, None}
+use Rattle.std.specs.Prelude.{ℕ, ◌≡◌, ◌⊎◌, Option, Some, None, IsFalse}
 use Rattle.seat_steps.specs.declared.stepper.Stepper.{Stepper}
 use Rattle.managed_heap_c.specs.Kinds.{IsOpenedAs, LacksMutator, LendsSteps}
 use Rattle.managed_heap_c.specs.Sizing.{FitEither}
@@ -33,9 +33,9 @@ HasNone n None y = (n ≡ 11) × (y ≡ None)
 HasNone n (Some w) None = ⊥
 HasNone n (Some w) (Some x) = (n ≡ 13) × LacksMutator w x
 
--- the handle is filled, and what is behind it has this mutator
+-- the handle is filled, what is behind it has this mutator, and no call uses it
 abbrev pub HoldsSteps : Stepper → MutatorSlot → Type 0
-HoldsSteps s slot = (hand : Hand) × (slot.hand ≡ Some hand) × (hand.stepper ≡ Some s)
+HoldsSteps s slot = (hand : Hand) × (slot.hand ≡ Some hand) × (hand.stepper ≡ Some s) × IsFalse hand.busy
 
 -- a mutator of the world was taken, and the handle has it; or nothing is written, and there was no memory, or no mutator
 abbrev pub TakesMutator : ℕ → Option AnyWorld → Option AnyWorld → MutatorSlot → MutatorSlot → Type 0

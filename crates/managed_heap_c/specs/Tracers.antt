@@ -1,5 +1,5 @@
 -- What an export of a tracer answers.
-use Rattle.std.specs.Prelude.{ℕ, ◌≡◌, ◌⊎◌, Option, Some, None}
+use Rattle.std.specs.Prelude.{ℕ, ◌≡◌, ◌⊎◌, Option, Some, None, IsFalse, IsTrue}
 use Rattle.gc_table.specs.Seats.{Across}
 use Rattle.seat_steps.specs.Trying.{TriesTurn}
 use Rattle.seat_steps.specs.declared.background.Tracer.{Tracer}
@@ -27,9 +27,13 @@ abbrev pub AnswersTurn : ℕ → Option Tracer → Option Tracer → Type 0
 AnswersTurn n None y = (n ≡ 11) × (y ≡ None)
 AnswersTurn n (Some s) y = (tried : TryTurn) × (t : Tracer) × (n ≡ status_of_turn tried) × (y ≡ Some t) × TriesTracerTurn tried s t
 
--- the answer of a turn; or the handle is in use, and nothing changed
-abbrev pub AnswersTurnOnce : ℕ → Option Tracer → Option Tracer → Type 0
-AnswersTurnOnce n x y = AnswersTurn n x y ⊎ ((n ≡ 12) × (y ≡ x))
+-- another call uses the tracer's handle, and nothing changed
+abbrev pub IsTracerInUse : ℕ → TracerHand → TracerHand → Type 0
+IsTracerInUse n x y = (n ≡ 12) × IsTrue x.busy × (y ≡ x)
+
+-- the answer of a turn by a handle that no other call uses, and none does afterwards; or another uses it, and nothing changed
+abbrev pub AnswersTurnOnce : ℕ → TracerHand → TracerHand → Type 0
+AnswersTurnOnce n x y = (IsFalse x.busy × IsFalse y.busy × AnswersTurn n x.tracer y.tracer) ⊎ IsTracerInUse n x y
 
 -- the world had this tracer, and has the others still
 abbrev pub IsLent : Tracer → Option AnyWorld → Option AnyWorld → Type 0
@@ -42,9 +46,9 @@ LendsNone n None y = (n ≡ 11) × (y ≡ None)
 LendsNone n (Some w) None = ⊥
 LendsNone n (Some w) (Some x) = (n ≡ 13) × kinds.LacksTracer w x
 
--- the handle is filled, and what is behind it has this tracer
+-- the handle is filled, what is behind it has this tracer, and no call uses it
 abbrev pub HoldsTracer : Tracer → TracerSlot → Type 0
-HoldsTracer t slot = (hand : TracerHand) × (slot.hand ≡ Some hand) × (hand.tracer ≡ Some t)
+HoldsTracer t slot = (hand : TracerHand) × (slot.hand ≡ Some hand) × (hand.tracer ≡ Some t) × IsFalse hand.busy
 
 -- a tracer of the world was taken, and the handle has it; or nothing is written, and there was no memory, or no tracer
 abbrev pub TakesTracer : ℕ → Option AnyWorld → Option AnyWorld → TracerSlot → TracerSlot → Type 0
@@ -63,9 +67,9 @@ GivesTracer n None y s t = (n ≡ 11) × (y ≡ None) × (t ≡ s)
 GivesTracer n (Some w) None s t = ⊥
 GivesTracer n (Some w) (Some x) s t = GivesTracerBack n w x s t
 
--- the answer of giving a tracer back; or its handle is in use, and nothing changed
-abbrev pub GivesTracerOnce : ℕ → Option AnyWorld → Option AnyWorld → Option Tracer → Option Tracer → Type 0
-GivesTracerOnce n w x s t = GivesTracer n w x s t ⊎ ((n ≡ 12) × (x ≡ w) × (t ≡ s))
+-- the answer of giving a tracer back by a handle that no other call uses; or another uses it, and nothing changed
+abbrev pub GivesTracerOnce : ℕ → Option AnyWorld → Option AnyWorld → TracerHand → TracerHand → Type 0
+GivesTracerOnce n w x h k = (IsFalse h.busy × IsFalse k.busy × GivesTracer n w x h.tracer k.tracer) ⊎ (IsTracerInUse n h k × (x ≡ w))
 
 -- the tracers were told that they are dismissed, or a stop was under way
 abbrev pub DismissesIn : ℕ → AnyWorld → AnyWorld → Type 0

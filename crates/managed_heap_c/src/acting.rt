@@ -1,7 +1,7 @@
 //! Shared worlds, for programs in C: the root, exchanges, slots, and which object a variable has.
 ghost use Rattle.seat_steps.specs.Acting.{TakesRoot};
 ghost use Rattle.managed_heap_c.specs.Acting.{ExchangesTo, ExchangesValueTo, Fills, ForgetsSlots, NumbersTo, PlacesTo, Spills};
-ghost use Rattle.managed_heap_c.specs.Answering.{AnswersOnce};
+ghost use Rattle.managed_heap_c.specs.Answering.{AnswersOnce, SparesUnused};
 
 use crate::acts::{
     exchange_by, exchange_value_by, fill_by, forget_slots_by, number_by, place_by, root_by,
@@ -15,7 +15,7 @@ use crate::using::{begins, ends};
 /// Variable v becomes the root.
 #[unsafe(no_mangle)]
 pub extern "C" fn mhl_root(h: &mut MutatorHandle, v: u32) -> u32
-    ensures answers { AnswersOnce (λ came. TakesRoot came v) result h.old.hand.stepper h.new.hand.stepper }
+    ensures answers { AnswersOnce (λ came. TakesRoot came v) result h.old.hand h.new.hand }
 {
     let hand = lend_hand(h);
     if !begins(hand) {
@@ -36,7 +36,8 @@ pub extern "C" fn mhl_exchange(
     next: u32,
     won: &mut u32,
 ) -> u32
-    ensures answers { AnswersOnce (ExchangesTo v i expected next won.old won.new) result h.old.hand.stepper h.new.hand.stepper }
+    ensures answers { AnswersOnce (ExchangesTo v i expected next won.old won.new) result h.old.hand h.new.hand }
+    ensures quiet { SparesUnused h.old.hand won.old won.new }
 {
     let hand = lend_hand(h);
     if !begins(hand) {
@@ -56,7 +57,8 @@ pub extern "C" fn mhl_exchange_value(
     next: u32,
     won: &mut u32,
 ) -> u32
-    ensures answers { AnswersOnce (ExchangesValueTo v expected next won.old won.new) result h.old.hand.stepper h.new.hand.stepper }
+    ensures answers { AnswersOnce (ExchangesValueTo v expected next won.old won.new) result h.old.hand h.new.hand }
+    ensures quiet { SparesUnused h.old.hand won.old won.new }
 {
     let hand = lend_hand(h);
     if !begins(hand) {
@@ -70,7 +72,7 @@ pub extern "C" fn mhl_exchange_value(
 /// Slot k becomes variable v.
 #[unsafe(no_mangle)]
 pub extern "C" fn mhl_spill(h: &mut MutatorHandle, v: u32, k: u32) -> u32
-    ensures answers { AnswersOnce (Spills v k) result h.old.hand.stepper h.new.hand.stepper }
+    ensures answers { AnswersOnce (Spills v k) result h.old.hand h.new.hand }
 {
     let hand = lend_hand(h);
     if !begins(hand) {
@@ -84,7 +86,7 @@ pub extern "C" fn mhl_spill(h: &mut MutatorHandle, v: u32, k: u32) -> u32
 /// Variable v becomes slot k.
 #[unsafe(no_mangle)]
 pub extern "C" fn mhl_fill(h: &mut MutatorHandle, v: u32, k: u32) -> u32
-    ensures answers { AnswersOnce (Fills v k) result h.old.hand.stepper h.new.hand.stepper }
+    ensures answers { AnswersOnce (Fills v k) result h.old.hand h.new.hand }
 {
     let hand = lend_hand(h);
     if !begins(hand) {
@@ -98,7 +100,7 @@ pub extern "C" fn mhl_fill(h: &mut MutatorHandle, v: u32, k: u32) -> u32
 /// The slots from the first number on and below the second become nil.
 #[unsafe(no_mangle)]
 pub extern "C" fn mhl_forget_slots(h: &mut MutatorHandle, from: u32, to: u32) -> u32
-    ensures answers { AnswersOnce (ForgetsSlots from to) result h.old.hand.stepper h.new.hand.stepper }
+    ensures answers { AnswersOnce (ForgetsSlots from to) result h.old.hand h.new.hand }
 {
     let hand = lend_hand(h);
     if !begins(hand) {
@@ -112,7 +114,8 @@ pub extern "C" fn mhl_forget_slots(h: &mut MutatorHandle, from: u32, to: u32) ->
 /// Writes the place of the object of v.
 #[unsafe(no_mangle)]
 pub extern "C" fn mhl_place(h: &mut MutatorHandle, v: u32, place: &mut u32) -> u32
-    ensures answers { AnswersOnce (PlacesTo v place.old place.new) result h.old.hand.stepper h.new.hand.stepper }
+    ensures answers { AnswersOnce (PlacesTo v place.old place.new) result h.old.hand h.new.hand }
+    ensures quiet { SparesUnused h.old.hand place.old place.new }
 {
     let hand = lend_hand(h);
     if !begins(hand) {
@@ -131,7 +134,9 @@ pub extern "C" fn mhl_number(
     section: &mut u32,
     number: &mut u32,
 ) -> u32
-    ensures answers { AnswersOnce (NumbersTo v section.old number.old section.new number.new) result h.old.hand.stepper h.new.hand.stepper }
+    ensures answers { AnswersOnce (NumbersTo v section.old number.old section.new number.new) result h.old.hand h.new.hand }
+    ensures quiet { SparesUnused h.old.hand section.old section.new }
+    ensures spares { SparesUnused h.old.hand number.old number.new }
 {
     let hand = lend_hand(h);
     if !begins(hand) {

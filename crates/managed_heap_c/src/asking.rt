@@ -1,6 +1,6 @@
 //! Questions about variables, and about a stop, for programs in C.
 ghost use Rattle.plain_heap.specs.declared.operation.Op.TheVariants as ops;
-ghost use Rattle.managed_heap_c.specs.Answering.{AnswersOnce};
+ghost use Rattle.managed_heap_c.specs.Answering.{AnswersOnce, SparesUnused};
 ghost use Rattle.managed_heap_c.specs.Asking.{IsNil, AreOne, TellsStopping, TestsTo};
 
 use crate::asked::{is_nil_by, same_by, stopping_by};
@@ -12,7 +12,8 @@ use crate::using::{begins, ends};
 /// Writes 1 where variable v refers to nothing, else 0.
 #[unsafe(no_mangle)]
 pub extern "C" fn mhl_is_nil(h: &mut MutatorHandle, v: u32, out: &mut u32) -> u32
-    ensures answers { AnswersOnce (TestsTo (IsNil v) (ops.Say v) out.old out.new) result h.old.hand.stepper h.new.hand.stepper }
+    ensures answers { AnswersOnce (TestsTo (IsNil v) (ops.Say v) out.old out.new) result h.old.hand h.new.hand }
+    ensures quiet { SparesUnused h.old.hand out.old out.new }
 {
     let hand = lend_hand(h);
     if !begins(hand) {
@@ -26,7 +27,8 @@ pub extern "C" fn mhl_is_nil(h: &mut MutatorHandle, v: u32, out: &mut u32) -> u3
 /// Writes 1 where variables v and w refer to one object, or both to nothing, else 0.
 #[unsafe(no_mangle)]
 pub extern "C" fn mhl_same(h: &mut MutatorHandle, v: u32, w: u32, out: &mut u32) -> u32
-    ensures answers { AnswersOnce (TestsTo (AreOne v w) (ops.Let v w) out.old out.new) result h.old.hand.stepper h.new.hand.stepper }
+    ensures answers { AnswersOnce (TestsTo (AreOne v w) (ops.Let v w) out.old out.new) result h.old.hand h.new.hand }
+    ensures quiet { SparesUnused h.old.hand out.old out.new }
 {
     let hand = lend_hand(h);
     if !begins(hand) {
@@ -40,7 +42,8 @@ pub extern "C" fn mhl_same(h: &mut MutatorHandle, v: u32, w: u32, out: &mut u32)
 /// Writes 1 where the mutator has asked for a stop, to collect, and others may be inside still, else 0.
 #[unsafe(no_mangle)]
 pub extern "C" fn mhl_is_stopping(h: &mut MutatorHandle, out: &mut u32) -> u32
-    ensures answers { AnswersOnce (TellsStopping out.new) result h.old.hand.stepper h.new.hand.stepper }
+    ensures answers { AnswersOnce (TellsStopping out.new) result h.old.hand h.new.hand }
+    ensures quiet { SparesUnused h.old.hand out.old out.new }
 {
     let hand = lend_hand(h);
     if !begins(hand) {

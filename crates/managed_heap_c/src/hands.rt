@@ -3,15 +3,14 @@
 use managed_heap::World;
 use seat_steps::{Stepper, Tracer};
 use shared_heap::SharedWorld;
-use std::sync::atomic::AtomicU32;
 
 /// A mutator, or none where it was given back.
 #[derive(Drop)]
 pub struct Hand {
     /// The mutator, which takes no handle of the runtime.
     pub stepper: Option<Stepper>,
-    /// 1 while a call uses it, else 0.
-    pub word: AtomicU32,
+    /// A call uses it.
+    pub busy: bool,
 }
 
 /// A tracer, or none where it was given back.
@@ -19,8 +18,8 @@ pub struct Hand {
 pub struct TracerHand {
     /// The tracer.
     pub tracer: Option<Tracer>,
-    /// 1 while a call uses it, else 0.
-    pub word: AtomicU32,
+    /// A call uses it.
+    pub busy: bool,
 }
 
 /// A world of either kind.

@@ -1,8 +1,8 @@
 //! The heap for programs in C: handles of worlds, mutators and tracers, whose calls answer a status (`c/include/managed_heap.h`).
 //!
-//! A handle is a struct of C that has the address of what lies behind it. C gives each handle to one call at a time; a word behind it refuses a second call
-//! beside the first, as long as the handle isn't given back meanwhile. Each export's contract says what its answer tells: `Answers` over the mutator before and
-//! after, by the clauses of `managed_heap`.
+//! A handle is a struct of C that has the address of what lies behind it. C gives each handle to one call at a time. A call marks what is behind its handle, and
+//! one that finds the mark is refused, as long as the handle isn't given back meanwhile. Each export's contract says what its answer tells: `Answers` over the
+//! mutator before and after, by the clauses of `seat_steps`.
 #![tactic(auto)]
 
 mod acting;
@@ -30,7 +30,7 @@ mod worlds;
 ghost use Rattle.plain_heap.specs.declared.operation.Op.TheVariants as ops;
 ghost use Rattle.seat_steps.specs.Bounds.{CollectsAtMost};
 ghost use Rattle.seat_steps.specs.Stepping.{Entered, Left, StepperMakes, Operates, Passed};
-ghost use Rattle.managed_heap_c.specs.Answering.{AnswersOnce, ClosesWorld, CountsWorld, GivesOnce, ReadsTo};
+ghost use Rattle.managed_heap_c.specs.Answering.{AnswersOnce, ClosesWorld, CountsWorld, GivesOnce, ReadsTo, SparesUnused};
 ghost use Rattle.managed_heap_c.specs.Storing.{Stores};
 ghost use Rattle.managed_heap_c.specs.Taking.{OpensWorld, TakesMutator};
 
@@ -50,7 +50,7 @@ use worlds::{close_by, give_by, open_at, read_by, take_at};
 /// Enters the world, where no stop is under way.
 #[unsafe(no_mangle)]
 pub extern "C" fn mhl_enter_step(h: &mut MutatorHandle) -> u32
-    ensures answers { AnswersOnce Entered result h.old.hand.stepper h.new.hand.stepper }
+    ensures answers { AnswersOnce Entered result h.old.hand h.new.hand }
 {
     let hand = lend_hand(h);
     if !begins(hand) {
@@ -64,7 +64,7 @@ pub extern "C" fn mhl_enter_step(h: &mut MutatorHandle) -> u32
 /// Leaves the world.
 #[unsafe(no_mangle)]
 pub extern "C" fn mhl_leave(h: &mut MutatorHandle) -> u32
-    ensures answers { AnswersOnce Left result h.old.hand.stepper h.new.hand.stepper }
+    ensures answers { AnswersOnce Left result h.old.hand h.new.hand }
 {
     let hand = lend_hand(h);
     if !begins(hand) {
@@ -78,7 +78,7 @@ pub extern "C" fn mhl_leave(h: &mut MutatorHandle) -> u32
 /// A safe point: where a stop is under way the mutator leaves.
 #[unsafe(no_mangle)]
 pub extern "C" fn mhl_pass(h: &mut MutatorHandle) -> u32
-    ensures answers { AnswersOnce Passed result h.old.hand.stepper h.new.hand.stepper }
+    ensures answers { AnswersOnce Passed result h.old.hand h.new.hand }
 {
     let hand = lend_hand(h);
     if !begins(hand) {
@@ -92,7 +92,7 @@ pub extern "C" fn mhl_pass(h: &mut MutatorHandle) -> u32
 /// Makes an object in variable v.
 #[unsafe(no_mangle)]
 pub extern "C" fn mhl_make(h: &mut MutatorHandle, v: u32, value: u32) -> u32
-    ensures answers { AnswersOnce (λ came. StepperMakes came (ops.New v value)) result h.old.hand.stepper h.new.hand.stepper }
+    ensures answers { AnswersOnce (λ came. StepperMakes came (ops.New v value)) result h.old.hand h.new.hand }
 {
     let hand = lend_hand(h);
     if !begins(hand) {
@@ -106,7 +106,7 @@ pub extern "C" fn mhl_make(h: &mut MutatorHandle, v: u32, value: u32) -> u32
 /// Field i of the object of v becomes w, where v refers to one.
 #[unsafe(no_mangle)]
 pub extern "C" fn mhl_set(h: &mut MutatorHandle, v: u32, i: u32, w: u32) -> u32
-    ensures answers { AnswersOnce (Stores v (ops.Set v i w)) result h.old.hand.stepper h.new.hand.stepper }
+    ensures answers { AnswersOnce (Stores v (ops.Set v i w)) result h.old.hand h.new.hand }
 {
     let hand = lend_hand(h);
     if !begins(hand) {
@@ -120,7 +120,7 @@ pub extern "C" fn mhl_set(h: &mut MutatorHandle, v: u32, i: u32, w: u32) -> u32
 /// Variable w becomes field i of the object of v.
 #[unsafe(no_mangle)]
 pub extern "C" fn mhl_get(h: &mut MutatorHandle, w: u32, v: u32, i: u32) -> u32
-    ensures answers { AnswersOnce (λ came. Operates came (ops.Get w v i)) result h.old.hand.stepper h.new.hand.stepper }
+    ensures answers { AnswersOnce (λ came. Operates came (ops.Get w v i)) result h.old.hand h.new.hand }
 {
     let hand = lend_hand(h);
     if !begins(hand) {
@@ -134,7 +134,7 @@ pub extern "C" fn mhl_get(h: &mut MutatorHandle, w: u32, v: u32, i: u32) -> u32
 /// Variable w becomes v.
 #[unsafe(no_mangle)]
 pub extern "C" fn mhl_copy(h: &mut MutatorHandle, w: u32, v: u32) -> u32
-    ensures answers { AnswersOnce (λ came. Operates came (ops.Let w v)) result h.old.hand.stepper h.new.hand.stepper }
+    ensures answers { AnswersOnce (λ came. Operates came (ops.Let w v)) result h.old.hand h.new.hand }
 {
     let hand = lend_hand(h);
     if !begins(hand) {
@@ -148,7 +148,7 @@ pub extern "C" fn mhl_copy(h: &mut MutatorHandle, w: u32, v: u32) -> u32
 /// Variable v becomes nil.
 #[unsafe(no_mangle)]
 pub extern "C" fn mhl_forget(h: &mut MutatorHandle, v: u32) -> u32
-    ensures answers { AnswersOnce (λ came. Operates came (ops.Nil v)) result h.old.hand.stepper h.new.hand.stepper }
+    ensures answers { AnswersOnce (λ came. Operates came (ops.Nil v)) result h.old.hand h.new.hand }
 {
     let hand = lend_hand(h);
     if !begins(hand) {
@@ -162,7 +162,7 @@ pub extern "C" fn mhl_forget(h: &mut MutatorHandle, v: u32) -> u32
 /// The value of the object of v becomes this one, where v refers to one.
 #[unsafe(no_mangle)]
 pub extern "C" fn mhl_put(h: &mut MutatorHandle, v: u32, value: u32) -> u32
-    ensures answers { AnswersOnce (Stores v (ops.Put v value)) result h.old.hand.stepper h.new.hand.stepper }
+    ensures answers { AnswersOnce (Stores v (ops.Put v value)) result h.old.hand h.new.hand }
 {
     let hand = lend_hand(h);
     if !begins(hand) {
@@ -176,7 +176,8 @@ pub extern "C" fn mhl_put(h: &mut MutatorHandle, v: u32, value: u32) -> u32
 /// Writes the value of the object of v.
 #[unsafe(no_mangle)]
 pub extern "C" fn mhl_value(h: &mut MutatorHandle, v: u32, out: &mut u32) -> u32
-    ensures answers { AnswersOnce (ReadsTo v out.old out.new) result h.old.hand.stepper h.new.hand.stepper }
+    ensures answers { AnswersOnce (ReadsTo v out.old out.new) result h.old.hand h.new.hand }
+    ensures quiet { SparesUnused h.old.hand out.old out.new }
 {
     let hand = lend_hand(h);
     if !begins(hand) {
@@ -190,7 +191,7 @@ pub extern "C" fn mhl_value(h: &mut MutatorHandle, v: u32, out: &mut u32) -> u32
 /// The next step of a collection of the mutator's own, of at most so many objects or blocks.
 #[unsafe(no_mangle)]
 pub extern "C" fn mhl_collect_step(h: &mut MutatorHandle, most: u32) -> u32
-    ensures answers { AnswersOnce (CollectsAtMost most) result h.old.hand.stepper h.new.hand.stepper }
+    ensures answers { AnswersOnce (CollectsAtMost most) result h.old.hand h.new.hand }
 {
     let hand = lend_hand(h);
     if !begins(hand) {
@@ -224,7 +225,7 @@ pub extern "C" fn mhl_take_mutator(
 /// Gives a mutator back to the world. It leaves first.
 #[unsafe(no_mangle)]
 pub extern "C" fn mhl_give_back(world: &mut WorldHandle, h: &mut MutatorHandle) -> u32
-    ensures gives { GivesOnce result world.old.whole.world world.new.whole.world h.old.hand.stepper h.new.hand.stepper }
+    ensures gives { GivesOnce result world.old.whole.world world.new.whole.world h.old.hand h.new.hand }
 {
     let hand = lend_hand(h);
     if !begins(hand) {

@@ -1,5 +1,5 @@
 //! What a call does with the tracer behind a handle.
-ghost use Rattle.std.specs.Prelude.{IfErr, IfOk};
+ghost use Rattle.std.specs.Prelude.{IfErr, IfOk, IsFalse};
 ghost use Rattle.managed_heap_c.specs.Tracers.{AnswersTurn, Dismissing, GivesTracer, GivesTracerBack, HoldsTracer, IsLent, LendsNone, TakesTracer};
 
 use crate::hands::{AnyWorld, TracerHand, Whole};
@@ -7,15 +7,16 @@ use crate::slots::{TracerSlot, tracer_slot};
 use crate::statuses::{GIVEN_BACK, NONE_LEFT, OK, OUT_OF_MEMORY, REFUSED, STOPPED, turn_status};
 use seat_steps::Tracer;
 use std::alloc::{AllocError, Global};
-use std::sync::atomic::AtomicU32;
 
-/// An empty hand in a box.
-fn boxed_hand(alloc: Global) -> Result<Box<TracerHand, Global>, AllocError> {
+/// An empty hand in a box, which no call uses.
+fn boxed_hand(alloc: Global) -> Result<Box<TracerHand, Global>, AllocError>
+    ensures rests { IfOk result (λ hand. IsFalse hand.value.busy) }
+{
     Ok(Box::new(
         alloc,
         TracerHand {
             tracer: None,
-            word: AtomicU32::new(0),
+            busy: false,
         },
     )?)
 }
@@ -36,6 +37,7 @@ fn tracer_of(whole: &mut Whole) -> Result<Tracer, u32>
 
 /// A handle of this tracer.
 fn slot_of(hand: Box<TracerHand, Global>, lent: Tracer) -> TracerSlot
+    requires rests { IsFalse hand.value.busy }
     ensures holds { HoldsTracer lent result }
 {
     let mut hand = hand;

@@ -24,7 +24,7 @@ pub extern "C" fn mhl_take_tracer(
 /// One turn of a tracer, which doesn't wait.
 #[unsafe(no_mangle)]
 pub extern "C" fn mhl_trace_turn(h: &mut TracerHandle) -> u32
-    ensures answers { AnswersTurnOnce result h.old.hand.tracer h.new.hand.tracer }
+    ensures answers { AnswersTurnOnce result h.old.hand h.new.hand }
 {
     let hand = lend_tracer(h);
     if !begins_turn(hand) {
@@ -38,7 +38,7 @@ pub extern "C" fn mhl_trace_turn(h: &mut TracerHandle) -> u32
 /// Gives a tracer back to the world.
 #[unsafe(no_mangle)]
 pub extern "C" fn mhl_give_back_tracer(world: &mut WorldHandle, h: &mut TracerHandle) -> u32
-    ensures gives { GivesTracerOnce result world.old.whole.world world.new.whole.world h.old.hand.tracer h.new.hand.tracer }
+    ensures gives { GivesTracerOnce result world.old.whole.world world.new.whole.world h.old.hand h.new.hand }
 {
     let hand = lend_tracer(h);
     if !begins_turn(hand) {

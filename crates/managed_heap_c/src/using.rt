@@ -1,33 +1,46 @@
-//! A word by which a second call beside the first is refused.
-ghost use Rattle.std.specs.Prelude.{◌≡◌};
+//! Whether a call uses a handle: a second one is refused.
+//!
+//! What is behind the handle belongs to one call at a time, so a plain store is enough, which takes a twentieth of an exchange's time. Two threads that begin at
+//! the same moment against that rule may both find it free.
+ghost use Rattle.std.specs.Prelude.{◌≡◌, true, false, IsFalse, IsTrue};
+ghost use Rattle.std.specs.Bool.{OnFalse, OnTrue};
 
 use crate::hands::{Hand, TracerHand};
-use std::sync::atomic::{AtomicU32, Ordering};
 
-/// Begins a call: false where another is under way.
+/// Begins a call: false where another is under way, and then nothing changed.
 pub fn begins(hand: &mut Hand) -> bool
-    ensures same { hand.new.stepper ≡ hand.old.stepper }
+    ensures begun { OnTrue result (IsFalse hand.old.busy × (hand.new ≡ record hand.old { busy = true })) }
+    ensures in_use { OnFalse result (IsTrue hand.old.busy × (hand.new ≡ hand.old)) }
 {
-    hand.word.swap(1, Ordering::SeqCst) == 0
+    if hand.busy {
+        return false;
+    }
+    hand.busy = true;
+    true
 }
 
-/// Ends it. The call has what lies behind the handle to itself, so a plain store is enough, which takes a tenth of an atomic one's time.
+/// Ends it.
 pub fn ends(hand: &mut Hand)
-    ensures same { hand.new.stepper ≡ hand.old.stepper }
+    ensures ended { hand.new ≡ record hand.old { busy = false } }
 {
-    hand.word = AtomicU32::new(0);
+    hand.busy = false;
 }
 
-/// Begins a tracer's call: false where another is under way.
+/// Begins a tracer's call: false where another is under way, and then nothing changed.
 pub fn begins_turn(hand: &mut TracerHand) -> bool
-    ensures same { hand.new.tracer ≡ hand.old.tracer }
+    ensures begun { OnTrue result (IsFalse hand.old.busy × (hand.new ≡ record hand.old { busy = true })) }
+    ensures in_use { OnFalse result (IsTrue hand.old.busy × (hand.new ≡ hand.old)) }
 {
-    hand.word.swap(1, Ordering::SeqCst) == 0
+    if hand.busy {
+        return false;
+    }
+    hand.busy = true;
+    true
 }
 
 /// Ends a tracer's call.
 pub fn ends_turn(hand: &mut TracerHand)
-    ensures same { hand.new.tracer ≡ hand.old.tracer }
+    ensures ended { hand.new ≡ record hand.old { busy = false } }
 {
-    hand.word = AtomicU32::new(0);
+    hand.busy = false;
 }

@@ -1,5 +1,5 @@
 //! Worlds are opened and closed, and lend their mutators.
-ghost use Rattle.std.specs.Prelude.{◌≡◌, IfErr, IfOk, Some};
+ghost use Rattle.std.specs.Prelude.{◌≡◌, IfErr, IfOk, IsFalse, Some};
 ghost use Rattle.managed_heap_c.specs.Answering.{ClosesWorld, CountsWorld, Gives, GivesBack};
 ghost use Rattle.managed_heap_c.specs.Taking.{HasNone, HoldsSteps, Lends, OpensWorld, TakesMutator};
 
@@ -12,7 +12,6 @@ use crate::statuses::{
 use managed_heap::NotOpened;
 use seat_steps::Stepper;
 use std::alloc::{AllocError, Global};
-use std::sync::atomic::AtomicU32;
 
 /// A world in a box.
 fn boxed_world(alloc: Global, world: AnyWorld) -> Result<Box<Whole, Global>, AllocError>
@@ -21,13 +20,15 @@ fn boxed_world(alloc: Global, world: AnyWorld) -> Result<Box<Whole, Global>, All
     Ok(Box::new(alloc, Whole { world: Some(world) })?)
 }
 
-/// An empty hand in a box.
-fn boxed_hand(alloc: Global) -> Result<Box<Hand, Global>, AllocError> {
+/// An empty hand in a box, which no call uses.
+fn boxed_hand(alloc: Global) -> Result<Box<Hand, Global>, AllocError>
+    ensures rests { IfOk result (λ hand. IsFalse hand.value.busy) }
+{
     Ok(Box::new(
         alloc,
         Hand {
             stepper: None,
-            word: AtomicU32::new(0),
+            busy: false,
         },
     )?)
 }
@@ -65,6 +66,7 @@ fn mutator_of(whole: &mut Whole) -> Result<Stepper, u32>
 
 /// A handle of this mutator.
 fn slot_of(hand: Box<Hand, Global>, stepper: Stepper) -> MutatorSlot
+    requires rests { IsFalse hand.value.busy }
     ensures holds { HoldsSteps stepper result }
 {
     let mut hand = hand;

@@ -1,16 +1,11 @@
-use Rattle.std.proofs.Common.{ap, ◌∙◌}
+use Rattle.std.proofs.lemmas.Bool.{OnFalse_at, OnTrue_at}
 use Rattle.plain_heap.specs.declared.operation.Op.TheVariants as ops
 use Rattle.seat_steps.specs.Stepping.{StepperMakes}
-use Rattle.managed_heap_c.specs.declared.hands.Hand.{Hand}
-use Rattle.managed_heap_c.proofs.Answered.{once}
+use Rattle.managed_heap_c.proofs.Used.{once, once-in-use}
 use Rattle.managed_heap_c.proofs.mhl_make.Goals as goal
 
 pub returns : goal.returns
-returns c =
-    record {
-      answers =
-          once (λ came. StepperMakes came (ops.New c.args.v c.args.value)) c.make_by-answer.result c.args.h.now.hand.stepper c.begins.new.hand.stepper c.make_by-answer.new.hand.stepper c.ends.new.hand.stepper
-          (c.begins.ensures.same ∙ ap (λ (h : Hand). h.stepper) c.lend_hand-hand.ensures.value)
-          c.ends.ensures.same
-          c.make_by-answer.ensures.answers;
-    }
+returns c = record { answers = once (λ came. StepperMakes came (ops.New c.args.v c.args.value)) c.make_by-answer.result c.make_by-answer.new.hand c.lend_hand-hand.ensures.value (OnTrue_at c.if-not-begins.false c.begins.ensures.begun) c.ends.ensures.ended c.make_by-answer.ensures.answers }
+
+pub returns-then-not-begins : goal.returns-then-not-begins
+returns-then-not-begins c = record { answers = once-in-use (λ came. StepperMakes came (ops.New c.args.v c.args.value)) c.lend_hand-hand.ensures.value (OnFalse_at c.if-not-begins.true c.begins.ensures.in_use) }

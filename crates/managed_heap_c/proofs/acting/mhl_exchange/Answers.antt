@@ -1,15 +1,16 @@
-use Rattle.std.proofs.Common.{ap, ◌∙◌}
+use Rattle.std.proofs.lemmas.Bool.{OnFalse_at, OnTrue_at}
 use Rattle.managed_heap_c.specs.Acting.{ExchangesTo}
-use Rattle.managed_heap_c.specs.declared.hands.Hand.{Hand}
-use Rattle.managed_heap_c.proofs.Answered.{once}
+use Rattle.managed_heap_c.proofs.Used.{once, once-in-use, spared, spared-in-use}
 use Rattle.managed_heap_c.proofs.acting.mhl_exchange.Goals as goal
 
-pub returns : goal.returns
-returns c =
-    record {
-      answers =
-          once (ExchangesTo c.args.v c.args.i c.args.expected c.args.next c.args.won.now c.exchange_by-answer.new.won) c.exchange_by-answer.result c.args.h.now.hand.stepper c.begins.new.hand.stepper c.exchange_by-answer.new.hand.stepper c.ends.new.hand.stepper
-          (c.begins.ensures.same ∙ ap (λ (h : Hand). h.stepper) c.lend_hand-hand.ensures.value)
-          c.ends.ensures.same
-          c.exchange_by-answer.ensures.answers;
-    }
+pub returns-clause-answers : goal.returns-clause-answers
+returns-clause-answers c = once (ExchangesTo c.args.v c.args.i c.args.expected c.args.next c.args.won.now c.exchange_by-answer.new.won) c.exchange_by-answer.result c.exchange_by-answer.new.hand c.lend_hand-hand.ensures.value (OnTrue_at c.if-not-begins.false c.begins.ensures.begun) c.ends.ensures.ended c.exchange_by-answer.ensures.answers
+
+pub returns-clause-quiet : goal.returns-clause-quiet
+returns-clause-quiet c = spared c.args.won.now c.exchange_by-answer.new.won c.lend_hand-hand.ensures.value (OnTrue_at c.if-not-begins.false c.begins.ensures.begun) c.exchange_by-answer.ensures.quiet
+
+pub returns-then-not-begins-clause-answers : goal.returns-then-not-begins-clause-answers
+returns-then-not-begins-clause-answers c = once-in-use (ExchangesTo c.args.v c.args.i c.args.expected c.args.next c.args.won.now c.args.won.now) c.lend_hand-hand.ensures.value (OnFalse_at c.if-not-begins.true c.begins.ensures.in_use)
+
+pub returns-then-not-begins-clause-quiet : goal.returns-then-not-begins-clause-quiet
+returns-then-not-begins-clause-quiet c = spared-in-use c.args.h.now.hand c.args.won.now

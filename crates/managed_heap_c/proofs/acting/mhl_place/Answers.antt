@@ -1,15 +1,16 @@
-use Rattle.std.proofs.Common.{ap, ◌∙◌}
+use Rattle.std.proofs.lemmas.Bool.{OnFalse_at, OnTrue_at}
 use Rattle.managed_heap_c.specs.Acting.{PlacesTo}
-use Rattle.managed_heap_c.specs.declared.hands.Hand.{Hand}
-use Rattle.managed_heap_c.proofs.Answered.{once}
+use Rattle.managed_heap_c.proofs.Used.{once, once-in-use, spared, spared-in-use}
 use Rattle.managed_heap_c.proofs.acting.mhl_place.Goals as goal
 
-pub returns : goal.returns
-returns c =
-    record {
-      answers =
-          once (PlacesTo c.args.v c.args.place.now c.place_by-answer.new.place) c.place_by-answer.result c.args.h.now.hand.stepper c.begins.new.hand.stepper c.place_by-answer.new.hand.stepper c.ends.new.hand.stepper
-          (c.begins.ensures.same ∙ ap (λ (h : Hand). h.stepper) c.lend_hand-hand.ensures.value)
-          c.ends.ensures.same
-          c.place_by-answer.ensures.answers;
-    }
+pub returns-clause-answers : goal.returns-clause-answers
+returns-clause-answers c = once (PlacesTo c.args.v c.args.place.now c.place_by-answer.new.place) c.place_by-answer.result c.place_by-answer.new.hand c.lend_hand-hand.ensures.value (OnTrue_at c.if-not-begins.false c.begins.ensures.begun) c.ends.ensures.ended c.place_by-answer.ensures.answers
+
+pub returns-clause-quiet : goal.returns-clause-quiet
+returns-clause-quiet c = spared c.args.place.now c.place_by-answer.new.place c.lend_hand-hand.ensures.value (OnTrue_at c.if-not-begins.false c.begins.ensures.begun) c.place_by-answer.ensures.quiet
+
+pub returns-then-not-begins-clause-answers : goal.returns-then-not-begins-clause-answers
+returns-then-not-begins-clause-answers c = once-in-use (PlacesTo c.args.v c.args.place.now c.args.place.now) c.lend_hand-hand.ensures.value (OnFalse_at c.if-not-begins.true c.begins.ensures.in_use)
+
+pub returns-then-not-begins-clause-quiet : goal.returns-then-not-begins-clause-quiet
+returns-then-not-begins-clause-quiet c = spared-in-use c.args.h.now.hand c.args.place.now
