@@ -27,7 +27,7 @@ extern "C" {
 #endif
 
 /* The version of these calls. The first number rises where a program has to be changed or compiled again. */
-#define MH_VERSION "2.0"
+#define MH_VERSION "2.1"
 
 /* What a call came to. Where it isn't MH_OK, objects and variables are as before, but for what a line here says. */
 typedef enum mh_status {
@@ -132,6 +132,7 @@ mh_status mhl_enter_step(mh_mutator *m);
 mh_status mhl_leave(mh_mutator *m);
 mh_status mhl_pass(mh_mutator *m);
 mh_status mhl_make(mh_mutator *m, uint32_t v, uint32_t value);
+mh_status mhl_make_with(mh_mutator *m, uint32_t v, uint32_t value, const uint32_t *fields, size_t count);
 mh_status mhl_set(mh_mutator *m, uint32_t v, uint32_t i, uint32_t w);
 mh_status mhl_get(mh_mutator *m, uint32_t w, uint32_t v, uint32_t i);
 mh_status mhl_copy(mh_mutator *m, uint32_t w, uint32_t v);
@@ -212,6 +213,17 @@ static inline mh_status mh_leave(mh_mutator *m) { return MH_BY(m, mhl_leave(m));
 static inline mh_status mh_safe_point_step(mh_mutator *m) { return MH_BY(m, mhl_pass(m)); }
 /* v refers to a new object, whose fields are nil; MH_NO_CELL where no cell is free. It is a safe point too. */
 static inline mh_status mh_make_step(mh_mutator *m, uint32_t v, uint32_t value) { return MH_BY(m, mhl_make(m, v, value)); }
+
+/* Stands for no variable among the fields of mh_make_with: that field stays nil. */
+#define MH_NOTHING 0xffffffffu
+
+/* v refers to a new object. Its first `count` fields become what the variables of these numbers are, as by mh_set in this order; the others stay nil. v itself
+   stands for the new object there. All of it is done or nothing: MH_OUT_OF_RANGE where a number is neither below 32 nor MH_NOTHING, or where an object has fewer
+   fields; else as mh_make_step. */
+static inline mh_status mh_make_with_step(mh_mutator *m, uint32_t v, uint32_t value, const uint32_t *fields, uint32_t count) {
+    uint32_t none = MH_NOTHING;
+    return MH_BY(m, mhl_make_with(m, v, value, count ? fields : &none, count));
+}
 /* Field i of v's object becomes w; MH_NIL where v is nil. */
 static inline mh_status mh_set(mh_mutator *m, uint32_t v, uint32_t i, uint32_t w) { return MH_BY(m, mhl_set(m, v, i, w)); }
 /* w becomes field i of v's object; nil where v is. */
@@ -317,17 +329,28 @@ static inline mh_status mh_collect(mh_mutator *m) {
 /* How many collections of its own mh_make makes for one object, before it answers MH_NO_CELL. */
 enum { MH_TRIES = 3 };
 
+/* What a call does that makes an object, where a step came to s and made none: MH_OK where it is to take the next step. */
+static inline mh_status mh_make_room(mh_mutator *m, mh_status s, int *tries) {
+    if (s == MH_STOPPED) return mh_enter(m);
+    return s != MH_NO_CELL || (*tries)++ == MH_TRIES ? s : mh_collect(m);
+}
+
 /* v refers to a new object, whose fields are nil, with a collection where no cell is free. MH_NO_CELL: the collections left none for this mutator; others have
    taken what they freed. */
 static inline mh_status mh_make(mh_mutator *m, uint32_t v, uint32_t value) {
     int tries = 0;
-    for (;;) {
-        mh_status s = mh_make_step(m, v, value);
-        if (s == MH_STOPPED) s = mh_enter(m);
-        else if (s != MH_NO_CELL || tries++ == MH_TRIES) return s;
-        else s = mh_collect(m);
-        if (s != MH_OK) return s;
-    }
+    mh_status s;
+    while ((s = mh_make_step(m, v, value)) != MH_OK && (s = mh_make_room(m, s, &tries)) == MH_OK) {}
+    return s;
+}
+
+/* v refers to a new object, whose first `count` fields become what the variables of these numbers are: mh_make_with_step, with a collection where no cell is
+   free. */
+static inline mh_status mh_make_with(mh_mutator *m, uint32_t v, uint32_t value, const uint32_t *fields, uint32_t count) {
+    int tries = 0;
+    mh_status s;
+    while ((s = mh_make_with_step(m, v, value, fields, count)) != MH_OK && (s = mh_make_room(m, s, &tries)) == MH_OK) {}
+    return s;
 }
 
 /* What a tracer does between two turns, the first of which came to s: it yields where a cycle is marking, rests where a stop is under way, and sleeps longest

@@ -39,11 +39,27 @@ static void is_as_before(void) {
     wrong("whether field 2 is variable 1", out, 1);
 }
 
+/* A new object's references, one of which is out of range, or one too many. */
+static void makes_with(uint32_t v) {
+    uint32_t fields[FIELDS + 1] = {0, MH_NOTHING, 1, 0}, k;
+    MUST_BE(MH_OUT_OF_RANGE, mh_make_with(&m, v, 5, fields, FIELDS));
+    MUST_BE(MH_OUT_OF_RANGE, mh_make_with(&m, 0, 5, fields, FIELDS + 1));
+    MUST_BE(MH_OUT_OF_RANGE, mh_make_with(&m, v, 5, fields, 0));
+    for (k = 0; k < FIELDS; k++) {
+        uint32_t before = fields[k];
+        fields[k] = v;
+        MUST_BE(MH_OUT_OF_RANGE, mh_make_with(&m, 0, 5, fields, FIELDS));
+        MUST_BE(MH_OUT_OF_RANGE, mh_make_with_step(&m, 1, 5, fields, k + 1));
+        fields[k] = before;
+    }
+}
+
 /* A number of a variable that is too great, in each place in which one stands. */
 static void variable(uint32_t v) {
     uint32_t out = 77;
     MUST_BE(MH_OUT_OF_RANGE, mh_make_step(&m, v, 5));
     MUST_BE(MH_OUT_OF_RANGE, mh_make(&m, v, 5));
+    if (v != MH_NOTHING) makes_with(v);
     MUST_BE(MH_OUT_OF_RANGE, mh_set(&m, v, 0, 1));
     MUST_BE(MH_OUT_OF_RANGE, mh_set(&m, 0, 0, v));
     MUST_BE(MH_OUT_OF_RANGE, mh_set(&m, 2, 0, v));
@@ -58,6 +74,30 @@ static void variable(uint32_t v) {
     MUST_BE(MH_OUT_OF_RANGE, mh_same(&m, v, 0, &out));
     MUST_BE(MH_OUT_OF_RANGE, mh_same(&m, 0, v, &out));
     wrong("what was written", out, 77);
+    is_as_before();
+}
+
+/* An object with references, of which variable 5 is one to itself: variable 0 is in its field 0, and its field 1 stays nil. */
+static void references(void) {
+    uint32_t fields[FIELDS] = {0, MH_NOTHING, 5}, out = 7;
+    MUST(mh_make(&m, 5, 50));
+    MUST(mh_make_with(&m, 5, 51, fields, FIELDS));
+    wrong("the value of an object with references", value_of(5), 51);
+    MUST(mh_get(&m, 6, 5, 0));
+    MUST(mh_same(&m, 6, 0, &out));
+    wrong("whether its field 0 is variable 0", out, 1);
+    MUST(mh_get(&m, 6, 5, 1));
+    MUST(mh_is_nil(&m, 6, &out));
+    wrong("whether its field 1 is nil", out, 1);
+    MUST(mh_get(&m, 6, 5, 2));
+    MUST(mh_same(&m, 6, 5, &out));
+    wrong("whether its field 2 is itself", out, 1);
+    MUST(mh_make_with(&m, 5, 52, fields, 0));
+    MUST(mh_make_with(&m, 5, 52, 0, 0));
+    MUST(mh_get(&m, 6, 5, 0));
+    MUST(mh_is_nil(&m, 6, &out));
+    wrong("whether a field without a reference is nil", out, 1);
+    MUST(mh_forget(&m, 5));
     is_as_before();
 }
 
@@ -253,6 +293,7 @@ int main(void) {
     for (k = 0; k < sizeof refused / sizeof *refused; k++) field(FIELDS + refused[k]);
     for (k = 0; k < sizeof refused / sizeof *refused; k++) calls_for_shared_worlds(refused[k]);
     stores_into_nothing();
+    references();
     handles();
     sizes_of_worlds();
     shared_world();

@@ -20,23 +20,40 @@ static void come_in(struct job *j) {
     }
 }
 
+/* The numbers of a new object's references, now and then one out of range, and whether an object may be made with them. */
+static int choose(struct job *j, uint32_t *fields, uint32_t count) {
+    uint32_t k;
+    int fit = count <= FIELDS;
+    for (k = 0; k < count; k++) {
+        fields[k] = random_below(j, 3) ? some_variable(j) : MH_NOTHING;
+        fit = fit && (fields[k] < VARIABLES || fields[k] == MH_NOTHING);
+    }
+    return fit;
+}
+
+/* Makes an object, every other time with references. */
+static mh_status make_step(struct job *j, uint32_t v, uint32_t value, const uint32_t *fields, uint32_t count) {
+    return told(j, count ? mh_make_with_step(&j->m, v, value, fields, count) : mh_make_step(&j->m, v, value));
+}
+
 static void make(struct job *j) {
-    uint32_t v = some_variable(j);
-    uint32_t value = random_below(j, 1u << 30);
-    mh_status wanted = expected(j, v < VARIABLES), s;
+    uint32_t v = some_variable(j), value = random_below(j, 1u << 30), fields[FIELDS + 1], k;
+    uint32_t count = random_below(j, 2) ? 0 : random_below(j, 12) ? random_below(j, FIELDS + 1) : FIELDS + 1;
+    mh_status wanted = expected(j, choose(j, fields, count) && v < VARIABLES), s;
     int32_t o;
-    if (wanted != MH_OK) { SAYS(wanted, mh_make_step(&j->m, v, value)); return; }
+    if (wanted != MH_OK) { must(make_step(j, v, value, fields, count), wanted, "an object that isn't made", __FILE__, __LINE__); return; }
     while ((o = unreached(j)) < 0) {
         uint32_t w = random_below(j, VARIABLES);
         SAYS(MH_OK, mh_forget(&j->m, w));
         j->variable[w] = -1;
     }
-    s = told(j, mh_make_step(&j->m, v, value));
+    s = make_step(j, v, value, fields, count);
     if (s == MH_STOPPED) { j->place = OUTSIDE; return; }
     if (s == MH_NO_CELL) return;
-    must(s, MH_OK, "mh_make_step", __FILE__, __LINE__);
+    must(s, MH_OK, "an object that is made", __FILE__, __LINE__);
     begin_shadow(j, o, value, j->made++);
     j->variable[v] = o;
+    for (k = 0; k < count; k++) if (fields[k] != MH_NOTHING) j->of[o].field[k] = j->variable[fields[k]];
 }
 
 static void operate(struct job *j, uint32_t which) {
@@ -153,6 +170,7 @@ static void use_gone(struct job *j, uint32_t which) {
     case 20: SAYS(MH_GIVEN_BACK, mh_forget_slots(g, v, w)); break;
     case 21: SAYS(MH_GIVEN_BACK, mh_place(g, v, &out)); break;
     case 22: SAYS(MH_GIVEN_BACK, mh_number(g, v, &out, &out)); break;
+    case 23: SAYS(MH_GIVEN_BACK, mh_make_with_step(g, v, 1, &w, 1)); break;
     default: SAYS(MH_GIVEN_BACK, mh_forget(g, v));
     }
     wrong("what a call by a handle that was given back wrote", out, 77);
@@ -215,7 +233,7 @@ static void *work(void *p) {
         else if (which < 82) move(j, which % 2 + (random_below(j, 8) ? 0 : 3));
         else if (which < 92) move(j, 2);
         else if (which < 96) move(j, j->place == INSIDE ? 2 : which % 4 + (which % 4 == 3));
-        else if (which < 99) use_gone(j, random_below(j, 24));
+        else if (which < 99) use_gone(j, random_below(j, 25));
         else if (!random_below(j, 20)) lend(j);
         else if (!random_below(j, 20)) lend_tracer(j);
         if (j->calls >= next) {

@@ -82,6 +82,16 @@ static inline mh_status mh_get(mh_mutator *m, uint32_t w, uint32_t v, uint32_t i
     m->v[w] = !m->v[v] ? 0 : m->root ? __atomic_load_n(&m->v[v]->field[i], __ATOMIC_SEQ_CST) : m->v[v]->field[i];
     return MH_OK;
 }
+#define MH_NOTHING 0xffffffffu
+static inline mh_status mh_make_with(mh_mutator *m, uint32_t v, uint32_t value, const uint32_t *fields, uint32_t count) {
+    uint32_t k;
+    mh_status s;
+    MH_AT(m, v < 32 && count <= m->fields);
+    for (k = 0; k < count; k++) if (fields[k] >= 32 && fields[k] != MH_NOTHING) return MH_OUT_OF_RANGE;
+    s = mh_make(m, v, value);
+    for (k = 0; s == MH_OK && k < count; k++) if (fields[k] != MH_NOTHING) s = mh_set(m, v, k, fields[k]);
+    return s;
+}
 static inline mh_status mh_copy(mh_mutator *m, uint32_t w, uint32_t v) { MH_AT(m, v < 32 && w < 32); m->v[w] = m->v[v]; return MH_OK; }
 static inline mh_status mh_forget(mh_mutator *m, uint32_t v) { MH_AT(m, v < 32); m->v[v] = 0; return MH_OK; }
 static inline mh_status mh_put(mh_mutator *m, uint32_t v, uint32_t value) {

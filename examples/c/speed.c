@@ -2,14 +2,14 @@
 #include "heap.h"
 
 static void tell(const char *what, double from, uint64_t many) {
-    printf("%-13s %-12s %-8s %6.1f ns\n", "speed", COLLECTOR, what, (now() - from) * 1e9 / (double)many);
+    printf("%-13s %-12s %-12s %6.1f ns\n", "speed", COLLECTOR, what, (now() - from) * 1e9 / (double)many);
 }
 
 int main(int count_of, char **words) {
     static mh_world world;
     static mh_mutator m;
     uint64_t many = 1000000ull * number(count_of, words, 1, 10), k;
-    uint32_t cells = number(count_of, words, 2, 65536), value = 0, sum = 0;
+    uint32_t cells = number(count_of, words, 2, 65536), value = 0, sum = 0, fields[2] = {1, 1};
     double from;
     open_world(&world, cells, 2, 1);
     MUST(mh_take_mutator(&world, &m));
@@ -18,6 +18,16 @@ int main(int count_of, char **words) {
     for (k = 0; k < many; k++) MUST(mh_make(&m, 0, (uint32_t)k));
     tell("make", from, many);
     MUST(mh_make(&m, 1, 5));
+    from = now();
+    for (k = 0; k < many; k++) {
+        MUST(mh_make(&m, 0, (uint32_t)k));
+        MUST(mh_set(&m, 0, 0, 1));
+        MUST(mh_set(&m, 0, 1, 1));
+    }
+    tell("make, 2 sets", from, many);
+    from = now();
+    for (k = 0; k < many; k++) MUST(mh_make_with(&m, 0, (uint32_t)k, fields, 2));
+    tell("make_with", from, many);
     from = now();
     for (k = 0; k < many; k++) MUST(mh_set(&m, 0, (uint32_t)(k & 1), 1));
     tell("set", from, many);

@@ -1,6 +1,7 @@
 pub mod Acted
 pub mod Answered
 pub mod Given
+pub mod Made
 pub mod Numbered
 pub mod Stored
 pub mod Tested

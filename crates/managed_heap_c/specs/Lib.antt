@@ -5,6 +5,7 @@ pub mod Bytes
 pub mod Filled
 pub mod Kinds
 pub mod Lent
+pub mod Making
 pub mod Own
 pub mod Owned
 pub mod Sharing

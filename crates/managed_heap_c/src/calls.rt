@@ -3,10 +3,12 @@ ghost use Rattle.plain_heap.specs.declared.operation.Op.TheVariants as ops;
 ghost use Rattle.seat_steps.specs.Bounds.{CollectsAtMost};
 ghost use Rattle.seat_steps.specs.Stepping.{Entered, Left, StepperMakes, Operates, Passed};
 ghost use Rattle.managed_heap_c.specs.Answering.{Answers, ReadsTo, SparesGone};
+ghost use Rattle.managed_heap_c.specs.Making.{MakesWith};
 ghost use Rattle.managed_heap_c.specs.Storing.{Stores};
 
 use crate::bytes::byte_of;
 use crate::hands::Hand;
+use crate::making::make_with_in;
 use crate::statuses::{GIVEN_BACK, status};
 use crate::storing::{put_in, set_in};
 
@@ -61,6 +63,16 @@ pub fn make_by(hand: &mut Hand, v: u32, value: u32) -> u32
             let v = byte_of(v);
             status(stepper.make(v, value))
         }
+    }
+}
+
+/// Makes an object of this value in variable v with these references, if a cell is free: the status of the call. `GIVEN_BACK` where the handle is empty.
+pub fn make_with_by(hand: &mut Hand, v: u32, value: u32, fields: &[u32]) -> u32
+    ensures answers { Answers (MakesWith v value fields.now) result hand.old.stepper hand.new.stepper }
+{
+    match &mut hand.stepper {
+        None => GIVEN_BACK,
+        Some(stepper) => status(make_with_in(stepper, v, value, fields)),
     }
 }
 

@@ -16,6 +16,7 @@ mod hands;
 mod kinds;
 mod lending;
 mod loose;
+mod making;
 mod own;
 mod sharing;
 mod sizes;
@@ -31,12 +32,13 @@ ghost use Rattle.plain_heap.specs.declared.operation.Op.TheVariants as ops;
 ghost use Rattle.seat_steps.specs.Bounds.{CollectsAtMost};
 ghost use Rattle.seat_steps.specs.Stepping.{Entered, Left, StepperMakes, Operates, Passed};
 ghost use Rattle.managed_heap_c.specs.Answering.{AnswersOnce, ClosesWorld, CountsWorld, GivesOnce, ReadsTo, SparesUnused};
+ghost use Rattle.managed_heap_c.specs.Making.{MakesWith};
 ghost use Rattle.managed_heap_c.specs.Storing.{Stores};
 ghost use Rattle.managed_heap_c.specs.Taking.{OpensWorld, TakesMutator};
 
 use calls::{
-    collect_by, copy_by, enter_by, forget_by, get_by, leave_by, make_by, pass_by, put_by, set_by,
-    value_by,
+    collect_by, copy_by, enter_by, forget_by, get_by, leave_by, make_by, make_with_by, pass_by,
+    put_by, set_by, value_by,
 };
 use handles::{MutatorHandle, WorldHandle};
 use lending::{lend_hand, lend_whole};
@@ -99,6 +101,20 @@ pub extern "C" fn mhl_make(h: &mut MutatorHandle, v: u32, value: u32) -> u32
         return IN_USE;
     }
     let answer = make_by(hand, v, value);
+    ends(hand);
+    answer
+}
+
+/// Makes an object in variable v whose first fields become what the variables of these numbers are; for the number 4,294,967,295 a field stays nil.
+#[unsafe(no_mangle)]
+pub extern "C" fn mhl_make_with(h: &mut MutatorHandle, v: u32, value: u32, fields: &[u32]) -> u32
+    ensures answers { AnswersOnce (MakesWith v value fields.now) result h.old.hand h.new.hand }
+{
+    let hand = lend_hand(h);
+    if !begins(hand) {
+        return IN_USE;
+    }
+    let answer = make_with_by(hand, v, value, fields);
     ends(hand);
     answer
 }

@@ -48,6 +48,7 @@ extern "C" {
     fn mhl_leave(m: *mut Handle) -> u32;
     fn mhl_pass(m: *mut Handle) -> u32;
     fn mhl_make(m: *mut Handle, v: u32, value: u32) -> u32;
+    fn mhl_make_with(m: *mut Handle, v: u32, value: u32, fields: *const u32, count: usize) -> u32;
     fn mhl_set(m: *mut Handle, v: u32, i: u32, w: u32) -> u32;
     fn mhl_get(m: *mut Handle, w: u32, v: u32, i: u32) -> u32;
     fn mhl_copy(m: *mut Handle, w: u32, v: u32) -> u32;
@@ -136,6 +137,10 @@ impl Handle {
 
     pub fn make(&mut self, v: u32, value: u32) -> u32 {
         unsafe { mhl_make(self, v, value) }
+    }
+
+    pub fn make_with(&mut self, v: u32, value: u32, fields: &[u32]) -> u32 {
+        unsafe { mhl_make_with(self, v, value, fields.as_ptr(), fields.len()) }
     }
 
     pub fn set(&mut self, v: u32, i: u32, w: u32) -> u32 {

@@ -13,6 +13,12 @@ pub const VARIABLES: u32 = 32;
 /// How many objects it marks, or blocks it sweeps, between two looks at what it waits for.
 const STEP: u32 = 4096;
 
+/// How many references an object has at most.
+const FIELDS: usize = 16;
+
+/// What stands for no variable where one may be given.
+const NOTHING: u32 = u32::MAX;
+
 /// How many collections it makes for one object.
 const TRIES: u32 = 3;
 
@@ -57,11 +63,11 @@ impl Mutator {
         }
     }
 
-    /// Variable v refers to a new object of this value, whose fields refer to nothing. Where no cell is free it collects. It is a safe point too.
-    pub fn make(&mut self, v: u32, value: u32) -> Result<(), Error> {
+    /// An object is made by this call, with a collection where no cell is free.
+    fn makes(&mut self, mut make: impl FnMut(&mut Handle) -> u32) -> Result<(), Error> {
         let mut tries = 0;
         loop {
-            match self.handle.make(v, value) {
+            match make(&mut self.handle) {
                 STOPPED => self.enter()?,
                 NO_CELL if tries < TRIES => {
                     tries += 1;
@@ -70,6 +76,23 @@ impl Mutator {
                 other => return Error::of(other),
             }
         }
+    }
+
+    /// Variable v refers to a new object of this value, whose fields refer to nothing. Where no cell is free it collects. It is a safe point too.
+    pub fn make(&mut self, v: u32, value: u32) -> Result<(), Error> {
+        self.makes(|handle| handle.make(v, value))
+    }
+
+    /// Variable v refers to a new object of this value, whose first fields become what these variables are, or refer to nothing for `None`; so do the others. v
+    /// itself stands for the new object there. All of it is done, or nothing: [`Error::OutOfRange`] where a variable isn't below 32, or where an object has
+    /// fewer fields. Else as [`Mutator::make`].
+    pub fn make_with(&mut self, v: u32, value: u32, fields: &[Option<u32>]) -> Result<(), Error> {
+        let mut numbers = [NOTHING; FIELDS];
+        let numbers = numbers.get_mut(..fields.len()).ok_or(Error::OutOfRange)?;
+        for (number, field) in numbers.iter_mut().zip(fields) {
+            *number = field.map_or(NOTHING, |n| n.min(NOTHING - 1));
+        }
+        self.makes(|handle| handle.make_with(v, value, numbers))
     }
 
     /// Field i of variable v's object becomes what variable w refers to. [`Error::Nil`] where v refers to nothing.

@@ -58,6 +58,30 @@ fn each_call_does_what_it_says() {
 }
 
 #[test]
+fn an_object_is_made_with_its_references() {
+    let world = World::open(Sizes::of_cells(64).fields(3)).unwrap();
+    let mut m = inside(&world);
+    m.make(0, 7).unwrap();
+    m.make_with(1, 8, &[Some(0), None, Some(1)]).unwrap();
+    m.get(2, 1, 0).unwrap();
+    assert_eq!(m.same(0, 2), Ok(true));
+    m.get(2, 1, 1).unwrap();
+    assert_eq!(m.is_nil(2), Ok(true));
+    m.get(2, 1, 2).unwrap();
+    assert_eq!(m.same(1, 2), Ok(true));
+    for fields in [&[Some(32)][..], &[Some(u32::MAX)], &[None; 4], &[None; 17]] {
+        assert_eq!(m.make_with(1, 9, fields), Err(Error::OutOfRange));
+    }
+    assert_eq!(m.make_with(32, 9, &[]), Err(Error::OutOfRange));
+    assert_eq!(m.value(1), Ok(8));
+    for value in 0..1_000 {
+        m.make_with(1, value, &[Some(0)]).unwrap();
+    }
+    m.get(2, 1, 0).unwrap();
+    assert_eq!((m.value(1), m.value(2)), (Ok(999), Ok(7)));
+}
+
+#[test]
 fn wrong_calls_are_refused_by_name() {
     let world = World::open(Sizes::of_cells(64)).unwrap();
     let mut m = world.mutator().unwrap();
