@@ -1,5 +1,5 @@
 -- What a call for a shared world came to by bytes, it came to by the numbers of C.
-use Rattle.std.proofs.Common.{ℕ, ◌≡◌, ◌≤◌, ◌<◌, ◌⊎◌, sym, subst, arith, ⊎_elim}
+use Rattle.std.proofs.Common.{ℕ, ◌≡◌, ◌≤◌, ◌<◌, sym, subst, arith, ⊎_elim}
 use Rattle.std.proofs.lemmas.Bool.{cases_lt}
 use Rattle.std.specs.Arc.{arc_value}
 use Rattle.seat_steps.specs.Acting.{CanExchange, IsSlot, IsVariable, TakesRoot, slots_in}

@@ -1,5 +1,5 @@
 -- What a world comes to whose mutators have objects of their own.
-use Rattle.std.specs.Prelude.{ℕ, ◌≡◌, ◌<◌, ◌++◌, [], ◌∷◌, IsFalse, vec_len}
+use Rattle.std.specs.Prelude.{◌≡◌, ◌<◌, ◌++◌, [], ◌∷◌, IsFalse, vec_len}
 use Rattle.std.specs.Arc.{arc_value}
 use Rattle.gc_table.specs.Seats.{Across, view_of}
 use Rattle.stop_world.specs.Gates.{TurnsBack}

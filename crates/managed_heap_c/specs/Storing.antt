@@ -1,5 +1,5 @@
 -- What a store into an object came to.
-use Rattle.std.specs.Prelude.{ℕ, ◌≡◌, [], Bool, true, false, Result, Ok, Err, IsFalse, IsTrue}
+use Rattle.std.specs.Prelude.{ℕ, ◌≡◌, [], Bool, true, Result, Ok, IsFalse, IsTrue}
 use Rattle.std.specs.Arc.{arc_value}
 use Rattle.plain_heap.specs.PlainStep.{IsInRange}
 use Rattle.plain_heap.specs.declared.operation.Op.{Op}

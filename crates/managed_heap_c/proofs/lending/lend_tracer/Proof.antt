@@ -2,13 +2,13 @@
 use Rattle.std.proofs.Common.{◌≡◌, ℕ, List, [], ◌∷◌, refl, sym, ap, ◌∙◌}
 use seplogic.Ra.Ura.{Ura}
 use base.Fraction.{full_share}
-use base.Logic.{SProp, ent, sep, id⊢}
-use base.Fml.{Lft, GName, Share, Fml, ftrue, fsep, flft}
+use base.Logic.{ent, sep, id⊢}
+use base.Fml.{GName, Fml, ftrue, fsep, flft}
 use mir.Syntax.{named}
 use mir.Val.{Val, vptr}
 use contract.Running.{tables}
 use types.Logic.{Logic, sem}
-use types.Kit.{‵, raw, ◌⊛◌, some, later, await, pick, at_ret, ◌$◌, ◌∵◌, !, qed, by, move, keep, use1, split, split3, join, group, rewrite, fsplit, fsplit3, fjoin, fpack, suffices, frame, done}
+use types.Kit.{‵, raw, ◌⊛◌, some, later, await, pick, at_ret, ◌$◌, ◌∵◌, !, qed, move, keep, use1, split, split3, join, group, rewrite, fsplit, fsplit3, fjoin, fpack, suffices, frame, done}
 use types.Part.{whole, sub, look_in}
 use types.Run.{stop, fld, load, of_opd, addr, first, blocks, exec, returns, enter}
 use types.ByLocal.{alloc_all, pass_all, free_all, look_at, get, through, sets, sets_last, env}

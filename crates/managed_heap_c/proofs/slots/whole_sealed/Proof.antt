@@ -1,21 +1,19 @@
 -- `whole_sealed` hands over what lies at the address.
-use Rattle.std.proofs.Common.{◌≡◌, List, [], ◌∷◌, ◌++◌, refl, ap, ◌∙◌, sym, subst}
+use Rattle.std.proofs.Common.{◌≡◌, List, [], ◌∷◌, ◌++◌, refl, sym, subst}
 use mir.Syntax.{Fn}
 use mir.Val.{Val, vptr, vstruct, vcons, vnil}
-use mir.Raw.{raw as bare}
-use base.Logic.{SProp, ent, emp, id⊢, never, fst∗}
-use base.Fml.{ftrue, fsep}
+use base.Logic.{SProp, ent, emp, id⊢}
+use base.Fml.{ftrue}
 use prog.Wp.{WpFn}
 use contract.Monad.{fact, fact_i}
 use contract.Running.{tables}
-use types.Logic.{sem}
-use types.Kit.{‵, raw, ◌⊛◌, ◌$◌, ◌∵◌, !, qed, by, move, keep, drop, use0, split, join, suffices, fsplit, fjoin, fpack, feq_i}
+use types.Kit.{‵, raw, ◌⊛◌, ◌$◌, ◌∵◌, !, qed, by, move, keep, drop, use0, split, suffices, fsplit, fjoin, fpack, feq_i}
 use types.Part.{whole, sub, agg}
 use types.Run.{stop, fld, of_opd, no_more, and_then, returns, enter}
 use types.ByLocal.{alloc_all, pass_all, free_all, look_at, get, get_in, sets}
 use denote.RattleType.{RattleType, Valss, owns}
 use denote.Builtin.{RawPtr}
-use denote.RawPtr.{Ptr, block_ptr}
+use denote.RawPtr.{block_ptr}
 use denote.Signature.{types_at, plain}
 use denote.Steps.{nothing}
 use denote.Struct.Struct.{within}
