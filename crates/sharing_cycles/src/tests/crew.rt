@@ -1,0 +1,158 @@
+//! A world with a structure in the root's first field, and threads that act on it.
+
+use shared_heap::{Refused, SharedMutator, SharedWorld, Tracer};
+use std::alloc::Global;
+use std::sync::Wait;
+
+/// The variables of each thread: the root, the structure, and what it makes and finds.
+pub const ROOT: u8 = 0;
+
+pub const SHARED: u8 = 1;
+
+pub const MADE: u8 = 2;
+
+pub const FOUND: u8 = 3;
+
+/// How often a thread looks before it gives up.
+pub const LOOKS: u32 = 4_000_000;
+
+/// What came of what a thread did.
+#[derive(Clone, Copy, Debug, PartialEq, Eq, Drop)]
+pub struct Tally {
+    /// How many it counted.
+    pub count: u64,
+    /// The sum of what it counted.
+    pub sum: u64,
+    /// How many answers were other than they ought to be.
+    pub wrong: u64,
+}
+
+impl Tally {
+    /// Nothing was counted.
+    pub fn new() -> Tally {
+        Tally {
+            count: 0,
+            sum: 0,
+            wrong: 0,
+        }
+    }
+
+    /// Counts a number.
+    pub fn count(&mut self, number: u64) {
+        self.count = self.count.wrapping_add(1);
+        self.sum = self.sum.wrapping_add(number);
+    }
+
+    /// Notes an answer: whether it is as it ought to be.
+    pub fn expect(&mut self, right: bool) {
+        if !right {
+            self.wrong = self.wrong.wrapping_add(1);
+        }
+    }
+
+    /// Both together.
+    pub fn plus(self, other: Tally) -> Tally {
+        Tally {
+            count: self.count.wrapping_add(other.count),
+            sum: self.sum.wrapping_add(other.sum),
+            wrong: self.wrong.wrapping_add(other.wrong),
+        }
+    }
+}
+
+/// A mutator, and what came of it.
+#[derive(Drop)]
+pub struct Worker {
+    /// Which thread it is.
+    pub thread: u32,
+    /// The mutator, which is outside before and after.
+    pub mutator: SharedMutator,
+    /// What came of what it did.
+    pub tally: Tally,
+}
+
+impl Worker {
+    /// It has done what it was to do, or was refused, which counts as a wrong answer. It leaves, so that no other waits for it.
+    pub fn end(&mut self, ended: Result<(), Refused>) {
+        self.tally.expect(ended.is_ok());
+        self.mutator.leave();
+    }
+}
+
+/// All mutators of a world.
+pub fn hire(alloc: Global, world: &mut SharedWorld, count: u32) -> Option<Vec<Worker>> {
+    let mut workers = Vec::new(alloc);
+    for thread in 0..count {
+        let worker = Worker {
+            thread,
+            mutator: world.mutator()?,
+            tally: Tally::new(),
+        };
+        workers.push(worker).ok()?;
+    }
+    Some(workers)
+}
+
+/// Enters, with the root and the structure in hand.
+pub fn come<R: Wait>(rt: &R, m: &mut SharedMutator) -> Result<(), Refused> {
+    m.enter(rt)?;
+    m.root(ROOT)?;
+    m.get(SHARED, ROOT, 0)
+}
+
+/// Raises a variable's value by one, once it is found below a bound. False where it wasn't in all the looks that a thread takes.
+pub fn raise_below<R: Wait>(
+    rt: &R,
+    m: &mut SharedMutator,
+    v: u8,
+    bound: u32,
+) -> Result<bool, Refused> {
+    for _ in 0..LOOKS {
+        let found = u32::try_from(m.value(v)?).unwrap_or(bound);
+        if found < bound && m.exchange_value(v, found, found.wrapping_add(1))? {
+            return Ok(true);
+        }
+        m.safe_point(rt)?;
+        std::thread::yield_now();
+    }
+    Ok(false)
+}
+
+/// Lowers a variable's value by one.
+pub fn lower<R: Wait>(rt: &R, m: &mut SharedMutator, v: u8) -> Result<(), Refused> {
+    for _ in rt.forever() {
+        let found = u32::try_from(m.value(v)?).unwrap_or(0);
+        if m.exchange_value(v, found, found.wrapping_sub(1))? {
+            break;
+        }
+        m.safe_point(rt)?;
+    }
+    Ok(())
+}
+
+/// How many objects a mutator has made: the number of the next one tells.
+fn made<R: Wait>(rt: &R, m: &mut SharedMutator) -> Result<u64, Refused> {
+    m.enter(rt)?;
+    m.make(rt, MADE, 0)?;
+    let number = m.number(MADE)?;
+    m.forget(MADE)?;
+    Ok(number % 4_294_967_296)
+}
+
+/// What all workers counted, and how many objects they made. A refusal is a wrong answer.
+pub fn gather<R: Wait>(rt: &R, workers: &mut Vec<Worker>) -> (Tally, u64) {
+    let mut all = Tally::new();
+    let mut objects = 0u64;
+    for worker in workers {
+        let made = made(rt, &mut worker.mutator);
+        worker.end(made.map(|_| ()));
+        objects = objects.wrapping_add(made.unwrap_or(0));
+        all = all.plus(worker.tally);
+    }
+    (all, objects)
+}
+
+/// Marks beside the others, until it is dismissed.
+pub fn trace<R: Wait>(rt: &R, tracer: &mut Tracer) {
+    tracer.run(rt);
+}
