@@ -1,0 +1,182 @@
+//! A world with a structure in the root's first field, and threads that act on it.
+
+use crate::mix::{fill, mix};
+use crate::pairs::pairs;
+use crate::words::{Asked, Structure};
+use shared_heap::{Refused, SharedMutator, SharedSizes, SharedWorld, Tracer};
+use shared_structures::{SharedMap, SharedQueue};
+use std::alloc::Global;
+use std::sync::Wait;
+use std::thread::{Threads, for_each_mut, join_mut};
+
+/// The variables of each thread: the root, the structure, and what it makes and finds.
+const ROOT: u8 = 0;
+
+pub const SHARED: u8 = 1;
+
+pub const MADE: u8 = 2;
+
+pub const FOUND: u8 = 3;
+
+/// What came of what threads did.
+#[derive(Clone, Copy, Drop)]
+pub struct Tally {
+    /// How many objects were found.
+    pub count: u64,
+    /// The sum of their numbers.
+    pub sum: u64,
+}
+
+impl Tally {
+    /// One more was found, with this number.
+    pub fn count(&mut self, number: u64) {
+        self.count = self.count.wrapping_add(1);
+        self.sum = self.sum.wrapping_add(number);
+    }
+}
+
+/// A mutator, and what came of it.
+#[derive(Drop)]
+struct Worker {
+    thread: u32,
+    mutator: SharedMutator,
+    tally: Tally,
+    ended: Result<(), Refused>,
+}
+
+impl Worker {
+    /// It has done what it was to do, or was refused. It leaves, so that no other waits for it.
+    fn end(&mut self, ended: Result<(), Refused>) {
+        self.ended = ended;
+        self.mutator.leave();
+    }
+}
+
+/// The structure that is acted on.
+#[derive(Clone, Copy, Drop)]
+enum Shared {
+    Queue(SharedQueue),
+    Map(SharedMap),
+}
+
+/// The structure that is asked for.
+fn shared_of(structure: Structure) -> Option<Shared> {
+    match structure {
+        Structure::Queue => Some(Shared::Queue(SharedQueue::at(SHARED)?)),
+        Structure::Map => Some(Shared::Map(SharedMap::at(SHARED, 16, 16)?)),
+    }
+}
+
+/// Makes the structure, and lets the root's first field refer to it.
+fn make<R: Wait>(rt: &R, m: &mut SharedMutator, shared: Shared) -> Result<(), Refused> {
+    m.enter(rt)?;
+    match shared {
+        Shared::Queue(queue) => queue.make(rt, m)?,
+        Shared::Map(map) => fill(rt, m, map)?,
+    }
+    m.root(ROOT)?;
+    m.set(ROOT, 0, SHARED)?;
+    m.leave();
+    Ok(())
+}
+
+/// What thread number k does.
+fn act<R: Wait>(
+    rt: &R,
+    m: &mut SharedMutator,
+    shared: Shared,
+    asked: Asked,
+    k: u32,
+    tally: &mut Tally,
+) -> Result<(), Refused> {
+    m.enter(rt)?;
+    m.root(ROOT)?;
+    m.get(SHARED, ROOT, 0)?;
+    match shared {
+        Shared::Queue(queue) => pairs(rt, m, queue, asked.rounds, tally)?,
+        Shared::Map(map) => mix(rt, m, map, asked, k, tally)?,
+    }
+    Ok(())
+}
+
+/// A mutator for each thread.
+fn hire(alloc: Global, world: &mut SharedWorld, threads: u32) -> Option<Vec<Worker>> {
+    let mut workers = Vec::new(alloc);
+    for thread in 0..threads {
+        let worker = Worker {
+            thread,
+            mutator: world.mutator()?,
+            tally: Tally { count: 0, sum: 0 },
+            ended: Ok(()),
+        };
+        workers.push(worker).ok()?;
+    }
+    Some(workers)
+}
+
+/// What all came to, if each did all that it was to do.
+fn gather(workers: Vec<Worker>) -> Option<Tally> {
+    let mut all = Tally { count: 0, sum: 0 };
+    for worker in workers {
+        worker.ended.ok()?;
+        all.count = all.count.wrapping_add(worker.tally.count);
+        all.sum = all.sum.wrapping_add(worker.tally.sum);
+    }
+    Some(all)
+}
+
+/// All threads act, and then the tracer is dismissed.
+fn act_all<R: Threads + Wait + Sync>(
+    rt: &R,
+    world: &mut SharedWorld,
+    workers: &mut Vec<Worker>,
+    shared: Shared,
+    asked: Asked,
+) {
+    let threads = workers.len();
+    if threads > 0 {
+        for_each_mut(
+            rt,
+            workers.as_mut_slice(),
+            threads,
+            &|_, worker: &mut Worker| {
+                let m = &mut worker.mutator;
+                let ended = act(rt, m, shared, asked, worker.thread, &mut worker.tally);
+                worker.end(ended);
+            },
+        );
+    }
+    world.dismiss_tracers(rt);
+}
+
+/// Marks beside the others, until it is dismissed.
+fn trace<R: Wait>(rt: &R, tracer: &mut Option<Tracer>) {
+    if let Some(tracer) = tracer {
+        tracer.run(rt);
+    }
+}
+
+/// Lets threads act on a structure. None where a size is out of its range, the heap is full, or memory ran out.
+pub fn run<R: Threads + Wait + Sync>(rt: &R, alloc: Global, asked: Asked) -> Option<Tally> {
+    let fields = match asked.structure {
+        Structure::Queue => 2,
+        Structure::Map => 16,
+    };
+    let mutators = asked.threads.checked_add(1)?;
+    let sizes = SharedSizes::of_cells(asked.cells)
+        .fields(fields)
+        .mutators(mutators)
+        .tracers(asked.tracers);
+    let mut world = SharedWorld::open(alloc, sizes).ok()?;
+    let shared = shared_of(asked.structure)?;
+    let mut maker = world.mutator()?;
+    make(rt, &mut maker, shared).ok()?;
+    let mut workers = hire(alloc, &mut world, asked.threads)?;
+    let mut tracer = world.tracer();
+    join_mut(
+        rt,
+        &mut || trace(rt, &mut tracer),
+        &mut || act_all(rt, &mut world, &mut workers, shared, asked),
+    );
+    gather(workers)
+}

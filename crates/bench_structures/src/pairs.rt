@@ -1,0 +1,23 @@
+//! What a thread does with a queue: it puts a number in and takes one out, by turns.
+
+use crate::crowd::{FOUND, MADE, Tally};
+use shared_heap::{Refused, SharedMutator};
+use shared_structures::SharedQueue;
+use std::sync::Wait;
+
+/// Puts the numbers below `rounds` in, and after each takes one out, which is there: no thread has taken more than it put in.
+pub fn pairs<R: Wait>(
+    rt: &R,
+    m: &mut SharedMutator,
+    queue: SharedQueue,
+    rounds: u32,
+    tally: &mut Tally,
+) -> Result<(), Refused> {
+    for n in 0..rounds {
+        queue.put(rt, m, MADE, n)?;
+        if let Some(number) = queue.take(rt, m, FOUND)? {
+            tally.count(number);
+        }
+    }
+    Ok(())
+}
