@@ -2,7 +2,7 @@
 //! stop is under way it is told so, and comes again. Where a collection is called for it is told so as well, and makes it in steps
 //! ([`ask_to_stop`](crate::ask_to_stop)).
 ghost use Rattle.std.specs.Bool.{OnFalse, OnTrue};
-ghost use Rattle.std.specs.Prelude.{◌≡◌, ◌≤◌, [], length, None, Some, IfNone, IfSome, IsTrue, is_some};
+ghost use Rattle.std.specs.Prelude.{◌≡◌, ◌≤◌, [], length, None, Some, IfNone, IfSome, IsFalse, IsTrue, is_some};
 ghost use Rattle.mark_core.specs.Places.{the_phase};
 ghost use Rattle.mark_core.specs.Seats.{phase_number};
 ghost use Rattle.mark_core.specs.declared.kinds.Phase.TheVariants.{Marking};
@@ -17,8 +17,9 @@ ghost use Rattle.gc_cycle.specs.Cycles.{never_fills};
 ghost use Rattle.gc_cycle.specs.Events.{never};
 ghost use Rattle.gc_cycle.specs.Mutating.{GoesOut};
 ghost use Rattle.cache_refills.specs.Pace.Pacing.{begins_where_due};
+ghost use Rattle.cache_refills.specs.Pace.Paying.{pops_where_paid};
 ghost use Rattle.cache_refills.specs.Refilling.{IsPaced, SeesEnd, prepares};
-ghost use Rattle.gc_cycle.specs.Sorts.{polls, raises_flag};
+ghost use Rattle.gc_cycle.specs.Sorts.{polls, pops, raises_flag};
 ghost use Rattle.gc_cycle.specs.Sparing.{SparesRefill, spares_part};
 ghost use Rattle.gc_cycle.specs.Standing.{IsOut, KeepsSeat, KeepsSection, Mutates};
 ghost use Rattle.gc_cycle.specs.Statistics.{ChangesBy, GivesUp, RoundNumbers, leaves_numbers};
@@ -118,7 +119,8 @@ fn begins_or_ends(heap: &Heap, seat: &mut HeapSeat) -> bool
 }
 
 /// A cache for a mutator without one, as [`refill`](crate::refill) gives it: a cycle is begun where one is due, and while one is marking the mutator pays for
-/// the cache. Where no block has a free cell, or marking is done, the answer is none: a collection is called for, which the caller makes in steps.
+/// the cache. Where no block has a free cell, or marking is done, the answer is none, and nothing was traced: a collection is called for, which the caller makes in
+/// steps.
 pub fn try_refill(heap: &Heap, seat: &mut HeapSeat, done: u32) -> Option<Refill>
     requires seat { Sits heap.now seat.old × Mutates (view_of seat.old) }
     requires cache { (state_of seat.old).cache ≡ None }
@@ -128,6 +130,8 @@ pub fn try_refill(heap: &Heap, seat: &mut HeapSeat, done: u32) -> Option<Refill>
     ensures calls { IfNone result (Across CallsForCollection seat.old seat.new) }
     ensures keeps { Across KeepsSeat seat.old seat.new × Across KeepsSection seat.old seat.new }
     ensures due { IsTrue (begins_where_due (did seat.old seat.new)) }
+    ensures pops { IsTrue (pops_where_paid (did seat.old seat.new)) }
+    ensures unpopped { IfNone result (IsFalse (some_event pops (did seat.old seat.new))) }
     ensures numbers { Across (RoundNumbers result) seat.old seat.new }
 {
     if ends_full(heap, seat, done) {
@@ -149,6 +153,8 @@ fn try_claim(heap: &Heap, seat: &mut HeapSeat, done: u32) -> Option<Refill>
     ensures spares { IfSome result (λ r. Across (SparesRefill r) seat.old seat.new) }
     ensures none { IfNone result (Across FindsNoBlock seat.old seat.new) }
     ensures due { IsTrue (begins_where_due (did seat.old seat.new)) }
+    ensures pops { IsTrue (pops_where_paid (did seat.old seat.new)) }
+    ensures unpopped { IfNone result (IsFalse (some_event pops (did seat.old seat.new))) }
     ensures numbers { Across (RoundNumbers result) seat.old seat.new }
 {
     match claim(heap, seat) {

@@ -1,14 +1,17 @@
 -- A mutator's round raises the flag with cause, one of this visit, and pops where it may.
-use Rattle.std.proofs.Common.{◌≡◌, [], ap, ◌∙◌, true, false}
+use Rattle.std.proofs.Common.{◌≡◌, [], ap, ◌∙◌, true, false, Option, None, Some}
+use Rattle.std.specs.Prelude.{IfNone, IsFalse}
 use Rattle.mark_core.specs.declared.kinds.Shape.{Shape}
 use Rattle.gc_table.specs.Log.{events, Only}
 use Rattle.gc_table.specs.Running.{Ran}
 use Rattle.gc_table.specs.declared.view.View.{View}
 use Rattle.gc_table.proofs.Running.{ran-events}
+use Rattle.gc_cycle.proofs.Sequences.{some-none}
 use Rattle.gc_cycle.specs.Events.{each_after, never}
 use Rattle.packet_pools.specs.Seeking.{some_event}
 use Rattle.gc_cycle.specs.Mutating.{pops_in_stops, stays_calm}
-use Rattle.gc_cycle.specs.Sorts.{claims, comes_in, raises_flag}
+use Rattle.gc_cycle.specs.Sorts.{claims, comes_in, pops, raises_flag}
+use Rattle.gc_cycle.specs.declared.counts.Refill.{Refill}
 use Rattle.cache_refills.specs.Pace.Paying.{pops_where_paid}
 use Rattle.cache_refills.specs.Stops.{may_stop, stops_in_visit, stops_with_cause}
 use Rattle.cache_refills.proofs.Causes.{caused-stops, stops-join, unraised-stops}
@@ -48,3 +51,8 @@ leads-paid u v w l r h = ap pops_where_paid (ran-events u v w l.ran r) ∙ paid-
 -- what comes before claims the block, and it is paid for then
 pub leads-claimed : (u v w : View) → Leads u v → Ran v w → some_event claims (events u v) ≡ true → some_event claims (events v w) ≡ false → pops_where_paid (events u w) ≡ true
 leads-claimed u v w l r h n = ap pops_where_paid (ran-events u v w l.ran r) ∙ claimed-paid (events u v) (events v w) h (unpopped (events u v) l.unpopped) n
+
+-- what comes before pops nothing, and nothing was popped where the answer is none
+pub none-pops : (o : Option Refill) (u v w : View) → Leads u v → Ran v w → IfNone o (IsFalse (some_event pops (events v w))) → IfNone o (IsFalse (some_event pops (events u w)))
+none-pops None u v w l r h = ap (some_event pops) (ran-events u v w l.ran r) ∙ some-none pops (events u v) (events v w) l.unpopped h
+none-pops (Some x) u v w l r h = tt

@@ -5,9 +5,11 @@ use Rattle.gc_table.proofs.History.Log.{only-more}
 use Rattle.alloc_cache.specs.Claiming.{seeks_block}
 use Rattle.cache_refills.specs.Refilling.{prepares}
 use Rattle.gc_cycle.proofs.Changes.{numbers-one}
-use Rattle.cache_refills.proofs.Refills.Claimed.{claims-cached, claims-claimed, claims-only}
+use Rattle.cache_refills.proofs.Refills.Claimed.{claims-block, claims-cached, claims-claimed, claims-only}
 use Rattle.gc_cycle.proofs.Numbers.{seeks-by}
 use Rattle.cache_refills.proofs.Refills.Paced.{seeks-prepare}
+use Rattle.cache_refills.proofs.Refills.Popping.{calm-claims, stops-paid, unpopped}
+use Rattle.cache_refills.proofs.Refills.Visiting.{leads-claimed}
 use Rattle.cache_refills.proofs.Refills.Passed.{found-none, plays-calm, plays-join, plays-leads}
 use Rattle.cache_refills.proofs.Refills.RoundNumbers.{claims-refill}
 use Rattle.cache_refills.proofs.Refills.Rounds.{leads-prepared, some-blocks, spares-refill}
@@ -77,3 +79,23 @@ returns-in-Some-clause-due c =
     let w : View = view_of c.pay_for.new.seat in
     let p = c.pay_for.ensures in
     due-join v x w c.claim.ensures.ran p.ran (due-none (events v x) (unbegun-claims c.in-Some.cache v x c.in-Some.ensures.some)) (due-calm x w p.only)
+
+pub returns-in-None-clause-pops : goal.returns-in-None-clause-pops
+returns-in-None-clause-pops c =
+    let v : View = view_of c.args.seat.now in
+    let x : View = view_of c.claim.new.seat in
+    stops-paid (events v x) (unpopped (events v x) (leads-prepared v x c.claim.ensures.ran (only-more seeks_block prepares seeks-prepare v x c.in-None.ensures.none.3)).unpopped)
+
+pub returns-in-None-clause-unpopped : goal.returns-in-None-clause-unpopped
+returns-in-None-clause-unpopped c =
+    let v : View = view_of c.args.seat.now in
+    let x : View = view_of c.claim.new.seat in
+    (leads-prepared v x c.claim.ensures.ran (only-more seeks_block prepares seeks-prepare v x c.in-None.ensures.none.3)).unpopped
+
+pub returns-in-Some-clause-pops : goal.returns-in-Some-clause-pops
+returns-in-Some-clause-pops c =
+    let v : View = view_of c.args.seat.now in
+    let x : View = view_of c.claim.new.seat in
+    let w : View = view_of c.pay_for.new.seat in
+    let p = c.pay_for.ensures in
+    leads-claimed v x w (leads-prepared v x c.claim.ensures.ran (claims-only c.in-Some.cache v x c.in-Some.ensures.some)) p.ran (claims-block c.in-Some.cache v x c.in-Some.ensures.some) (calm-claims x w p.only)

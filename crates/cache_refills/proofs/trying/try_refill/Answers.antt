@@ -15,6 +15,8 @@ use Rattle.cache_refills.proofs.Refills.Passed.{both-some, none-calls, plays-cal
 use Rattle.cache_refills.proofs.Positions.{stored-more, stored-none}
 use Rattle.cache_refills.proofs.Refills.Rounds.{later-some, leads-join, leads-looked, leads-prepared, looked-seen, marked-stops, marking-known, paced-after, spares-refill}
 use Rattle.cache_refills.proofs.Refills.RoundNumbers.{leaves-first, leaves-full}
+use Rattle.cache_refills.proofs.Refills.Popping.{answered-pops, stops-paid, unpopped}
+use Rattle.cache_refills.proofs.Refills.Visiting.{leads-paid, none-pops}
 use Rattle.cache_refills.proofs.Due.{due-calm, due-join}
 use Rattle.cache_refills.proofs.trying.try_refill.Goals as goal
 
@@ -25,7 +27,7 @@ returns-then-ends_full c =
     let e = c.ends_full.ensures in
     let f = c.if-ends_full.ensures.full in
     let p = plays-calm v w e.ran (only-more answers stays_calm answers-calm v w e.only) in
-    record { seat = e.seat.0; plays = p; refills = (f.0, f.1); calls = tt; keeps = plays-keeps v w p; due = due-calm v w (only-more answers stays_calm answers-calm v w e.only); numbers = leaves-full v w e.numbers }
+    record { seat = e.seat.0; plays = p; refills = (f.0, f.1); calls = tt; keeps = plays-keeps v w p; due = due-calm v w (only-more answers stays_calm answers-calm v w e.only); pops = stops-paid (events v w) (unpopped (events v w) (answered-pops v w e.only)); unpopped = tt; numbers = leaves-full v w e.numbers }
 
 pub begins_or_ends-requires-clause-marking : goal.begins_or_ends-requires-clause-marking
 begins_or_ends-requires-clause-marking c =
@@ -58,6 +60,8 @@ returns-then-begins_or_ends c =
           };
       keeps = plays-keeps v x p;
       due = due-join v w x e.ran s.ran (due-calm v w (only-more answers stays_calm answers-calm v w e.only)) s.due;
+      pops = stops-paid (events v x) (unpopped (events v x) (leads-join v w x l (leads-prepared w x s.ran s.only)).unpopped);
+      unpopped = (leads-join v w x l (leads-prepared w x s.ran s.only)).unpopped;
       numbers = numbers-one [] v x (by-join [] [] v w x e.numbers s.numbers);
     }
 
@@ -86,5 +90,7 @@ returns c =
       calls = none-calls c.try_claim.result v x y l.ran t.plays.ran unseen t.none;
       keeps = plays-keeps v y p;
       due = due-join v w y e.ran (ran-join w x y s.ran t.plays.ran) (due-calm v w (only-more answers stays_calm answers-calm v w e.only)) (due-join w x y s.ran t.plays.ran s.due t.due);
+      pops = leads-paid v x y l t.plays.ran t.pops;
+      unpopped = none-pops c.try_claim.result v x y l t.plays.ran t.unpopped;
       numbers = leaves-first c.try_claim.result v x y (by-join [] [] v w x e.numbers s.numbers) t.numbers;
     }
