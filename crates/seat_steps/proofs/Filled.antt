@@ -70,7 +70,7 @@ lacks-fills c u v w x a few b t d g = g
 pub full-fills : (u v w x : View) → Ran u v → AtMost 3 u v → Ran v w → (r : Refill) → r ≡ refills.Full → TriesToFill (Some r) v w → Ran w x → AtMost 2 w x → KnowsFull x → FillsBy cames.Full u x
 full-fills u v w x a few b r is t d rest known =
     let q = ran-join v w x b d in
-    let ends : RefillsTo refills.Full v.state.made v w = subst (λ (z : Refill). RefillsTo z v.state.made v w) is t in
+    let ends : RefillsTo refills.Full v.state.made v w = subst (λ (z : Refill). RefillsTo z v.state.made v w) is t.0 in
     ((full-right u v x a q (full-left v w x b d ends.read), known), (Some r, once u v w x a few (Some r) b t d 8 (at-most-more 2 8 w x (omega arith) rest)))
 
 pub full-refills : (r : Refill) (h : Heap) (s : HeapSeat) → r ≡ refills.Full → Refills r h s → KnowsFull (view_of s)

@@ -1,18 +1,22 @@
 -- What a mutator is after a call that doesn't wait.
-use Rattle.std.proofs.Common.{ℕ, ◌≡◌, true, refl, subst, Option, Some, None}
-use Rattle.std.specs.Prelude.{is_some, IfNone, IfSome}
+use Rattle.std.proofs.Common.{ℕ, ◌≡◌, true, ap, refl, subst, Option, Some, None}
+use Rattle.std.specs.Prelude.{is_some, not, IfNone, IfSome, IsFalse, IsTrue}
 use Rattle.std.proofs.lemmas.Bool.{false≢true}
 use Rattle.mark_core.specs.Seats.{has_turn}
+use Rattle.gc_table.specs.Log.{events}
 use Rattle.gc_table.specs.Running.{Ran}
 use Rattle.gc_table.specs.Seats.{Sits, view_of}
 use Rattle.gc_table.specs.declared.seat.Heap.{Heap}
 use Rattle.gc_table.specs.declared.seat.HeapSeat.{HeapSeat}
 use Rattle.gc_table.specs.declared.view.View.{View}
+use Rattle.packet_pools.specs.Seeking.{some_event}
 use Rattle.alloc_cache.specs.Caching.{IsCached}
 use Rattle.alloc_cache.specs.declared.cache.Cache.{Cache}
 use Rattle.gc_cycle.specs.Answering.{HasCache}
 use Rattle.cache_refills.specs.Getting.{RefillsTo}
+use Rattle.cache_refills.specs.Pace.Paying.{pops_where_paid}
 use Rattle.gc_cycle.specs.Mutating.{GoesOut}
+use Rattle.gc_cycle.specs.Sorts.{pops}
 use Rattle.gc_cycle.specs.Sparing.{SparesRefill}
 use Rattle.gc_cycle.specs.Standing.{KeepsSeat, KeepsSection}
 use Rattle.cache_refills.specs.Trying.{CallsForCollection, EntersTo, PassesTo}
@@ -24,6 +28,7 @@ use Rattle.mutator_turns.specs.Standing.{Halts, IsMutatorOutside, Works}
 use Rattle.seat_steps.specs.Filling.{TriesToFill}
 use Rattle.seat_steps.specs.Stepping.{Passes, Refills, Tries}
 use Rattle.mutator_turns.proofs.Seats.{going-seen, kept-works, mutator-kept}
+use Rattle.seat_steps.proofs.Amounts.{unpopped}
 
 pub has-section : (o season : Option ℕ) → has_turn o season ≡ true → is_some o ≡ true
 has-section None season e = absurd (false≢true e)
@@ -61,9 +66,10 @@ fills-none (Some r) h x y k sits ran seat section p = tt
 
 -- what the try came to
 pub fills-tries :
-    (o : Option Refill) (done : ℕ) (v w : View) → done ≡ v.state.made → IfSome o (λ r. RefillsTo r done v w × SparesRefill r v w) → IfNone o (CallsForCollection v w) → TriesToFill o v w
-fills-tries None done v w e some none = none.cause
-fills-tries (Some r) done v w e some none = subst (λ n. RefillsTo r n v w) e some.0
+    (o : Option Refill) (done : ℕ) (v w : View) → done ≡ v.state.made → IfSome o (λ r. RefillsTo r done v w × SparesRefill r v w) → IfNone o (CallsForCollection v w)
+    → IsTrue (pops_where_paid (events v w)) → IfNone o (IsFalse (some_event pops (events v w))) → TriesToFill o v w
+fills-tries None done v w e some none paid calm = (none.cause, unpopped v w (ap not calm))
+fills-tries (Some r) done v w e some none paid calm = (subst (λ n. RefillsTo r n v w) e some.0, paid)
 
 -- the cache that the seat's record has, as it is lent
 pub own-cache : (o : Option Cache) (v : View) → IfSome o (λ h. IsCached h v) → IfNone o (v.state.cache ≡ None) → HasCache o v

@@ -6,12 +6,15 @@ use Rattle.gc_table.specs.declared.view.View.{View}
 use Rattle.mutator_ops.specs.Few.{AtMost}
 use Rattle.gc_cycle.specs.declared.counts.Refill.{Refill}
 use Rattle.cache_refills.specs.Getting.{RefillsTo}
+use Rattle.cache_refills.specs.Pace.Paying.{pops_where_paid}
 use Rattle.cache_refills.specs.Stops.{may_stop}
+use Rattle.seat_steps.specs.Amounts.{PopsNone}
 
--- what a try came to: no block had a free cell, or marking was done; or it got a cache and paid for it, or found the heap full
+-- what a try came to: no block had a free cell, or marking was done, and no cell was popped; or it got a cache and paid for it, or found the heap full, and
+-- before the block was claimed no cell was popped
 abbrev pub TriesToFill : Option Refill → View → View → Type 0
-TriesToFill None v w = IsTrue (may_stop v.shape (events v w))
-TriesToFill (Some refill) v w = RefillsTo refill v.state.made v w
+TriesToFill None v w = IsTrue (may_stop v.shape (events v w)) × PopsNone v w
+TriesToFill (Some refill) v w = RefillsTo refill v.state.made v w × IsTrue (pops_where_paid (events v w))
 
 -- so many steps were taken at most, then a try was made that came to this, and then so many steps
 pub record TriesOnce (before later : ℕ) (tried : Option Refill) (v w : View) : Type 0 where
