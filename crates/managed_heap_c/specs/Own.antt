@@ -16,12 +16,12 @@ use Rattle.managed_heap.specs.declared.world.World.{World}
 use Rattle.managed_heap_c.specs.declared.sizes.CNumbers.{CNumbers}
 
 -- all of the world is as it was, but that its mutators may be others
-abbrev pub KeepsTracers : World → World → Type 0
-KeepsTracers w x = KeepsRest w x × (x.tracers ≡ w.tracers)
+abbrev pub KeepsAllButMutators : World → World → Type 0
+KeepsAllButMutators w x = KeepsRest w x × (x.tracers ≡ w.tracers)
 
 -- all of the world is as it was, but that its tracers may be others
-abbrev pub KeepsMutators : World → World → Type 0
-KeepsMutators w x = KeepsRest w x × (x.mutators ≡ w.mutators)
+abbrev pub KeepsAllButTracers : World → World → Type 0
+KeepsAllButTracers w x = KeepsRest w x × (x.mutators ≡ w.mutators)
 
 -- the stepper is this mutator for a thread that may not wait: outside the world, with the same objects and variables
 pub record IsInSteps (m : Mutator) (s : Stepper) : Type 0 where
@@ -32,19 +32,19 @@ pub record IsInSteps (m : Mutator) (s : Stepper) : Type 0 where
 
 -- the world had this mutator, which it lends in steps, and has the others still
 abbrev pub LendsSteps : Stepper → World → World → Type 0
-LendsSteps s w x = (m : Mutator) × (w.mutators.items ≡ x.mutators.items ++ m ∷ []) × KeepsTracers w x × IsInSteps m s
+LendsSteps s w x = (m : Mutator) × (w.mutators.items ≡ x.mutators.items ++ m ∷ []) × KeepsAllButMutators w x × IsInSteps m s
 
 -- the world has no mutator left, and has all that it had
 abbrev pub LacksMutator : World → World → Type 0
-LacksMutator w x = (w.mutators.items ≡ []) × (x.mutators.items ≡ []) × KeepsTracers w x
+LacksMutator w x = (w.mutators.items ≡ []) × (x.mutators.items ≡ []) × KeepsAllButMutators w x
 
 -- the world has the mutator back
 abbrev pub GoesBack : Mutator → World → World → Type 0
-GoesBack m w x = IsBack m w x × KeepsTracers w x
+GoesBack m w x = IsBack m w x × KeepsAllButMutators w x
 
 -- the world doesn't take the mutator, which is in steps again, and has all that it had
 abbrev pub StaysOut : Mutator → Stepper → World → World → Type 0
-StaysOut m t w x = (heap_of_stepper t ≡ heap_of m) × (arc_value t.heap ≡ arc_value m.heap) × (t.name ≡ m.name) × (x.mutators.items ≡ w.mutators.items) × KeepsTracers w x
+StaysOut m t w x = (heap_of_stepper t ≡ heap_of m) × (arc_value t.heap ≡ arc_value m.heap) × (t.name ≡ m.name) × (x.mutators.items ≡ w.mutators.items) × KeepsAllButMutators w x
 
 -- the world has a mutator back with these objects and variables
 abbrev pub TakesBack : Stepper → World → World → Type 0
@@ -55,23 +55,23 @@ pub record Refuses (s t : Stepper) (w x : World) : Type 0 where
   pub same : heap_of_stepper t ≡ heap_of_stepper s
   pub of_world : (arc_value t.heap ≡ arc_value s.heap) × (t.name ≡ s.name)
   pub mutators : x.mutators.items ≡ w.mutators.items
-  pub rest : KeepsTracers w x
+  pub rest : KeepsAllButMutators w x
 
 -- the world had this tracer, and has the others still
 abbrev pub LendsTracer : Tracer → World → World → Type 0
-LendsTracer t w x = (w.tracers.items ≡ x.tracers.items ++ t ∷ []) × KeepsMutators w x
+LendsTracer t w x = (w.tracers.items ≡ x.tracers.items ++ t ∷ []) × KeepsAllButTracers w x
 
 -- the world has no tracer left, and has all that it had
 abbrev pub LacksTracer : World → World → Type 0
-LacksTracer w x = (w.tracers.items ≡ []) × (x.tracers.items ≡ []) × KeepsMutators w x
+LacksTracer w x = (w.tracers.items ≡ []) × (x.tracers.items ≡ []) × KeepsAllButTracers w x
 
 -- the tracer has the world's name, one was out, and it is the world's now
 abbrev pub TakesTracer : Tracer → World → World → Type 0
-TakesTracer t w x = (x.tracers.items ≡ w.tracers.items ++ t ∷ []) × (t.name ≡ w.sizes.name) × (vec_len w.tracers < w.sizes.tracers) × KeepsMutators w x
+TakesTracer t w x = (x.tracers.items ≡ w.tracers.items ++ t ∷ []) × (t.name ≡ w.sizes.name) × (vec_len w.tracers < w.sizes.tracers) × KeepsAllButTracers w x
 
 -- the world doesn't take the tracer, and has all that it had
 abbrev pub RefusesTracer : World → World → Type 0
-RefusesTracer w x = (x.tracers.items ≡ w.tracers.items) × KeepsMutators w x
+RefusesTracer w x = (x.tracers.items ≡ w.tracers.items) × KeepsAllButTracers w x
 
 -- the tracers were told that they are dismissed
 abbrev pub TellsTracers : World → World → Type 0

@@ -15,28 +15,28 @@ use Rattle.shared_heap.specs.declared.world.SharedWorld.{SharedWorld}
 use Rattle.managed_heap_c.specs.declared.sizes.CNumbers.{CNumbers}
 
 -- all of the world is as it was, but that its mutators may be others
-abbrev pub KeepsTracers : SharedWorld → SharedWorld → Type 0
-KeepsTracers w x = KeepsRest w x × (x.tracers ≡ w.tracers)
+abbrev pub KeepsAllButMutators : SharedWorld → SharedWorld → Type 0
+KeepsAllButMutators w x = KeepsRest w x × (x.tracers ≡ w.tracers)
 
 -- all of the world is as it was, but that its tracers may be others
-abbrev pub KeepsMutators : SharedWorld → SharedWorld → Type 0
-KeepsMutators w x = KeepsRest w x × (x.mutators ≡ w.mutators)
+abbrev pub KeepsAllButTracers : SharedWorld → SharedWorld → Type 0
+KeepsAllButTracers w x = KeepsRest w x × (x.mutators ≡ w.mutators)
 
 -- the world had this mutator, which it lends in steps, and has the others still
 abbrev pub LendsSteps : Stepper → SharedWorld → SharedWorld → Type 0
-LendsSteps s w x = (m : SharedMutator) × (w.mutators.items ≡ m ∷ x.mutators.items) × KeepsTracers w x × IsInSteps m s
+LendsSteps s w x = (m : SharedMutator) × (w.mutators.items ≡ m ∷ x.mutators.items) × KeepsAllButMutators w x × IsInSteps m s
 
 -- the world has no mutator left, and has all that it had
 abbrev pub LacksMutator : SharedWorld → SharedWorld → Type 0
-LacksMutator w x = (w.mutators.items ≡ []) × (x.mutators.items ≡ []) × KeepsTracers w x
+LacksMutator w x = (w.mutators.items ≡ []) × (x.mutators.items ≡ []) × KeepsAllButMutators w x
 
 -- the world has the mutator back
 abbrev pub GoesBack : SharedMutator → SharedWorld → SharedWorld → Type 0
-GoesBack m w x = IsBack m w x × KeepsTracers w x
+GoesBack m w x = IsBack m w x × KeepsAllButMutators w x
 
 -- the world doesn't take the mutator, which is in steps again, and has all that it had
 abbrev pub StaysOut : SharedMutator → Stepper → SharedWorld → SharedWorld → Type 0
-StaysOut m t w x = Across LeavesHeap m.seat t.seat × (arc_value t.heap ≡ arc_value m.heap) × (x.mutators.items ≡ w.mutators.items) × KeepsTracers w x
+StaysOut m t w x = Across LeavesHeap m.seat t.seat × (arc_value t.heap ≡ arc_value m.heap) × (x.mutators.items ≡ w.mutators.items) × KeepsAllButMutators w x
 
 -- the world has the mutator back; no step was taken that a plain heap sees
 abbrev pub TakesBack : Stepper → SharedWorld → SharedWorld → Type 0
@@ -47,23 +47,23 @@ pub record Refuses (s t : Stepper) (w x : SharedWorld) : Type 0 where
   pub leaves : Across LeavesHeap s.seat t.seat
   pub of_world : arc_value t.heap ≡ arc_value s.heap
   pub mutators : x.mutators.items ≡ w.mutators.items
-  pub rest : KeepsTracers w x
+  pub rest : KeepsAllButMutators w x
 
 -- the world had this tracer, and has the others still
 abbrev pub LendsTracer : Tracer → SharedWorld → SharedWorld → Type 0
-LendsTracer t w x = (w.tracers.items ≡ x.tracers.items ++ t ∷ []) × KeepsMutators w x
+LendsTracer t w x = (w.tracers.items ≡ x.tracers.items ++ t ∷ []) × KeepsAllButTracers w x
 
 -- the world has no tracer left, and has all that it had
 abbrev pub LacksTracer : SharedWorld → SharedWorld → Type 0
-LacksTracer w x = (w.tracers.items ≡ []) × (x.tracers.items ≡ []) × KeepsMutators w x
+LacksTracer w x = (w.tracers.items ≡ []) × (x.tracers.items ≡ []) × KeepsAllButTracers w x
 
 -- the tracer has the world's name, one was out, and it is the world's now
 abbrev pub TakesTracer : Tracer → SharedWorld → SharedWorld → Type 0
-TakesTracer t w x = (x.tracers.items ≡ w.tracers.items ++ t ∷ []) × (t.name ≡ w.sizes.name) × (vec_len w.tracers < w.sizes.tracers) × KeepsMutators w x
+TakesTracer t w x = (x.tracers.items ≡ w.tracers.items ++ t ∷ []) × (t.name ≡ w.sizes.name) × (vec_len w.tracers < w.sizes.tracers) × KeepsAllButTracers w x
 
 -- the world doesn't take the tracer, and has all that it had
 abbrev pub RefusesTracer : SharedWorld → SharedWorld → Type 0
-RefusesTracer w x = (x.tracers.items ≡ w.tracers.items) × KeepsMutators w x
+RefusesTracer w x = (x.tracers.items ≡ w.tracers.items) × KeepsAllButTracers w x
 
 -- the tracers were told that they are dismissed
 abbrev pub TellsTracers : SharedWorld → SharedWorld → Type 0

@@ -38,7 +38,7 @@ pub(crate) const LOOKED: u8 = 4;
 
 pub(crate) const CHANGED: u8 = 8;
 
-/// Goes along the chain to the entry of a key, with what is kept there in hand, or to its end. Nil where that comes too early.
+/// Goes along the chain to the entry of a key, with what is kept there in hand, or to its end.
 pub(crate) fn seek<R: Wait>(rt: &R, m: &mut SharedMutator, key: u32) -> Result<(), Refused>
     requires inside { m.old.place ≡ Inside }
     requires wide { 2 ≤ field_count_of m.old }
