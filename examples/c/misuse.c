@@ -30,6 +30,7 @@ static void *make_some(void *p) {
         before = t->done;
         note(t, mh_make_step(&m, t->v, (uint32_t)t->done));
         if (t->done > before) t->last = (uint32_t)before;
+        else sched_yield();
     }
     return 0;
 }
