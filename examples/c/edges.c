@@ -21,6 +21,14 @@ static uint32_t value_of(uint32_t v) {
     return value;
 }
 
+/* Field i of the object of v refers to what variable w does, or to nothing where w is MH_NOTHING. Variable 31 is there for it. */
+static void field_is(uint32_t v, uint32_t i, uint32_t w, const char *what) {
+    uint32_t out = 7;
+    MUST(mh_get(&m, 31, v, i));
+    MUST(w == MH_NOTHING ? mh_is_nil(&m, 31, &out) : mh_same(&m, 31, w, &out));
+    wrong(what, out, 1);
+}
+
 /* Variable 0 has value 10 and refers to itself in field 0 and to variable 1, of value 11, in field 2; variable 2 is nil. */
 static void is_as_before(void) {
     uint32_t out = 7;
@@ -28,15 +36,9 @@ static void is_as_before(void) {
     wrong("the value of variable 1", value_of(1), 11);
     MUST(mh_is_nil(&m, 2, &out));
     wrong("whether variable 2 is nil", out, 1);
-    MUST(mh_get(&m, 31, 0, 0));
-    MUST(mh_same(&m, 31, 0, &out));
-    wrong("whether field 0 is variable 0", out, 1);
-    MUST(mh_get(&m, 31, 0, 1));
-    MUST(mh_is_nil(&m, 31, &out));
-    wrong("whether field 1 is nil", out, 1);
-    MUST(mh_get(&m, 31, 0, 2));
-    MUST(mh_same(&m, 31, 1, &out));
-    wrong("whether field 2 is variable 1", out, 1);
+    field_is(0, 0, 0, "whether field 0 is variable 0");
+    field_is(0, 1, MH_NOTHING, "whether field 1 is nil");
+    field_is(0, 2, 1, "whether field 2 is variable 1");
 }
 
 /* A new object's references, one of which is out of range, or one too many. */
@@ -79,24 +81,16 @@ static void variable(uint32_t v) {
 
 /* An object with references, of which variable 5 is one to itself: variable 0 is in its field 0, and its field 1 stays nil. */
 static void references(void) {
-    uint32_t fields[FIELDS] = {0, MH_NOTHING, 5}, out = 7;
+    uint32_t fields[FIELDS] = {0, MH_NOTHING, 5};
     MUST(mh_make(&m, 5, 50));
     MUST(mh_make_with(&m, 5, 51, fields, FIELDS));
     wrong("the value of an object with references", value_of(5), 51);
-    MUST(mh_get(&m, 6, 5, 0));
-    MUST(mh_same(&m, 6, 0, &out));
-    wrong("whether its field 0 is variable 0", out, 1);
-    MUST(mh_get(&m, 6, 5, 1));
-    MUST(mh_is_nil(&m, 6, &out));
-    wrong("whether its field 1 is nil", out, 1);
-    MUST(mh_get(&m, 6, 5, 2));
-    MUST(mh_same(&m, 6, 5, &out));
-    wrong("whether its field 2 is itself", out, 1);
+    field_is(5, 0, 0, "whether its field 0 is variable 0");
+    field_is(5, 1, MH_NOTHING, "whether its field 1 is nil");
+    field_is(5, 2, 5, "whether its field 2 is itself");
     MUST(mh_make_with(&m, 5, 52, fields, 0));
     MUST(mh_make_with(&m, 5, 52, 0, 0));
-    MUST(mh_get(&m, 6, 5, 0));
-    MUST(mh_is_nil(&m, 6, &out));
-    wrong("whether a field without a reference is nil", out, 1);
+    field_is(5, 0, MH_NOTHING, "whether a field without a reference is nil");
     MUST(mh_forget(&m, 5));
     is_as_before();
 }
