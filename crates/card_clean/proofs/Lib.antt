@@ -5,9 +5,9 @@ mod CardCells
 mod Steps
 mod Between
 mod Learning
-mod Noted
+pub mod Noted
 pub mod Drawing
-mod CardLooks
+pub mod CardLooks
 mod Rooting
 pub mod Leavings
 pub mod Takings
@@ -15,3 +15,4 @@ pub mod Staying
 pub mod Drawn
 pub mod DrainEnds
 mod RootSteps
+mod RootReads

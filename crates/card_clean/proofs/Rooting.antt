@@ -1,9 +1,8 @@
 -- A root is read, and what it refers to is marked.
-use Rattle.std.proofs.Math.Nat.{div-lt_iff_lt-mul, div-mul-le_self, mod-eq-sub-div-mul, mod-lt}
 use Rattle.mark_core.proofs.Writing.Ranges.{in-row}
-use Rattle.std.proofs.Common.{ℕ, ◌≡◌, ◌≢◌, ◌<◌, ◌≤◌, ◌+◌, ◌-◌, ◌*◌, ◌/◌, ◌%◌, List, length, arith, refl, sym, ap, ◌∙◌, subst, Bool, true, false, inl, inr, ◌⊎◌, ⊎_elim, zero, suc}
+use Rattle.std.proofs.Common.{ℕ, ◌≡◌, ◌≢◌, ◌<◌, ◌≤◌, ◌+◌, ◌-◌, ◌*◌, List, length, arith, refl, sym, ap, ◌∙◌, subst, Bool, true, false, inl, inr, ◌⊎◌, ⊎_elim}
 use Rattle.std.specs.Prelude.{◌||◌, is_some}
-use Rattle.std.proofs.lemmas.Bool.{and_from, lt-ltb, cases_eq, not_from_false, cases_lt}
+use Rattle.std.proofs.lemmas.Bool.{and_from, lt-ltb, cases_eq, not_from_false}
 use Rattle.mark_core.specs.Layout.{words_of, region_sizes, root_count}
 use Rattle.mark_core.specs.Bits.{cell_of, nil_or}
 use Rattle.mark_core.specs.Cells.{in_use}
@@ -26,7 +25,7 @@ use Rattle.packet_pools.specs.Tracing.{traces}
 use Rattle.packet_pools.proofs.Conditions.{may-trace}
 use Rattle.packet_pools.proofs.InHand.{known-held}
 use Rattle.packet_pools.proofs.Settled.{settles-left}
-use Rattle.card_clean.specs.Drained.{IsNotedRoot, RootsNoted, RootsTo, slot_index, SlotsNoted, AllSlotsNoted}
+use Rattle.card_clean.specs.Drained.{IsNotedRoot, RootsBetween, slot_index}
 use Rattle.gc_table.proofs.Noticing.{alone-steady}
 use Rattle.card_clean.proofs.Noted.{noted-here}
 
@@ -78,21 +77,13 @@ marked-work v w h k fields over done p =
     let cleaning : cleaning_left w.state.cleaning ≡ false = settles-left v.state.cleaning w.state.cleaning p.cleaning done in
     λ i. is_some (p.hand.popped i) || scan i || is_some (p.hand.value i) || is_some (p.hand.fresh i) || cleaning i
 
--- the variables of a section so far, and the next one
-pub roots-next : (section u : ℕ) (v w : View) → ((i : ℕ) → IsNotedRoot i v → IsNotedRoot i w) → RootsNoted section u v → IsNotedRoot (section * section_variables + u) w → RootsNoted section (u + 1) w
-roots-next section u v w kept so_far one i l =
+-- the roots so far, and the next one
+pub roots-next : (from i : ℕ) (v w : View) → ((k : ℕ) → IsNotedRoot k v → IsNotedRoot k w) → RootsBetween from i v → IsNotedRoot i w → RootsBetween from (i + 1) w
+roots-next from i v w kept so_far one k low high =
     ⊎_elim
-    (λ (s : i ≡ u). subst (λ j. IsNotedRoot (section * section_variables + j) w) (sym s) one)
-    (λ (d : i ≢ u). kept (section * section_variables + i) (so_far i (omega (arith, l, d))))
-    (cases_eq i u)
-
--- the roots of all sections
-pub roots-all : (sections : ℕ) (v : View) → ((section : ℕ) → section < sections → RootsNoted section section_variables v) → RootsTo (sections * section_variables) v
-roots-all sections v each i l =
-    let section : ℕ = i / section_variables in
-    let u : ℕ = i % section_variables in
-    let at : section * section_variables + u ≡ i = omega arith in
-    subst (λ j. IsNotedRoot j v) at (each section (omega (arith, l)) u (omega arith))
+    (λ (s : k ≡ i). subst (λ j. IsNotedRoot j w) (sym s) one)
+    (λ (d : k ≢ i). kept k (so_far k low (omega (arith, high, d))))
+    (cases_eq k i)
 
 pub may-load_slot : (v : View) (section q : ℕ) (h : Held) → traces v ≡ true → section < v.shape.sections → q < v.shape.slots → HoldsPacket h v → work_in_hand v.shape.fields v.state ≡ false → May (LoadSlot section q) v
 may-load_slot v section q h t there low held work c k w a = (
@@ -136,38 +127,3 @@ slot-noted v x n section q there low alone f k marked =
           (cases_eq n 0))
           marked;
     }
-
--- the slots of a section so far, and the next one
-pub slots-next : (sh : Shape) (section q : ℕ) (v w : View) → ((i : ℕ) → IsNotedRoot i v → IsNotedRoot i w) → SlotsNoted sh section q v → IsNotedRoot (slot_index sh section q) w → SlotsNoted sh section (q + 1) w
-slots-next sh section q v w kept so_far one i l =
-    ⊎_elim
-    (λ (s : i ≡ q). subst (λ j. IsNotedRoot (slot_index sh section j) w) (sym s) one)
-    (λ (d : i ≢ q). kept (slot_index sh section i) (so_far i (omega (arith, l, d))))
-    (cases_eq i q)
-
--- row and column of a place among rows
-row_back : (a i q : ℕ) → a ≤ i → q ≡ i - a → a + q ≡ i
-row_back a i q h e = omega (arith, h, e)
-
-row_of : (n m i : ℕ) → i < n * m → (p : ℕ) × (q : ℕ) × (p < n) × (q < m) × (p * m + q ≡ i)
-row_of n zero i h = absurd (omega (arith, h))
-row_of n (suc m) i h =
-    let some : 0 < suc m = omega arith in (
-      i / suc m,
-      i % suc m,
-      (div-lt_iff_lt-mul some).1 h,
-      mod-lt i some,
-      row_back (i / suc m * suc m) i (i % suc m) (div-mul-le_self i (suc m)) (mod-eq-sub-div-mul i (suc m)),
-    )
-
--- the variables and the slots of all sections are all roots
-pub roots-both : (sh : Shape) (v : View) → RootsTo (sh.sections * section_variables) v → AllSlotsNoted sh v → RootsTo (root_count sh) v
-roots-both sh v variables slots i l =
-    ⊎_elim
-    (λ (h : i < sh.sections * section_variables). variables i h)
-    (λ (h : sh.sections * section_variables ≤ i).
-    let j : ℕ = i - sh.sections * section_variables in
-    let r = row_of sh.sections sh.slots j (omega (arith, h, l)) in
-    let same : slot_index sh r.0 r.1 ≡ i = omega (arith, h, r.4) in
-    subst (λ z. IsNotedRoot z v) same (slots r.0 r.2 r.1 r.3))
-    (cases_lt i (sh.sections * section_variables))

@@ -34,21 +34,19 @@ pub record IsNotedRoot (i : ℕ) (v : View) : Type 0 where
   pub noted : look (2, i) v.known ≡ Some word
   pub marked : (word ≡ 0) ⊎ IsNotedMarked v (word - 1)
 
--- each variable of a section, below this one, is noted as nil, or as naming a cell that is noted as marked
-abbrev pub RootsNoted : ℕ → ℕ → View → Type 0
-RootsNoted section to v = (u : ℕ) → u < to → IsNotedRoot (section * section_variables + u) v
-
 -- the root word of slot k of a section
 abbrev pub slot_index : Shape → ℕ → ℕ → ℕ
 slot_index sh section k = sh.sections * section_variables + (section * sh.slots + k)
 
--- each slot of a section, below this one, is noted as nil, or as naming a cell that is noted as marked
-abbrev pub SlotsNoted : Shape → ℕ → ℕ → View → Type 0
-SlotsNoted sh section to v = (k : ℕ) → k < to → IsNotedRoot (slot_index sh section k) v
+-- the root words from this one on and below that one are each noted as nil, or as naming a cell that is noted as marked
+abbrev pub RootsBetween : ℕ → ℕ → View → Type 0
+RootsBetween from to v = (i : ℕ) → from ≤ i → i < to → IsNotedRoot i v
 
--- so are the slots of all sections
-abbrev pub AllSlotsNoted : Shape → View → Type 0
-AllSlotsNoted sh v = (section : ℕ) → section < sh.sections → SlotsNoted sh section sh.slots v
+-- the root that the step read
+abbrev pub roots_read : Shape → Step → ℕ → List ℕ
+roots_read sh (ReadRoot section v) found = (section * section_variables + v) ∷ []
+roots_read sh (LoadSlot section k) found = slot_index sh section k ∷ []
+roots_read sh step found = []
 
 -- each of the first n root words is noted as nil, or as naming a cell that is noted as marked
 abbrev pub RootsTo : ℕ → View → Type 0

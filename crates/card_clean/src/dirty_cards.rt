@@ -13,6 +13,8 @@ ghost use Rattle.card_clean.specs.Leaving.{rescanned_in};
 ghost use Rattle.card_clean.specs.DirtyCards.{CleanedFrom, CleanedWhereDirty, CleansDirty, CleansRound, CleansStretch, stretch_cards, stretch_count};
 ghost use Rattle.card_clean.specs.Drained.{AreNotedClean};
 ghost use Rattle.card_clean.specs.Looking.{KeepsAllNotes, looks_clean, looks_dirty};
+ghost use Rattle.card_clean.specs.Taking.{CleansWithPacket, NoPacket};
+ghost use Rattle.packet_pools.specs.Seeking.{only_moves, output_pools};
 ghost use Rattle.packet_pools.specs.Hands.{free_slots};
 
 use crate::cleaning::clean_card;
@@ -21,9 +23,30 @@ use gc_table::{Heap, HeapSeat};
 use mark_core::CARD_CELLS;
 use packet_pools::{Held, give};
 
-/// The first dirty card from this one on: a look at each card, and nothing more. Where there is none a seat that is alone knows all these cards clean.
+/// The first dirty card from this one on and before `end`: a look at each of these cards, and nothing more. Where there is none a seat that is alone knows
+/// them all clean.
+pub fn dirty_between(heap: &Heap, seat: &mut HeapSeat, from: u32, end: u32) -> Option<u32>
+    requires seat { Sits heap.now seat.old }
+    requires cards { from < end → end ≤ card_count heap.now.shape }
+    ensures seat { Sits heap.now seat.new }
+    ensures only { Across OnlyTraced seat.old seat.new }
+    ensures state { state_of seat.new ≡ state_of seat.old }
+    ensures notes { Across KeepsAllNotes seat.old seat.new }
+    ensures dirty { IfSome result (λ card. (from ≤ card) × (card < end) × (did seat.old seat.new ≡ looks_dirty from card)) }
+    ensures clean { IfNone result (did seat.old seat.new ≡ looks_clean from end) }
+    ensures noted { IfNone result (IsTrue (state_of seat.old).alone → AreNotedClean from end (view_of seat.new)) }
+{
+    for card in from..end {
+        if heap.read_card(seat, card) {
+            return Some(card);
+        }
+    }
+    None
+}
+
+/// The first dirty card from this one on.
 pub(crate) fn first_dirty(heap: &Heap, seat: &mut HeapSeat, from: u32) -> Option<u32>
-    requires { Sits heap.now seat.old }
+    requires seat { Sits heap.now seat.old }
     ensures seat { Sits heap.now seat.new }
     ensures only { Across OnlyTraced seat.old seat.new }
     ensures state { state_of seat.new ≡ state_of seat.old }
@@ -32,12 +55,7 @@ pub(crate) fn first_dirty(heap: &Heap, seat: &mut HeapSeat, from: u32) -> Option
     ensures clean { IfNone result (did seat.old seat.new ≡ looks_clean from (card_count heap.now.shape)) }
     ensures noted { IfNone result (IsTrue (state_of seat.old).alone → AreNotedClean from (card_count heap.now.shape) (view_of seat.new)) }
 {
-    for card in from..heap.shape().cells / CARD_CELLS {
-        if heap.read_card(seat, card) {
-            return Some(card);
-        }
-    }
-    None
+    dirty_between(heap, seat, from, heap.shape().cells / CARD_CELLS)
 }
 
 /// Looks at a card, and cleans it where it is dirty: how many of its cells were scanned again.
@@ -108,6 +126,30 @@ pub fn clean_dirty(heap: &Heap, seat: &mut HeapSeat) -> u32
     rescanned
 }
 
+/// Looks at each of these cards, and cleans those that are dirty, with a packet that it takes for it: how many cells were scanned again. None comes only where
+/// no packet was found, and then no card was looked at. The seat may trace, has no work in hand, and holds at most two packets.
+///
+/// A card may be dirty again afterwards, as [`clean_card`](crate::clean_card) says.
+pub fn clean_some(heap: &Heap, seat: &mut HeapSeat, first: u32, end: u32) -> Option<u32>
+    requires seat { IsTracer heap.now seat.old }
+    requires cards { (first ≤ end) × (end ≤ card_count heap.now.shape) }
+    requires free { 2 ≤ free_slots (state_of seat.old).held }
+    requires work { IsFalse (work_in_hand heap.now.shape.fields (state_of seat.old)) }
+    ensures seat { IsTracer heap.now seat.new }
+    ensures only { Across OnlyCleaned seat.old seat.new }
+    ensures held { (state_of seat.new).held ≡ (state_of seat.old).held }
+    ensures work { IsFalse (work_in_hand heap.now.shape.fields (state_of seat.new)) }
+    ensures some { IfSome result (λ n. (n ≤ card_cells * (end - first)) × (rescanned_in (view_of seat.old) (did seat.old seat.new) ≡ n) × CleansWithPacket (CleanedFrom heap.now.shape first (end - first) n) (did seat.old seat.new)) }
+    ensures none { IfNone result (NoPacket heap.now.shape (did seat.old seat.new) × IsTrue (only_moves output_pools (did seat.old seat.new)) × (rescanned_in (view_of seat.old) (did seat.old seat.new) ≡ 0)) }
+{
+    let Some(mut out) = take_some(heap, seat) else {
+        return None;
+    };
+    let rescanned = clean_between(heap, seat, first, end, &mut out);
+    give(heap, seat, out, false);
+    Some(rescanned)
+}
+
 /// How many cards are passed with one packet.
 const STRETCH: u32 = 4_096;
 
@@ -125,14 +167,12 @@ fn clean_stretch(heap: &Heap, seat: &mut HeapSeat, s: u32) -> u32
     ensures left { rescanned_in (view_of seat.old) (did seat.old seat.new) ≡ result }
     ensures cleans { CleansStretch heap.now.shape s result (did seat.old seat.new) }
 {
-    let Some(mut out) = take_some(heap, seat) else {
-        return 0;
-    };
     let first = s * STRETCH;
     let end = (first + STRETCH).min(heap.shape().cells / CARD_CELLS);
-    let rescanned = clean_between(heap, seat, first, end, &mut out);
-    give(heap, seat, out, false);
-    rescanned
+    match clean_some(heap, seat, first, end) {
+        Some(rescanned) => rescanned,
+        None => 0,
+    }
 }
 
 /// The stretch with which a seat begins: seats spread over all of them.

@@ -28,6 +28,9 @@
 //! cell that it knows to be marked, and tracing clears no mark. Then it traces and cleans in turns until one look at all cards and then at the count of empty
 //! packets finds nothing left ([`is_drained`]). Then every reachable cell is marked, and the drain may end.
 //!
+//! Each of these can be done a part at a time: some roots ([`see_to_some`]), a look at some cards ([`dirty_between`]), and the cleaning of some
+//! ([`clean_some`]). The caller keeps how far it has come; what the seat has noted of the earlier parts stays while it does nothing that ends it.
+//!
 //! # Where things are
 //!
 //! - `barrier`: a mutator's stores; `sharing`: its stores and exchanges where objects are shared;
@@ -55,8 +58,8 @@ pub use barrier::{store_ref, store_value};
 pub use card_pass::next_card;
 pub use cleaned::Cleaned;
 pub use cleaning::clean_card;
-pub use dirty_cards::{clean_dirty, clean_dirty_round};
+pub use dirty_cards::{clean_dirty, clean_dirty_round, clean_some, dirty_between};
 pub use drain_end::is_drained;
 pub use one_card::clean_one;
-pub use roots::see_to_roots;
+pub use roots::{count_roots, see_to_roots, see_to_some};
 pub use sharing::{exchange_ref, exchange_value, share_ref, share_value};

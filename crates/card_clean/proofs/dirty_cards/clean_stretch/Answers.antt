@@ -1,97 +1,27 @@
-use Rattle.std.proofs.Common.{ℕ, ◌≡◌, ◌++◌, ◌*◌, ◌+◌, ◌-◌, ◌/◌, arith, refl, ap, ◌∙◌, subst, inl, inr}
-use Rattle.std.specs.Prelude.{◌==◌, min}
-use Rattle.mark_core.specs.Held.{has_free_slot, drop_packet}
+use Rattle.std.proofs.Common.{ℕ, ◌≡◌, ◌*◌, ◌+◌, ◌-◌, ◌/◌, refl, ap, ◌∙◌, subst, inl, inr}
+use Rattle.std.specs.Prelude.{min}
 use Rattle.mark_core.specs.Layout.{card_count}
 use Rattle.mark_core.specs.declared.kinds.Shape.{Shape}
-use Rattle.mark_core.specs.declared.seat.SeatState.{SeatState}
-use Rattle.gc_table.specs.declared.view.View.{View}
-use Rattle.gc_table.specs.Seats.{view_of}
 use Rattle.gc_table.specs.Log.{events}
-use Rattle.gc_table.proofs.History.Log.{events-join}
-use Rattle.packet_pools.proofs.Counting.{given-moves}
-use Rattle.packet_pools.proofs.InHand.{drop-with}
-use Rattle.packet_pools.proofs.TracedSteps.{cleaned-join, traced-cleaned}
+use Rattle.gc_table.specs.Seats.{view_of}
 use Rattle.card_clean.specs.DirtyCards.{CleanedFrom, stretch_cards}
-use Rattle.card_clean.specs.Leaving.{rescanned_in}
-use Rattle.packet_pools.specs.Seeking.{output_pools}
-use Rattle.card_clean.proofs.Leavings.{rescanned-join, rescanned-moves}
-use Rattle.card_clean.proofs.Takings.{some-free, with-free}
+use Rattle.card_clean.specs.Taking.{CleansWithPacket}
 use Rattle.card_clean.proofs.dirty_cards.clean_stretch.Goals as goal
 
-pub take_some-requires-clause-free : goal.take_some-requires-clause-free
-take_some-requires-clause-free c = some-free (view_of c.args.seat.now).state.held (omega (arith, c.requires.free))
+pub returns-in-Some-clause-left : goal.returns-in-Some-clause-left
+returns-in-Some-clause-left c = c.in-Some.ensures.some.1
 
-pub returns-in_default-clause-left : goal.returns-in_default-clause-left
-returns-in_default-clause-left c =
-    let v : View = view_of c.args.seat.now in
-    rescanned-moves output_pools (events v (view_of c.take_some.new.seat)) v c.take_some.ensures.moves
-
-pub clean_between-rescanned-requires-clause-out : goal.clean_between-rescanned-requires-clause-out
-clean_between-rescanned-requires-clause-out c =
-    let v : View = view_of c.args.seat.now in
-    let h = c.in-Some.out in
-    let s = c.in-Some.ensures.some in
-    (s.1, ap (λ (t : SeatState). has_free_slot t.held) s.2 ∙ with-free v.state.held h.packet h.length c.requires.free)
-
-pub returns-clause-only : goal.returns-clause-only
-returns-clause-only c =
-    let v : View = view_of c.args.seat.now in
-    let x : View = view_of c.take_some.new.seat in
-    let y : View = view_of c.clean_between-rescanned.new.seat in
-    let z : View = view_of c.give.new.seat in
-    cleaned-join v x z (traced-cleaned v x c.take_some.ensures.only) (cleaned-join x y z c.clean_between-rescanned.ensures.only (traced-cleaned y z c.give.ensures.only))
-
-pub returns-clause-held : goal.returns-clause-held
-returns-clause-held c =
-    let v : View = view_of c.args.seat.now in
-    let h = c.in-Some.out in
-    let s = c.in-Some.ensures.some in
-    ap (λ (t : SeatState). t.held) c.give.ensures.state
-    ∙ (c.clean_between-rescanned.ensures.out.slots ∙ (ap (λ (t : SeatState). drop_packet t.held h.packet) s.2 ∙ drop-with v.state.held h.packet h.length s.0))
-
-pub returns-clause-left : goal.returns-clause-left
-returns-clause-left c =
-    let v : View = view_of c.args.seat.now in
-    let x : View = view_of c.take_some.new.seat in
-    let y : View = view_of c.clean_between-rescanned.new.seat in
-    let z : View = view_of c.give.new.seat in
-    let k = c.clean_between-rescanned.new.out in
-    let b = c.take_some.ensures.only in
-    let d = c.clean_between-rescanned.ensures in
-    let g = c.give.ensures in
-    let end = cleaned-join x y z d.only (traced-cleaned y z g.only) in
-    let first : rescanned_in v (events v x) ≡ 0 = rescanned-moves output_pools (events v x) v c.take_some.ensures.moves in
-    let last : rescanned_in y (events y z) ≡ 0 = rescanned-moves output_pools (events y z) y (given-moves output_pools k.packet (k.length == 0) (events y z) g.steps) in
-    let j = rescanned-join v x z b.ran end.ran in
-    let l = rescanned-join x y z d.only.ran g.only.ran in
-    omega (arith, j, l, first, last, d.left)
-
-pub returns-in_default-clause-cleans : goal.returns-in_default-clause-cleans
-returns-in_default-clause-cleans c = inl (refl, c.in_default.ensures.none.1, c.take_some.ensures.moves)
-
-pub returns-clause-cleans : goal.returns-clause-cleans
-returns-clause-cleans c =
+pub returns-in-Some-clause-cleans : goal.returns-in-Some-clause-cleans
+returns-in-Some-clause-cleans c =
     let sh : Shape = c.args.heap.now.shape in
-    let v : View = view_of c.args.seat.now in
-    let x : View = view_of c.take_some.new.seat in
-    let y : View = view_of c.clean_between-rescanned.new.seat in
-    let z : View = view_of c.give.new.seat in
-    let k = c.clean_between-rescanned.new.out in
-    let b = c.take_some.ensures in
-    let d = c.clean_between-rescanned.ensures in
-    let g = c.give.ensures in
-    let end = cleaned-join x y z d.only (traced-cleaned y z g.only) in
+    let es = events (view_of c.args.seat.now) (view_of c.clean_some.new.seat) in
     let from : ℕ = c.args.s * stretch_cards in
     let cells : c.shape.result.cells ≡ sh.cells = ap (λ (s : Shape). s.cells) c.shape.ensures in
     let same : c.min-end.result ≡ min (from + stretch_cards) (card_count sh) = c.min-end.ensures ∙ ap (λ n. min (from + stretch_cards) (n / 16)) cells in
-    inr (
-    record {
-      taking = events v x;
-      cleaning = events x y;
-      giving = events y z;
-      events_are = events-join v x z b.only.log end.log ∙ ap (λ es. events v x ++ es) (events-join x y z d.only.log g.only.log);
-      takes = b.moves;
-      cleans = subst (λ n. CleanedFrom sh from (n - from) c.clean_between-rescanned.result (events x y)) same d.cleans;
-      gives = given-moves output_pools k.packet (k.length == 0) (events y z) g.steps;
-    }
-    )
+    inr (subst (λ n. CleansWithPacket (CleanedFrom sh from (n - from) c.in-Some.rescanned) es) same c.in-Some.ensures.some.2)
+
+pub returns-in-None-clause-left : goal.returns-in-None-clause-left
+returns-in-None-clause-left c = c.in-None.ensures.none.2
+
+pub returns-in-None-clause-cleans : goal.returns-in-None-clause-cleans
+returns-in-None-clause-cleans c = inl (refl, c.in-None.ensures.none.0, c.in-None.ensures.none.1)

@@ -1,4 +1,4 @@
-use Rattle.std.proofs.Common.{refl, ℕ, ◌≡◌, ◌<◌, ◌+◌, ◌*◌, arith, sym, ap, ◌∙◌, subst, Bool, cond, Some, None, inl, inr}
+use Rattle.std.proofs.Common.{refl, ℕ, [], ◌∷◌, ◌≡◌, ◌<◌, ◌+◌, ◌*◌, arith, sym, ap, ◌∙◌, subst, Bool, cond, Some, None, inl, inr}
 use Rattle.std.proofs.lemmas.Bool.{ne_eqb}
 use Rattle.mark_core.specs.Bits.{cell_of}
 use Rattle.mark_core.specs.Numbers.{section_variables}
@@ -11,7 +11,7 @@ use Rattle.gc_table.specs.Taking.{after}
 use Rattle.packet_pools.specs.OnlyTraced.{OnlyTraced, IsNotedMarked}
 use Rattle.packet_pools.proofs.Doing.{traces-on}
 use Rattle.packet_pools.proofs.TracedSteps.{traced-join, traced-refl}
-use Rattle.card_clean.specs.Drained.{sees_roots, IsNotedRoot}
+use Rattle.card_clean.specs.Drained.{roots_read, sees_roots, IsNotedRoot}
 use Rattle.card_clean.proofs.Rooting.{may-read_root, root-noted, marked-work}
 use Rattle.packet_pools.proofs.ScanSteps.{traced-read_root}
 use Rattle.card_clean.proofs.Steps.{idle-hand}
@@ -20,7 +20,9 @@ use Rattle.card_clean.specs.Leaving.{rescanned_in}
 use Rattle.gc_table.specs.Log.{events}
 use Rattle.gc_table.proofs.History.Log.{events-after, only-after}
 use Rattle.gc_table.proofs.Running.{ran-only}
+use Rattle.card_clean.proofs.RootReads.{reads-join, scans-none}
 use Rattle.card_clean.proofs.RootSteps.{marks-see}
+use Rattle.packet_pools.specs.Fields.{picked}
 use Rattle.card_clean.proofs.roots.mark_root.Goals as goal
 
 pub read_root-word-requires-clause-may : goal.read_root-word-requires-clause-may
@@ -122,3 +124,18 @@ returns-then-word-ne0-clause-steps c =
     let m = c.mark_cell.ensures in
     ran-only sees_roots v w x (traced-read_root v w c.read_root-word.result c.args.section c.args.v e.1 e.0).ran m.only.ran (only-after sees_roots v w (ReadRoot c.args.section c.args.v) c.read_root-word.result refl e.0)
     (marks-see (events w x) m.counts.scans m.asks.read)
+
+pub returns-else-word-ne0-clause-reads : goal.returns-else-word-ne0-clause-reads
+returns-else-word-ne0-clause-reads c =
+    ap (picked (roots_read c.args.heap.now.shape)) (events-after (view_of c.args.seat.now) (view_of c.read_root-word.new.seat) (ReadRoot c.args.section c.args.v) c.read_root-word.result c.read_root-word.ensures.view.0)
+
+pub returns-then-word-ne0-clause-reads : goal.returns-then-word-ne0-clause-reads
+returns-then-word-ne0-clause-reads c =
+    let sh : Shape = c.args.heap.now.shape in
+    let v : View = view_of c.args.seat.now in
+    let w : View = view_of c.read_root-word.new.seat in
+    let x : View = view_of c.mark_cell.new.seat in
+    let e = c.read_root-word.ensures.view in
+    let m = c.mark_cell.ensures in
+    let first : picked (roots_read sh) (events v w) ≡ (c.args.section * section_variables + c.args.v) ∷ [] = ap (picked (roots_read sh)) (events-after v w (ReadRoot c.args.section c.args.v) c.read_root-word.result e.0) in
+    reads-join sh ((c.args.section * section_variables + c.args.v) ∷ []) [] v w x (traced-read_root v w c.read_root-word.result c.args.section c.args.v e.1 e.0) m.only first (scans-none sh (events w x) m.counts.scans)

@@ -1,4 +1,4 @@
-use Rattle.std.proofs.Common.{refl, ℕ, ◌≡◌, ◌<◌, arith, sym, ap, ◌∙◌, subst, Bool, cond, Some, None, inl, inr}
+use Rattle.std.proofs.Common.{refl, ℕ, [], ◌∷◌, ◌≡◌, ◌<◌, arith, sym, ap, ◌∙◌, subst, Bool, cond, Some, None, inl, inr}
 use Rattle.std.proofs.lemmas.Bool.{ne_eqb}
 use Rattle.mark_core.specs.Bits.{cell_of}
 use Rattle.mark_core.specs.Seats.{work_in_hand, scan_left, cleaning_left}
@@ -10,7 +10,7 @@ use Rattle.gc_table.specs.Taking.{after}
 use Rattle.packet_pools.specs.OnlyTraced.{OnlyTraced, IsNotedMarked}
 use Rattle.packet_pools.proofs.Doing.{traces-on}
 use Rattle.packet_pools.proofs.TracedSteps.{traced-join, traced-refl}
-use Rattle.card_clean.specs.Drained.{sees_roots, IsNotedRoot, slot_index}
+use Rattle.card_clean.specs.Drained.{roots_read, sees_roots, IsNotedRoot, slot_index}
 use Rattle.card_clean.proofs.Rooting.{may-load_slot, slot-noted, marked-work}
 use Rattle.packet_pools.proofs.ScanSteps.{traced-load_slot}
 use Rattle.card_clean.proofs.Steps.{idle-hand}
@@ -19,7 +19,9 @@ use Rattle.card_clean.specs.Leaving.{rescanned_in}
 use Rattle.gc_table.specs.Log.{events}
 use Rattle.gc_table.proofs.History.Log.{events-after, only-after}
 use Rattle.gc_table.proofs.Running.{ran-only}
+use Rattle.card_clean.proofs.RootReads.{reads-join, scans-none}
 use Rattle.card_clean.proofs.RootSteps.{marks-see}
+use Rattle.packet_pools.specs.Fields.{picked}
 use Rattle.card_clean.proofs.roots.mark_slot.Goals as goal
 
 pub load_slot-word-requires-clause-may : goal.load_slot-word-requires-clause-may
@@ -122,3 +124,18 @@ returns-then-word-ne0-clause-steps c =
     let m = c.mark_cell.ensures in
     ran-only sees_roots v w x (traced-load_slot v w c.load_slot-word.result c.args.section c.args.k e.1 e.0).ran m.only.ran (only-after sees_roots v w (LoadSlot c.args.section c.args.k) c.load_slot-word.result refl e.0)
     (marks-see (events w x) m.counts.scans m.asks.read)
+
+pub returns-else-word-ne0-clause-reads : goal.returns-else-word-ne0-clause-reads
+returns-else-word-ne0-clause-reads c =
+    ap (picked (roots_read c.args.heap.now.shape)) (events-after (view_of c.args.seat.now) (view_of c.load_slot-word.new.seat) (LoadSlot c.args.section c.args.k) c.load_slot-word.result c.load_slot-word.ensures.view.0)
+
+pub returns-then-word-ne0-clause-reads : goal.returns-then-word-ne0-clause-reads
+returns-then-word-ne0-clause-reads c =
+    let sh : Shape = c.args.heap.now.shape in
+    let v : View = view_of c.args.seat.now in
+    let w : View = view_of c.load_slot-word.new.seat in
+    let x : View = view_of c.mark_cell.new.seat in
+    let e = c.load_slot-word.ensures.view in
+    let m = c.mark_cell.ensures in
+    let first : picked (roots_read sh) (events v w) ≡ slot_index sh c.args.section c.args.k ∷ [] = ap (picked (roots_read sh)) (events-after v w (LoadSlot c.args.section c.args.k) c.load_slot-word.result e.0) in
+    reads-join sh (slot_index sh c.args.section c.args.k ∷ []) [] v w x (traced-load_slot v w c.load_slot-word.result c.args.section c.args.k e.1 e.0) m.only first (scans-none sh (events w x) m.counts.scans)

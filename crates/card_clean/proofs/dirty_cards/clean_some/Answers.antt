@@ -1,0 +1,76 @@
+use Rattle.std.proofs.Common.{◌≡◌, ◌++◌, arith, ap, ◌∙◌}
+use Rattle.std.specs.Prelude.{◌==◌}
+use Rattle.mark_core.specs.Held.{has_free_slot, drop_packet}
+use Rattle.mark_core.specs.declared.seat.SeatState.{SeatState}
+use Rattle.gc_table.specs.declared.view.View.{View}
+use Rattle.gc_table.specs.Seats.{view_of}
+use Rattle.gc_table.specs.Log.{events}
+use Rattle.gc_table.proofs.History.Log.{events-join}
+use Rattle.packet_pools.proofs.Counting.{given-moves}
+use Rattle.packet_pools.proofs.InHand.{drop-with}
+use Rattle.packet_pools.proofs.TracedSteps.{cleaned-join, traced-cleaned}
+use Rattle.card_clean.specs.Leaving.{rescanned_in}
+use Rattle.packet_pools.specs.Seeking.{output_pools}
+use Rattle.card_clean.proofs.Leavings.{rescanned-join, rescanned-moves}
+use Rattle.card_clean.proofs.Takings.{some-free, with-free}
+use Rattle.card_clean.proofs.dirty_cards.clean_some.Goals as goal
+
+pub take_some-requires-clause-free : goal.take_some-requires-clause-free
+take_some-requires-clause-free c = some-free (view_of c.args.seat.now).state.held (omega (arith, c.requires.free))
+
+pub clean_between-rescanned-requires-clause-out : goal.clean_between-rescanned-requires-clause-out
+clean_between-rescanned-requires-clause-out c =
+    let v : View = view_of c.args.seat.now in
+    let h = c.in-Some.out in
+    let s = c.in-Some.ensures.some in
+    (s.1, ap (λ (t : SeatState). has_free_slot t.held) s.2 ∙ with-free v.state.held h.packet h.length c.requires.free)
+
+pub returns-clause-only : goal.returns-clause-only
+returns-clause-only c =
+    let v : View = view_of c.args.seat.now in
+    let x : View = view_of c.take_some.new.seat in
+    let y : View = view_of c.clean_between-rescanned.new.seat in
+    let z : View = view_of c.give.new.seat in
+    cleaned-join v x z (traced-cleaned v x c.take_some.ensures.only) (cleaned-join x y z c.clean_between-rescanned.ensures.only (traced-cleaned y z c.give.ensures.only))
+
+pub returns-clause-held : goal.returns-clause-held
+returns-clause-held c =
+    let v : View = view_of c.args.seat.now in
+    let h = c.in-Some.out in
+    let s = c.in-Some.ensures.some in
+    ap (λ (t : SeatState). t.held) c.give.ensures.state
+    ∙ (c.clean_between-rescanned.ensures.out.slots ∙ (ap (λ (t : SeatState). drop_packet t.held h.packet) s.2 ∙ drop-with v.state.held h.packet h.length s.0))
+
+pub returns-in_default-clause-none : goal.returns-in_default-clause-none
+returns-in_default-clause-none c =
+    let v : View = view_of c.args.seat.now in
+    let m = c.take_some.ensures.moves in
+    (c.in_default.ensures.none.1, m, rescanned-moves output_pools (events v (view_of c.take_some.new.seat)) v m)
+
+pub returns-clause-some : goal.returns-clause-some
+returns-clause-some c =
+    let v : View = view_of c.args.seat.now in
+    let x : View = view_of c.take_some.new.seat in
+    let y : View = view_of c.clean_between-rescanned.new.seat in
+    let z : View = view_of c.give.new.seat in
+    let k = c.clean_between-rescanned.new.out in
+    let b = c.take_some.ensures in
+    let d = c.clean_between-rescanned.ensures in
+    let g = c.give.ensures in
+    let end = cleaned-join x y z d.only (traced-cleaned y z g.only) in
+    let none : rescanned_in v (events v x) ≡ 0 = rescanned-moves output_pools (events v x) v b.moves in
+    let last : rescanned_in y (events y z) ≡ 0 = rescanned-moves output_pools (events y z) y (given-moves output_pools k.packet (k.length == 0) (events y z) g.steps) in
+    let j = rescanned-join v x z b.only.ran end.ran in
+    let l = rescanned-join x y z d.only.ran g.only.ran in (
+      d.most,
+      omega (arith, j, l, none, last, d.left),
+      record {
+        taking = events v x;
+        cleaning = events x y;
+        giving = events y z;
+        events_are = events-join v x z b.only.log end.log ∙ ap (λ es. events v x ++ es) (events-join x y z d.only.log g.only.log);
+        takes = b.moves;
+        cleans = d.cleans;
+        gives = given-moves output_pools k.packet (k.length == 0) (events y z) g.steps;
+      },
+    )
