@@ -11,6 +11,9 @@
 //! 7. [`end_collection`](crate::end_collection), once: the seat runs again. Its work in smaller pieces is that of [`start_sweep`](crate::start_sweep),
 //!    [`sweep_step`](crate::sweep_step), until no block is left, and [`finish_collection`](crate::finish_collection).
 //!
+//! The clearing of 6 does more the larger the heap is, and has smaller pieces: [`start_clear`](crate::start_clear), [`clear_step`](crate::clear_step), so many
+//! blocks, until none is left, and [`finish_clear`](crate::finish_clear).
+//!
 //! No helpers are let in, so the seat is alone from the moment that the world has stopped. Between two steps the world stays stopped, or is asked to,
 //! so a thread that doesn't come again holds up all others.
 //!
@@ -36,7 +39,7 @@ ghost use Rattle.gc_cycle.specs.Standing.{IsOut, Mutates};
 ghost use Rattle.gc_cycle.specs.Statistics.{leaves_numbers};
 ghost use Rattle.gc_cycle.specs.Stepping.{AwaitsStop, AsksOnce, Drains, FindsRunning, FindsStopped, HasMarkedAll, IsExactSince, IsOwner, Keeps, LacksPacket, MakesRound, RunsAgain, IsAtRoots};
 
-use crate::clearing::{begin_again, begin_clear};
+use crate::clear_steps::{finish_clear, start_clear};
 use crate::collecting::has_seen_full;
 use crate::draining::{begin_drain, drain_round};
 use crate::lower::{clear_rest, is_drained, raise, resume, sees_to_roots};
@@ -86,7 +89,7 @@ pub fn finds_stopped(heap: &Heap, seat: &mut HeapSeat) -> bool
 }
 
 /// The block counter is set, before the roots are seen to.
-fn reset_blocks(heap: &Heap, seat: &mut HeapSeat)
+pub(crate) fn reset_blocks(heap: &Heap, seat: &mut HeapSeat)
     requires seat { Sits heap.now seat.old }
     requires owner { IsOwner (view_of seat.old) }
     requires alone { IsAloneIn Drain (view_of seat.old) }
@@ -94,6 +97,7 @@ fn reset_blocks(heap: &Heap, seat: &mut HeapSeat)
     ensures part { Across (IsPart Drain) seat.old seat.new }
     ensures course { Across (TakesCourse [] (Reset block_counter ∷ [])) seat.old seat.new }
     ensures roots { IsAtRoots (view_of seat.new) }
+    ensures few { length (did seat.old seat.new) ≤ 1 }
 {
     heap.reset(seat, BLOCK_COUNTER);
 }
@@ -168,8 +172,7 @@ pub fn drain_again(heap: &Heap, seat: &mut HeapSeat)
     ensures course { Across (TakesCourse (Clear ∷ Drain ∷ []) (Reset card_counter ∷ Reset block_counter ∷ [])) seat.old seat.new }
     ensures keeps { Across Keeps seat.old seat.new }
 {
-    begin_clear(heap, seat);
+    start_clear(heap, seat);
     clear_rest(heap, seat);
-    begin_again(heap, seat);
-    reset_blocks(heap, seat);
+    finish_clear(heap, seat);
 }

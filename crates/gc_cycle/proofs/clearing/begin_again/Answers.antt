@@ -1,4 +1,4 @@
-use Rattle.std.proofs.Common.{◌≡◌, ◌≤◌, [], ◌∷◌, refl, sym, ap, ◌∙◌, subst}
+use Rattle.std.proofs.Common.{◌≡◌, ◌≤◌, [], ◌∷◌, arith, refl, sym, ap, ◌∙◌, subst}
 use Rattle.std.proofs.lemmas.Bool.{or_right}
 use Rattle.mark_core.specs.Layout.{block_count}
 use Rattle.mark_core.specs.Numbers.{card_counter}
@@ -18,6 +18,7 @@ use Rattle.gc_cycle.specs.Finishing.{finishes, IsMove}
 use Rattle.gc_cycle.proofs.Ends.Moving.{may-begin_again, may-reset_drain, moved}
 use Rattle.gc_cycle.proofs.Parts.{move-events, part-reset}
 use Rattle.gc_cycle.proofs.Courses.{course-begun}
+use Rattle.gc_cycle.proofs.Few.{few-events}
 use Rattle.gc_cycle.proofs.clearing.begin_again.Goals as goal
 
 pub store_phase-requires-clause-may : goal.store_phase-requires-clause-may
@@ -81,3 +82,10 @@ returns-clause-course c =
     let t = c.store_phase.ensures.view in
     let m : IsMove Clear Drain v w = moved Clear Drain v w t.0 refl c.requires.alone t.1 t.2 in
     course-begun 4 v x (ran-join v w x m.ran (part-reset Drain 0 w x c.reset.ensures.view m.alone).ran) (move-events Clear Drain 0 v w x m c.reset.ensures.view)
+
+pub returns-clause-few : goal.returns-clause-few
+returns-clause-few c =
+    let v : View = view_of c.args.seat.now in
+    let w : View = view_of c.store_phase.new.seat in
+    let t = c.store_phase.ensures.view in
+    few-events 2 v (view_of c.reset.new.seat) _ (move-events Clear Drain 0 v w (view_of c.reset.new.seat) (moved Clear Drain v w t.0 refl c.requires.alone t.1 t.2) c.reset.ensures.view) (omega arith)

@@ -1,6 +1,6 @@
 use Rattle.std.proofs.Common.{ℕ, arith, ◌≡◌, ◌≤◌, [], ◌∷◌, refl, sym, ap, ◌∙◌, subst, Bool, true, ⊎_elim}
 use Rattle.std.specs.Prelude.{if◌then◌else◌, ◌<◌, ◌++◌}
-use Rattle.std.proofs.lemmas.Bool.{and_from, and_parts, le-leb, le-ltb, lt-ltb, or_left, or_right}
+use Rattle.std.proofs.lemmas.Bool.{and_from, and_parts, le-leb, lt-ltb, or_left, or_right}
 use Rattle.mark_core.specs.Layout.{block_count}
 use Rattle.mark_core.specs.Notes.{keeps_bound}
 use Rattle.mark_core.specs.Numbers.{block_counter}
@@ -17,6 +17,7 @@ use Rattle.sweeper.specs.Blocks.{SeesNoBlockLeft, block_drawn, swept_events}
 use Rattle.sweeper.specs.Freeing.{freed_in, block_floor}
 use Rattle.gc_cycle.specs.Lower.{sweeps_next}
 use Rattle.gc_cycle.specs.Sorts.{draws_block, sees_last_block}
+use Rattle.gc_cycle.proofs.ClearedBlocks.{drawn-none}
 use Rattle.gc_cycle.proofs.Ends.Swept.{cleaning-done, floor-above, floor-low, floor-rises}
 use Rattle.gc_cycle.proofs.lower.sweep_next.Goals as goal
 
@@ -29,14 +30,6 @@ one_if b = if b then 1 else 0
 -- one block came in hand
 got-one : (n b seen alloc mark : ℕ) → b < n → count_of (draws_block n) (block_drawn seen b ++ swept_events b alloc mark) ≡ 1
 got-one n b seen alloc mark l = let h = ap one_if (lt-ltb b n l) in omega (arith, h)
-
-got-none : (n : ℕ) (v w : View) (e : SeesNoBlockLeft v w) → n ≤ e.number → count_of (draws_block n) (events v w) ≡ 0
-got-none n v w e l =
-    ⊎_elim
-    (λ (x : events v w ≡ event (ReadStat block_counter) e.number ∷ []). ap (count_of (draws_block n)) x)
-    (λ (x : (seen : ℕ) × (events v w ≡ block_drawn seen e.number)).
-    ap (count_of (draws_block n)) x.1 ∙ (let h = ap one_if (le-ltb e.number n l) in omega (arith, h)))
-    e.events
 
 -- the end was seen
 end-seen : (n : ℕ) (v w : View) (e : SeesNoBlockLeft v w) → n ≤ e.number → some_event (sees_last_block n) (events v w) ≡ true
@@ -98,7 +91,7 @@ returns-in-None-clause-none c =
     let shape = c.requires.seat.1 in (
       end-seen (block_count c.args.heap.now.shape) v w e (subst (λ (sh : Shape). block_count sh ≤ e.number) shape e.end),
       subst (λ (sh : Shape). block_count sh ≤ block_floor w) shape (floor-above (block_count v.shape) w e.above),
-      got-none (block_count c.args.heap.now.shape) v w e (subst (λ (sh : Shape). block_count sh ≤ e.number) shape e.end),
+      drawn-none (block_count c.args.heap.now.shape) v w e (subst (λ (sh : Shape). block_count sh ≤ e.number) shape e.end),
     )
 
 pub returns-in-None-clause-unfreed : goal.returns-in-None-clause-unfreed

@@ -6,6 +6,8 @@ use Rattle.gc_cycle.proofs.Parts.{part-reset}
 use Rattle.gc_cycle.proofs.Stepped.{reset-roots}
 use Rattle.mark_core.specs.Numbers.{block_counter}
 use Rattle.gc_cycle.proofs.Courses.{course-reset}
+use Rattle.gc_cycle.proofs.Few.{few-after}
+use Rattle.mark_core.specs.declared.kinds.Step.TheVariants.{Reset}
 use Rattle.gc_cycle.proofs.stepping.reset_blocks.Goals as goal
 
 pub reset-requires-clause-may : goal.reset-requires-clause-may
@@ -19,3 +21,6 @@ returns-clause-roots c = reset-roots (view_of c.args.seat.now) (view_of c.reset.
 
 pub returns-clause-course : goal.returns-clause-course
 returns-clause-course c = course-reset block_counter (view_of c.args.seat.now) (view_of c.reset.new.seat) c.reset.ensures.view
+
+pub returns-clause-few : goal.returns-clause-few
+returns-clause-few c = few-after (view_of c.args.seat.now) (view_of c.reset.new.seat) (Reset block_counter) 0 c.reset.ensures.view
