@@ -40,7 +40,7 @@ use Rattle.gc_cycle.specs.Lower.{sweeps_next}
 use Rattle.gc_cycle.specs.Mutating.{keeps_section, tries_stopping}
 use Rattle.gc_cycle.specs.Standing.{IsAlone}
 use Rattle.gc_cycle.specs.Sorts.{pops}
-use Rattle.gc_cycle.specs.Stepping.{AwaitsStop, BringsBack, CleansLast, Drains, IsOwner, HasSwept, Keeps, MakesRound, RunsAgain, says_marked, says_root, IsAtRoots, IsAtSweep}
+use Rattle.gc_cycle.specs.Stepping.{AwaitsStop, BringsBack, CleansLast, Drains, IsOwner, HasSwept, Keeps, MakesRound, RunsAgain, notes_root, says_marked, says_root, IsAtRoots, IsAtSweep}
 use Rattle.gc_cycle.specs.Turns.{DrainsFor}
 use Rattle.gc_cycle.proofs.Refills.Collected.{full-alone, only-drop, resumed-mutates}
 use Rattle.gc_cycle.proofs.Refills.KnownFull.{full-known}
@@ -214,13 +214,19 @@ root-from i v (Some w) e h =
           (or_cases (w == 0) (says_marked (look (mark_at ((w - 1) / block_cells)) v.known) ((w - 1) % block_cells)) h);
     }
 
+pub notes-of : (i : ℕ) (v : View) → IsNotedRoot i v → notes_root i v ≡ true
+notes-of i v n = says-root v (look (2, i) v.known) n.word n.noted n.marked
+
+pub root-noted : (i : ℕ) (v : View) → notes_root i v ≡ true → IsNotedRoot i v
+root-noted i v h = root-from i v (look (2, i) v.known) refl h
+
 pub drains-of : (v : View) → IsOwner v → RootedAlone v → Drains v
 drains-of v k r =
-    record { owner = k; rest = r.rest; drain = r.rooted.ready.drains; next_block = r.rooted.ready.next_block; roots = λ i h. let n = r.rooted.roots i h in says-root v (look (2, i) v.known) n.word n.noted n.marked }
+    record { owner = k; rest = r.rest; drain = r.rooted.ready.drains; next_block = r.rooted.ready.next_block; roots = λ i h. notes-of i v (r.rooted.roots i h) }
 
 pub rooted-back : (v : View) → Drains v → RootedAlone v
 rooted-back v d =
-    record { rest = d.rest; rooted = record { ready = record { drains = d.drain; next_block = d.next_block }; roots = λ i h. root-from i v (look (2, i) v.known) refl (d.roots i h) } }
+    record { rest = d.rest; rooted = record { ready = record { drains = d.drain; next_block = d.next_block }; roots = λ i h. root-noted i v (d.roots i h) } }
 
 -- after a look that found something left, a round was made
 pub makes-round : (most : ℕ) (sh : Shape) (v w x : View) → v.shape ≡ sh → Ran v w → FindsWork sh (events v w) → Ran w x → BringsBack w x → DrainsFor most w x → count_of pops (events w x) ≤ most → CleansLast w x → MakesRound most v x

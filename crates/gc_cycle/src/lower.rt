@@ -35,7 +35,9 @@ ghost use Rattle.gc_cycle.specs.Standing.{is_at_rest};
 ghost use Rattle.gc_cycle.specs.Statistics.{leaves_numbers};
 ghost use Rattle.gc_cycle.specs.Stepping.{LacksPacket};
 
+use crate::root_steps::sees_to_some;
 pub(crate) use alloc_cache::retire;
+use card_clean::count_roots;
 use gc_table::{Heap, HeapSeat};
 use std::sync::Wait;
 pub(crate) use stop_world::{
@@ -174,11 +176,8 @@ pub(crate) fn sees_to_roots(heap: &Heap, seat: &mut HeapSeat) -> bool
     ensures rooted { IsTrue result → RootedAlone (view_of seat.new) }
     ensures lacks { IsFalse result → Across LacksPacket seat.old seat.new }
 {
-    if card_clean::see_to_roots(heap, seat) {
-        return true;
-    }
-    tracer::recycle_deferred(heap, seat);
-    false
+    let end = count_roots(heap, seat);
+    sees_to_some(heap, seat, 0, end)
 }
 
 /// Marks what the roots of all sections refer to, for a seat that is alone, until each is nil or marked.

@@ -11,8 +11,11 @@
 //! 7. [`end_collection`](crate::end_collection), once: the seat runs again. Its work in smaller pieces is that of [`start_sweep`](crate::start_sweep),
 //!    [`sweep_step`](crate::sweep_step), until no block is left, and [`finish_collection`](crate::finish_collection).
 //!
-//! The clearing of 6 does more the larger the heap is, and has smaller pieces: [`start_clear`](crate::start_clear), [`clear_step`](crate::clear_step), so many
-//! blocks, until none is left, and [`finish_clear`](crate::finish_clear).
+//! Two of these do more the larger the heap is, and have smaller pieces, each with a bound that its caller gives:
+//!
+//! - of 4, [`root_piece`](crate::root_piece): so many roots;
+//! - of 6, [`start_clear`](crate::start_clear), [`clear_step`](crate::clear_step): so many blocks, until none is left, and
+//!   [`finish_clear`](crate::finish_clear).
 //!
 //! No helpers are let in, so the seat is alone from the moment that the world has stopped. Between two steps the world stays stopped, or is asked to,
 //! so a thread that doesn't come again holds up all others.

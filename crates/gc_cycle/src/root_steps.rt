@@ -1,0 +1,77 @@
+//! The roots are seen to in pieces of so many.
+ghost use Rattle.std.specs.Prelude.{ℕ, ◌≡◌, ◌≢◌, ◌≤◌, ◌+◌, ◌-◌, min, Some, IsTrue, IsFalse, IfSome, IfNone};
+ghost use Rattle.std.specs.List.{range_with_len};
+ghost use Rattle.mark_core.specs.Layout.{root_count};
+ghost use Rattle.mark_core.specs.Places.{the_next_block};
+ghost use Rattle.mark_core.specs.declared.kinds.Phase.TheVariants.{Drain};
+ghost use Rattle.gc_table.specs.Log.{Only};
+ghost use Rattle.gc_table.specs.Notes.{look};
+ghost use Rattle.gc_table.specs.Seats.{Across, did, Sits, view_of};
+ghost use Rattle.gc_table.specs.declared.view.View.{View};
+ghost use Rattle.packet_pools.specs.Fields.{picked};
+ghost use Rattle.card_clean.specs.Drained.{IsNotedRoot, RootsBetween, roots_read, sees_roots};
+ghost use Rattle.card_clean.specs.Leaving.{rescanned_in};
+ghost use Rattle.gc_cycle.specs.Events.{never};
+ghost use Rattle.gc_cycle.specs.Finishing.{IsAloneIn, IsPart};
+ghost use Rattle.gc_cycle.specs.Pieces.{SeesRootsFrom};
+ghost use Rattle.gc_cycle.specs.Sorts.{pops};
+ghost use Rattle.gc_cycle.specs.Statistics.{leaves_numbers};
+ghost use Rattle.gc_cycle.specs.Stepping.{Drains, IsExactSince, Keeps, LacksPacket};
+
+use crate::pieces::at_most;
+use card_clean::count_roots;
+use gc_table::{Heap, HeapSeat};
+
+/// Marks what the roots from this one on and before `end` refer to, where a packet can be had for it. Where none can, what was deferred is brought back, which
+/// is all that can keep packets from a seat that is alone.
+pub(crate) fn sees_to_some(heap: &Heap, seat: &mut HeapSeat, from: u32, end: u32) -> bool
+    requires seat { Sits heap.now seat.old }
+    requires alone { IsAloneIn Drain (view_of seat.old) × (look the_next_block (view_of seat.old).known ≡ Some 0) }
+    requires roots { (from ≤ end) × (end ≤ root_count heap.now.shape) }
+    ensures seat { Sits heap.now seat.new }
+    ensures part { Across (IsPart Drain) seat.old seat.new }
+    ensures next { look the_next_block (view_of seat.new).known ≡ Some 0 }
+    ensures numbers { Across (Only leaves_numbers) seat.old seat.new }
+    ensures rescanned { rescanned_in (view_of seat.old) (did seat.old seat.new) ≡ 0 }
+    ensures unpopped { IsTrue (never pops (did seat.old seat.new)) }
+    ensures kept { (i : ℕ) → IsNotedRoot i (view_of seat.old) → IsNotedRoot i (view_of seat.new) }
+    ensures noted { IsTrue result → RootsBetween from end (view_of seat.new) }
+    ensures only { IsTrue result → Across (Only sees_roots) seat.old seat.new }
+    ensures reads { IsTrue result → picked (roots_read heap.now.shape) (did seat.old seat.new) ≡ range_with_len from (end - from) }
+    ensures lacks { IsFalse result → Across LacksPacket seat.old seat.new }
+{
+    if card_clean::see_to_some(heap, seat, from, end) {
+        return true;
+    }
+    tracer::recycle_deferred(heap, seat);
+    false
+}
+
+/// Marks what the roots from this one on refer to, at most so many of them, and pops no object. How many roots it saw to: fewer come exactly where none is
+/// left. None comes only where no packet could be had: the deferred ones are back then, and it is to be called again.
+///
+/// The roots are the variables of all sections, and behind them their slots.
+pub fn root_piece(heap: &Heap, seat: &mut HeapSeat, from: u32, most: u32) -> Option<u32>
+    requires seat { Sits heap.now seat.old }
+    requires roots { SeesRootsFrom from (view_of seat.old) }
+    ensures seat { Sits heap.now seat.new }
+    ensures part { Across (IsPart Drain) seat.old seat.new }
+    ensures unpopped { IsTrue (never pops (did seat.old seat.new)) }
+    ensures some { IfSome result (λ n. SeesRootsFrom (from + n) (view_of seat.new) × (n ≡ min most (root_count heap.now.shape - from))) }
+    ensures only { IfSome result (λ n. Across (Only sees_roots) seat.old seat.new) }
+    ensures reads { IfSome result (λ n. picked (roots_read heap.now.shape) (did seat.old seat.new) ≡ range_with_len from n) }
+    ensures rooted { IfSome result (λ n. n ≢ most → Drains (view_of seat.new)) }
+    ensures not_yet { IfNone result (SeesRootsFrom from (view_of seat.new) × Across LacksPacket seat.old seat.new) }
+    ensures exact { (u : View) → IsExactSince u (view_of seat.old) → IsExactSince u (view_of seat.new) }
+    ensures numbers { Across (Only leaves_numbers) seat.old seat.new }
+    ensures keeps { Across Keeps seat.old seat.new }
+{
+    let number = at_most(most, from, count_roots(heap, seat));
+    if number == 0 {
+        return Some(0);
+    }
+    if sees_to_some(heap, seat, from, from + number) {
+        return Some(number);
+    }
+    None
+}
