@@ -13,6 +13,7 @@ use Rattle.packet_pools.specs.Counts.{scans_object}
 use Rattle.packet_pools.specs.Seeking.{moves_packet, output_pools, some_event}
 use Rattle.card_clean.specs.Cleaning.{Cleans, CleansOne, FoundClean, FoundDirty}
 use Rattle.card_clean.specs.DirtyCards.{CleanedFrom, CleanedWhereDirty, CleansStretch, CleansStretches, stretch_cards, stretch_count}
+use Rattle.card_clean.specs.Taking.{CleansWithPacket}
 use Rattle.card_clean.specs.declared.cleaned.Cleaned.{Cleaned}
 use Rattle.gc_cycle.specs.Events.{never, Sort}
 use Rattle.gc_cycle.proofs.Ends.Finishes.{never-both}
@@ -63,12 +64,16 @@ module _ (f : Sort) (h : Spares (moves_packet output_pools) f) (k : Spares scans
   none-from sh from zero n es looks c = ap (never f) c.1
   none-from sh from (suc k) n es looks c = ap (never f) c.4 ∙ never-both f c.2 c.3 (none-from sh from k c.0 c.2 looks c.6) (none-where sh (from + k) c.1 c.3 looks c.7)
 
-  none-stretch : (sh : Shape) (s n : ℕ) (es : List Entry) → ((k m : ℕ) → f (ReadCard k) m ≡ false) → CleansStretch sh s n es → never f es ≡ true
-  none-stretch sh s n es looks (inl c) = moved-untaken output_pools f h es c.2
-  none-stretch sh s n es looks (inr c) =
+  -- with a packet that was taken for it
+  pub none-with : (sh : Shape) (from k n : ℕ) (es : List Entry) → ((k m : ℕ) → f (ReadCard k) m ≡ false) → CleansWithPacket (CleanedFrom sh from k n) es → never f es ≡ true
+  none-with sh from k n es looks c =
       ap (never f) c.events_are
       ∙ never-both f c.taking (c.cleaning ++ c.giving) (moved-untaken output_pools f h c.taking c.takes)
-      (never-both f c.cleaning c.giving (none-from sh (s * stretch_cards) (min (s * stretch_cards + stretch_cards) (card_count sh) - s * stretch_cards) n c.cleaning looks c.cleans) (moved-untaken output_pools f h c.giving c.gives))
+      (never-both f c.cleaning c.giving (none-from sh from k n c.cleaning looks c.cleans) (moved-untaken output_pools f h c.giving c.gives))
+
+  none-stretch : (sh : Shape) (s n : ℕ) (es : List Entry) → ((k m : ℕ) → f (ReadCard k) m ≡ false) → CleansStretch sh s n es → never f es ≡ true
+  none-stretch sh s n es looks (inl c) = moved-untaken output_pools f h es c.2
+  none-stretch sh s n es looks (inr c) = none-with sh (s * stretch_cards) (min (s * stretch_cards + stretch_cards) (card_count sh) - s * stretch_cards) n es looks c
 
   pub none-stretches : (sh : Shape) (first k n : ℕ) (es : List Entry) → ((k m : ℕ) → f (ReadCard k) m ≡ false) → CleansStretches sh first k n es → never f es ≡ true
   none-stretches sh first zero n es looks c = ap (never f) c.1

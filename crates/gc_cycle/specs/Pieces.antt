@@ -1,11 +1,22 @@
 -- Where the seat stands between the pieces of a collection, and what each of them did.
-use Rattle.std.specs.Prelude.{ℕ, ◌≤◌, ◌<◌, IsTrue}
-use Rattle.mark_core.specs.Layout.{block_count}
+use Rattle.std.specs.Prelude.{ℕ, ◌≡◌, ◌≢◌, ◌≤◌, ◌<◌, ◌+◌, ◌-◌, ◌==◌, min, List, [], ◌∷◌, Bool, IsTrue}
+use Rattle.mark_core.specs.Layout.{block_count, card_count}
+use Rattle.mark_core.specs.Numbers.{empty_offset}
 use Rattle.mark_core.specs.declared.kinds.Phase.TheVariants.{Clear}
+use Rattle.mark_core.specs.declared.kinds.Shape.{Shape}
+use Rattle.mark_core.specs.declared.kinds.Step.TheVariants.{ReadCount}
+use Rattle.gc_table.specs.Log.{event, events}
+use Rattle.gc_table.specs.declared.view.Entry.{Entry}
 use Rattle.gc_table.specs.declared.view.View.{View}
 use Rattle.sweeper.specs.Freeing.{block_floor}
+use Rattle.card_clean.specs.DirtyCards.{CleanedFrom}
+use Rattle.card_clean.specs.Drained.{AreNotedClean}
+use Rattle.card_clean.specs.Looking.{looks_clean, looks_dirty}
+use Rattle.card_clean.specs.Taking.{CleansWithPacket}
 use Rattle.gc_cycle.specs.Finishing.{IsAloneIn}
-use Rattle.gc_cycle.specs.Stepping.{IsAtRoots, IsOwner, notes_root}
+use Rattle.gc_cycle.specs.Stepping.{Drains, IsAtRoots, IsOwner, notes_root}
+use Rattle.gc_cycle.specs.declared.card_steps.Look.{Look}
+use Rattle.gc_cycle.specs.declared.card_steps.Look.TheVariants as looks
 
 -- alone in a clearing of marks, it hands out blocks
 pub record IsAtClear (v : View) : Type 0 where
@@ -21,3 +32,31 @@ pub record HasCleared (v : View) : Type 0 where
 pub record SeesRootsFrom (from : ℕ) (v : View) : Type 0 where
   pub roots : IsAtRoots v
   pub below : (i : ℕ) → i < from → IsTrue (notes_root i v)
+
+-- alone in a drain, with the roots seen to, it looks at the cards from this one on: each card below it is noted as clean
+pub record LooksFrom (from : ℕ) (v : View) : Type 0 where
+  pub drains : Drains v
+  pub below : AreNotedClean 0 from v
+
+-- alone in a drain, with the roots seen to, it has noted that each card is clean
+pub record HasLooked (v : View) : Type 0 where
+  pub drains : Drains v
+  pub cards : AreNotedClean 0 (card_count v.shape) v
+
+-- a look at so many cards, from this one on, saw each of them clean, and fewer only where there are no more; or it saw one dirty, after those that are clean
+abbrev pub LooksAt : Shape → ℕ → ℕ → Look → List Entry → Type 0
+LooksAt sh from most (looks.Clean n) es = (n ≡ min most (card_count sh - from)) × (es ≡ looks_clean from (from + n))
+LooksAt sh from most (looks.Dirty card) es = (from ≤ card) × (card < from + most) × (card < card_count sh) × (es ≡ looks_dirty from card)
+
+-- where such a look leaves the seat
+abbrev pub StandsAfter : ℕ → ℕ → Look → View → Type 0
+StandsAfter from most (looks.Clean n) v = LooksFrom (from + n) v × (n ≢ most → HasLooked v)
+StandsAfter from most (looks.Dirty card) v = Drains v
+
+-- the count of empty packets was read, and this is whether it said all packets
+abbrev pub ReadsCount : Bool → View → View → Type 0
+ReadsCount all v w = (n : ℕ) × (events v w ≡ event ReadCount n ∷ []) × (all ≡ (n == empty_offset + v.shape.packets))
+
+-- with a packet that was taken for it, so many cards from this one on were each seen clean, or seen dirty and cleaned
+abbrev pub CleansCards : ℕ → ℕ → View → View → Type 0
+CleansCards from n v w = (rescanned : ℕ) × CleansWithPacket (CleanedFrom v.shape from n rescanned) (events v w)

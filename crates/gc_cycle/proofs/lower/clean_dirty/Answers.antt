@@ -1,4 +1,4 @@
-use Rattle.std.proofs.Common.{ℕ, ◌≡◌, ◌-◌, ◌⊎◌, List, [], ◌∷◌, ◌++◌, refl, sym, ap, ◌∙◌, subst, true, false, inl, inr}
+use Rattle.std.proofs.Common.{ℕ, ◌≡◌, ◌-◌, ◌⊎◌, List, [], ◌∷◌, refl, sym, ap, ◌∙◌, subst, true, false, inl, inr}
 use Rattle.std.specs.Prelude.{map}
 use Rattle.std.specs.List.{range_with_len}
 use Rattle.mark_core.specs.Layout.{card_count}
@@ -11,7 +11,7 @@ use Rattle.card_clean.specs.Looking.{looks_clean, looks_dirty}
 use Rattle.card_clean.specs.Taking.{CleansWithPacket, NoPacket}
 use Rattle.gc_cycle.specs.Events.{never}
 use Rattle.gc_cycle.specs.Sorts.{pops}
-use Rattle.gc_cycle.proofs.CleaningSpares.{none-from}
+use Rattle.gc_cycle.proofs.CleaningSpares.{none-with}
 use Rattle.gc_cycle.proofs.Ends.Finishes.{never-both}
 use Rattle.gc_cycle.proofs.TracingSpares.{moved-untaken, moves-unpopped, scan-unpopped}
 use Rattle.mark_core.specs.Held.{holds_any}
@@ -56,12 +56,7 @@ looked (k ∷ ks) = looked ks
 -- nor does what follows a look that found a card dirty
 rest-unpopped : (sh : Shape) (card n : ℕ) (es : List Entry) → ((n ≡ 0) × NoPacket sh es × (only_moves output_pools es ≡ true)) ⊎ CleansWithPacket (CleanedFrom sh card (card_count sh - card) n) es → never pops es ≡ true
 rest-unpopped sh card n es (inl a) = moved-untaken output_pools pops (moves-unpopped output_pools) es a.2
-rest-unpopped sh card n es (inr a) =
-    ap (never pops) a.events_are
-    ∙ never-both pops a.taking (a.cleaning ++ a.giving) (moved-untaken output_pools pops (moves-unpopped output_pools) a.taking a.takes)
-    (never-both pops a.cleaning a.giving
-    (none-from pops (moves-unpopped output_pools) scan-unpopped (λ k m. refl) (λ k m. refl) (λ k m. refl) (λ k m. refl) sh card (card_count sh - card) n a.cleaning (λ k m. refl) a.cleans)
-    (moved-untaken output_pools pops (moves-unpopped output_pools) a.giving a.gives))
+rest-unpopped sh card n es (inr a) = none-with pops (moves-unpopped output_pools) scan-unpopped (λ k m. refl) (λ k m. refl) (λ k m. refl) (λ k m. refl) sh card (card_count sh - card) n es (λ k m. refl) a
 
 unpopped : (sh : Shape) (n : ℕ) (es : List Entry) → CleansDirty sh n es → never pops es ≡ true
 unpopped sh n es (inl a) = ap (never pops) a.1 ∙ looked (range_with_len 0 (card_count sh - 0))
