@@ -1,11 +1,15 @@
 -- Where the seat stands between the pieces of a collection, and what each of them did.
-use Rattle.std.specs.Prelude.{ℕ, ◌≡◌, ◌≢◌, ◌≤◌, ◌<◌, ◌+◌, ◌-◌, ◌==◌, min, List, [], ◌∷◌, Bool, IsTrue}
+use Rattle.std.specs.Prelude.{ℕ, ◌≡◌, ◌≢◌, ◌≤◌, ◌<◌, ◌+◌, ◌-◌, ◌==◌, min, ◌*◌, List, [], ◌∷◌, Bool, is_some, IsTrue}
+use Rattle.mark_core.specs.Cards.{block_cells}
 use Rattle.mark_core.specs.Layout.{block_count, card_count}
 use Rattle.mark_core.specs.Numbers.{empty_offset}
-use Rattle.mark_core.specs.declared.kinds.Phase.TheVariants.{Clear}
+use Rattle.mark_core.specs.Places.{alloc_at}
+use Rattle.mark_core.specs.declared.kinds.Phase.TheVariants.{Clear, Idle}
 use Rattle.mark_core.specs.declared.kinds.Shape.{Shape}
 use Rattle.mark_core.specs.declared.kinds.Step.TheVariants.{ReadCount}
 use Rattle.gc_table.specs.Log.{event, events}
+use Rattle.gc_table.specs.Notes.{look}
+use Rattle.gc_table.specs.Running.{Ran}
 use Rattle.gc_table.specs.declared.view.Entry.{Entry}
 use Rattle.gc_table.specs.declared.view.View.{View}
 use Rattle.sweeper.specs.Freeing.{block_floor}
@@ -13,7 +17,9 @@ use Rattle.card_clean.specs.DirtyCards.{CleanedFrom}
 use Rattle.card_clean.specs.Drained.{AreNotedClean}
 use Rattle.card_clean.specs.Looking.{looks_clean, looks_dirty}
 use Rattle.card_clean.specs.Taking.{CleansWithPacket}
-use Rattle.gc_cycle.specs.Finishing.{IsAloneIn}
+use Rattle.gc_cycle.specs.Cycles.{collects_exactly}
+use Rattle.gc_cycle.specs.Finishing.{IsAloneIn, ones_noted}
+use Rattle.gc_cycle.specs.Moments.{begins}
 use Rattle.gc_cycle.specs.Stepping.{Drains, IsAtRoots, IsOwner, notes_root}
 use Rattle.gc_cycle.specs.declared.card_steps.Look.{Look}
 use Rattle.gc_cycle.specs.declared.card_steps.Look.TheVariants as looks
@@ -60,3 +66,21 @@ ReadsCount all v w = (n : ℕ) × (events v w ≡ event ReadCount n ∷ []) × (
 -- with a packet that was taken for it, so many cards from this one on were each seen clean, or seen dirty and cleaned
 abbrev pub CleansCards : ℕ → ℕ → View → View → Type 0
 CleansCards from n v w = (rescanned : ℕ) × CleansWithPacket (CleanedFrom v.shape from n rescanned) (events v w)
+
+-- alone in a stop after the sweep, it counts the cells in use, of the blocks from this one on: so many are in the blocks below it, whose allocation bits are noted
+pub record CountsFrom (from counted : ℕ) (v : View) : Type 0 where
+  pub owner : IsOwner v
+  pub alone : IsAloneIn Idle v
+  pub within : from ≤ block_count v.shape
+  pub noted : (b : ℕ) → b < from → IsTrue (is_some (look (alloc_at b) v.known))
+  pub count : counted ≡ ones_noted from v
+  pub bound : counted ≤ block_cells * from
+
+-- the cells in use of all blocks are counted
+abbrev pub HasCounted : ℕ → View → Type 0
+HasCounted counted v = CountsFrom (block_count v.shape) counted v
+
+-- since then a drain began with no cell marked, and its cycle ended
+pub record HasCollectedSince (v w : View) : Type 0 where
+  pub ran : Ran v w
+  pub collects : IsTrue (collects_exactly v.shape (begins v) (events v w))

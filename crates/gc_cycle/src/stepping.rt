@@ -11,13 +11,15 @@
 //! 7. [`end_collection`](crate::end_collection), once: the seat runs again. Its work in smaller pieces is that of [`start_sweep`](crate::start_sweep),
 //!    [`sweep_step`](crate::sweep_step), until no block is left, and [`finish_collection`](crate::finish_collection).
 //!
-//! Three of these do more the larger the heap is, and have smaller pieces, each with a bound that its caller gives:
+//! Four of these do more the larger the heap is, and have smaller pieces, each with a bound that its caller gives:
 //!
 //! - of 4, [`root_piece`](crate::root_piece): so many roots;
 //! - of 5, [`trace_step`](crate::trace_step): so many objects; [`look_step`](crate::look_step): a look at so many cards, and once all are clean
 //!   [`finds_all_marked`](crate::finds_all_marked); and from a dirty card on [`clean_step`](crate::clean_step): so many cards are cleaned;
 //! - of 6, [`start_clear`](crate::start_clear), [`clear_step`](crate::clear_step): so many blocks, until none is left, and
-//!   [`finish_clear`](crate::finish_clear).
+//!   [`finish_clear`](crate::finish_clear);
+//! - of 7, after the sweep, [`start_count`](crate::start_count), [`count_step`](crate::count_step): so many blocks, and
+//!   [`finish_count`](crate::finish_count).
 //!
 //! No helpers are let in, so the seat is alone from the moment that the world has stopped. Between two steps the world stays stopped, or is asked to,
 //! so a thread that doesn't come again holds up all others.

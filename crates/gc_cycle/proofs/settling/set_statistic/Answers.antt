@@ -6,6 +6,7 @@ use Rattle.gc_cycle.proofs.Ends.Sets.{may-add, may-clear, sets-add, sets-clear, 
 use Rattle.mark_core.specs.declared.kinds.Step.TheVariants.{AddStat, Reset}
 use Rattle.gc_cycle.proofs.Changes.{by-join}
 use Rattle.gc_cycle.proofs.Courses.{add-changes, reset-changes}
+use Rattle.gc_cycle.proofs.Few.{few-after, few-join}
 use Rattle.gc_cycle.proofs.settling.set_statistic.Goals as goal
 
 pub reset-requires-clause-may : goal.reset-requires-clause-may
@@ -37,3 +38,11 @@ returns-clause-numbers c =
     let which = c.args.which in
     let number = c.args.number in
     by-join (Reset which ∷ []) (AddStat which number false ∷ []) u v w (reset-changes which u v c.reset.ensures.view) (add-changes which number v w c.add_stat.ensures.view)
+
+pub returns-clause-few : goal.returns-clause-few
+returns-clause-few c =
+    let u : View = view_of c.args.seat.now in
+    let v : View = view_of c.reset.new.seat in
+    let w : View = view_of c.add_stat.new.seat in
+    let a = c.add_stat.ensures.view in
+    few-join 1 1 u v w (reset-changes c.args.which u v c.reset.ensures.view).ran (add-changes c.args.which c.args.number v w a).ran (few-after u v (Reset c.args.which) 0 c.reset.ensures.view) (few-after v w (AddStat c.args.which c.args.number false) a.0 a.1.0)

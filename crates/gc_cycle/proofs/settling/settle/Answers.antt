@@ -1,84 +1,18 @@
-use Rattle.std.proofs.Common.{ℕ, ◌-◌, refl, sym, ap, ◌∙◌, subst}
-use Rattle.mark_core.specs.Layout.{block_count}
-use Rattle.mark_core.specs.Numbers.{card_counter, free_count, last_count, rescanned_count, traced_count}
-use Rattle.mark_core.specs.Places.{alloc_at, counter_at}
+use Rattle.std.proofs.Common.{[]}
 use Rattle.mark_core.specs.declared.kinds.Phase.TheVariants.{Idle}
-use Rattle.mark_core.specs.declared.kinds.Shape.{Shape}
 use Rattle.gc_table.specs.Seats.{view_of}
 use Rattle.gc_table.specs.declared.view.View.{View}
-use Rattle.gc_table.specs.Running.{Known}
-use Rattle.gc_cycle.specs.Finishing.{AllocsNoted, ones_noted}
-use Rattle.gc_cycle.proofs.Ends.Ended.{cycle-ends}
-use Rattle.gc_cycle.proofs.Parts.{part-join}
-use Rattle.gc_cycle.proofs.Ends.Sets.{allocs-kept, KeepsAllocs, ones-kept, sets-kept}
 use Rattle.gc_cycle.specs.Courses.{sets_numbers}
-use Rattle.gc_cycle.specs.Statistics.{ChangesBy}
-use Rattle.gc_cycle.proofs.Changes.{only-changes}
-use Rattle.gc_cycle.proofs.Courses.{settled-changes}
+use Rattle.gc_cycle.proofs.Changes.{by-join, only-changes}
+use Rattle.gc_cycle.proofs.Parts.{part-join}
 use Rattle.gc_cycle.proofs.settling.settle.Goals as goal
 
 pub returns-clause-part : goal.returns-clause-part
-returns-clause-part c =
-    let u : View = view_of c.args.seat.now in
-    let v : View = view_of c.count_published-marked.new.seat in
-    let w2 : View = view_of c.set_statistic.new.seat in
-    let w3 : View = view_of c.set_statistic-2.new.seat in
-    let w5 : View = view_of c.set_statistic-3.new.seat in
-    let w4 : View = view_of c.clear_statistic.new.seat in
-    let w0 : View = view_of c.clear_statistic-2.new.seat in
-    part-join Idle u v w0 c.count_published-marked.ensures.part
-    (part-join Idle v w2 w0 c.set_statistic.ensures.sets.part
-    (part-join Idle w2 w3 w0 c.set_statistic-2.ensures.sets.part
-    (part-join Idle w3 w5 w0 c.set_statistic-3.ensures.sets.part (part-join Idle w5 w4 w0 c.clear_statistic.ensures.sets.part c.clear_statistic-2.ensures.sets.part))))
-
-pub returns-clause-end : goal.returns-clause-end
-returns-clause-end c =
-    let v : View = view_of c.count_published-marked.new.seat in
-    let w2 : View = view_of c.set_statistic.new.seat in
-    let w3 : View = view_of c.set_statistic-2.new.seat in
-    let w5 : View = view_of c.set_statistic-3.new.seat in
-    let w4 : View = view_of c.clear_statistic.new.seat in
-    let w0 : View = view_of c.clear_statistic-2.new.seat in
-    let marked = c.count_published-marked.result in
-    let n = block_count c.args.heap.now.shape in
-    let p = c.count_published-marked.ensures in
-    let s2 = c.set_statistic.ensures.sets in
-    let s3 = c.set_statistic-2.ensures.sets in
-    let s5 = c.set_statistic-3.ensures.sets in
-    let s4 = c.clear_statistic.ensures.sets in
-    let s0 = c.clear_statistic-2.ensures.sets in
-    let keeps : KeepsAllocs v w0 =
-    λ b word k.
-    sets-kept card_counter 0 w4 w0 (alloc_at b) word refl refl s4.part.alone s0
-    (sets-kept traced_count 0 w5 w4 (alloc_at b) word refl refl s5.part.alone s4
-    (sets-kept free_count _ w3 w5 (alloc_at b) word refl refl s3.part.alone s5
-    (sets-kept rescanned_count _ w2 w3 (alloc_at b) word refl refl s2.part.alone s3 (sets-kept last_count _ v w2 (alloc_at b) word refl refl p.part.alone s2 k)))) in
-    let last =
-    sets-kept card_counter 0 w4 w0 (counter_at last_count) _ refl refl s4.part.alone s0
-    (sets-kept traced_count 0 w5 w4 (counter_at last_count) _ refl refl s5.part.alone s4
-    (sets-kept free_count _ w3 w5 (counter_at last_count) _ refl refl s3.part.alone s5 (sets-kept rescanned_count _ w2 w3 (counter_at last_count) _ refl refl s2.part.alone s3 s2.known))) in
-    let rescanned =
-    sets-kept card_counter 0 w4 w0 (counter_at rescanned_count) _ refl refl s4.part.alone s0
-    (sets-kept traced_count 0 w5 w4 (counter_at rescanned_count) _ refl refl s5.part.alone s4 (sets-kept free_count _ w3 w5 (counter_at rescanned_count) _ refl refl s3.part.alone s5 s3.known)) in
-    let free = sets-kept card_counter 0 w4 w0 (counter_at free_count) _ refl refl s4.part.alone s0 (sets-kept traced_count 0 w5 w4 (counter_at free_count) _ refl refl s5.part.alone s4 s5.known) in
-    let traced = sets-kept card_counter 0 w4 w0 (counter_at traced_count) _ refl refl s4.part.alone s0 s4.known in
-    let shape = c.clear_statistic-2.ensures.seat.1 in
-    cycle-ends (record { marked = marked; freed = c.args.freed; rescanned = c.args.rescanned }) w0 s0.part.alone
-    (subst (λ (sh : Shape). AllocsNoted (block_count sh) w0) (sym shape) (allocs-kept n v w0 p.noted keeps))
-    (p.count ∙ (sym (ones-kept n v w0 p.noted keeps) ∙ ap (λ (sh : Shape). ones_noted (block_count sh) w0) (sym shape)))
-    last rescanned traced s0.known
-    (subst (λ (m : ℕ). Known w0 (counter_at free_count) m) (ap (λ (sh : Shape). sh.cells - marked) (c.shape.ensures ∙ sym shape)) free)
+returns-clause-part c = part-join Idle (view_of c.args.seat.now) (view_of c.count_published-marked.new.seat) (view_of c.set_numbers.new.seat) c.count_published-marked.ensures.part c.set_numbers.ensures.part
 
 pub returns-clause-numbers : goal.returns-clause-numbers
 returns-clause-numbers c =
     let u : View = view_of c.args.seat.now in
     let v : View = view_of c.count_published-marked.new.seat in
-    let w2 : View = view_of c.set_statistic.new.seat in
-    let w3 : View = view_of c.set_statistic-2.new.seat in
-    let w5 : View = view_of c.set_statistic-3.new.seat in
-    let w4 : View = view_of c.clear_statistic.new.seat in
-    let w0 : View = view_of c.clear_statistic-2.new.seat in
     let p = c.count_published-marked.ensures in
-    let marked = c.count_published-marked.result in
-    subst (λ (sh : Shape). ChangesBy (sets_numbers sh (record { marked = marked; freed = c.args.freed; rescanned = c.args.rescanned })) u w0) c.shape.ensures
-    (settled-changes marked c.args.rescanned _ u v w2 w3 w5 w4 w0 (only-changes u v p.part.ran p.numbers) c.set_statistic.ensures.numbers c.set_statistic-2.ensures.numbers c.set_statistic-3.ensures.numbers c.clear_statistic.ensures.numbers c.clear_statistic-2.ensures.numbers)
+    by-join [] (sets_numbers c.args.heap.now.shape c.set_numbers.result) u v (view_of c.set_numbers.new.seat) (only-changes u v p.part.ran p.numbers) c.set_numbers.ensures.numbers
