@@ -1,6 +1,7 @@
 -- What the search for a block has seen, and the view after it.
-use Rattle.std.proofs.Common.{ℕ, ◌≡◌, ◌<◌, ◌≤◌, ◌+◌, List, [], ◌∷◌, ◌++◌, arith, refl, sym, ap, ◌∙◌, subst, Bool, true, false, not, ◌&&◌, ◌||◌, cond, Some, None, Option, ◌⊎◌, ⊎_elim, append_assoc}
+use Rattle.std.proofs.Common.{ℕ, ◌≡◌, ◌<◌, ◌≤◌, ◌+◌, ◌-◌, ◌*◌, length, List, [], ◌∷◌, ◌++◌, arith, refl, sym, ap, ◌∙◌, subst, Bool, true, false, not, ◌&&◌, ◌||◌, cond, Some, None, Option, ◌⊎◌, ⊎_elim, append_assoc}
 use Rattle.std.specs.Prelude.{◌==◌, is_some, IfSome, IfNone}
+use Rattle.std.specs.List.{range_with_len}
 use Rattle.std.specs.Int.Count.{ones}
 use Rattle.std.proofs.lemmas.Bool.{false≢true, and_from, and_parts, or_left, or_right, or_cases, eq-eqb, eqb-true, not_from_false}
 use Rattle.mark_core.specs.Bits.{all_ones, complement}
@@ -27,9 +28,10 @@ use Rattle.gc_table.specs.Running.{Ran}
 use Rattle.gc_table.proofs.History.Log.{entry_of, events-none, events-after}
 use Rattle.gc_table.proofs.Running.{ran-found, ran-stored, ran-join, ran-events}
 use Rattle.alloc_cache.specs.Caching.{cached}
-use Rattle.alloc_cache.specs.Claiming.{MayClaim, Misses, NoBlock, Claims, claimed_by, finds_claimed, full_first, gets_block, notes_idle, seeks_block, seen_taken}
+use Rattle.alloc_cache.specs.Claiming.{MayClaim, Misses, NoBlock, Claims, ClaimsFirst, blocks_tried, claimed_by, finds_claimed, full_first, gets_block, notes_idle, seeks_block, seen_taken}
 use Rattle.alloc_cache.specs.declared.cache.Cache.{Cache}
 use Rattle.alloc_cache.proofs.Conditions.{some-is}
+use Rattle.alloc_cache.proofs.Tried.{few-join, one-few, one-tried, tried-join}
 
 may-by : (a k n m : Bool) → (k ≡ true → n ≡ true → m ≡ true) → (a || (k && n)) ≡ true → (a || (k && m)) ≡ true
 may-by true k n m h e = refl
@@ -83,25 +85,42 @@ seeks-join (x ∷ xs) ys a b = let p = and_parts (seeks_block x.step) (all_steps
 
 -- nothing was looked at
 pub misses-none : (lo : ℕ) (v : View) → MayClaim v → Misses lo lo v v
-misses-none lo v m = record { state = refl; own = refl; may = m; all = λ b l h. absurd (omega (arith, l, h)); seeks = ap (all_steps seeks_block) (events-none v) }
+misses-none lo v m =
+    let none : 0 ≡ lo - lo = omega arith in
+    let long = ap length (events-none v) in
+    record {
+      order = omega arith;
+      state = refl;
+      own = refl;
+      may = m;
+      all = λ b l h. absurd (omega (arith, l, h));
+      seeks = ap (all_steps seeks_block) (events-none v);
+      tried = ap blocks_tried (events-none v) ∙ ap (range_with_len lo) none;
+      few = omega (arith, long);
+    }
+
+below-or : (k mid : ℕ) → (k < mid) ⊎ (mid ≤ k)
+below-or k mid = grind arith
 
 -- more blocks were missed after others
 pub misses-join : (lo mid hi : ℕ) (v w x : View) → Ran v w → Ran w x → Misses lo mid v w → Misses mid hi w x → Misses lo hi v x
 misses-join lo mid hi v w x a b m n =
     let both : events v x ≡ events v w ++ events w x = ran-events v w x a b in
+    let low = m.order in
+    let high = n.order in
     record {
+      order = omega (arith, low, high);
       state = n.state ∙ m.state;
       own = n.own ∙ m.own;
       may = n.may;
       all =
           λ k l h.
           ap (seen_taken k) both
-          ∙ ⊎_elim (λ (e : k < mid). seen-front k (events v w) (events w x) (m.all k l e)) (λ (e : mid ≤ k). seen-back k (events v w) (events w x) (n.all k e h)) (either k mid);
+          ∙ ⊎_elim (λ (e : k < mid). seen-front k (events v w) (events w x) (m.all k l e)) (λ (e : mid ≤ k). seen-back k (events v w) (events w x) (n.all k e h)) (below-or k mid);
       seeks = ap (all_steps seeks_block) both ∙ seeks-join (events v w) (events w x) m.seeks n.seeks;
+      tried = tried-join lo mid hi v w x low high a b m.tried n.tried;
+      few = few-join lo mid hi v w x low high a b m.few n.few;
     }
-  where
-    either : (k mid : ℕ) → (k < mid) ⊎ (mid ≤ k)
-    either k mid = grind arith
 
 -- a block was got after others were missed
 pub claims-after : (lo mid : ℕ) (h : Cache) (v w x : View) → Ran v w → Ran w x → w.shape ≡ v.shape → Misses lo mid v w → Claims h w x → Claims h v x
@@ -123,6 +142,25 @@ claims-after lo mid h v w x a b shape m k =
       );
     }
 
+-- the first block with a free cell, after others that were missed
+pub first-after : (lo mid end hi : ℕ) (h : Cache) (v w x : View) → end ≤ hi → Ran v w → Ran w x → w.shape ≡ v.shape → Misses lo mid v w → ClaimsFirst mid end h w x → ClaimsFirst lo hi h v x
+first-after lo mid end hi h v w x long a b shape m k =
+    let both : events v x ≡ events v w ++ events w x = ran-events v w x a b in
+    let low = m.order in
+    let at = k.within.0 in
+    let below = k.within.1 in
+    let last : mid ≤ h.block + 1 = omega (arith, at) in
+    record {
+      claims = claims-after lo mid h v w x a b shape m k.claims;
+      within = (omega (arith, low, at), omega (arith, below, long));
+      before =
+          λ j l e.
+          ap (seen_taken j) both
+          ∙ ⊎_elim (λ (g : j < mid). seen-front j (events v w) (events w x) (m.all j l g)) (λ (g : mid ≤ j). seen-back j (events v w) (events w x) (k.before j g e)) (below-or j mid);
+      tried = tried-join lo mid (h.block + 1) v w x low last a b m.tried k.tried;
+      few = few-join lo mid (h.block + 1) v w x low last a b m.few k.few;
+    }
+
 -- the record after a try to claim a block, by whether it had an owner
 claim-state : (s : SeatState) (b n : ℕ) (free : Bool) → (n == 0) ≡ free → seat_after (record { cells = 0; packets = 0; entries = 0; sections = 0; fields = 0; objects = 0; sharing = false; slots = 0 }) s (ClaimBlock b) n ≡ record s { cache = cond free (Some (record { block = b; unread = true; free = 0; used = 0; making = None; last = None })) s.cache }
 claim-state s b n free e = ap (λ (q : Bool). record s { cache = cond q (Some (record { block = b; unread = true; free = 0; used = 0; making = None; last = None })) s.cache }) e
@@ -134,6 +172,7 @@ block-lost b n v w m lost f =
     let state : w.state ≡ v.state = ap (λ (x : View). x.state) f.0 ∙ is in
     let one : events v w ≡ entry_of (ClaimBlock b) n ∷ [] = events-after v w (ClaimBlock b) n f.0 in
     record {
+      order = omega arith;
       state = state;
       own = ap (λ (x : View). x.own) f.0;
       may =
@@ -147,6 +186,8 @@ block-lost b n v w m lost f =
           let at : b ≡ k = omega (arith, l, h) in
           ap (seen_taken k) one ∙ or_left (finds_claimed k (ClaimBlock b) n || gets_block k (ClaimBlock b) n && false) false (or_left (finds_claimed k (ClaimBlock b) n) (gets_block k (ClaimBlock b) n && false) (and_from (b == k) (not (n == 0)) (eq-eqb b k at) (not_from_false (n == 0) lost)));
       seeks = ap (all_steps seeks_block) one;
+      tried = one-tried b v w _ one refl;
+      few = one-few b v w _ one (omega arith);
     }
 
 -- the record after the block was got, and read
@@ -169,6 +210,7 @@ block-full b n word v w x y m got full f g r =
     ran-events v w y one (ran-join w x y two three)
     ∙ (λ i. events-after v w (ClaimBlock b) n f.0 i ++ (ran-events w x y two three ∙ (λ j. events-after w x ReadFree word g.0 j ++ events-after x y ReleaseBlock 0 r j)) i) in
     record {
+      order = omega arith;
       state = state;
       own = ap (λ (z : View). z.own) r ∙ ap (λ (z : View). z.own) g.0 ∙ ap (λ (z : View). z.own) f.0;
       may =
@@ -185,31 +227,43 @@ block-full b n word v w x y m got full f g r =
           ap (seen_taken k) all
           ∙ or_left (finds_claimed k (ClaimBlock b) n || gets_block k (ClaimBlock b) n && (word == all_ones)) _ (or_right (finds_claimed k (ClaimBlock b) n) (gets_block k (ClaimBlock b) n && (word == all_ones)) (and_from (gets_block k (ClaimBlock b) n) (word == all_ones) (and_from (b == k) (n == 0) (eq-eqb b k at) got) (eq-eqb word all_ones full)));
       seeks = ap (all_steps seeks_block) all;
+      tried = one-tried b v y _ all refl;
+      few = one-few b v y _ all (omega arith);
     }
 
 -- it has free cells
 pub block-got : (b n word count : ℕ) (h : Cache) (v w x y : View) → MayClaim v → b < block_count v.shape → (n == 0) ≡ true → h.block ≡ b → h.cells ≡ complement word → 0 < h.cells → Found (ClaimBlock b) n v w → Found ReadFree word w x
-    → Found (AddStat free_count (ones h.cells) true) count x y → Claims h v y
+    → Found (AddStat free_count (ones h.cells) true) count x y → ClaimsFirst b (b + 1) h v y
 block-got b n word count h v w x y m there got block cells some f g r =
     let one : Ran v w = ran-found v w (ClaimBlock b) n refl f in
     let two : Ran w x = ran-found w x ReadFree word refl g in
     let three : Ran x y = ran-found x y (AddStat free_count (ones h.cells) true) count refl r in
     let none : n ≡ 0 = eqb-true n 0 got in
+    let all : events v y ≡ claimed_by h word count =
+    ran-events v w y one (ran-join w x y two three)
+    ∙ (λ i. events-after v w (ClaimBlock b) n f.0 i ++ (ran-events w x y two three ∙ (λ j. events-after w x ReadFree word g.0 j ++ events-after x y (AddStat free_count (ones h.cells) true) count r.0 j)) i)
+    ∙ (λ i. entry_of (ClaimBlock (sym block i)) (none i) ∷ entry_of ReadFree word ∷ entry_of (AddStat free_count (ones h.cells) true) count ∷ []) in
+    let end : b + 1 - b ≡ h.block + 1 - b = ap (λ k. k + 1 - b) (sym block) in
     record {
-      block = subst (λ k. k < block_count v.shape) (sym block) there;
-      some = some;
-      state = ap (λ (z : View). z.state) r.0 ∙ read-state b n word v w x got f g ∙ (λ i. record v.state { cache = cached (sym block i) (sym cells i) 0 None });
-      own = ap (λ (z : View). z.own) r.0 ∙ ap (λ (z : View). z.own) g.0 ∙ ap (λ (z : View). z.own) f.0;
-      events_are = (
-        [],
-        word,
-        count,
-        ran-events v w y one (ran-join w x y two three)
-            ∙ (λ i. events-after v w (ClaimBlock b) n f.0 i ++ (ran-events w x y two three ∙ (λ j. events-after w x ReadFree word g.0 j ++ events-after x y (AddStat free_count (ones h.cells) true) count r.0 j)) i)
-            ∙ (λ i. entry_of (ClaimBlock (sym block i)) (none i) ∷ entry_of ReadFree word ∷ entry_of (AddStat free_count (ones h.cells) true) count ∷ []),
-        cells,
-        refl,
-      );
+      claims =
+          record {
+            block = subst (λ k. k < block_count v.shape) (sym block) there;
+            some = some;
+            state = ap (λ (z : View). z.state) r.0 ∙ read-state b n word v w x got f g ∙ (λ i. record v.state { cache = cached (sym block i) (sym cells i) 0 None });
+            own = ap (λ (z : View). z.own) r.0 ∙ ap (λ (z : View). z.own) g.0 ∙ ap (λ (z : View). z.own) f.0;
+            events_are = (
+              [],
+              word,
+              count,
+              all,
+              cells,
+              refl,
+            );
+          };
+      within = (omega (arith, block), omega (arith, block));
+      before = λ j l e. absurd (omega (arith, block, l, e));
+      tried = one-tried b v y _ all (ap (λ k. k ∷ []) block) ∙ ap (range_with_len b) end;
+      few = subst (λ k. length (events v y) ≤ 3 * k) end (one-few b v y _ all (omega arith));
     }
 
 -- what holds of an answer gives more of it

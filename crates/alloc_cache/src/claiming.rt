@@ -1,8 +1,8 @@
 //! A block with free cells is looked for.
-ghost use Rattle.std.specs.Prelude.{◌≡◌, ◌<◌, ◌≤◌, ◌+◌, IsTrue, IfSome, IfNone};
+ghost use Rattle.std.specs.Prelude.{◌≡◌, ◌<◌, ◌≤◌, ◌+◌, ◌*◌, length, IsTrue, IfSome, IfNone};
 ghost use Rattle.mark_core.specs.Layout.{block_count};
 ghost use Rattle.gc_table.specs.Seats.{Across, did, Sits, state_of, view_of};
-ghost use Rattle.alloc_cache.specs.Claiming.{Claims, MayClaim, Misses, NoBlock, seeks_block};
+ghost use Rattle.alloc_cache.specs.Claiming.{Claims, ClaimsFirst, MayClaim, Misses, NoBlock, SearchesTo, seeks_block};
 ghost use Rattle.gc_table.specs.Log.{Only};
 ghost use Rattle.gc_table.specs.Running.{Ran};
 
@@ -10,13 +10,23 @@ use crate::cache::Cache;
 use gc_table::{Heap, HeapSeat};
 use mark_core::{BLOCK_CELLS, FREE};
 
+/// What a search of some of the blocks came to.
+pub enum Search {
+    /// A block with free cells, which the seat claimed.
+    Claimed(Cache),
+    /// None of them had a free cell. This is the block from which to go on.
+    Next(u32),
+    /// None from the first of them to the last block had a free cell.
+    Ended,
+}
+
 /// Claims block b, unless another seat has it or no cell of it is free. A block that was got and is full is released again.
 fn claim_block(heap: &Heap, seat: &mut HeapSeat, b: u32) -> Option<Cache>
     requires seat { Sits heap.now seat.old × MayClaim (view_of seat.old) }
     requires block { b < block_count heap.now.shape }
     ensures seat { Sits heap.now seat.new }
     ensures ran { Across Ran seat.old seat.new }
-    ensures some { IfSome result (λ h. Across (Claims h) seat.old seat.new) }
+    ensures some { IfSome result (λ h. Across (ClaimsFirst b (b + 1) h) seat.old seat.new) }
     ensures none { IfNone result (Across (Misses b (b + 1)) seat.old seat.new) }
 {
     if !heap.claim_block(seat, b) {
@@ -37,7 +47,7 @@ fn claim_among(heap: &Heap, seat: &mut HeapSeat, first: u32, end: u32) -> Option
     requires blocks { (first ≤ end) × (end ≤ block_count heap.now.shape) }
     ensures seat { Sits heap.now seat.new }
     ensures ran { Across Ran seat.old seat.new }
-    ensures some { IfSome result (λ h. Across (Claims h) seat.old seat.new) }
+    ensures some { IfSome result (λ h. Across (ClaimsFirst first end h) seat.old seat.new) }
     ensures none { IfNone result (Across (Misses first end) seat.old seat.new) }
 {
     for b in first..end {
@@ -83,5 +93,44 @@ pub fn claim(heap: &Heap, seat: &mut HeapSeat) -> Option<Cache>
             Some(cache)
         }
         None => None,
+    }
+}
+
+/// Where a search that found no block goes on.
+fn goes_on(end: u32, blocks: u32) -> Option<u32>
+    requires end { end ≤ blocks }
+    ensures some { IfSome result (λ n. (n ≡ end) × (n < blocks)) }
+    ensures none { IfNone result (end ≡ blocks) }
+{
+    if end < blocks {
+        return Some(end);
+    }
+    None
+}
+
+/// Claims a block as [`claim`] does, but looks at `most` blocks only, from block `from` on: so it is of a caller that may not take long. It takes three steps
+/// for each of them at most.
+///
+/// It claims the first of them in which it sees a free cell. Next comes where it saw none in any of them and there are more, and Ended where it saw none up to
+/// the last block. A caller that began at block 0 has then seen each block so, by these calls.
+pub fn claim_some(heap: &Heap, seat: &mut HeapSeat, from: u32, most: u32) -> Search
+    requires seat { Sits heap.now seat.old × MayClaim (view_of seat.old) }
+    requires from { from ≤ block_count heap.now.shape }
+    ensures seat { Sits heap.now seat.new }
+    ensures ran { Across Ran seat.old seat.new }
+    ensures searches { Across (SearchesTo from most result) seat.old seat.new }
+    ensures few { length (did seat.old seat.new) ≤ 3 * most }
+{
+    let blocks = heap.shape().cells / BLOCK_CELLS;
+    let end = from + most.min(blocks - from);
+    match claim_among(heap, seat, from, end) {
+        Some(cache) => {
+            seat.remember(cache.block + 1);
+            Search::Claimed(cache)
+        }
+        None => match goes_on(end, blocks) {
+            Some(next) => Search::Next(next),
+            None => Search::Ended,
+        },
     }
 }

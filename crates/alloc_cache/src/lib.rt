@@ -16,7 +16,8 @@
 //!
 //! [`claim`] takes each block's owner word by one compare and exchange, from the block behind the seat's last one on, so seats spread over the heap and
 //! don't look at blocks again that they filled. Its None is a statement about all blocks, each as it was seen in that call: the caller starts a
-//! collection upon it, and no lock is held meanwhile, so a block may be free again when it returns.
+//! collection upon it, and no lock is held meanwhile, so a block may be free again when it returns. [`claim_some`] looks at so many blocks only, for a
+//! caller that may not take long: it says which ones it looked at, so that a caller knows when it has seen all of them.
 //!
 //! # The count of free cells
 //!
@@ -36,6 +37,6 @@ mod making;
 mod retiring;
 
 pub use cache::{Cache, cache_of, leave_with_seat};
-pub use claiming::claim;
+pub use claiming::{Search, claim, claim_some};
 pub use making::new_cell;
 pub use retiring::{publish, retire};
