@@ -209,6 +209,7 @@ pub fn next_card(heap: &Heap, seat: &mut HeapSeat) -> Option<u32>
     ensures state { state_of seat.new ≡ record (state_of seat.old) { below_card = false } }
     ensures draws { Across (GivesCard result) seat.old seat.new }
     ensures rises { IfSome result (λ card. IsTrue (state_of seat.old).admitted → (card_floor (view_of seat.old) ≤ card) × (card_floor (view_of seat.new) ≡ card + 1)) }
+    ensures once { count_of draws (did seat.old seat.new) ≤ 1 }
     ensures rescanned { rescanned_in (view_of seat.old) (did seat.old seat.new) ≡ 0 }
     ensures uncleared { IsTrue (never clears (did seat.old seat.new)) }
     ensures unpopped { IsTrue (never pops (did seat.old seat.new)) }

@@ -1,4 +1,4 @@
-use Rattle.std.proofs.Common.{ℕ, ◌≡◌, ◌≤◌, refl, sym, ap, ◌∙◌, subst, Bool, true, false, Option, Some, None, inl, inr, eq-eqb}
+use Rattle.std.proofs.Common.{ℕ, ◌≡◌, ◌≤◌, arith, refl, sym, ap, ◌∙◌, subst, Bool, true, false, Option, Some, None, inl, inr, eq-eqb}
 use Rattle.std.specs.Prelude.{nat_le, nat_lt, if◌then◌else◌, ◌||◌, ◌+◌, IfSome}
 use Rattle.std.proofs.lemmas.Bool.{false≢true, le-leb, ltb-false, ltb-true, or_left, or_right}
 use Rattle.mark_core.specs.Layout.{card_count}
@@ -15,11 +15,12 @@ use Rattle.card_clean.specs.Leaving.{rescans}
 use Rattle.card_clean.proofs.Drawn.{rooted-drawn}
 use Rattle.gc_table.specs.Seats.{view_of}
 use Rattle.gc_table.specs.declared.view.View.{View}
+use Rattle.packet_pools.specs.Counts.{count_of}
 use Rattle.packet_pools.specs.Seeking.{some_event}
 use Rattle.card_clean.specs.Passing.{card_floor, Draws, DrawsCard, draws_card, keeps_floor}
 use Rattle.gc_cycle.specs.Events.{never}
 use Rattle.gc_cycle.specs.Lower.{GivesCard, HasTraced, traces_or_cleans}
-use Rattle.gc_cycle.specs.Sorts.{clears, gives_card, pops, reads_pace, reads_root, sees_last_card}
+use Rattle.gc_cycle.specs.Sorts.{clears, draws, gives_card, pops, reads_pace, reads_root, sees_last_card}
 use Rattle.gc_cycle.specs.Standing.{is_at_rest}
 use Rattle.gc_cycle.proofs.Idling.{traces-of}
 use Rattle.gc_cycle.proofs.Sequences.{total-none}
@@ -128,3 +129,11 @@ unread-drawn r v w (inr gives) = ap (never reads_pace) gives.1.events_are
 
 pub returns-clause-unread : goal.returns-clause-unread
 returns-clause-unread c = unread-drawn c.next_card.result (view_of c.args.seat.now) (view_of c.next_card.new.seat) c.next_card.ensures.draws
+
+-- the counter is raised once at most
+once-drawn : (r : Option ℕ) (v w : View) → DrawsCard r v w → count_of draws (events v w) ≤ 1
+once-drawn r v w (inl over) = let none = ap {B = ℕ} (count_of draws) over.0.events_are in omega (arith, none)
+once-drawn r v w (inr gives) = let one = ap {B = ℕ} (count_of draws) gives.1.events_are in omega (arith, one)
+
+pub returns-clause-once : goal.returns-clause-once
+returns-clause-once c = once-drawn c.next_card.result (view_of c.args.seat.now) (view_of c.next_card.new.seat) c.next_card.ensures.draws
