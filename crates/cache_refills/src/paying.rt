@@ -4,7 +4,10 @@
 //! Barabash and others, *A parallel, incremental, mostly concurrent garbage collector for servers*, 2005. Where it finds no packet to trace from, and the cycle
 //! is far on, it cleans cards, which fills packets again; and at last it brings back what was deferred. A card that is cleaned early is dirtied again, and then
 //! the stop cleans it.
-ghost use Rattle.std.specs.Prelude.{◌≡◌, ◌<◌, ◌≤◌, Some, IfSome, IfNone};
+//!
+//! A payment is short whatever the heap's size: it traces its quota at most, and looks at 1,024 cards at most ([`CARD_LOOKS`]). The cards that are left are
+//! those of the next payment, of tracers and of the stop.
+ghost use Rattle.std.specs.Prelude.{ℕ, ◌≡◌, ◌<◌, ◌≤◌, ◌+◌, Some, IfSome, IfNone};
 ghost use Rattle.mark_core.specs.Cards.{block_cells};
 ghost use Rattle.mark_core.specs.Layout.{card_count};
 ghost use Rattle.mark_core.specs.declared.kinds.Phase.TheVariants.{Marking};
@@ -12,16 +15,21 @@ ghost use Rattle.gc_table.specs.Log.{Only};
 ghost use Rattle.gc_table.specs.PlainSteps.{own_section};
 ghost use Rattle.gc_table.specs.Running.{Ran};
 ghost use Rattle.gc_table.specs.Seats.{Across, did, Sits, state_of, view_of};
+ghost use Rattle.gc_table.specs.declared.view.View.{View};
 ghost use Rattle.cache_refills.specs.Pace.Payment.{HasPaid, MarksAndTraces, TracesNone, TracesOn, reads_number, stop_of};
-ghost use Rattle.cache_refills.specs.Pace.Pacing.{late_seen, quota_seen};
+ghost use Rattle.cache_refills.specs.Pace.Pacing.{looks_by, looks_seen, quota_seen};
 ghost use Rattle.gc_cycle.specs.Standing.{Mutates};
 
 use crate::pace::{is_late, read_statistic};
 use crate::quota::quota_of;
 use gc_cycle::{Paid, clean, next_card, recycle_deferred, scan_roots, trace};
 use gc_table::{Heap, HeapSeat};
-use mark_core::{CARD_CELLS, FREE, LAST, RESCANNED, TRACED};
+use mark_core::{FREE, LAST, RESCANNED, TRACED};
 use tracer::{RootScan, Stopped};
+
+/// How many cards a payment looks at, at most. A look takes three steps, and most cards are clean late in a cycle: so all looks together take about as long as
+/// a whole quota. They pass over 16,384 cells, where the cache has 64; so the payments for a 256th of a heap's cells pass over all cards.
+const CARD_LOOKS: u32 = 1_024;
 
 /// What the mutator pays for a cache of `cells` free cells, at most 64, where it has read last that a cycle is marking: it marks its roots and traces its quota
 /// of objects, as [`quota_of`] has it of the numbers read now. How many it traced is told to the others once.
@@ -37,14 +45,21 @@ pub(crate) fn pay(heap: &Heap, seat: &mut HeapSeat, cells: u32) -> Paid
     ensures paid { Across (HasPaid cells result) seat.old seat.new }
     ensures own { (view_of seat.new).own ≡ (view_of seat.old).own }
 {
-    let (quota, late) = quota_now(heap, seat, cells);
-    let paid = mark_and_trace(heap, seat, quota, late);
+    let (quota, looks) = quota_now(heap, seat, cells);
+    let paid = mark_and_trace(heap, seat, quota, looks);
     heap.add_stat(seat, TRACED, paid.done, false);
     paid
 }
 
-/// The quota for a cache of `cells` free cells, and whether the cycle is far on, by the numbers as they are now.
-fn quota_now(heap: &Heap, seat: &mut HeapSeat, cells: u32) -> (u32, bool)
+/// How many cards are worth a look, by whether the cycle is far on.
+fn looks_of(late: bool) -> u32
+    ensures { result ≡ looks_by (Some late) }
+{
+    if late { CARD_LOOKS } else { 0 }
+}
+
+/// The quota for a cache of `cells` free cells, and how many cards are worth a look, by the numbers as they are now.
+fn quota_now(heap: &Heap, seat: &mut HeapSeat, cells: u32) -> (u32, u32)
     requires seat { Sits heap.now seat.old }
     requires cells { cells ≤ block_cells }
     ensures seat { Sits heap.now seat.new }
@@ -52,7 +67,8 @@ fn quota_now(heap: &Heap, seat: &mut HeapSeat, cells: u32) -> (u32, bool)
     ensures only { Across (Only reads_number) seat.old seat.new }
     ensures state { state_of seat.new ≡ state_of seat.old }
     ensures quota { quota_seen cells (did seat.old seat.new) ≡ Some result.0 }
-    ensures late { late_seen (did seat.old seat.new) ≡ Some result.1 }
+    ensures most { result.0 ≤ 1024 }
+    ensures looks { looks_seen (did seat.old seat.new) ≡ result.1 }
 {
     let last = read_statistic(heap, seat, LAST);
     let rescanned = read_statistic(heap, seat, RESCANNED);
@@ -60,16 +76,16 @@ fn quota_now(heap: &Heap, seat: &mut HeapSeat, cells: u32) -> (u32, bool)
     let free = read_statistic(heap, seat, FREE);
     (
         quota_of(cells, last, rescanned, traced, free),
-        is_late(last, traced, free),
+        looks_of(is_late(last, traced, free)),
     )
 }
 
 /// Marks the roots of the seat's section, and traces a quota. Where no packet can be taken, nothing is done.
-fn mark_and_trace(heap: &Heap, seat: &mut HeapSeat, quota: u32, late: bool) -> Paid
+fn mark_and_trace(heap: &Heap, seat: &mut HeapSeat, quota: u32, looks: u32) -> Paid
     requires seat { Sits heap.now seat.old × Mutates (view_of seat.old) }
     requires marking { (state_of seat.old).phase_seen ≡ Some Marking }
     ensures seat { Sits heap.now seat.new }
-    ensures pays { Across (MarksAndTraces (own_section (state_of seat.old)) quota result) seat.old seat.new }
+    ensures pays { Across (MarksAndTraces (own_section (state_of seat.old)) quota looks result) seat.old seat.new }
 {
     let section = seat.state().section.unwrap_or(0);
     match scan_roots(heap, seat, section) {
@@ -78,7 +94,7 @@ fn mark_and_trace(heap: &Heap, seat: &mut HeapSeat, quota: u32, late: bool) -> P
             done: 0,
             stopped: stopped_at(quota),
         },
-        RootScan::Done { marked: _ } => pay_quota(heap, seat, quota, late),
+        RootScan::Done { marked: _ } => pay_quota(heap, seat, quota, looks),
     }
 }
 
@@ -94,26 +110,25 @@ fn stopped_at(quota: u32) -> Stopped
 }
 
 /// Traces a quota. Where there is no packet to trace from in the end, what was deferred is brought back.
-fn pay_quota(heap: &Heap, seat: &mut HeapSeat, quota: u32, late: bool) -> Paid
+fn pay_quota(heap: &Heap, seat: &mut HeapSeat, quota: u32, looks: u32) -> Paid
     requires seat { Sits heap.now seat.old × Mutates (view_of seat.old) }
     requires marking { (state_of seat.old).phase_seen ≡ Some Marking }
     ensures seat { Sits heap.now seat.new }
-    ensures traces { Across (TracesOn quota 0 result) seat.old seat.new }
+    ensures traces { Across (TracesOn quota 0 looks result) seat.old seat.new }
 {
-    let paid = trace_and_clean(heap, seat, quota, late);
+    let paid = trace_and_clean(heap, seat, quota, looks);
     if let Stopped::NoWork = paid.stopped {
         recycle_deferred(heap, seat);
     }
     paid
 }
 
-/// Traces a quota. Where there is no packet to trace from and the cycle is far on, cards are cleaned until there is one: each at most once, since the counter
-/// of cards may be reset meanwhile.
-fn trace_and_clean(heap: &Heap, seat: &mut HeapSeat, quota: u32, late: bool) -> Paid
+/// Traces a quota. While there is no packet to trace from, it looks at cards of the pass, so many at most, and cleans those that are dirty.
+fn trace_and_clean(heap: &Heap, seat: &mut HeapSeat, quota: u32, looks: u32) -> Paid
     requires seat { Sits heap.now seat.old × Mutates (view_of seat.old) }
     requires marking { (state_of seat.old).phase_seen ≡ Some Marking }
     ensures seat { Sits heap.now seat.new }
-    ensures traces { Across (TracesOn quota 0 result) seat.old seat.new }
+    ensures traces { Across (TracesOn quota 0 looks result) seat.old seat.new }
 {
     let first = trace(heap, seat, quota);
     let mut paid = Paid {
@@ -121,16 +136,11 @@ fn trace_and_clean(heap: &Heap, seat: &mut HeapSeat, quota: u32, late: bool) -> 
         done: first.done,
         stopped: first.stopped,
     };
-    let most = if late {
-        heap.shape().cells / CARD_CELLS
-    } else {
-        0
-    };
-    for _card in 0..most {
+    for _look in 0..looks {
         let Stopped::NoWork = paid.stopped else {
             return paid;
         };
-        let Some(more) = clean_next(heap, seat, paid) else {
+        let Some(more) = look_at_next(heap, seat, paid) else {
             return paid;
         };
         paid = more;
@@ -138,45 +148,43 @@ fn trace_and_clean(heap: &Heap, seat: &mut HeapSeat, quota: u32, late: bool) -> 
     paid
 }
 
+/// Looks at the next card of the pass. Where it is dirty, cleans it and traces on, after what was paid before. None where no card is left, or no packet to clean
+/// it with.
+fn look_at_next(heap: &Heap, seat: &mut HeapSeat, before: Paid) -> Option<Paid>
+    requires seat { Sits heap.now seat.old × Mutates (view_of seat.old) }
+    requires marking { (state_of seat.old).phase_seen ≡ Some Marking }
+    requires quota { before.done ≤ before.quota }
+    ensures seat { Sits heap.now seat.new }
+    ensures some { IfSome result (λ paid. (u : View) (looks : ℕ) → TracesOn before.quota 0 looks before u (view_of seat.old) → TracesOn before.quota 0 (looks + 1) paid u (view_of seat.new)) }
+    ensures none { IfNone result (Across (TracesNone 1) seat.old seat.new) }
+{
+    let card = next_card(heap, seat)?;
+    if is_dirty(heap, seat, card) {
+        return clean_and_trace(heap, seat, card, before);
+    }
+    Some(before)
+}
+
 /// Whether a card is dirty: one look, and no packet.
 fn is_dirty(heap: &Heap, seat: &mut HeapSeat, card: u32) -> bool
     requires seat { Sits heap.now seat.old × Mutates (view_of seat.old) }
     requires card { card < card_count heap.now.shape }
     ensures seat { Sits heap.now seat.new }
-    ensures none { Across TracesNone seat.old seat.new }
+    ensures none { Across (TracesNone 0) seat.old seat.new }
 {
     heap.read_card(seat, card)
 }
 
-/// The next card of the pass that is found dirty: those before it cost one look each, and no packet. None where no card is left.
-fn next_dirty(heap: &Heap, seat: &mut HeapSeat) -> Option<u32>
+/// Cleans a card and traces on, after what was paid before. None where there is no packet to clean it with.
+fn clean_and_trace(heap: &Heap, seat: &mut HeapSeat, card: u32, before: Paid) -> Option<Paid>
     requires seat { Sits heap.now seat.old × Mutates (view_of seat.old) }
     requires marking { (state_of seat.old).phase_seen ≡ Some Marking }
-    ensures seat { Sits heap.now seat.new }
-    ensures none { Across TracesNone seat.old seat.new }
-    ensures there { IfSome result (λ card. card < card_count heap.now.shape) }
-{
-    for _card in 0..heap.shape().cells / CARD_CELLS {
-        let Some(card) = next_card(heap, seat) else {
-            return None;
-        };
-        if is_dirty(heap, seat, card) {
-            return Some(card);
-        }
-    }
-    None
-}
-
-/// Cleans the next dirty card and traces on, after what was paid before. None where no card is left, or no packet to clean it with.
-fn clean_next(heap: &Heap, seat: &mut HeapSeat, before: Paid) -> Option<Paid>
-    requires seat { Sits heap.now seat.old × Mutates (view_of seat.old) }
-    requires marking { (state_of seat.old).phase_seen ≡ Some Marking }
+    requires card { card < card_count heap.now.shape }
     requires quota { before.done ≤ before.quota }
     ensures seat { Sits heap.now seat.new }
-    ensures some { IfSome result (λ paid. Across (TracesOn before.quota before.done paid) seat.old seat.new) }
-    ensures none { IfNone result (Across TracesNone seat.old seat.new) }
+    ensures some { IfSome result (λ paid. Across (TracesOn before.quota before.done 0 paid) seat.old seat.new) }
+    ensures none { IfNone result (Across (TracesNone 0) seat.old seat.new) }
 {
-    let card = next_dirty(heap, seat)?;
     clean(heap, seat, card)?;
     let more = trace(heap, seat, before.quota - before.done);
     Some(Paid {

@@ -6,7 +6,7 @@ use Rattle.mark_core.specs.Cells.{or_else}
 use Rattle.mark_core.specs.Numbers.{card_counter, done_count, free_count, last_count, rescanned_count, traced_count}
 use Rattle.mark_core.specs.declared.kinds.Shape.{Shape}
 use Rattle.mark_core.specs.declared.kinds.Step.{Step}
-use Rattle.mark_core.specs.declared.kinds.Step.TheVariants.{AddStat, ClaimBlock, Pop, ReadStat, Reset}
+use Rattle.mark_core.specs.declared.kinds.Step.TheVariants.{AddStat, ClaimBlock, NextOfCards, Pop, ReadStat, Reset}
 use Rattle.mark_core.specs.declared.seat.SeatState.{SeatState}
 use Rattle.gc_table.specs.Log.{events, Only}
 use Rattle.gc_table.specs.PlainSteps.{own_section}
@@ -26,11 +26,11 @@ use Rattle.gc_cycle.specs.declared.counts.Paid.{Paid}
 use Rattle.gc_cycle.specs.Events.{never, Sort, until_first}
 use Rattle.gc_cycle.specs.Lower.{traces_or_cleans}
 use Rattle.gc_cycle.specs.Moments.{at_some_moment, begins, finds_no_packet, finds_no_room, finds_no_work}
-use Rattle.cache_refills.specs.Pace.Pacing.{last_read, quota_by, quota_seen, read_of, statistic}
+use Rattle.cache_refills.specs.Pace.Pacing.{last_read, late_by, late_seen, looks_by, looks_seen, quota_by, quota_seen, read_of, statistic}
 use Rattle.cache_refills.specs.Pace.Paying.{roots_are_read, StopsAs}
 use Rattle.cache_refills.specs.Pace.Payment.{HasPaid, is_out_of_room, is_out_of_work, MarksAndTraces, pays_cells, reads_number, StopsTracing}
 use Rattle.gc_cycle.specs.Roots.{roots_scanned}
-use Rattle.gc_cycle.specs.Sorts.{claims, pops, raises_traced, reads_pace, reads_root}
+use Rattle.gc_cycle.specs.Sorts.{claims, draws, pops, raises_traced, reads_pace, reads_root}
 use Rattle.gc_cycle.specs.Standing.{is_at_rest, Mutates}
 use Rattle.gc_cycle.specs.Statistics.{changing_step, numbers_changed, tells}
 use Rattle.gc_cycle.proofs.Stops.Admitted.{count-none, count-run, never-join, traces-kept}
@@ -67,6 +67,10 @@ number-unpopped : Spares reads_number pops
 number-unpopped (Pop p) n e = absurd (false≢true e)
 number-unpopped step n e = refl
 
+number-undrawn : Spares reads_number draws
+number-undrawn NextOfCards n e = absurd (false≢true e)
+number-undrawn step n e = refl
+
 number-untold : (step : Step) (n : ℕ) → reads_number step ≡ true → raises_traced step n ≡ []
 number-untold (AddStat which by down) n e = absurd (false≢true e)
 number-untold step n e = refl
@@ -100,6 +104,10 @@ read-before which (x ∷ xs) ys h = ap (λ (o : Option ℕ). or_else o (read_of 
 quota-before : (cells : ℕ) (xs ys : List Entry) → never reads_pace ys ≡ true → quota_seen cells (xs ++ ys) ≡ quota_seen cells xs
 quota-before cells xs ys h =
     λ i. quota_by cells (read-before last_count xs ys (none-read last_count ys (omega arith) h) i) (read-before rescanned_count xs ys (none-read rescanned_count ys (omega arith) h) i) (read-before traced_count xs ys (none-read traced_count ys (omega arith) h) i) (read-before free_count xs ys (none-read free_count ys (omega arith) h) i)
+
+late-before : (xs ys : List Entry) → never reads_pace ys ≡ true → late_seen (xs ++ ys) ≡ late_seen xs
+late-before xs ys h =
+    λ i. late_by (read-before last_count xs ys (none-read last_count ys (omega arith) h) i) (read-before traced_count xs ys (none-read traced_count ys (omega arith) h) i) (read-before free_count xs ys (none-read free_count ys (omega arith) h) i)
 
 -- up to the first event like f, where the first of two lists has none
 until-longer : (f : Sort) (xs ys : List Entry) → never f xs ≡ true → until_first f (xs ++ ys) ≡ xs ++ until_first f ys
@@ -147,7 +155,7 @@ mutates-same v w e sh m =
     }
 
 -- the numbers were read, the roots were marked and a quota was traced, and that was told
-module _ (cells quota : ℕ) (p : Paid) (u v w x : View) (m : Mutates u) (r : Ran u v) (o : Only reads_number u v) (same : v.state ≡ u.state) (q : quota_seen cells (events u v) ≡ Some quota) (k : MarksAndTraces (own_section v.state) quota p v w) (t : Took (AddStat traced_count p.done false) w x) where
+module _ (cells quota looks : ℕ) (p : Paid) (u v w x : View) (m : Mutates u) (r : Ran u v) (o : Only reads_number u v) (same : v.state ≡ u.state) (q : quota_seen cells (events u v) ≡ Some quota) (l : looks_seen (events u v) ≡ looks) (short : quota ≤ 1024) (k : MarksAndTraces (own_section v.state) quota looks p v w) (t : Took (AddStat traced_count p.done false) w x) where
   last : Ran w x
   last = ran-took w x (AddStat traced_count p.done false) refl t
 
@@ -213,6 +221,20 @@ module _ (cells quota : ℕ) (p : Paid) (u v w x : View) (m : Mutates u) (r : Ra
       let d = k.done in
       omega (arith, one, two, none, end, d)
 
+  -- the numbers as read last are those that were read before the payment
+  unread : never reads_pace (events v w ++ events w x) ≡ true
+  unread = never-join reads_pace (events v w) (events w x) k.unread last-unread
+
+  looked : count_of draws (events u x) ≤ looks_seen (events u x)
+  looked =
+      let one = count-run draws u v x r tail in
+      let two = count-run draws v w x k.traced.ran last in
+      let none = count-none draws (events u v) (untaken reads_number draws number-undrawn (events u v) o) in
+      let end = ap {B = ℕ} (count_of draws) told in
+      let few = k.looked in
+      let seen : looks_seen (events u x) ≡ looks = ap looks_seen all ∙ (ap looks_by (late-before (events u v) (events v w ++ events w x) unread) ∙ l) in
+      omega (arith, one, two, none, end, few, seen)
+
   stops : StopsTracing p.stopped p.quota p.done u x
   stops =
       subst (λ n. StopsTracing p.stopped n p.done u x) (sym k.quota_is)
@@ -242,6 +264,8 @@ module _ (cells quota : ℕ) (p : Paid) (u v w x : View) (m : Mutates u) (r : Ra
             ∙ (quota-before cells (events u v) (until_first pops (events v w ++ events w x)) (until-never pops reads_pace (events v w ++ events w x) (never-join reads_pace (events v w) (events w x) k.unread last-unread)) ∙ (q ∙ ap Some (sym k.quota_is))));
         most = subst (λ n. p.done ≤ n) (sym k.quota_is) k.most;
         done = counted;
+        short = subst (λ n. n ≤ 1024) (sym k.quota_is) short;
+        looked = looked;
         stopped = stops-as p.stopped p.quota p.done u x unclaimed stops;
         told = raised;
         changed = record { ran = ran-join u v x r tail; all = changed };

@@ -1,12 +1,14 @@
 -- A mutator's tracing increment, put together out of its calls.
 use Rattle.std.proofs.Common.{ℕ, ◌≡◌, ◌≤◌, ◌+◌, List, [], ◌∷◌, ◌++◌, arith, refl, sym, ap, ◌∙◌, subst, Bool, true, false, not, ◌&&◌, Some, None, Option, ⊎_elim, cond, eqb-true, eq-eqb}
-use Rattle.std.specs.Prelude.{◌==◌, ◌<◌, if◌then◌else◌, is_some, nat_lt, unwrap_or}
+use Rattle.std.specs.Prelude.{◌==◌, ◌<◌, if◌then◌else◌, IfNone, IfSome, is_some, nat_lt, unwrap_or}
 use Rattle.std.specs.List.{count_by, fold}
 use Rattle.std.proofs.Math.Logic.{∥∥₁_elim}
 use Rattle.std.proofs.Props.{props}
-use Rattle.std.proofs.lemmas.Bool.{and_from, and_parts, false≢true, le-leb, ltb-true, not-true, or_cases, or_left, or_parts, or_right, true≢false}
+use Rattle.std.proofs.lemmas.Bool.{and_from, and_parts, false≢true, le-leb, ltb-true, not-true, or_cases, or_from, or_left, or_parts, or_right, true≢false}
 use Rattle.mark_core.specs.Held.{Slot, Slots, holds_any}
 use Rattle.mark_core.specs.declared.kinds.Shape.{Shape}
+use Rattle.mark_core.specs.declared.kinds.Step.{Step}
+use Rattle.mark_core.specs.declared.kinds.Step.TheVariants.{NextOfCards}
 use Rattle.mark_core.specs.declared.seat.SeatState.{SeatState}
 use Rattle.gc_table.specs.Log.{events}
 use Rattle.gc_table.specs.PlainSteps.{own_section}
@@ -15,6 +17,7 @@ use Rattle.gc_table.specs.Running.{Ran}
 use Rattle.gc_table.specs.declared.view.Entry.{Entry}
 use Rattle.gc_table.specs.declared.view.View.{View}
 use Rattle.gc_table.proofs.Running.{ran-events, ran-shape}
+use Rattle.packet_pools.specs.Counts.{count_of}
 use Rattle.packet_pools.specs.Seeking.{moves_packet, output_pools, some_event}
 use Rattle.packet_pools.specs.Seeking.{no_output}
 use Rattle.tracer.specs.Moments.{finds_none_to_fill, front}
@@ -27,7 +30,7 @@ use Rattle.cache_refills.specs.Pace.Payment.{is_out_of_room, is_out_of_work, Mar
 use Rattle.gc_cycle.specs.Lower.{EndsTrace, HasTraced}
 use Rattle.gc_cycle.specs.Moments.{Moment, after_moment, at_some_moment, begins, finds_no_packet, finds_no_room, finds_no_work}
 use Rattle.gc_cycle.specs.Roots.{roots_scanned}
-use Rattle.gc_cycle.specs.Sorts.{pops, reads_pace, reads_root}
+use Rattle.gc_cycle.specs.Sorts.{draws, draws_or_clears, pops, reads_pace, reads_root}
 use Rattle.gc_cycle.specs.Standing.{Mutates}
 use Rattle.gc_cycle.proofs.Stops.Admitted.{count-none, count-run, never-join}
 use Rattle.gc_cycle.proofs.Searched.{both-widen, room-longer, room-widens, work-longer, work-widens}
@@ -120,9 +123,34 @@ mutates-on v w t m =
 never-run : (f : Sort) (u v w : View) → Ran u v → Ran v w → never f (events u v) ≡ true → never f (events v w) ≡ true → never f (events u w) ≡ true
 never-run f u v w r q a b = ap (never f) (ran-events u v w r q) ∙ never-join f (events u v) (events v w) a b
 
-pub none-join : (u v w : View) → TracesNone u v → TracesNone v w → TracesNone u w
-none-join u v w a b =
+-- no card was drawn
+undrawn : (es : List Entry) → never draws_or_clears es ≡ true → count_of draws es ≡ 0
+undrawn es h = count-none draws es (ap not (none-drawn es (not-true _ h)))
+  where
+    drawn-one : (step : Step) (n : ℕ) → draws_or_clears step n ≡ false → draws step n ≡ false
+    drawn-one NextOfCards n k = absurd (true≢false k)
+    drawn-one step n k = refl
+
+    none-drawn : (fs : List Entry) → some_event draws_or_clears fs ≡ false → some_event draws fs ≡ false
+    none-drawn [] k = refl
+    none-drawn (f ∷ fs) k =
+        let q = or_parts (draws_or_clears f.step f.found) (some_event draws_or_clears fs) k in or_from (draws f.step f.found) (some_event draws fs) (drawn-one f.step f.found q.0) (none-drawn fs q.1)
+
+-- so many cards were looked at in one call, and so many in the next
+looked-join : (j k : ℕ) (u v w : View) → Ran u v → Ran v w → count_of draws (events u v) ≤ j → count_of draws (events v w) ≤ k → count_of draws (events u w) ≤ j + k
+looked-join j k u v w r q a b = let both = count-run draws u v w r q in omega (arith, both, a, b)
+
+pub undrawn-few : (es : List Entry) → never draws_or_clears es ≡ true → count_of draws es ≤ 0
+undrawn-few es h = let none = undrawn es h in omega (arith, none)
+
+-- a card was cleaned, or no packet was found for it
+pub cleaned-none : (v w : View) → HasTraced v w → never pops (events v w) ≡ true → never reads_pace (events v w) ≡ true → never reads_root (events v w) ≡ true → never draws (events v w) ≡ true → TracesNone 0 v w
+cleaned-none v w t p r q d = let none = count-none draws (events v w) d in record { traced = t; looked = omega (arith, none); unpopped = p; unread = r; unrooted = q }
+
+pub none-join : (j k : ℕ) (u v w : View) → TracesNone j u v → TracesNone k v w → TracesNone (j + k) u w
+none-join j k u v w a b =
     record {
+      looked = looked-join j k u v w a.traced.ran b.traced.ran a.looked b.looked;
       traced = has-traced u v w a.traced b.traced;
       unpopped = never-run pops u v w a.traced.ran b.traced.ran a.unpopped b.unpopped;
       unread = never-run reads_pace u v w a.traced.ran b.traced.ran a.unread b.unread;
@@ -130,9 +158,11 @@ none-join u v w a b =
     }
 
 -- a trace
-pub traces-on : (quota k before : ℕ) (r : Traced) (v w : View) → HasTraced v w → EndsTrace k r v w → r.done ≤ k → before + k ≡ quota → never reads_pace (events v w) ≡ true → never reads_root (events v w) ≡ true → TracesOn quota before (record { quota = quota; done = before + r.done; stopped = r.stopped }) v w
-traces-on quota k before r v w t e m q a b =
+pub traces-on : (quota k before : ℕ) (r : Traced) (v w : View) → HasTraced v w → EndsTrace k r v w → r.done ≤ k → before + k ≡ quota → never reads_pace (events v w) ≡ true → never reads_root (events v w) ≡ true → never draws_or_clears (events v w) ≡ true → TracesOn quota before 0 (record { quota = quota; done = before + r.done; stopped = r.stopped }) v w
+traces-on quota k before r v w t e m q a b d =
+    let none = undrawn (events v w) d in
     record {
+      looked = omega (arith, none);
       traced = t;
       quota_is = refl;
       most = omega (arith, m, q);
@@ -143,12 +173,13 @@ traces-on quota k before r v w t e m q a b =
     }
 
 -- after steps that traced nothing
-pub none-traces : (quota before : ℕ) (p : Paid) (u v w : View) → TracesNone u v → TracesOn quota before p v w → TracesOn quota before p u w
-none-traces quota before p u v w a b =
+pub none-traces : (quota before j k : ℕ) (p : Paid) (u v w : View) → TracesNone j u v → TracesOn quota before k p v w → TracesOn quota before (j + k) p u w
+none-traces quota before j k p u v w a b =
     let counts = count-run pops u v w a.traced.ran b.traced.ran in
     let none = count-none pops (events u v) a.unpopped in
     let d = b.done in
     record {
+      looked = looked-join j k u v w a.traced.ran b.traced.ran a.looked b.looked;
       traced = has-traced u v w a.traced b.traced;
       quota_is = b.quota_is;
       most = b.most;
@@ -159,12 +190,13 @@ none-traces quota before p u v w a b =
     }
 
 -- before them
-pub traces-none : (quota before : ℕ) (p : Paid) (u v w : View) → TracesOn quota before p u v → TracesNone v w → TracesOn quota before p u w
-traces-none quota before p u v w a b =
+pub traces-none : (quota before j k : ℕ) (p : Paid) (u v w : View) → TracesOn quota before j p u v → TracesNone k v w → TracesOn quota before (j + k) p u w
+traces-none quota before j k p u v w a b =
     let counts = count-run pops u v w a.traced.ran b.traced.ran in
     let none = count-none pops (events v w) b.unpopped in
     let d = a.done in
     record {
+      looked = looked-join j k u v w a.traced.ran b.traced.ran a.looked b.looked;
       traced = has-traced u v w a.traced b.traced;
       quota_is = a.quota_is;
       most = a.most;
@@ -175,12 +207,13 @@ traces-none quota before p u v w a b =
     }
 
 -- one after another
-pub traces-join : (quota before : ℕ) (p o : Paid) (u v w : View) → TracesOn quota before p u v → TracesOn quota p.done o v w → TracesOn quota before o u w
-traces-join quota before p o u v w a b =
+pub traces-join : (quota before j k : ℕ) (p o : Paid) (u v w : View) → TracesOn quota before j p u v → TracesOn quota p.done k o v w → TracesOn quota before (j + k) o u w
+traces-join quota before j k p o u v w a b =
     let counts = count-run pops u v w a.traced.ran b.traced.ran in
     let d = a.done in
     let e = b.done in
     record {
+      looked = looked-join j k u v w a.traced.ran b.traced.ran a.looked b.looked;
       traced = has-traced u v w a.traced b.traced;
       quota_is = b.quota_is;
       most = b.most;
@@ -190,13 +223,36 @@ traces-join quota before p o u v w a b =
       stops = stops-later o.stopped quota o.done u v w a.traced.ran b.traced.ran b.stops;
     }
 
+-- a larger number of looks
+pub traces-within : (quota before j k : ℕ) (p : Paid) (u v : View) → j ≤ k → TracesOn quota before j p u v → TracesOn quota before k p u v
+traces-within quota before j k p u v l a =
+    let few = a.looked in
+    record { traced = a.traced; quota_is = a.quota_is; most = a.most; done = a.done; looked = omega (arith, few, l); unread = a.unread; unrooted = a.unrooted; stops = a.stops }
+
+-- before steps that traced nothing and looked at no card
+pub traces-quiet : (quota before looks : ℕ) (p : Paid) (u v w : View) → TracesOn quota before looks p u v → TracesNone 0 v w → TracesOn quota before looks p u w
+traces-quiet quota before looks p u v w a b = traces-within quota before (looks + 0) looks p u w (omega arith) (traces-none quota before looks 0 p u v w a b)
+
+-- a card was looked at and cleaned, and what it gave was traced
+pub cleaned-on : (b : Paid) (o : Option Paid) (v w x : View) → TracesNone 1 v w → IfSome o (λ p. TracesOn b.quota b.done 0 p w x) → IfSome o (λ p. (u : View) (looks : ℕ) → TracesOn b.quota 0 looks b u v → TracesOn b.quota 0 (looks + 1) p u x)
+cleaned-on b None v w x n h = tt
+cleaned-on b (Some p) v w x n h =
+    λ u looks t. traces-within b.quota 0 (looks + 1 + 0) (looks + 1) p u x (omega arith) (traces-join b.quota 0 (looks + 1) 0 b p u w x (traces-none b.quota 0 looks 1 b u v w t n) h)
+
+-- or no packet was found for it
+pub cleaned-not : (o : Option Paid) (v w x : View) → TracesNone 1 v w → IfNone o (TracesNone 0 w x) → IfNone o (TracesNone 1 v x)
+cleaned-not None v w x n h = none-join 1 0 v w x n h
+cleaned-not (Some p) v w x n h = tt
+
 -- the roots were seen to, and then a quota was traced
-pub marks-traces : (section quota : ℕ) (p : Paid) (u v w : View) → HasTraced u v → never pops (events u v) ≡ true → never reads_pace (events u v) ≡ true → roots_scanned section (events u v) ≡ true → TracesOn quota 0 p v w → MarksAndTraces section quota p u w
-marks-traces section quota p u v w t n r s b =
+pub marks-traces : (section quota looks : ℕ) (p : Paid) (u v w : View) → HasTraced u v → never pops (events u v) ≡ true → never reads_pace (events u v) ≡ true → never draws_or_clears (events u v) ≡ true → roots_scanned section (events u v) ≡ true → TracesOn quota 0 looks p v w
+    → MarksAndTraces section quota looks p u w
+marks-traces section quota looks p u v w t n r c s b =
     let counts = count-run pops u v w t.ran b.traced.ran in
     let none = count-none pops (events u v) n in
     let d = b.done in
     record {
+      looked = let none = undrawn (events u v) c in let all = count-run draws u v w t.ran b.traced.ran in let few = b.looked in omega (arith, none, all, few);
       traced = has-traced u v w t b.traced;
       roots = or_left (roots_scanned section (events u w)) _ (ap (roots_scanned section) (ran-events u v w t.ran b.traced.ran) ∙ roots-left section (events u v) (events v w) s);
       quota_is = b.quota_is;
@@ -207,9 +263,11 @@ marks-traces section quota p u v w t n r s b =
     }
 
 -- no packet could be taken
-pub marks-none : (section quota : ℕ) (u v : View) → HasTraced u v → never pops (events u v) ≡ true → never reads_pace (events u v) ≡ true → finds_no_packet u.shape (begins u) (events u v) ≡ true → never reads_root (events u v) ≡ true → MarksAndTraces section quota (record { quota = quota; done = 0; stopped = stop_of quota }) u v
-marks-none section quota u v t n r h b =
+pub marks-none : (section quota looks : ℕ) (u v : View) → HasTraced u v → never pops (events u v) ≡ true → never reads_pace (events u v) ≡ true → never draws_or_clears (events u v) ≡ true → finds_no_packet u.shape (begins u) (events u v) ≡ true → never reads_root (events u v) ≡ true
+    → MarksAndTraces section quota looks (record { quota = quota; done = 0; stopped = stop_of quota }) u v
+marks-none section quota looks u v t n r c h b =
     record {
+      looked = let none = undrawn (events u v) c in omega (arith, none);
       traced = t;
       roots = or_right (roots_scanned section (events u v)) _ (this-moment u.shape (finds_no_packet u.shape) (events u v) (begins u) h);
       quota_is = refl;

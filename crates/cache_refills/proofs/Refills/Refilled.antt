@@ -1,5 +1,5 @@
 -- A mutator's answer, once it has claimed a block and looked at the phase: it paid while a cycle was marking, and owed nothing where none was.
-use Rattle.std.proofs.Common.{ℕ, ◌≡◌, List, [], ◌∷◌, ◌++◌, ◌+◌, arith, refl, sym, ap, ◌∙◌, subst, Bool, true, false, not, ◌&&◌, ◌||◌, Some, None, Option, ⊎_elim, ◌⊎◌, eqb-true}
+use Rattle.std.proofs.Common.{ℕ, ◌≡◌, ◌≤◌, List, [], ◌∷◌, ◌++◌, ◌+◌, arith, refl, sym, ap, ◌∙◌, subst, Bool, true, false, not, ◌&&◌, ◌||◌, Some, None, Option, ⊎_elim, ◌⊎◌, eqb-true}
 use Rattle.std.specs.Prelude.{◌==◌, if◌then◌else◌, is_some, unwrap_or}
 use Rattle.std.specs.Int.Count.{ones}
 use Rattle.std.proofs.lemmas.Bool.{and_parts, false≢true, not-true, or_cases, or_left, or_right}
@@ -42,14 +42,14 @@ use Rattle.gc_cycle.specs.declared.counts.Paid.{Paid}
 use Rattle.gc_cycle.specs.Events.{before_last, never, Sort, until_first}
 use Rattle.gc_cycle.specs.Moments.{at_some_moment, begins, finds_no_packet, finds_no_room, finds_no_work}
 use Rattle.gc_cycle.specs.Mutating.{stays_calm}
-use Rattle.cache_refills.specs.Pace.Pacing.{last_read, quota_by, quota_seen, was_not_due}
+use Rattle.cache_refills.specs.Pace.Pacing.{last_read, late_by, late_seen, looks_by, looks_seen, quota_by, quota_seen, was_not_due}
 use Rattle.cache_refills.specs.Pace.Paying.{claimed_in_stop, IsFree, Pays, PaysInIdle, PaysInMarking, roots_are_read, since_claim, StopsAs}
 use Rattle.cache_refills.specs.Pace.Paying.Pays.{in_idle, in_marking}
 use Rattle.cache_refills.specs.Pace.Payment.{HasPaid, pays_cells}
 use Rattle.gc_cycle.specs.Polling.{saw_full}
 use Rattle.cache_refills.specs.Refilling.{HasClaimed}
 use Rattle.gc_cycle.specs.Roots.{roots_scanned}
-use Rattle.gc_cycle.specs.Sorts.{claims, lowers_free, pops, raises_flag, raises_traced, reads_phase, resumes}
+use Rattle.gc_cycle.specs.Sorts.{claims, draws, lowers_free, pops, raises_flag, raises_traced, reads_phase, resumes}
 use Rattle.gc_cycle.specs.Standing.{Mutates}
 use Rattle.gc_cycle.proofs.Refills.Answered.{cached-still, ends-full}
 use Rattle.gc_cycle.proofs.Refills.KnownFull.{goes-on, mutates-still, phase-seen}
@@ -211,6 +211,9 @@ module _ (h : Cache) (done : ℕ) (u v w x : View) (n : ℕ) (k : HasClaimed h d
   quota-after : (cells : ℕ) (es : List Entry) → quota_seen cells (first ++ es) ≡ quota_seen cells es
   quota-after cells es = λ i. quota_by cells (read-after last_count es i) (read-after rescanned_count es i) (read-after traced_count es i) (read-after free_count es i)
 
+  late-after : (es : List Entry) → late_seen (first ++ es) ≡ late_seen es
+  late-after es = λ i. late_by (read-after last_count es i) (read-after traced_count es i) (read-after free_count es i)
+
   -- while a cycle was marking
   pays-marking : (p : Paid) → HasPaid (ones h.cells) p w x → phase_of n ≡ Marking → PaysInMarking u.shape (own_section u.state) (ones h.cells) p (begins u) (events u x)
   pays-marking p q e =
@@ -230,6 +233,12 @@ module _ (h : Cache) (done : ℕ) (u v w x : View) (n : ℕ) (k : HasClaimed h d
         quota = ap (quota_seen (ones h.cells)) since ∙ (quota-after (ones h.cells) (events w x) ∙ q.quota);
         early = ap (λ es. quota_seen (ones h.cells) (until_first pops es)) since ∙ (quota-after (ones h.cells) (until_first pops (events w x)) ∙ q.early);
         most = q.most;
+        short = q.short;
+        looked =
+            let s : count_of draws (since_claim (events u x)) ≡ 0 + (0 + (0 + count_of draws (events w x))) = ap (count_of draws) since in
+            let l : looks_seen (since_claim (events u x)) ≡ looks_seen (events w x) = ap looks_seen since ∙ ap looks_by (late-after (events w x)) in
+            let few = q.looked in
+            omega (arith, s, l, few);
         done = let s : count_of pops (since_claim (events u x)) ≡ 0 + (0 + (0 + count_of pops (events w x))) = ap (count_of pops) since in let d = q.done in omega (arith, s, d);
         stopped = stops-after p.stopped p.quota p.done u w x before r q.stopped;
         told = ap (picked raises_traced) since ∙ q.told;

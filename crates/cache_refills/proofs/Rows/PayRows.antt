@@ -1,11 +1,11 @@
 -- What mutators pay, computed.
-use Rattle.std.proofs.Common.{ℕ, ◌≡◌, arith, refl, sym, ap, ◌∙◌, List, [], ◌∷◌, ◌++◌, Bool, true, false, Option, Some, None}
+use Rattle.std.proofs.Common.{ℕ, ◌≡◌, ◌≤◌, arith, refl, sym, ap, ◌∙◌, List, [], ◌∷◌, ◌++◌, Bool, true, false, Option, Some, None}
 use Rattle.std.specs.Prelude.{◌==◌}
 use Rattle.mark_core.specs.Numbers.{free_count, last_count, rescanned_count, traced_count}
 use Rattle.mark_core.specs.Seats.{is_the}
 use Rattle.std.proofs.lemmas.Bool.{true≢false}
 use Rattle.mark_core.specs.declared.kinds.Phase.TheVariants.{Marking}
-use Rattle.mark_core.specs.declared.kinds.Step.TheVariants.{AddStat, DropStep, ReadPhase, ReadRoot, ReadStat, RaiseStep, StorePhase}
+use Rattle.mark_core.specs.declared.kinds.Step.TheVariants.{AddStat, DropStep, NextOfCards, ReadPhase, ReadRoot, ReadStat, RaiseStep, StorePhase}
 use Rattle.gc_table.specs.declared.view.Entry.{Entry}
 use Rattle.tracer.specs.declared.traced.Stopped.TheVariants.{Quota, NoWork}
 use Rattle.gc_cycle.specs.declared.counts.Paid.{Paid}
@@ -99,7 +99,7 @@ abbrev no_work : Paid
 no_work = record { quota = 32; done = 0; stopped = NoWork }
 
 pays_for_work : Pays small 1 64 no_work (at_rest marker) with_roots
-pays_for_work = in_marking (record { outside = refl; read = refl; roots = refl; quota = refl; early = refl; done = refl; most = omega arith; stopped = (differ, refl); told = refl })
+pays_for_work = in_marking (record { outside = refl; read = refl; roots = refl; quota = refl; early = refl; done = refl; most = omega arith; short = omega arith; looked = omega arith; stopped = (differ, refl); told = refl })
   where
     differ : (◌≡◌ {A = ℕ} 0 32) → ⊥
     differ e = absurd (true≢false (sym (ap (λ n. n == 32) e)))
@@ -130,6 +130,18 @@ refused-idle : Pays small 1 64 no_work (at_rest marker) idle_in_marking → ⊥
 refused-idle (in_marking p) = absurd (true≢false (sym p.stopped.1))
 refused-idle (in_idle p) = absurd (true≢false (sym p.read))
 refused-idle (in_stop p) = absurd (true≢false (sym p.inside))
+
+-- a card was looked at, though the cycle wasn't far on by the numbers read
+abbrev looks_early : List Entry
+looks_early = claiming 0 64 ++ (did ReadPhase 1 ∷ nil_roots ++ (numbers 100 20 40 160 ++ (no_input_looks ++ did NextOfCards 3 ∷ did (AddStat traced_count 0 false) 40 ∷ [])))
+
+refused-look : Pays small 1 64 no_work (at_rest marker) looks_early → ⊥
+refused-look (in_marking p) = none p.looked
+  where
+    none : 1 ≤ 0 → ⊥
+    none l = absurd (omega (arith, l))
+refused-look (in_idle p) = absurd (true≢false (sym p.read))
+refused-look (in_stop p) = absurd (true≢false (sym p.inside))
 
 -- a root that isn't nil, and that nobody marked
 root_unmarked : roots_scanned 1 (did (ReadRoot 1 0) 6 ∷ nil_roots) ≡ true

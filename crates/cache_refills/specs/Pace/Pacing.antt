@@ -66,6 +66,19 @@ late_by last traced free = None
 abbrev pub late_seen : List Entry → Option Bool
 late_seen es = late_by (last_read last_count es) (last_read traced_count es) (last_read free_count es)
 
+-- a payment looks at so many cards at most
+abbrev pub card_looks : ℕ
+card_looks = 1024
+
+-- how many cards are worth a look, by whether the cycle is far on
+abbrev pub looks_by : Option Bool → ℕ
+looks_by None = 0
+looks_by (Some far) = if far then card_looks else 0
+
+-- how many were, by the numbers as read last
+abbrev pub looks_seen : List Entry → ℕ
+looks_seen es = looks_by (late_seen es)
+
 -- the numbers were read, and a cycle was due by them
 abbrev pub is_due : Option Bool → Bool
 is_due None = false

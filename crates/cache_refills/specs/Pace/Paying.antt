@@ -10,10 +10,10 @@ use Rattle.tracer.specs.declared.traced.Stopped.{Stopped}
 use Rattle.tracer.specs.declared.traced.Stopped.TheVariants.{Quota, NoWork, NoPacket}
 use Rattle.gc_cycle.specs.declared.counts.Paid.{Paid}
 use Rattle.gc_cycle.specs.Events.{before_last, never, since_last, until_first}
-use Rattle.gc_cycle.specs.Sorts.{claims, pops, raises_flag, raises_traced, reads_phase, reads_root, resumes}
+use Rattle.gc_cycle.specs.Sorts.{claims, draws, pops, raises_flag, raises_traced, reads_phase, reads_root, resumes}
 use Rattle.gc_cycle.specs.Moments.{Moment, at_some_moment, finds_no_packet, finds_no_room, finds_no_work}
 use Rattle.gc_cycle.specs.Mutating.{pops_in_stops}
-use Rattle.cache_refills.specs.Pace.Pacing.{quota_seen, was_not_due}
+use Rattle.cache_refills.specs.Pace.Pacing.{looks_seen, quota_seen, was_not_due}
 use Rattle.gc_cycle.specs.Roots.{roots_scanned}
 
 -- the events since the call claimed the block of its cache
@@ -57,6 +57,9 @@ pub record PaysInMarking (sh : Shape) (section cells : ℕ) (paid : Paid) (m : M
   pub early : quota_seen cells (until_first pops (since_claim es)) ≡ Some paid.quota
   pub done : count_of pops (since_claim es) ≡ paid.done
   pub most : paid.done ≤ paid.quota
+  -- a quota is at most 1,024 objects; and as many cards were looked at, at most, and none where the cycle wasn't far on by the numbers read
+  pub short : paid.quota ≤ 1024
+  pub looked : count_of draws (since_claim es) ≤ looks_seen (since_claim es)
   pub stopped : StopsAs paid.stopped sh paid.quota paid.done m es
   -- the number of traced cells was raised once, by as many
   pub told : picked raises_traced (since_claim es) ≡ paid.done ∷ []

@@ -16,10 +16,10 @@ use Rattle.gc_cycle.specs.declared.counts.Paid.{Paid}
 use Rattle.gc_cycle.specs.Events.{never, until_first}
 use Rattle.gc_cycle.specs.Lower.{HasTraced, traces_or_cleans}
 use Rattle.gc_cycle.specs.Moments.{Moment, at_some_moment, begins, finds_no_packet, finds_no_room, finds_no_work}
-use Rattle.cache_refills.specs.Pace.Pacing.{quota_seen}
+use Rattle.cache_refills.specs.Pace.Pacing.{looks_seen, quota_seen}
 use Rattle.cache_refills.specs.Pace.Paying.{StopsAs}
 use Rattle.gc_cycle.specs.Roots.{roots_scanned}
-use Rattle.gc_cycle.specs.Sorts.{claims, pops, raises_traced, reads_pace, reads_root}
+use Rattle.gc_cycle.specs.Sorts.{claims, draws, pops, raises_traced, reads_pace, reads_root}
 use Rattle.mark_core.specs.Numbers.{done_count, traced_count}
 use Rattle.gc_cycle.specs.Standing.{Mutates}
 use Rattle.gc_cycle.specs.Statistics.{ChangesBy, tells}
@@ -53,35 +53,38 @@ StopsTracing NoPacket quota done v w = (done ≢ quota) × IsTrue (at_some_momen
 abbrev pub stop_of : ℕ → Stopped
 stop_of quota = if quota == 0 then Quota else NoPacket
 
--- so many objects were traced after `before`, and in all as many as `paid` says, whose quota is this
-pub record TracesOn (quota before : ℕ) (paid : Paid) (v w : View) : Type 0 where
+-- so many objects were traced after `before`, and in all as many as `paid` says, whose quota is this; so many cards were looked at, at most
+pub record TracesOn (quota before looks : ℕ) (paid : Paid) (v w : View) : Type 0 where
   pub traced : HasTraced v w
   pub quota_is : paid.quota ≡ quota
   pub most : paid.done ≤ quota
   pub done : before + count_of pops (events v w) ≡ paid.done
+  pub looked : count_of draws (events v w) ≤ looks
   pub unread : IsTrue (never reads_pace (events v w))
   pub unrooted : IsTrue (never reads_root (events v w))
   pub stops : StopsTracing paid.stopped quota paid.done v w
 
--- the roots were seen to, or no packet could be taken; and a quota of objects was traced
-pub record MarksAndTraces (section quota : ℕ) (paid : Paid) (v w : View) : Type 0 where
+-- the roots were seen to, or no packet could be taken; and a quota of objects was traced, and so many cards were looked at, at most
+pub record MarksAndTraces (section quota looks : ℕ) (paid : Paid) (v w : View) : Type 0 where
   pub traced : HasTraced v w
   pub roots : IsTrue (roots_scanned section (events v w) || at_some_moment v.shape (finds_no_packet v.shape) (begins v) (events v w))
   pub quota_is : paid.quota ≡ quota
   pub most : paid.done ≤ quota
   pub done : count_of pops (events v w) ≡ paid.done
+  pub looked : count_of draws (events v w) ≤ looks
   pub unread : IsTrue (never reads_pace (events v w))
   pub stops : StopsTracing paid.stopped quota paid.done v w
 
--- no card was left, or no packet to clean it with
-pub record TracesNone (v w : View) : Type 0 where
+-- nothing was traced, and so many cards were looked at, at most
+pub record TracesNone (looks : ℕ) (v w : View) : Type 0 where
   pub traced : HasTraced v w
+  pub looked : count_of draws (events v w) ≤ looks
   pub unpopped : IsTrue (never pops (events v w))
   pub unread : IsTrue (never reads_pace (events v w))
   pub unrooted : IsTrue (never reads_root (events v w))
 
 -- the increment for a cache of so many cells: the numbers were read and set the quota, the roots were seen to or no packet could be taken, and so many objects
--- were traced, by which the number of traced objects was raised once
+-- were traced, by which the number of traced objects was raised once; cards were looked at only where the cycle was far on by these numbers
 pub record HasPaid (cells : ℕ) (paid : Paid) (v w : View) : Type 0 where
   pub ran : Ran v w
   pub only : Only pays_cells v w
@@ -92,7 +95,9 @@ pub record HasPaid (cells : ℕ) (paid : Paid) (v w : View) : Type 0 where
   pub quota : quota_seen cells (events v w) ≡ Some paid.quota
   pub early : quota_seen cells (until_first pops (events v w)) ≡ Some paid.quota
   pub most : paid.done ≤ paid.quota
+  pub short : paid.quota ≤ 1024
   pub done : count_of pops (events v w) ≡ paid.done
+  pub looked : count_of draws (events v w) ≤ looks_seen (events v w)
   pub stopped : StopsAs paid.stopped v.shape paid.quota paid.done (begins v) (events v w)
   pub told : picked raises_traced (events v w) ≡ paid.done ∷ []
   pub changed : ChangesBy (tells paid.done ∷ []) v w

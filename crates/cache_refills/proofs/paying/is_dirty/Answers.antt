@@ -1,10 +1,11 @@
-use Rattle.std.proofs.Common.{ap}
+use Rattle.std.proofs.Common.{ℕ, arith, ap}
 use Rattle.mark_core.specs.declared.kinds.Step.TheVariants.{ReadCard}
 use Rattle.gc_table.specs.Seats.{view_of}
 use Rattle.gc_table.specs.declared.view.View.{View}
 use Rattle.gc_table.proofs.History.Log.{events-after}
+use Rattle.packet_pools.specs.Counts.{count_of}
 use Rattle.gc_cycle.specs.Events.{never}
-use Rattle.gc_cycle.specs.Sorts.{pops, reads_pace, reads_root}
+use Rattle.gc_cycle.specs.Sorts.{draws, pops, reads_pace, reads_root}
 use Rattle.gc_cycle.proofs.Stops.Looked.{has-looked}
 use Rattle.cache_refills.proofs.paying.is_dirty.Goals as goal
 
@@ -14,8 +15,10 @@ returns-clause-none c =
     let w : View = view_of c.read_card.new.seat in
     let e = c.read_card.ensures.view in
     let one = events-after v w (ReadCard c.args.card) e.0 e.1 in
+    let few = ap {B = ℕ} (count_of draws) one in
     record {
       traced = has-looked c.args.card e.0 v w c.requires.seat.1.rest e.1 e.2;
+      looked = omega (arith, few);
       unpopped = ap (never pops) one;
       unread = ap (never reads_pace) one;
       unrooted = ap (never reads_root) one;

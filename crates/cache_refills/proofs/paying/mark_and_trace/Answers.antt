@@ -21,8 +21,8 @@ returns-in-NoPacket-clause-pays c =
     let u : View = view_of c.args.seat.now in
     let v : View = view_of c.scan_roots.new.seat in
     let e = c.in-NoPacket.ensures in
-    subst (λ s. MarksAndTraces (own_section u.state) c.args.quota (record { quota = c.args.quota; done = 0; stopped = s }) u v) (sym c.stopped_at.ensures)
-    (marks-none (own_section u.state) c.args.quota u v e.traced e.unpopped e.unread e.scans.0 e.scans.1)
+    subst (λ s. MarksAndTraces (own_section u.state) c.args.quota c.args.looks (record { quota = c.args.quota; done = 0; stopped = s }) u v) (sym c.stopped_at.ensures)
+    (marks-none (own_section u.state) c.args.quota c.args.looks u v e.traced e.unpopped e.unread e.uncleaned e.scans.0 e.scans.1)
 
 pub returns-in-Done-clause-pays : goal.returns-in-Done-clause-pays
 returns-in-Done-clause-pays c =
@@ -30,5 +30,5 @@ returns-in-Done-clause-pays c =
     let v : View = view_of c.scan_roots.new.seat in
     let w : View = view_of c.pay_quota.new.seat in
     let e = c.in-Done.ensures in
-    marks-traces (own_section u.state) c.args.quota c.pay_quota.result u v w e.traced e.unpopped e.unread
+    marks-traces (own_section u.state) c.args.quota c.args.looks c.pay_quota.result u v w e.traced e.unpopped e.unread e.uncleaned
     (subst (λ n. roots_scanned n (events u v) ≡ true) (c.unwrap_or-section.ensures ∙ ap (λ (s : SeatState). own_section s) c.state.ensures) e.scans) c.pay_quota.ensures.traces
