@@ -33,7 +33,7 @@ after-always test f more earlier (e ∷ es) t =
 
 -- causes to stop
 
-taken-more : (b : ℕ) (xs ys : List Entry) → seen_taken b xs ≡ true → seen_taken b (xs ++ ys) ≡ true
+pub taken-more : (b : ℕ) (xs ys : List Entry) → seen_taken b xs ≡ true → seen_taken b (xs ++ ys) ≡ true
 taken-more b [] ys h = absurd (false≢true h)
 taken-more b (x ∷ xs) ys h =
     let f = finds_claimed b x.step x.found in
@@ -51,6 +51,10 @@ taken-more b (x ∷ xs) ys h =
     first : (es : List Entry) → full_first es ≡ true → full_first (es ++ ys) ≡ true
     first [] k = absurd (false≢true k)
     first (e ∷ es) k = k
+
+pub taken-later : (b : ℕ) (xs ys : List Entry) → seen_taken b ys ≡ true → seen_taken b (xs ++ ys) ≡ true
+taken-later b [] ys h = h
+taken-later b (x ∷ xs) ys h = or_right (finds_claimed b x.step x.found || gets_block b x.step x.found && full_first (xs ++ ys)) (seen_taken b (xs ++ ys)) (taken-later b xs ys h)
 
 blocks-more : (sh : Shape) (xs ys : List Entry) → no_block sh xs ≡ true → no_block sh (xs ++ ys) ≡ true
 blocks-more sh xs ys h = all-more (λ b. seen_taken b xs) (λ b. seen_taken b (xs ++ ys)) (λ b k. taken-more b xs ys k) (range_with_len 0 (block_count sh)) h
@@ -90,7 +94,7 @@ pub failed-later : (sh : Shape) (xs ys : List Entry) → claim_failed sh ys ≡ 
 failed-later sh [] ys h = h
 failed-later sh (x ∷ xs) ys h = or_right (no_block sh (front seeks_block (x ∷ (xs ++ ys)))) (claim_failed sh (xs ++ ys)) (failed-later sh xs ys h)
 
-done-later : (sh : Shape) (xs ys : List Entry) → marking_done sh ys ≡ true → marking_done sh (xs ++ ys) ≡ true
+pub done-later : (sh : Shape) (xs ys : List Entry) → marking_done sh ys ≡ true → marking_done sh (xs ++ ys) ≡ true
 done-later sh [] ys h = h
 done-later sh (x ∷ xs) ys h = or_right (reads_phase Marking x.step x.found && some_event (sees_last_card (card_count sh)) (xs ++ ys) && some_event (sees_all_empty (empty_offset + sh.packets)) (xs ++ ys)) (marking_done sh (xs ++ ys)) (done-later sh xs ys h)
 
@@ -135,9 +139,11 @@ pub failed-stops : (sh : Shape) (es : List Entry) → claim_failed sh es ≡ tru
 failed-stops sh es h = or_left (claim_failed sh es) (marking_done sh es) h
 
 -- the phase was read as Marking, and then the end was seen
+pub done-here : (sh : Shape) (e : Entry) (es : List Entry) → reads_phase Marking e.step e.found ≡ true → some_event (sees_last_card (card_count sh)) es ≡ true → some_event (sees_all_empty (empty_offset + sh.packets)) es ≡ true → marking_done sh (e ∷ es) ≡ true
+done-here sh e es r a b = or_left _ (marking_done sh es) (and_from (reads_phase Marking e.step e.found && some_event (sees_last_card (card_count sh)) es) _ (and_from (reads_phase Marking e.step e.found) _ r a) b)
+
 pub done-stops : (sh : Shape) (e : Entry) (es : List Entry) → reads_phase Marking e.step e.found ≡ true → some_event (sees_last_card (card_count sh)) es ≡ true → some_event (sees_all_empty (empty_offset + sh.packets)) es ≡ true → may_stop sh (e ∷ es) ≡ true
-done-stops sh e es r a b =
-    or_right (claim_failed sh (e ∷ es)) (marking_done sh (e ∷ es)) (or_left _ (marking_done sh es) (and_from (reads_phase Marking e.step e.found && some_event (sees_last_card (card_count sh)) es) _ (and_from (reads_phase Marking e.step e.found) _ r a) b))
+done-stops sh e es r a b = or_right (claim_failed sh (e ∷ es)) (marking_done sh (e ∷ es)) (done-here sh e es r a b)
 
 -- causes to say that the heap is full
 

@@ -12,3 +12,4 @@ pub mod Refilled
 pub mod Filling
 pub mod Passed
 pub mod Leaves
+pub mod Pieced

@@ -5,3 +5,4 @@ pub mod Getting
 pub mod Refilling
 pub mod InStops
 pub mod Trying
+pub mod Pieces

@@ -67,6 +67,12 @@ pub record PlaysOn (v w : View) : Type 0 where
   pub spares : Only spares_part v w
   pub calm : IsTrue (never raises_flag (events v w))
 
+-- the mutator goes on without a cache, and hasn't read that the heap is full
+pub record GoesWithout (v w : View) : Type 0 where
+  pub mutates : Mutates w
+  pub cache : w.state.cache ≡ None
+  pub going : IsFalse (saw_full (events v w))
+
 -- no block had a free cell: the mutator goes on without a cache
 pub record FindsNoBlock (v w : View) : Type 0 where
   pub mutates : Mutates w

@@ -13,7 +13,7 @@
 //! 4. Where every allocation word is all ones after a precise collection in that stop, the heap is full.
 //!
 //! `refilling` goes these ways in rounds, `in_stops` does so for a mutator that collects in stops alone, and `trying` has a refill, an entry and a safe point for a caller
-//! that has no runtime to wait with. `pace` and `quota` have the numbers; `watching` is told of the stops.
+//! that has no runtime to wait with, and `pieces` has the refill in pieces for one that may not take long either. `pace` and `quota` have the numbers; `watching` is told of the stops.
 //!
 //! In `specs/`, `Pace` has when a cycle is due, what is owed and what is paid, `Refilling` what a round does, and `Getting` what a refill answers.
 #![tactic(auto)]
@@ -22,6 +22,7 @@ mod claiming;
 mod in_stops;
 mod pace;
 mod paying;
+mod pieces;
 mod quota;
 mod refilling;
 mod trying;
@@ -29,6 +30,7 @@ mod watching;
 
 pub use in_stops::refill_in_stops;
 pub use pace::{is_far_on, kick_off};
+pub use pieces::{Piece, try_refill_some};
 pub use quota::quota_of;
 pub use refilling::{refill, refill_watched};
 pub use trying::{Pass, try_enter, try_refill, try_safe_point};

@@ -1,5 +1,5 @@
 //! The numbers that pace a cycle, and its beginning.
-ghost use Rattle.std.specs.Prelude.{◌≡◌, ◌≤◌, ◌∷◌, [], Some, IsTrue};
+ghost use Rattle.std.specs.Prelude.{◌≡◌, ◌≤◌, ◌∷◌, [], length, Some, IsTrue};
 ghost use Rattle.mark_core.specs.Numbers.{free_count, last_count};
 ghost use Rattle.mark_core.specs.declared.kinds.Step.TheVariants.{ReadStat};
 ghost use Rattle.gc_table.specs.Seats.{Across, Answered, did, Sits, state_of};
@@ -67,6 +67,7 @@ pub(crate) fn begin_due(heap: &Heap, seat: &mut HeapSeat) -> bool
     ensures due { IsTrue (begins_where_due (did seat.old seat.new)) }
     ensures state { state_of seat.new ≡ state_of seat.old }
     ensures only { Across (Only kicks) seat.old seat.new }
+    ensures few { length (did seat.old seat.new) ≤ 4 }
 {
     let last = read_statistic(heap, seat, LAST);
     let rescanned = read_statistic(heap, seat, RESCANNED);

@@ -1,5 +1,5 @@
 //! A cache for a mutator, and its tracing increment.
-ghost use Rattle.std.specs.Prelude.{◌≡◌, [], None, Some, IfSome, IsTrue};
+ghost use Rattle.std.specs.Prelude.{◌≡◌, ◌≤◌, [], length, None, Some, IfSome, IsTrue};
 ghost use Rattle.std.specs.Bool.{OnFalse, OnTrue};
 ghost use Rattle.mark_core.specs.Places.{the_phase};
 ghost use Rattle.mark_core.specs.Seats.{phase_number};
@@ -10,6 +10,7 @@ ghost use Rattle.gc_table.specs.Seats.{Across, did, Sits, state_of, view_of};
 ghost use Rattle.gc_table.specs.declared.view.View.{View};
 ghost use Rattle.alloc_cache.specs.Caching.{IsCached};
 ghost use Rattle.cache_refills.specs.Getting.{RefillsTo};
+ghost use Rattle.gc_cycle.specs.declared.counts.Refill.TheVariants as refills;
 ghost use Rattle.gc_cycle.specs.Answering.{StoredAt, TellsFull};
 ghost use Rattle.gc_cycle.specs.Cycles.{fills_with_cause};
 ghost use Rattle.gc_cycle.specs.Events.{each_after, never};
@@ -213,6 +214,7 @@ pub(crate) fn marking_is_done(heap: &Heap, seat: &mut HeapSeat) -> bool
     ensures only { Across (Only looks_for_end) seat.old seat.new }
     ensures cache { (state_of seat.new).cache ≡ (state_of seat.old).cache }
     ensures done { IsTrue result → SeesEnd heap.now.shape (did seat.old seat.new) }
+    ensures few { length (did seat.old seat.new) ≤ 2 }
 {
     let seen = heap.read_stat(seat, CARD_COUNTER);
     if seen < u64::from(heap.shape().cells / CARD_CELLS) {
@@ -231,6 +233,7 @@ pub(crate) fn pay_for(heap: &Heap, seat: &mut HeapSeat, cache: Cache, done: u32)
     ensures inside { IsTrue (never comes_in (did seat.old seat.new)) }
     ensures numbers { Across (PaysNumbers cache result) seat.old seat.new }
     ensures known { Across (SparesRefill result) seat.old seat.new }
+    ensures few { result ≡ refills.Full → length (did seat.old seat.new) ≤ 5 }
     ensures refills { (u : View) → HasClaimed cache done u (view_of seat.old) → RefillsTo result done u (view_of seat.new) }
 {
     match heap.read_phase(seat) {

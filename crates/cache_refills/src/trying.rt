@@ -18,6 +18,7 @@ ghost use Rattle.gc_cycle.specs.Events.{never};
 ghost use Rattle.gc_cycle.specs.Mutating.{GoesOut};
 ghost use Rattle.cache_refills.specs.Pace.Pacing.{begins_where_due};
 ghost use Rattle.cache_refills.specs.Pace.Paying.{pops_where_paid};
+ghost use Rattle.cache_refills.specs.Pieces.{LeavesBlocks};
 ghost use Rattle.cache_refills.specs.Refilling.{IsPaced, SeesEnd, prepares};
 ghost use Rattle.gc_cycle.specs.Sorts.{polls, pops, raises_flag};
 ghost use Rattle.gc_cycle.specs.Sparing.{SparesRefill, spares_part};
@@ -99,7 +100,7 @@ pub fn try_enter(heap: &Heap, seat: &mut HeapSeat) -> Pass
 ///
 /// `sees_to_cycle` in `refilling` does the same and wakes the tracers. These stay two: a static library may not link what wakes a thread, so what it calls
 /// can't reach that one, also not behind a test.
-fn begins_or_ends(heap: &Heap, seat: &mut HeapSeat) -> bool
+pub(crate) fn begins_or_ends(heap: &Heap, seat: &mut HeapSeat) -> bool
     requires seat { Sits heap.now seat.old × Mutates (view_of seat.old) }
     requires marking { (state_of seat.old).phase_seen ≡ Some Marking → Known (view_of seat.old) the_phase (phase_number Marking) }
     ensures seat { Sits heap.now seat.new × Mutates (view_of seat.new) }
@@ -110,6 +111,8 @@ fn begins_or_ends(heap: &Heap, seat: &mut HeapSeat) -> bool
     ensures done { OnTrue result (((state_of seat.old).phase_seen ≡ Some Marking) × SeesEnd heap.now.shape (did seat.old seat.new)) }
     ensures due { IsTrue (begins_where_due (did seat.old seat.new)) }
     ensures paced { OnFalse result (IsPaced (did seat.old seat.new) (view_of seat.new)) }
+    ensures leaves { Across LeavesBlocks seat.old seat.new }
+    ensures few { length (did seat.old seat.new) ≤ 4 }
 {
     if has_seen_marking(seat) {
         return marking_is_done(heap, seat);

@@ -58,7 +58,7 @@ paid-join xs ys a b = either (some_event claims ys) refl b
         ap (λ (c : Bool). pops_in_stops (if c then before_last claims (xs ++ ys) else xs ++ ys)) (some-right claims xs ys e) ∙ (ap pops_in_stops (before-later claims xs ys e) ∙ pops-join xs (before_last claims ys) a k)
 
 -- the block was claimed by the first of two calls, and none by the second, which paid for it
-before-first : (f : Sort) (xs ys : List Entry) → some_event f xs ≡ true → some_event f ys ≡ false → before_last f (xs ++ ys) ≡ before_last f xs
+pub before-first : (f : Sort) (xs ys : List Entry) → some_event f xs ≡ true → some_event f ys ≡ false → before_last f (xs ++ ys) ≡ before_last f xs
 before-first f [] ys h n = absurd (false≢true h)
 before-first f (x ∷ xs) ys h n =
     ⊎_elim

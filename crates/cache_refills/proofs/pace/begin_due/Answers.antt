@@ -12,6 +12,7 @@ use Rattle.gc_table.specs.Running.{Ran}
 use Rattle.gc_table.proofs.History.Log.{events-after}
 use Rattle.gc_table.proofs.Running.{ran-answered, ran-events, ran-join}
 use Rattle.cache_refills.specs.Pace.Pacing.{begins_where_due, KicksOff, statistic}
+use Rattle.gc_cycle.proofs.Few.{few-after, few-events, few-join}
 use Rattle.cache_refills.proofs.Due.{due-begun}
 use Rattle.cache_refills.proofs.Kicking.{may-try, none-due, one-due, three, three-events, tried-state}
 use Rattle.cache_refills.proofs.pace.begin_due.Goals as goal
@@ -120,3 +121,28 @@ returns-clause-due c =
     let f = r.read.3 in
     lt-ltb _ _ (omega (arith, e, l, k, f)) in
     ap begins_where_due all ∙ due-begun p.read.0 q.read.0 r.read.0 t.0 due
+
+pub returns-then-free-last-clause-few : goal.returns-then-free-last-clause-few
+returns-then-free-last-clause-few c =
+    let p = c.read_statistic-last.ensures in
+    let q = c.read_statistic-rescanned.ensures in
+    let r = c.read_statistic-free.ensures in
+    let v : View = view_of c.args.seat.now in
+    let u : View = view_of c.read_statistic-last.new.seat in
+    let w : View = view_of c.read_statistic-rescanned.new.seat in
+    let x : View = view_of c.read_statistic-free.new.seat in
+    few-events 4 v x _ (three-events v u w x p.read.0 q.read.0 r.read.0 p.ran q.ran r.ran p.read.1 q.read.1 r.read.1) (omega arith)
+
+pub returns-clause-few : goal.returns-clause-few
+returns-clause-few c =
+    let p = c.read_statistic-last.ensures in
+    let q = c.read_statistic-rescanned.ensures in
+    let r = c.read_statistic-free.ensures in
+    let t = c.store_phase.ensures.view in
+    let v : View = view_of c.args.seat.now in
+    let u : View = view_of c.read_statistic-last.new.seat in
+    let w : View = view_of c.read_statistic-rescanned.new.seat in
+    let x : View = view_of c.read_statistic-free.new.seat in
+    let y : View = view_of c.store_phase.new.seat in
+    let reads = three-events v u w x p.read.0 q.read.0 r.read.0 p.ran q.ran r.ran p.read.1 q.read.1 r.read.1 in
+    few-join 3 1 v x y (ran-join v u x p.ran (ran-join u w x q.ran r.ran)) (ran-answered x y (StorePhase Marking) (λ n. c.store_phase.result ≡ won (StorePhase Marking) n) refl t) (few-events 3 v x _ reads (omega arith)) (few-after x y (StorePhase Marking) t.0 t.1)

@@ -1,4 +1,4 @@
-use Rattle.std.proofs.Common.{◌+◌, ◌-◌, arith, ap, Option, sym, subst}
+use Rattle.std.proofs.Common.{◌+◌, ◌-◌, arith, Option, sym, subst}
 use Rattle.std.specs.Prelude.{IfNone}
 use Rattle.gc_table.specs.Seats.{view_of}
 use Rattle.gc_table.specs.declared.view.View.{View}

@@ -12,6 +12,7 @@ use Rattle.gc_table.proofs.Running.{ran-events, ran-found, ran-join}
 use Rattle.packet_pools.specs.Seeking.{some_event}
 use Rattle.packet_pools.proofs.Searches.{some-left, some-right}
 use Rattle.gc_cycle.specs.Sorts.{sees_all_empty, sees_last_card}
+use Rattle.gc_cycle.proofs.Few.{few-after, few-join}
 use Rattle.cache_refills.proofs.refilling.marking_is_done.Goals as goal
 
 pub returns-then-seen-from-clause-ran : goal.returns-then-seen-from-clause-ran
@@ -46,3 +47,19 @@ returns-clause-done c = λ h.
           ap (some_event (sees_all_empty all)) es
           ∙ some-right (sees_all_empty all) (events u v) (events v w) (ap (some_event (sees_all_empty all)) (events-after v w ReadCount t.0 t.1) ∙ or_left _ _ (sym t.3 ∙ h));
     }
+
+pub returns-then-seen-from-clause-few : goal.returns-then-seen-from-clause-few
+returns-then-seen-from-clause-few c =
+    let u : View = view_of c.args.seat.now in
+    let v : View = view_of c.read_stat-seen.new.seat in
+    let one = few-after u v (ReadStat card_counter) c.read_stat-seen.result c.read_stat-seen.ensures.view.0 in
+    omega (arith, one)
+
+pub returns-clause-few : goal.returns-clause-few
+returns-clause-few c =
+    let u : View = view_of c.args.seat.now in
+    let v : View = view_of c.read_stat-seen.new.seat in
+    let w : View = view_of c.all_empty.new.seat in
+    let f = c.read_stat-seen.ensures.view in
+    let t = c.all_empty.ensures.count in
+    few-join 1 1 u v w (ran-found u v (ReadStat card_counter) c.read_stat-seen.result refl f) c.all_empty.ensures.only.ran (few-after u v (ReadStat card_counter) c.read_stat-seen.result f.0) (few-after v w ReadCount t.0 t.1)

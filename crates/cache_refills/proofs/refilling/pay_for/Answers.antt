@@ -1,9 +1,13 @@
-use Rattle.std.proofs.Common.{ℕ, ◌≡◌, ◌∙◌, [], ◌∷◌, ◌++◌, ap, inl, inr, not, refl, subst, sym, true, false}
+use Rattle.std.proofs.Common.{ℕ, ◌≡◌, ◌∙◌, [], ◌∷◌, ◌++◌, ap, inl, inr, not, refl, subst, sym, true, false, Some}
 use Rattle.std.proofs.lemmas.Bool.{false≢true}
 use Rattle.gc_table.specs.Seats.{view_of}
 use Rattle.gc_table.specs.declared.view.View.{View}
 use Rattle.gc_table.proofs.History.Log.{events-none, only-more, only-none}
-use Rattle.gc_table.proofs.Running.{ran-refl, ran-stored, ran-found}
+use Rattle.gc_table.proofs.Running.{ran-join, ran-refl, ran-stored, ran-found}
+use Rattle.alloc_cache.specs.declared.cache.Cache.{Cache}
+use Rattle.gc_cycle.specs.declared.counts.Paid.{Paid}
+use Rattle.gc_cycle.specs.declared.counts.Refill.TheVariants as refills
+use Rattle.gc_cycle.proofs.Few.{few-after, few-join, few-steps, giving-few}
 use Rattle.gc_cycle.specs.Answering.{answers}
 use Rattle.gc_cycle.specs.Mutating.{stays_calm}
 use Rattle.cache_refills.specs.Pace.Payment.{HasPaid, pays_cells}
@@ -46,6 +50,10 @@ looked-in : (v w x : View) (n : ℕ) → Found ReadPhase n v w → Ran w x → O
 looked-in v w x n f r o =
     ap (never comes_in) (ran-events v w x (ran-found v w ReadPhase n refl f) r ∙ ap (λ es. es ++ events w x) (events-after v w ReadPhase n f.0)) ∙ ap not (none-of-steps pays_cells comes_in pays-in (events w x) o)
 
+-- a cache isn't the answer that the heap is full
+unlike : {h : Cache} {p : Paid} → refills.Cache h p ≡ refills.Full → ⊥
+unlike e = cc
+
 pub returns-in-Full : goal.returns-in-Full
 returns-in-Full c =
     let v : View = view_of c.args.seat.now in
@@ -65,6 +73,11 @@ returns-in-Full c =
           (by-join (gives_back c.args.cache ∷ []) [] w x y (retire-by c.args.cache (used_bits w.state.cache) w x e.ran e.steps)
           (changes-after x y (StorePosition c.args.done) c.args.done refl (ran-stored x y (StorePosition c.args.done) refl c.store_position.ensures.view) c.store_position.ensures.view));
       known = g.3;
+      few =
+          λ same.
+          few-join 1 4 v w y (ran-found v w ReadPhase t.0 refl (t.1, t.2)) (ran-join w x y e.ran (ran-stored x y (StorePosition c.args.done) refl c.store_position.ensures.view)) (few-after v w ReadPhase t.0 t.1)
+          (few-join 3 1 w x y e.ran (ran-stored x y (StorePosition c.args.done) refl c.store_position.ensures.view)
+          (few-steps 3 w x _ e.steps (giving-few (Some c.args.cache) (used_bits w.state.cache))) (few-after x y (StorePosition c.args.done) c.args.done c.store_position.ensures.view));
       refills = λ u k. full-later c.args.done u v y k.ran g.0 g.2;
     }
 
@@ -83,6 +96,7 @@ returns-in-Marking c =
       numbers = (refl, inr (by-join [] _ v w x (changes-after v w ReadPhase t.0 refl (ran-found v w ReadPhase t.0 refl (t.1, t.2)) t.1) q.changed));
       inside = looked-in v w x t.0 (t.1, t.2) q.ran q.only;
       known = only-more stays_calm spares_part calm-spares v x calm;
+      few = λ same. absurd (unlike same);
       refills = λ u k. gets-paid c.args.cache c.args.done u v w x t.0 k (t.1, t.2) q.ran q.only c.pay-paid.result c.requires.seat.1 c.requires.cache q (sym t.3 ∙ c.in-Marking.is);
     }
 
@@ -101,5 +115,6 @@ returns-in_default c =
       numbers = (refl, inl (changes-after v w ReadPhase t.0 refl (ran-found v w ReadPhase t.0 refl (t.1, t.2)) t.1));
       inside = looked-in v w w t.0 (t.1, t.2) (ran-refl w) (only-none pays_cells w);
       known = only-more stays_calm spares_part calm-spares v w calm;
+      few = λ same. absurd (unlike same);
       refills = λ u k. gets-free c.args.cache c.args.done u v w w t.0 k (t.1, t.2) (ran-refl w) (only-none pays_cells w) c.nothing_paid.result m c.requires.cache c.nothing_paid.ensures idle (events-none w) (mutates-still v w t.0 (t.1, t.2) m) refl refl;
     }

@@ -1,4 +1,4 @@
-use Rattle.std.proofs.Common.{inr, inl}
+use Rattle.std.proofs.Common.{arith, inr, inl}
 use Rattle.gc_table.specs.Seats.{view_of}
 use Rattle.gc_table.specs.declared.view.View.{View}
 use Rattle.gc_table.proofs.History.Log.{only-more}
@@ -10,6 +10,7 @@ use Rattle.cache_refills.proofs.Refills.Leaves.{kicks-leave, looks-leave}
 use Rattle.gc_cycle.proofs.Changes.{only-changes}
 use Rattle.gc_cycle.specs.Statistics.{leaves_numbers}
 use Rattle.cache_refills.proofs.Due.{due-looks}
+use Rattle.cache_refills.proofs.Refills.Pieced.{kicks-leaves, looks-leaves}
 use Rattle.cache_refills.proofs.trying.begins_or_ends.Goals as goal
 
 pub returns-then-has_seen_marking-clause-only : goal.returns-then-has_seen_marking-clause-only
@@ -39,3 +40,12 @@ returns-clause-numbers c =
 
 pub returns-then-has_seen_marking-clause-due : goal.returns-then-has_seen_marking-clause-due
 returns-then-has_seen_marking-clause-due c = due-looks (view_of c.args.seat.now) (view_of c.marking_is_done.new.seat) c.marking_is_done.ensures.only
+
+pub returns-then-has_seen_marking-clause-leaves : goal.returns-then-has_seen_marking-clause-leaves
+returns-then-has_seen_marking-clause-leaves c = looks-leaves (view_of c.args.seat.now) (view_of c.marking_is_done.new.seat) c.marking_is_done.ensures.only
+
+pub returns-clause-leaves : goal.returns-clause-leaves
+returns-clause-leaves c = kicks-leaves (view_of c.args.seat.now) (view_of c.begin_due.new.seat) c.begin_due.ensures.only
+
+pub returns-then-has_seen_marking-clause-few : goal.returns-then-has_seen_marking-clause-few
+returns-then-has_seen_marking-clause-few c = let few = c.marking_is_done.ensures.few in omega (arith, few)
