@@ -4,6 +4,7 @@ pub mod BlocksOthers
 pub mod BlocksWords
 pub mod BlocksStopped
 pub mod BlocksAlone
+pub mod BlocksStretch
 pub mod BlocksHand
 pub mod BlocksWrites
 pub mod BlocksSteps

@@ -112,7 +112,7 @@ ready c e s k f is =
         word_count = length-set c.words _ _ ∙ k.word_count;
         words = word-bounds c.shape c.words c.seats s e.step k.words b ok at k.word_count;
         seat_count = count-after c.shape w c.seats _ s e.step (length-set c.seats _ _) k.seat_count ok;
-        seats = local-kept Q c.shape e.step c.seats e.seat _ (λ n. start-bounds c.shape n k.shaped) (λ n. spent-bounds c.shape n k.shaped) k.seats (seat-bounds c.shape w c.seats s e.step _ b ok (finds c.shape c.words s e.step k.words at k.word_count));
+        seats = local-kept Q c.shape e.step c.seats e.seat _ (λ n. start-bounds c.shape n k.shaped) (λ n. spent-bounds c.shape n k.shaped) k.seats (seat-bounds c.shape w c.seats s e.step _ k.shaped b ok (finds c.shape c.words s e.step k.words at k.word_count));
       };
     }
 

@@ -29,6 +29,10 @@ pub record WordBounds (sh : Shape) (w : Words) : Type 0 where
   pub roots : All (IsReference sh) w.roots
   pub fields : All (IsReference sh) w.fields
 
+-- blocks that exist, and at least one
+abbrev pub IsStretch : Shape → BlockState → Type 0
+IsStretch sh x = (x.block < x.until) × (x.until ≤ block_count sh)
+
 -- what a seat has in hand
 pub record SeatBounds (sh : Shape) (s : SeatState) : Type 0 where
   pub section : unwrap_or s.section 0 < sh.sections
@@ -36,7 +40,7 @@ pub record SeatBounds (sh : Shape) (s : SeatState) : Type 0 where
   pub env : All (IsReference sh) s.env
   pub got : IsReference sh s.got
   pub cache : IfSome s.cache (CacheFits sh)
-  pub block : IfSome s.block (λ (x : BlockState). x.block < block_count sh)
+  pub block : IfSome s.block (IsStretch sh)
   pub made : s.made ≤ sh.objects
 
 -- the sizes are within their limits, all words and at most 41 seats are there, and what they hold is in range

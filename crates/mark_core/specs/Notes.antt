@@ -37,7 +37,7 @@ keeps_single s at word =
 abbrev pub steady : SeatState → ℕ × ℕ → ℕ → Bool
 steady s at word = not (is_gate at) && (s.alone || keeps_single s at word)
 
--- the counters of a cycle, which are raised by one or set to 0
+-- the counters of a cycle, which are raised or set to 0
 abbrev pub is_counter : ℕ × ℕ → Bool
 is_counter at = same_place at the_next_card || same_place at the_next_block
 

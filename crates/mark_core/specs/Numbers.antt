@@ -66,6 +66,10 @@ section_variables = 32
 abbrev pub most_seats : ℕ
 most_seats = 41
 
+-- how many blocks a sweeper takes at a time at most
+abbrev pub most_stretch : ℕ
+most_stretch = 1024
+
 -- how many bits a word has
 abbrev pub word_bits : ℕ
 word_bits = 64

@@ -1,18 +1,18 @@
--- What a sweep leaves of the marks: none in a block that was handed out and that no seat has in hand any more.
+-- What a sweep leaves of the marks: none in a block that was handed out and that no seat has in its stretch any more.
 use Rattle.std.specs.Prelude.{ℕ, ◌≡◌, ◌<◌, List, ◌||◌, IsTrue, IsFalse, Option, slice_index}
 use Rattle.std.specs.List.{All}
 use Rattle.mark_core.specs.Shapes.{EachBlock}
 use Rattle.mark_core.specs.Layout.{words_of}
-use Rattle.mark_core.specs.Seats.{is_phase, is_the, block_in_hand}
+use Rattle.mark_core.specs.Seats.{is_phase, in_stretch}
 use Rattle.mark_core.specs.Views.{blocks}
 use Rattle.mark_core.specs.Steps.{Core}
 use Rattle.mark_core.specs.declared.kinds.Shape.{Shape}
 use Rattle.mark_core.specs.declared.kinds.Phase.TheVariants.{Sweep, Clear}
 use Rattle.mark_core.specs.declared.seat.BlockState.{BlockState}
 
--- no seat has block b in hand
+-- no seat has block b in its stretch
 abbrev pub NoneHas : ℕ → List (Option BlockState) → Type 0
-NoneHas b bs = All (λ x. IsFalse (is_the (block_in_hand x) b)) bs
+NoneHas b bs = All (λ x. IsFalse (in_stretch b x)) bs
 
 -- blocks are handed out in Sweep and in Clear
 abbrev pub IsSweepingPhase : ℕ → Type 0

@@ -2,7 +2,8 @@
 ghost use Rattle.std.specs.Prelude.{◌≡◌, ◌<◌, ◌+◌, ◌*◌, ◌-◌, ◌≤◌, ◌^◌, length, take, drop};
 ghost use Rattle.mark_core.specs.Layout.{pool_words as pool_words_of, block_count as block_count_of, card_count as card_count_of, region_sizes, region_base, total_words as total_words_of, address, words_of};
 ghost use Rattle.mark_core.specs.Places.{identity_at as identity_place};
-ghost use Rattle.mark_core.specs.Shapes.{IsShape};
+ghost use Rattle.mark_core.specs.Shapes.{IsShape, usual_stretch as usual_stretch_of};
+ghost use Rattle.mark_core.specs.Steps.SweepSteps.{stretch_end as stretch_end_of};
 ghost use Rattle.mark_core.specs.Numbers.{section_variables};
 
 use crate::cards::{BLOCK_CELLS, CARD_CELLS};
@@ -37,6 +38,22 @@ pub fn block_count(shape: &Shape) -> u32
     ensures { result ≡ block_count_of shape.now }
 {
     shape.cells / BLOCK_CELLS
+}
+
+/// The block behind the last of the stretch that begins with block b.
+pub fn stretch_end(shape: &Shape, b: u32) -> u32
+    ensures { result ≡ stretch_end_of shape.now b }
+{
+    let end = u64::from(b) + u64::from(shape.stretch);
+    end.min(u64::from(block_count(shape))) as u32
+}
+
+/// How many blocks a sweeper takes at a time in a heap of so many cells, unless it is told otherwise: a 256th of all, but at least one and at most 128. So a heap
+/// of fewer than 512 blocks hands them out one by one.
+pub fn usual_stretch(cells: u32) -> u32
+    ensures { result ≡ usual_stretch_of cells }
+{
+    (cells / (BLOCK_CELLS * 256)).min(128).max(1)
 }
 
 /// How many cards there are, numbered from 0 on.

@@ -20,8 +20,8 @@ pub const POOLS: u8 = 4;
 /// begins and where a cycle ends.
 pub const CARD_COUNTER: u8 = 0;
 
-/// The next block of the sweep, or of clearing. A sweeper raises it by 1 as it takes a block (`NextBlock`), past the last block too. It falls to 0, by `Reset`,
-/// before blocks are handed out.
+/// The next block of the sweep, or of clearing. A sweeper raises it by the shape's `stretch` as it takes so many blocks (`NextBlock`), past the last block too.
+/// It falls to 0, by `Reset`, before blocks are handed out.
 pub const BLOCK_COUNTER: u8 = 1;
 
 /// How many cells were marked in the last cycle. The seat that is alone sets it as a cycle ends: `Reset`, and then `AddStat`. It is the first statistic.

@@ -1,16 +1,16 @@
 -- The rule of the blocks in hand, and how it is kept where one seat's block is replaced.
-use Rattle.std.proofs.Common.{ℕ, ◌≡◌, ◌<◌, List, [], ◌∷◌, ◌++◌, set, get_or, length, arith, refl, sym, ◌∙◌, subst, false, eqb, Option, Some, None}
+use Rattle.std.proofs.Common.{ℕ, ◌≡◌, ◌<◌, ◌≤◌, List, [], ◌∷◌, ◌++◌, set, get_or, length, arith, refl, sym, subst, inl, inr, Option, Some, None, ⊎_elim}
 use Rattle.std.specs.Prelude.{IsFalse, IfSome}
 use Rattle.std.specs.List.{All, AllPairs}
-use Rattle.std.proofs.lemmas.Bool.{eqb-true, eq-eqb, true≢false, false_from_ne_true}
 use Rattle.std.proofs.lemmas.List.{map-set, map_push}
 use Rattle.std.proofs.lemmas.List.Elements.{All-push}
 use Rattle.std.proofs.lemmas.List.Quantifiers.{all_pairs_push}
-use Rattle.mark_core.specs.Strong.{IsStrongBlock, same_block}
+use Rattle.mark_core.specs.Strong.{IsStrongBlock, overlap}
 use Rattle.mark_core.specs.Start.{start_seat, spent_seat}
 use Rattle.mark_core.specs.Views.{blocks}
 use Rattle.mark_core.specs.Steps.{others_after}
 use Rattle.mark_core.proofs.Blocks.BlocksOthers.{Others, all-but, all-set, pairs-set, pairs-but}
+use Rattle.mark_core.proofs.Blocks.BlocksStretch.{apart-to, apart-from}
 use Rattle.mark_core.specs.declared.kinds.Shape.{Shape}
 use Rattle.mark_core.specs.declared.kinds.Step.{Step}
 use Rattle.mark_core.specs.declared.kinds.Step.TheVariants.{Split, Join}
@@ -21,23 +21,20 @@ use Rattle.mark_core.specs.declared.seat.BlockState.{BlockState}
 abbrev pub IsBlock : ℕ → ℕ → List ℕ → List ℕ → Option BlockState → Type 0
 IsBlock phase nb allocs marks b = IfSome b (IsStrongBlock phase nb allocs marks)
 
--- two seats have different blocks
+-- two seats have no block in common
 abbrev pub AreApart : Option BlockState → Option BlockState → Type 0
-AreApart x y = IsFalse (same_block x y)
+AreApart x y = IsFalse (overlap x y)
 
 -- the blocks in hand
 pub record InHand (phase nb : ℕ) (allocs marks : List ℕ) (bs : List (Option BlockState)) : Type 0 where
   pub strong : All (IsBlock phase nb allocs marks) bs
   pub apart : AllPairs AreApart bs
 
-eqb_turned : (a b : ℕ) → eqb a b ≡ false → eqb b a ≡ false
-eqb_turned a b e = false_from_ne_true (eqb b a) (λ f. true≢false (sym (eq-eqb a b (sym (eqb-true b a f))) ∙ e))
-
 pub turned : (x y : Option BlockState) → AreApart x y → AreApart y x
 turned None None e = refl
 turned None (Some y) e = refl
 turned (Some x) None e = refl
-turned (Some x) (Some y) e = eqb_turned x.block y.block e
+turned (Some x) (Some y) e = apart-from y x (⊎_elim (λ (h : y.until ≤ x.block). inr h) (λ (h : x.until ≤ y.block). inl h) (apart-to x y e))
 
 -- one block is replaced, and the others are still right
 pub hand-set : (phase nb phase' nb' : ℕ) (allocs marks allocs' marks' : List ℕ) (bs : List (Option BlockState)) (i : ℕ) (b : Option BlockState) → InHand phase nb allocs marks bs → Others i (IsBlock phase' nb' allocs' marks') bs → IsBlock phase' nb' allocs' marks' b → Others i (AreApart b) bs

@@ -6,7 +6,7 @@ use Rattle.std.proofs.lemmas.List.{map-set}
 use Rattle.mark_core.specs.Layout.{Words, words_of}
 use Rattle.mark_core.specs.Seats.{is_phase}
 use Rattle.mark_core.specs.Views.{blocks}
-use Rattle.mark_core.specs.Strong.{IsStrongBlock, same_block}
+use Rattle.mark_core.specs.Strong.{IsStrongBlock, overlap}
 use Rattle.mark_core.specs.Effects.{seat_after}
 use Rattle.mark_core.specs.Steps.{Core, failing_part, after_event}
 use Rattle.mark_core.specs.Laws.{IsCore}
@@ -23,7 +23,7 @@ use Rattle.mark_core.specs.declared.seat.SeatState.{SeatState}
 -- the facts of the blocks in hand, of exact seats and of spent ones
 pub record BlocksSound (w : Words) (seats : List SeatState) : Type 0 where
   pub blocks_strong : All (λ b. IfSome b (IsStrongBlock w.phase w.next_block w.allocs w.marks)) (blocks seats)
-  pub one_block_one_seat : AllPairs (λ x y. IsFalse (same_block x y)) (blocks seats)
+  pub one_block_one_seat : AllPairs (λ x y. IsFalse (overlap x y)) (blocks seats)
   pub exact_needs_knows : All ExactKnows seats
   pub no_exact_in_marking : IsTrue (is_phase w.phase Marking) → All NotExact seats
   pub env_of_spent : All SpentNames seats

@@ -3,13 +3,13 @@ use Rattle.std.proofs.Common.{ℕ, ◌≡◌, ◌+◌, ◌%◌, List, set, get_o
 use Rattle.std.specs.Prelude.{IsFalse, is_some, nat_lt}
 use Rattle.std.specs.List.{All}
 use Rattle.std.specs.Int.Bits.{or_zero_r}
-use Rattle.std.proofs.lemmas.Bool.{cases_Bool, and_parts, or_cases, not-false, eqb-true, true≢false, false≢true}
+use Rattle.std.proofs.lemmas.Bool.{cases_Bool, and_parts, or_cases, not-false, eqb-true, ltb-true, true≢false, false≢true}
 use Rattle.std.proofs.lemmas.List.{length-map, get_or-map, set-get_or}
 use Rattle.mark_core.specs.Layout.{Words, words_of, region_sizes, block_count}
 use Rattle.mark_core.specs.Seats.{is_phase, has_used}
 use Rattle.mark_core.specs.Views.{blocks}
 use Rattle.mark_core.specs.Steps.MutatorSteps.{used_bits, cached_block}
-use Rattle.mark_core.specs.Steps.SweepSteps.{own_block, survivors}
+use Rattle.mark_core.specs.Steps.SweepSteps.{own_block, survivors, untouched, stretch_end, next_in_stretch}
 use Rattle.mark_core.specs.Rules.WorldRules.{IsCalm}
 use Rattle.mark_core.specs.Effects.{written, seat_after}
 use Rattle.mark_core.specs.Steps.{Core}
@@ -25,7 +25,8 @@ use Rattle.mark_core.proofs.Blocks.BlocksWords.{SameHeap, heap-left}
 use Rattle.mark_core.proofs.Blocks.BlocksStopped.{AllStill, tracing, in-time, still-stopped, stopped-time, not-still, none-in-hand}
 use Rattle.mark_core.proofs.Blocks.BlocksAlone.{alone-holds}
 use Rattle.mark_core.proofs.Blocks.BlocksHand.{IsBlock, AreApart, InHand, hand-set, own-apart, none-right}
-use Rattle.mark_core.proofs.Blocks.BlocksWrites.{later, reads-marks, reads-allocs, apart-marks, apart-allocs, apart-stored, stores, other-allocs, other-marks, may-store-some, taken, takes, takes-apart}
+use Rattle.mark_core.proofs.Blocks.BlocksWrites.{later, reads-marks, reads-allocs, apart-marks, apart-allocs, apart-stored, stores, other-allocs, other-marks, may-store-some, takes, takes-apart, goes-on}
+use Rattle.mark_core.proofs.Blocks.BlocksStretch.{some-taken, end-counted, rest-apart}
 use Rattle.mark_core.proofs.Basics.{none-is}
 use Rattle.mark_core.specs.declared.kinds.Phase.{Phase}
 use Rattle.mark_core.specs.declared.kinds.Phase.TheVariants.{Idle, Marking, Drain, Sweep, Clear, Full}
@@ -124,14 +125,16 @@ next_taken c i s t =
     let w : Words = words_of c.shape c.words in
     let n : ℕ = w.next_block in
     let none : s.block ≡ None = none-is s.block t.ok.1.0 in
-    let room : (n + 1) % 18446744073709551616 ≡ n + 1 = omega (arith, t.core.sound.sweeping.blocks_bounded, t.core.formed.shaped.cells) in
+    let m : ℕ = n + c.shape.stretch in
+    let u : ℕ = stretch_end c.shape n in
+    let room : m % 18446744073709551616 ≡ m = omega (arith, t.core.sound.sweeping.blocks_bounded, t.core.formed.shaped.cells, t.core.formed.shaped.stretch) in
     let time = in-time c i s NextBlock t t.ok.0 in
     let b : Bool = nat_lt n (block_count c.shape) in
     rw room
-    (hand-set w.phase n w.phase (n + 1) w.allocs w.marks w.allocs w.marks (blocks c.seats) i (cond b (Some (taken n)) s.block) (hand c i s NextBlock t)
-    (λ j d h m. later w.phase n (n + 1) w.allocs w.marks (get_or (blocks c.seats) j d) (omega arith) (others_right c i s NextBlock t j d h m))
-    (takes w.phase n w.allocs w.marks b s.block time none)
-    (λ j d h m. takes-apart w.phase n w.allocs w.marks b s.block (get_or (blocks c.seats) j d) none (others_right c i s NextBlock t j d h m)))
+    (hand-set w.phase n w.phase m w.allocs w.marks w.allocs w.marks (blocks c.seats) i (cond b (Some (untouched n u)) s.block) (hand c i s NextBlock t)
+    (λ j d h l. later w.phase n m w.allocs w.marks (get_or (blocks c.seats) j d) (omega arith) (others_right c i s NextBlock t j d h l))
+    (takes w.phase n m u w.allocs w.marks b s.block time (λ e. some-taken c.shape n t.core.formed.shaped.stretch.0 (ltb-true n (block_count c.shape) e)) (end-counted c.shape n) none)
+    (λ j d h l. takes-apart w.phase n u w.allocs w.marks b s.block (get_or (blocks c.seats) j d) none (others_right c i s NextBlock t j d h l)))
 
 stored : (c : Core) (i : ℕ) (s : SeatState) → Taken c i s StoreAlloc → HandLeft c i s StoreAlloc
 stored c i s t =
@@ -139,17 +142,17 @@ stored c i s t =
     let v : ℕ = survivors s.block in
     let some : is_some s.block ≡ true = may-store-some s.block t.ok.1.0 in
     hand-set w.phase w.next_block w.phase w.next_block w.allocs w.marks (set w.allocs (own_block s) v) w.marks (blocks c.seats) i _ (hand c i s StoreAlloc t)
-    (λ j d h m. other-allocs w.phase w.next_block w.allocs w.marks v s.block (get_or (blocks c.seats) j d) some (others-apart c i s StoreAlloc t j d h m) (others_right c i s StoreAlloc t j d h m))
+    (λ j d h m. other-allocs w.phase w.next_block w.allocs w.marks v s.block (get_or (blocks c.seats) j d) some (own-right c i s StoreAlloc t) (others-apart c i s StoreAlloc t j d h m) (others_right c i s StoreAlloc t j d h m))
     (stores w.phase w.next_block w.allocs (set w.allocs (own_block s) v) w.marks s.block (own-right c i s StoreAlloc t))
     (λ j d h m. apart-stored s.block (get_or (blocks c.seats) j d) (others-apart c i s StoreAlloc t j d h m))
 
 cleared : (c : Core) (i : ℕ) (s : SeatState) → Taken c i s ClearMarks → HandLeft c i s ClearMarks
 cleared c i s t =
     let w : Words = words_of c.shape c.words in
-    hand-set w.phase w.next_block w.phase w.next_block w.allocs w.marks w.allocs (set w.marks (own_block s) 0) (blocks c.seats) i None (hand c i s ClearMarks t)
-    (λ j d h m. other-marks w.phase w.next_block w.allocs w.marks 0 s.block (get_or (blocks c.seats) j d) t.ok.0 (others-apart c i s ClearMarks t j d h m) (others_right c i s ClearMarks t j d h m))
-    tt
-    (λ j d h m. refl)
+    hand-set w.phase w.next_block w.phase w.next_block w.allocs w.marks w.allocs (set w.marks (own_block s) 0) (blocks c.seats) i (next_in_stretch s.block) (hand c i s ClearMarks t)
+    (λ j d h m. other-marks w.phase w.next_block w.allocs w.marks 0 s.block (get_or (blocks c.seats) j d) t.ok.0 (own-right c i s ClearMarks t) (others-apart c i s ClearMarks t j d h m) (others_right c i s ClearMarks t j d h m))
+    (goes-on w.phase w.next_block w.allocs w.marks (set w.marks (own_block s) 0) s.block (own-right c i s ClearMarks t))
+    (λ j d h m. rest-apart s.block (get_or (blocks c.seats) j d) (others-apart c i s ClearMarks t j d h m))
 
 from_clear : (phase : ℕ) → (is_phase phase Idle || is_phase phase Marking || is_phase phase Clear) ≡ true → (is_phase phase Sweep || is_phase phase Clear) ≡ true → eqb phase 4 ≡ true
 from_clear phase a e =

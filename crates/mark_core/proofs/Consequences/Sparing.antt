@@ -1,8 +1,8 @@
 -- What the sweep keeps: every cell on a path, and of the block in hand the marked cells.
-use Rattle.std.proofs.Common.{ℕ, ◌≡◌, ◌/◌, ◌%◌, ◌<◌, List, [], ◌∷◌, get_or, refl, sym, ap, ◌∙◌, subst, Bool, true, false, cond, Option, Some, None, ◌⊎◌, inl, inr, ⊎_elim}
+use Rattle.std.proofs.Common.{ℕ, ◌≡◌, ◌/◌, ◌%◌, ◌<◌, List, [], ◌∷◌, get_or, refl, sym, ap, ◌∙◌, subst, Bool, true, false, not, cond, Option, Some, None, ◌⊎◌, inl, inr, ⊎_elim}
 use Rattle.std.specs.Prelude.{IsTrue, IfSome, slice_index, unwrap_or}
 use Rattle.std.specs.List.{All, list_any}
-use Rattle.std.proofs.lemmas.Bool.{true≢false, eq-eqb}
+use Rattle.std.proofs.lemmas.Bool.{true≢false}
 use Rattle.std.proofs.Math.Bool.{and-false}
 use Rattle.std.proofs.lemmas.List.{get_or-map, length-map}
 use Rattle.std.proofs.lemmas.List.Folds.{list_any_at}
@@ -17,6 +17,7 @@ use Rattle.mark_core.specs.Steps.{Core}
 use Rattle.mark_core.specs.Laws.{IsCore}
 use Rattle.mark_core.proofs.AtSeat.{allocs-length, marks-length}
 use Rattle.mark_core.proofs.Blocks.BlocksTaken.{Taken, within, own-record}
+use Rattle.mark_core.proofs.Blocks.BlocksStretch.{unswept-first}
 use Rattle.mark_core.proofs.Writing.CellBits.{bit-both}
 use Rattle.mark_core.proofs.HeldBlock.{MayStore, may-store}
 use Rattle.mark_core.proofs.Known.{HasCache, bit-below, in_use-below}
@@ -74,7 +75,7 @@ pub survives : (phase next : ℕ) (allocs marks : List ℕ) (o : Option BlockSta
 survives phase next allocs marks None x m k e a f = absurd (true≢false (sym m))
 survives phase next allocs marks (Some b) x m k e a f =
     let y : MayStore b allocs marks = may-store phase next allocs marks b m k in
-    let hand : is_unswept (x / 64) (Some b) ≡ true = rw (y.unstored, eq-eqb b.block (x / 64) (sym e)) refl in
+    let hand : is_unswept (x / 64) (Some b) ≡ true = ap (λ (j : ℕ). is_unswept j (Some b)) e ∙ (unswept-first b k.block_first ∙ ap not y.unstored) in
     bit-both (unwrap_or b.alloc_word 0) (unwrap_or b.mark_word 0) (x % 64)
     (subst (λ (w : ℕ). has_bit w (x % 64) ≡ true) (ap (λ (j : ℕ). slice_index allocs j) e ∙ y.alloc_word) a)
     (subst (λ (w : ℕ). has_bit w (x % 64) ≡ true) (ap (λ (j : ℕ). slice_index marks j) e ∙ y.mark_word) (f hand))

@@ -19,7 +19,7 @@ use Rattle.mark_core.specs.Effects.{place, written, seat_after}
 use Rattle.mark_core.specs.Steps.{Core, AllTrue, failing_part, after_of, after_event}
 use Rattle.mark_core.specs.WellFormed.{IsCache, IsSeat, IsWellFormed}
 use Rattle.mark_core.specs.Strong.{IsStrongSeat, IsStrongBlock}
-use Rattle.mark_core.specs.Bounds.{IsReference, CacheFits}
+use Rattle.mark_core.specs.Bounds.{IsReference, CacheFits, IsStretch}
 use Rattle.mark_core.specs.Laws.{IsCore, NumbersFit}
 use Rattle.mark_core.proofs.Writing.Places.{word-put, region-length}
 use Rattle.mark_core.proofs.Writing.Regions.{words-get}
@@ -48,14 +48,15 @@ last_exists : (c : Core) (x : CacheState) → IsWellFormed c → IsCache c.shape
 last_exists c x k a = (a.block, IfSome_then x.last a.last (λ d e. used-below c.shape (Some x) d k.shaped a e))
 
 -- the bits that a seat keeps of its block are those of the words
-bits_kept : (c : Core) (x : BlockState) → IsCore c → x.block < block_count c.shape → IsStrongBlock (words_of c.shape c.words).phase (words_of c.shape c.words).next_block (words_of c.shape c.words).allocs (words_of c.shape c.words).marks x → KeepsBits x
+bits_kept : (c : Core) (x : BlockState) → IsCore c → IsStretch c.shape x → IsStrongBlock (words_of c.shape c.words).phase (words_of c.shape c.words).next_block (words_of c.shape c.words).allocs (words_of c.shape c.words).marks x → KeepsBits x
 bits_kept c x k h b e =
     let w : Words = words_of c.shape c.words in
-    let word : get_or w.allocs x.block 0 ≡ get_or c.words (address c.shape (4, x.block)) 0 = sym (words-get (region_sizes c.shape) 4 c.words x.block 0 h) in
+    let low : x.block < block_count c.shape = omega (arith, h.0, h.1) in
+    let word : get_or w.allocs x.block 0 ≡ get_or c.words (address c.shape (4, x.block)) 0 = sym (words-get (region_sizes c.shape) 4 c.words x.block 0 low) in
     let fits : IsWord (slice_index w.allocs x.block) = rw word (word-in c.words _ k.formed.words_in_range) in
     IfSome_then x.alloc_word (b.alloc_kept e) (λ n f. subst IsWord f fits)
 
-block_keeps : (c : Core) (o : Option BlockState) → IsCore c → IfSome o (λ (x : BlockState). x.block < block_count c.shape) → IfSome o (IsStrongBlock (words_of c.shape c.words).phase (words_of c.shape c.words).next_block (words_of c.shape c.words).allocs (words_of c.shape c.words).marks) → IfSome o KeepsBits
+block_keeps : (c : Core) (o : Option BlockState) → IsCore c → IfSome o (IsStretch c.shape) → IfSome o (IsStrongBlock (words_of c.shape c.words).phase (words_of c.shape c.words).next_block (words_of c.shape c.words).allocs (words_of c.shape c.words).marks) → IfSome o KeepsBits
 block_keeps c None k h b = tt
 block_keeps c (Some x) k h b = bits_kept c x k h b
 

@@ -59,7 +59,7 @@ seat-kept sh w seats i s step old k a n m l ok =
       cleaning = cleaning-after sh w seats s step old a.cleaning ok;
       env = env-after sh s step old a.env;
       cache = cached-after sh w seats s step old m a.cache ok;
-      block = block-after sh s step old a.block;
+      block = block-after sh s step old k a.block;
       made = made-after sh w seats s step old a.made ok;
     }
 

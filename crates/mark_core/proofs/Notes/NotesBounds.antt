@@ -57,7 +57,8 @@ cards_grow c i s step t e = omega (arith, next_card-kept c.shape s step (written
 blocks_grow : (c : Core) (i : ℕ) (s : SeatState) (step : Step) → Taken c i s step → resets step the_next_block ≡ false → BlocksGrow c s step
 blocks_grow c i s NextBlock t e =
     let n : ℕ = (words_of c.shape c.words).next_block in
-    let room : (n + 1) % 18446744073709551616 ≡ n + 1 = omega (arith, t.core.sound.sweeping.blocks_bounded, t.core.formed.shaped.cells) in
+    let m : ℕ = n + c.shape.stretch in
+    let room : m % 18446744073709551616 ≡ m = omega (arith, t.core.sound.sweeping.blocks_bounded, t.core.formed.shaped.cells, t.core.formed.shaped.stretch) in
     omega (arith, room)
 blocks_grow c i s (Reset which) t e = let at : ℕ × ℕ = counter_at which in elsewhere (eqb at.0 0) (eqb at.1 4) 0 (words_of c.shape c.words).next_block e
 blocks_grow c i s (AddStat which by down) t e = (stat_grows c i s which by down t).1

@@ -1,18 +1,22 @@
--- Which cells the sweep keeps where no seat has made a cell that isn't published, and how this stays when a block is taken, swept or put down.
-use Rattle.std.proofs.Common.{ℕ, zero, suc, ◌≡◌, ◌≢◌, ◌+◌, ◌/◌, ◌<◌, ◌≤◌, List, set, get_or, length, arith, refl, sym, ap, ◌∙◌, Bool, true, false, ◌&&◌, cond, eqb, Option, Some, None, ⊎_elim}
+-- Which cells the sweep keeps where no seat has made a cell that isn't published, and how this stays when a stretch is taken, and when a block is swept or put down.
+use Rattle.std.proofs.Common.{ℕ, zero, suc, ◌≡◌, ◌+◌, ◌/◌, ◌<◌, ◌≤◌, List, set, get_or, length, arith, refl, sym, ap, ◌∙◌, Bool, true, false, not, ◌&&◌, cond, eqb, Option, Some, None, ⊎_elim}
 use Rattle.std.specs.Prelude.{nat_lt, bit_and}
 use Rattle.std.specs.List.{list_any}
 use Rattle.std.specs.Int.{bit_at}
-use Rattle.std.proofs.lemmas.Bool.{cases_Bool, cases_eq, cases_lt, cases_order, eqb-true, eq-eqb, ne_eqb, lt-ltb, le-ltb, true≢false}
+use Rattle.std.proofs.lemmas.Bool.{cases_Bool, cases_lt, and_left, eqb-true, eq-eqb, ne_eqb, lt-ltb, le-ltb, true≢false}
 use Rattle.std.proofs.lemmas.Nat.Bits.{bit_at_and, bit_at-lt}
 use Rattle.std.proofs.lemmas.List.{length-set, get_or-set_same}
 use Rattle.std.proofs.lemmas.List.Folds.{list_any_none, list_any_at}
 use Rattle.mark_core.specs.Bits.{has_bit, cell_bit}
+use Rattle.mark_core.specs.Layout.{block_count}
+use Rattle.mark_core.specs.Seats.{in_stretch}
 use Rattle.mark_core.specs.Cells.{is_unswept, is_swept_block}
+use Rattle.mark_core.specs.Steps.SweepSteps.{untouched, stretch_end}
 use Rattle.mark_core.proofs.Blocks.BlocksOthers.{Others, all-set, any-alone, any-same}
 use Rattle.mark_core.proofs.Blocks.BlocksHand.{AreApart}
-use Rattle.mark_core.proofs.Blocks.BlocksWrites.{taken}
+use Rattle.mark_core.proofs.Blocks.BlocksStretch.{in-from, out-from, first-apart, unswept-unstored, unswept-first}
 use Rattle.mark_core.proofs.Basics.{not-not}
+use Rattle.mark_core.specs.declared.kinds.Shape.{Shape}
 use Rattle.mark_core.specs.declared.seat.BlockState.{BlockState}
 
 -- a cell is spared where it is published in a swept block, or marked in another
@@ -35,55 +39,61 @@ zero_bit zero h e = refl
 zero_bit (suc zero) h e = absurd (true≢false e)
 zero_bit (suc (suc n)) h e = absurd (omega (arith, h))
 
-more : (b n : ℕ) → n ≤ b → b ≢ n → n + 1 ≤ b
-more b n h d =
-    ⊎_elim
-    (λ (e : b ≡ n). absurd (d e))
-    (λ u. ⊎_elim (λ (l : b < n). omega (arith, h, l)) (λ (l : n < b). omega (arith, l)) u)
-    (cases_order b n)
+module _ (sh : Shape) (nb b : ℕ) (bs : List (Option BlockState)) (i : ℕ) (h : i < length bs) where
+  stretch : BlockState
+  stretch = untouched nb (stretch_end sh nb)
 
--- another number is below the next one where it is below this one
-next_below : (b n : ℕ) → b ≢ n → nat_lt b (n + 1) ≡ nat_lt b n
-next_below b n d =
-    ⊎_elim
-    (λ (h : b < n). lt-ltb b (n + 1) (omega arith) ∙ sym (lt-ltb b n h))
-    (λ (h : n ≤ b). le-ltb b (n + 1) (more b n h d) ∙ sym (le-ltb b n h))
-    (cases_lt b n)
+  -- what was handed out before stays as it was
+  before_taken : get_or bs i None ≡ None → b < nb → is_swept_block (nb + sh.stretch) (set bs i (Some stretch)) b ≡ is_swept_block nb bs b
+  unfolding stretch
+  before_taken is l =
+      let own : is_unswept b (Some stretch) ≡ false = unswept-unstored b stretch refl ∙ out-from b stretch (λ a u. absurd (omega (arith, a, l))) in
+      let any : list_any (is_unswept b) (set bs i (Some stretch)) ≡ list_any (is_unswept b) bs = any-same (is_unswept b) bs i (Some stretch) None h (own ∙ sym (ap (is_unswept b) is)) in
+      rw (any, lt-ltb b (nb + sh.stretch) (omega (arith, l)), lt-ltb b nb l) refl
 
--- the next block is taken in hand, and isn't swept yet
-pub swept-taken : (nb b : ℕ) (bs : List (Option BlockState)) (i : ℕ) → i < length bs → get_or bs i None ≡ None → is_swept_block (nb + 1) (set bs i (Some (taken nb))) b ≡ is_swept_block nb bs b
-swept-taken nb b bs i h is =
+  -- what is handed out now isn't swept yet
+  taken_now : nb ≤ b → b < stretch_end sh nb → is_swept_block (nb + sh.stretch) (set bs i (Some stretch)) b ≡ false
+  unfolding stretch
+  taken_now l u =
+      let own : is_unswept b (Some stretch) ≡ true = unswept-unstored b stretch refl ∙ in-from b stretch l u in
+      let here : is_unswept b (get_or (set bs i (Some stretch)) i None) ≡ true = rw (get_or-set_same bs i (Some stretch) None h) own in
+      let any : list_any (is_unswept b) (set bs i (Some stretch)) ≡ true = list_any_at (is_unswept b) (set bs i (Some stretch)) i None (omega (arith, h, length-set bs i (Some stretch))) here in
+      rw any (never (nat_lt b (nb + sh.stretch)))
+
+-- the next stretch is taken in hand, and isn't swept yet
+pub swept-taken : (sh : Shape) (nb b : ℕ) (bs : List (Option BlockState)) (i : ℕ) → b < block_count sh → i < length bs → get_or bs i None ≡ None
+    → is_swept_block (nb + sh.stretch) (set bs i (Some (untouched nb (stretch_end sh nb)))) b ≡ is_swept_block nb bs b
+unfolding stretch
+swept-taken sh nb b bs i g h is =
     ⊎_elim
-    (λ (e : nb ≡ b).
-    let own : is_unswept b (Some (taken nb)) ≡ true = rw (eq-eqb nb b e) refl in
-    let here : is_unswept b (get_or (set bs i (Some (taken nb))) i None) ≡ true = rw (get_or-set_same bs i (Some (taken nb)) None h) own in
-    let any : list_any (is_unswept b) (set bs i (Some (taken nb))) ≡ true = list_any_at (is_unswept b) (set bs i (Some (taken nb))) i None (omega (arith, h, length-set bs i (Some (taken nb)))) here in
-    rw (any, le-ltb b nb (omega (arith, e))) (never (nat_lt b (nb + 1))))
-    (λ (n : nb ≡ b → ⊥).
-    let own : is_unswept b (Some (taken nb)) ≡ false = rw (ne_eqb nb b n) refl in
-    let any : list_any (is_unswept b) (set bs i (Some (taken nb))) ≡ list_any (is_unswept b) bs = any-same (is_unswept b) bs i (Some (taken nb)) None h (own ∙ sym (ap (is_unswept b) is)) in
-    rw (any, next_below b nb (λ e. n (sym e))) refl)
-    (cases_eq nb b)
+    (λ (l : b < nb). before_taken sh nb b bs i h is l)
+    (λ (l : nb ≤ b).
+    let none : is_swept_block nb bs b ≡ false = rw (le-ltb b nb l) refl in
+    ⊎_elim
+    (λ (u : b < nb + sh.stretch). taken_now sh nb b bs i h l (omega (arith, u, g)) ∙ sym none)
+    (λ (u : nb + sh.stretch ≤ b). rw (le-ltb b (nb + sh.stretch) u, le-ltb b nb l) refl)
+    (cases_lt b (nb + sh.stretch)))
+    (cases_lt b nb)
 
 -- all blocks were taken
-pub swept-past : (nb b : ℕ) (bs : List (Option BlockState)) → b < nb → is_swept_block (nb + 1) bs b ≡ is_swept_block nb bs b
-swept-past nb b bs h = rw (lt-ltb b (nb + 1) (omega arith), lt-ltb b nb h) refl
+pub swept-past : (nb st b : ℕ) (bs : List (Option BlockState)) → b < nb → is_swept_block (nb + st) bs b ≡ is_swept_block nb bs b
+swept-past nb st b bs h = rw (lt-ltb b (nb + st) (omega (arith, h)), lt-ltb b nb h) refl
 
--- a block in hand isn't unswept by another seat, which has another block or none
-other_unswept : (x : BlockState) (y : Option BlockState) → AreApart (Some x) y → is_unswept x.block y ≡ false
-other_unswept x None a = refl
-other_unswept x (Some y) a = rw (ne_eqb y.block x.block (λ e. true≢false (sym (eq-eqb x.block y.block (sym e)) ∙ a))) refl
+-- a block in hand isn't unswept by another seat, which has other blocks or none
+other_unswept : (x : BlockState) (y : Option BlockState) → x.block < x.until → AreApart (Some x) y → is_unswept x.block y ≡ false
+other_unswept x None s a = refl
+other_unswept x (Some y) s a = and_left (in_stretch x.block (Some y)) (not (eqb y.block x.block && y.stored)) (first-apart x y a s)
 
 -- the block of seat i, which is counted, is swept once its bits were stored, and not before
-pub swept-own : (nb : ℕ) (bs : List (Option BlockState)) (i : ℕ) (x : BlockState) → i < length bs → ((d : Option BlockState) → get_or bs i d ≡ Some x) → Others i (AreApart (Some x)) bs → x.block < nb → is_swept_block nb bs x.block ≡ x.stored
-swept-own nb bs i x h is apart l =
-    let any : list_any (is_unswept x.block) bs ≡ is_unswept x.block (Some x) = any-alone (is_unswept x.block) bs i (Some x) h is (λ j d k n. other_unswept x (get_or bs j d) (apart j d k n)) in
-    rw (any, lt-ltb x.block nb l, eq-eqb x.block x.block refl) (not-not x.stored)
+pub swept-own : (nb : ℕ) (bs : List (Option BlockState)) (i : ℕ) (x : BlockState) → i < length bs → ((d : Option BlockState) → get_or bs i d ≡ Some x) → Others i (AreApart (Some x)) bs → x.block < x.until → x.block < nb → is_swept_block nb bs x.block ≡ x.stored
+swept-own nb bs i x h is apart s l =
+    let any : list_any (is_unswept x.block) bs ≡ is_unswept x.block (Some x) = any-alone (is_unswept x.block) bs i (Some x) h is (λ j d k n. other_unswept x (get_or bs j d) s (apart j d k n)) in
+    rw (any, lt-ltb x.block nb l, unswept-first x s) (not-not x.stored)
 
 -- once seat i has stored its block, or has it no more, the block is swept
-pub swept-done : (nb : ℕ) (bs : List (Option BlockState)) (i : ℕ) (x : BlockState) (y : Option BlockState) → Others i (AreApart (Some x)) bs → is_unswept x.block y ≡ false → x.block < nb → is_swept_block nb (set bs i y) x.block ≡ true
-swept-done nb bs i x y apart e l =
-    let any : list_any (is_unswept x.block) (set bs i y) ≡ false = list_any_none (is_unswept x.block) (set bs i y) (all-set (λ z. is_unswept x.block z ≡ false) bs i y (λ j d k n. other_unswept x (get_or bs j d) (apart j d k n)) e) in
+pub swept-done : (nb : ℕ) (bs : List (Option BlockState)) (i : ℕ) (x : BlockState) (y : Option BlockState) → Others i (AreApart (Some x)) bs → is_unswept x.block y ≡ false → x.block < x.until → x.block < nb → is_swept_block nb (set bs i y) x.block ≡ true
+swept-done nb bs i x y apart e s l =
+    let any : list_any (is_unswept x.block) (set bs i y) ≡ false = list_any_none (is_unswept x.block) (set bs i y) (all-set (λ z. is_unswept x.block z ≡ false) bs i y (λ j d k n. other_unswept x (get_or bs j d) s (apart j d k n)) e) in
     rw (any, lt-ltb x.block nb l) refl
 
 -- any other block stays as it was

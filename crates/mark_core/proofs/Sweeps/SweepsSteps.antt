@@ -15,7 +15,7 @@ use Rattle.mark_core.specs.Cells.{is_unswept, is_swept_block}
 use Rattle.mark_core.specs.Steps.ColourSteps.{with_alloc_word}
 use Rattle.mark_core.specs.Rules.WorldRules.{is_stopped_phase}
 use Rattle.mark_core.specs.Steps.WorldSteps.{other_has_nothing}
-use Rattle.mark_core.specs.Steps.SweepSteps.{with_stored, with_mark_word}
+use Rattle.mark_core.specs.Steps.SweepSteps.{with_stored, with_mark_word, untouched, stretch_end, next_in_stretch}
 use Rattle.mark_core.specs.Start.{start_seat, spent_seat}
 use Rattle.mark_core.specs.Effects.{seat_after}
 use Rattle.mark_core.specs.Steps.{Core}
@@ -25,7 +25,6 @@ use Rattle.mark_core.proofs.Blocks.BlocksTaken.{Taken, within, own-record, in-pl
 use Rattle.mark_core.proofs.Blocks.BlocksOthers.{or-false, any-same}
 use Rattle.mark_core.proofs.Blocks.BlocksWords.{heap-left}
 use Rattle.mark_core.proofs.Blocks.BlocksStopped.{AllStill, tracing, still-stopped, not-still}
-use Rattle.mark_core.proofs.Blocks.BlocksWrites.{taken}
 use Rattle.mark_core.proofs.Blocks.BlocksSteps.{own-block, own-right, others-apart, publishes-nothing}
 use Rattle.mark_core.proofs.Sweeps.SweepsSpared.{is_spared, spared-same, swept-taken, swept-past}
 use Rattle.mark_core.proofs.Sweeps.SweepsUsed.{none-used, use-published}
@@ -100,19 +99,21 @@ mark_unswept : (o : Option BlockState) (word b : ℕ) → is_unswept b (with_mar
 mark_unswept None word b = refl
 mark_unswept (Some x) word b = refl
 
--- the next block is taken, where there is one
-taken_swept : (n b last : ℕ) (bs : List (Option BlockState)) (i : ℕ) (o : Option BlockState) (d : Bool) → (d ≡ false → last ≤ n) → b < last → i < length bs → get_or bs i None ≡ o → o ≡ None
-    → is_swept_block (n + 1) (set bs i (cond d (Some (taken n)) o)) b ≡ is_swept_block n bs b
-taken_swept n b last bs i o true f h l is e = swept-taken n b bs i l (is ∙ e)
-taken_swept n b last bs i o false f h l is e =
+-- the next stretch is taken, where there is one
+taken_swept : (sh : Shape) (n b : ℕ) (bs : List (Option BlockState)) (i : ℕ) (o : Option BlockState) (d : Bool) → (d ≡ false → block_count sh ≤ n) → b < block_count sh → i < length bs → get_or bs i None ≡ o → o ≡ None
+    → is_swept_block (n + sh.stretch) (set bs i (cond d (Some (untouched n (stretch_end sh n))) o)) b ≡ is_swept_block n bs b
+taken_swept sh n b bs i o true f h l is e = swept-taken sh n b bs i h l (is ∙ e)
+taken_swept sh n b bs i o false f h l is e =
     let back : set bs i o ≡ bs = subst (λ (y : Option BlockState). set bs i y ≡ bs) is (set-get_or bs i None) in
-    rw back (swept-past n b bs (omega (arith, h, f refl)))
+    rw back (swept-past n sh.stretch b bs (omega (arith, h, f refl)))
 
 next_sweeps : (c : Core) (i : ℕ) (s : SeatState) → Taken c i s NextBlock → SweepOn c i s NextBlock
 next_sweeps c i s t =
     let w : Words = words_of c.shape c.words in
     let n : ℕ = w.next_block in
-    let room : (n + 1) % 18446744073709551616 ≡ n + 1 = omega (arith, t.core.sound.sweeping.blocks_bounded, t.core.formed.shaped.cells) in
+    let m : ℕ = n + c.shape.stretch in
+    let room : m % 18446744073709551616 ≡ m = omega (arith, t.core.sound.sweeping.blocks_bounded, t.core.formed.shaped.cells, t.core.formed.shaped.stretch) in
+    let o : Option BlockState = Some (untouched n (stretch_end c.shape n)) in
     let b : Bool = nat_lt n (block_count c.shape) in
     record {
       roots = refl;
@@ -120,10 +121,10 @@ next_sweeps c i s t =
       spared =
           λ x h.
           let g : x / 64 < block_count c.shape = omega (arith, h, t.core.formed.shaped.whole_blocks) in
-          let at : blocks (seats_left c i s NextBlock) ≡ set (blocks c.seats) i (cond b (Some (taken n)) s.block) = map-set (λ (y : SeatState). y.block) c.seats i (seat_after c.shape s NextBlock n) in
+          let at : blocks (seats_left c i s NextBlock) ≡ set (blocks c.seats) i (cond b o s.block) = map-set (λ (y : SeatState). y.block) c.seats i (seat_after c.shape s NextBlock n) in
           rw (room, at)
-          (spared-same n (n + 1) (blocks c.seats) (set (blocks c.seats) i (cond b (Some (taken n)) s.block)) w.allocs w.marks x
-          (taken_swept n (x / 64) (block_count c.shape) (blocks c.seats) i s.block b (ltb-false n (block_count c.shape)) g (rw length-map (within c i s NextBlock t)) (own-block c i s NextBlock None t) (none-is s.block t.ok.1.0)));
+          (spared-same n m (blocks c.seats) (set (blocks c.seats) i (cond b o s.block)) w.allocs w.marks x
+          (taken_swept c.shape n (x / 64) (blocks c.seats) i s.block b (ltb-false n (block_count c.shape)) g (rw length-map (within c i s NextBlock t)) (own-block c i s NextBlock None t) (none-is s.block t.ok.1.0)));
     }
 
 -- while the world is stopped a marked cell is published
@@ -156,7 +157,7 @@ clear_sweeps c i s t swept =
       fields = refl;
       spared =
           λ x h.
-          let at : blocks (seats_left c i s ClearMarks) ≡ set (blocks c.seats) i None = map-set (λ (y : SeatState). y.block) c.seats i (seat_after c.shape s ClearMarks (found c s ClearMarks)) in
+          let at : blocks (seats_left c i s ClearMarks) ≡ set (blocks c.seats) i (next_in_stretch s.block) = map-set (λ (y : SeatState). y.block) c.seats i (seat_after c.shape s ClearMarks (found c s ClearMarks)) in
           rw at
           (spared-cleared w.phase w.next_block (blocks c.seats) i s.block w.allocs w.marks x (rw length-map (within c i s ClearMarks t)) (λ d. own-block c i s ClearMarks d t) (others-apart c i s ClearMarks t) (own-right c i s ClearMarks t) swept);
     }

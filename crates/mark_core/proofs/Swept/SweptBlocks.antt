@@ -1,16 +1,17 @@
--- Which blocks are in no hand, where the block of one seat is replaced.
-use Rattle.std.proofs.Common.{ℕ, ◌≡◌, ◌≢◌, ◌<◌, List, ◌++◌, set, get_or, length, arith, refl, sym, ap, ◌∙◌, subst, Bool, true, false, cond, eqb, Option, Some, None, ⊎_elim}
+-- Which blocks are in no stretch, where that of one seat is replaced.
+use Rattle.std.proofs.Common.{ℕ, ◌≡◌, ◌≢◌, ◌+◌, ◌<◌, ◌≤◌, List, ◌++◌, set, get_or, length, arith, refl, sym, ap, ◌∙◌, subst, Bool, true, false, cond, eqb, Option, Some, None, ⊎_elim}
 use Rattle.std.specs.Prelude.{IsFalse, slice_get, nat_lt, unwrap_or}
 use Rattle.std.specs.List.{All}
-use Rattle.std.proofs.lemmas.Bool.{and_parts, cases_eq, eq-eqb, ne_eqb, lt-ltb, true≢false, false≢true}
+use Rattle.std.proofs.lemmas.Bool.{and_parts, cases_eq, cases_lt, lt-ltb, false≢true}
 use Rattle.std.proofs.lemmas.List.{length-set, length-append, get_or-set_other, get_or-map, get_or_append_left}
 use Rattle.std.proofs.lemmas.Option.{slice_get_within, get_or_from_slice_get}
-use Rattle.mark_core.specs.Seats.{is_the, block_in_hand}
+use Rattle.mark_core.specs.Layout.{block_count}
+use Rattle.mark_core.specs.Seats.{block_in_hand, in_stretch}
 use Rattle.mark_core.specs.Views.{blocks}
 use Rattle.mark_core.specs.Steps.ColourSteps.{with_alloc_word}
-use Rattle.mark_core.specs.Steps.SweepSteps.{with_mark_word, with_stored}
+use Rattle.mark_core.specs.Steps.SweepSteps.{with_mark_word, with_stored, untouched, stretch_end, next_in_stretch}
 use Rattle.mark_core.specs.Steps.WorldSteps.{may_be_joined, other_has_nothing}
-use Rattle.mark_core.proofs.Blocks.BlocksWrites.{taken}
+use Rattle.mark_core.proofs.Blocks.BlocksStretch.{out-to, rest-in}
 use Rattle.mark_core.proofs.Basics.{none-is}
 use Rattle.mark_core.specs.declared.kinds.Shape.{Shape}
 use Rattle.mark_core.specs.declared.seat.SeatState.{SeatState}
@@ -28,15 +29,15 @@ all-back P xs i y own a j d h =
 pub all-front : {X : Type 0} (P : X → Type 0) (xs ys : List X) → All P (xs ++ ys) → All P xs
 all-front P xs ys a j d h = subst P (get_or_append_left xs ys d j h) (a j d (rw length-append (omega (arith, h))))
 
--- seat i's block isn't b
+-- block b isn't in the stretch of seat i
 abbrev pub IsNot : ℕ → Option BlockState → Type 0
-IsNot b o = IsFalse (is_the (block_in_hand o) b)
+IsNot b o = IsFalse (in_stretch b o)
 
 read_same : (b word : ℕ) (x : BlockState) (e : Bool) → IsNot b (Some (cond e (record x { alloc_word = Some word }) x)) → IsNot b (Some x)
 read_same b word x true n = n
 read_same b word x false n = n
 
--- a block of which words were read or stored is the same block
+-- a stretch of whose block words were read or stored is the same stretch
 pub same-allocs : (b k word : ℕ) (o : Option BlockState) → IsNot b (with_alloc_word o k word) → IsNot b o
 same-allocs b k word None n = refl
 same-allocs b k word (Some x) n = read_same b word x (eqb x.block k) n
@@ -49,14 +50,20 @@ pub same-stored : (b : ℕ) (o : Option BlockState) → IsNot b (with_stored o) 
 same-stored b None n = refl
 same-stored b (Some x) n = n
 
--- another block than that in hand
-pub own-is-not : (b : ℕ) (o : Option BlockState) → b ≢ unwrap_or (block_in_hand o) 0 → IsNot b o
-own-is-not b None n = refl
-own-is-not b (Some x) n = ne_eqb x.block b (λ e. n (sym e))
+-- another block than that in hand isn't in the stretch where it isn't in the rest
+pub rest-is-not : (b : ℕ) (o : Option BlockState) → b ≢ unwrap_or (block_in_hand o) 0 → IsNot b (next_in_stretch o) → IsNot b o
+rest-is-not b o n k = sym (rest-in b o n) ∙ k
 
--- the next block is in hand from now on
-pub takes-it : (n b m : ℕ) (o : Option BlockState) → b < m → IsNot b (cond (nat_lt n m) (Some (taken n)) o) → b ≢ n
-takes-it n b m o h k e = let own : IsNot b (Some (taken n)) = rw (lt-ltb n m (omega (arith, h, e))) at k in true≢false (sym (eq-eqb n b (sym e)) ∙ own)
+-- a block that was handed out, and isn't in the stretch that was just taken, was handed out before
+pub takes-it : (sh : Shape) (n b : ℕ) (o : Option BlockState) → b < block_count sh → b < n + sh.stretch → IsNot b (cond (nat_lt n (block_count sh)) (Some (untouched n (stretch_end sh n))) o) → b < n
+takes-it sh n b o h l k =
+    ⊎_elim
+    (λ (a : b < n). a)
+    (λ (a : n ≤ b).
+    let own : IsNot b (Some (untouched n (stretch_end sh n))) = rw (lt-ltb n (block_count sh) (omega (arith, h, a))) at k in
+    let past : stretch_end sh n ≤ b = out-to b (untouched n (stretch_end sh n)) own a in
+    absurd (omega (arith, past, h, l)))
+    (cases_lt b n)
 
 pub none-is-not : (b : ℕ) (o : Option BlockState) → o ≡ None → IsNot b o
 none-is-not b o e = rw e refl

@@ -1,11 +1,11 @@
--- Each event that is allowed leaves no mark in a block that was handed out and that no seat has in hand any more.
+-- Each event that is allowed leaves no mark in a block that was handed out and that no seat has in its stretch any more.
 use Rattle.std.proofs.Common.{ℕ, ◌≡◌, ◌≢◌, ◌+◌, ◌%◌, ◌<◌, ◌≤◌, List, [], ◌∷◌, ◌++◌, set, get_or, length, arith, refl, sym, ◌∙◌, subst, Bool, true, false, ◌||◌, cond, eqb, Option, None, ⊎_elim}
 use Rattle.std.proofs.lemmas.Bool.{and_parts, or_cases, or_from, cases_eq, ne_eqb, eqb-true, false≢true}
 use Rattle.std.proofs.lemmas.List.{map-set, map_push, set-get_or, get_or-set_same, get_or-set_other, length-map, length-set}
 use Rattle.mark_core.specs.Layout.{Words, words_of, block_count}
 use Rattle.mark_core.specs.Start.{start_seat, spent_seat}
 use Rattle.mark_core.specs.Views.{blocks}
-use Rattle.mark_core.specs.Steps.SweepSteps.{own_block}
+use Rattle.mark_core.specs.Steps.SweepSteps.{own_block, next_in_stretch}
 use Rattle.mark_core.specs.Swept.{NoneHas, IsSweepingPhase, IsSwept}
 use Rattle.mark_core.specs.Laws.{EventsKeepSwept}
 use Rattle.mark_core.specs.Effects.{written, seat_after}
@@ -21,7 +21,7 @@ use Rattle.mark_core.proofs.Blocks.BlocksTaken.{Taken, within, own-record, in-pl
 use Rattle.mark_core.proofs.Blocks.BlocksWords.{heap-left}
 use Rattle.mark_core.proofs.Blocks.BlocksStopped.{tracing, still-stopped, stopped-time, not-still}
 use Rattle.mark_core.proofs.Blocks.BlocksSteps.{own-block}
-use Rattle.mark_core.proofs.Swept.SweptBlocks.{IsNot, all-back, all-front, same-allocs, same-marks, same-stored, own-is-not, takes-it, none-is-not, joined-is-not}
+use Rattle.mark_core.proofs.Swept.SweptBlocks.{IsNot, all-back, all-front, same-allocs, same-marks, same-stored, rest-is-not, takes-it, none-is-not, joined-is-not}
 use Rattle.mark_core.proofs.Basics.{none-is}
 use Rattle.mark_core.specs.declared.kinds.Shape.{Shape}
 use Rattle.mark_core.specs.declared.kinds.Phase.{Phase}
@@ -42,15 +42,15 @@ Before c = Swept c (words_of c.shape c.words) (blocks c.seats)
 abbrev Left : Core → ℕ → SeatState → Step → Type 0
 Left c i s step = Swept c (words_left c s step) (set (blocks c.seats) i (seat_after c.shape s step (found c s step)).block)
 
--- a seat whose block is another than b had another before
+-- a seat in whose stretch b isn't hadn't it there before
 abbrev WasNot : SeatState → Option BlockState → Type 0
 WasNot s o = (b : ℕ) → IsNot b o → IsNot b s.block
 
--- no seat had block b in hand, where none has now, and the seat that acts hadn't
+-- no seat had block b in its stretch, where none has now, and the seat that acts hadn't
 none_had : (c : Core) (i : ℕ) (s : SeatState) (step : Step) (o : Option BlockState) (b : ℕ) → Taken c i s step → IsNot b s.block → NoneHas b (set (blocks c.seats) i o) → NoneHas b (blocks c.seats)
 none_had c i s step o b t own a = all-back (IsNot b) (blocks c.seats) i o (λ d h. subst (IsNot b) (sym (own-block c i s step d t)) own) a
 
--- the seat that acts has no block b in hand after the step, where it had none before
+-- the seat that acts has no block b in its stretch after the step, where no seat has
 own_now : (c : Core) (i : ℕ) (s : SeatState) (step : Step) (o : Option BlockState) (b : ℕ) → Taken c i s step → NoneHas b (set (blocks c.seats) i o) → IsNot b o
 own_now c i s step o b t a =
     let h : i < length (blocks c.seats) = rw length-map (within c i s step t) in
@@ -85,31 +85,32 @@ unswept c i s step t k p n m o =
     stays c i s step (words_left c s step) _ t k (phase-kept c.shape s step v w p) (next_block-kept c.shape s step v w n) (marks-kept c.shape s step v w m)
     (λ b h. subst (IsNot b) (block-kept c.shape s step (found c s step) o) h)
 
--- the next block is taken in hand
+-- the next stretch is taken in hand
 takes_next : (c : Core) (i : ℕ) (s : SeatState) → Taken c i s NextBlock → Before c → Left c i s NextBlock
 takes_next c i s t k =
     let n : ℕ = (words_of c.shape c.words).next_block in
-    let room : (n + 1) % 18446744073709551616 ≡ n + 1 = omega (arith, t.core.sound.sweeping.blocks_bounded, t.core.formed.shaped.cells) in
+    let room : (n + c.shape.stretch) % 18446744073709551616 ≡ n + c.shape.stretch = omega (arith, t.core.sound.sweeping.blocks_bounded, t.core.formed.shaped.cells, t.core.formed.shaped.stretch) in
     let o : Option BlockState = (seat_after c.shape s NextBlock n).block in
     let none : s.block ≡ None = none-is s.block t.ok.1.0 in
     record {
       done_is_white = λ e b h l a.
-          let other : b ≢ n = takes-it n b (block_count c.shape) s.block h (own_now c i s NextBlock o b t a) in
-          k.done_is_white e b h (omega (arith, l, room, other)) (none_had c i s NextBlock o b t (none-is-not b s.block none) a);
+          let before : b < n = takes-it c.shape n b s.block h (omega (arith, l, room)) (own_now c i s NextBlock o b t a) in
+          k.done_is_white e b h before (none_had c i s NextBlock o b t (none-is-not b s.block none) a);
     }
 
--- the marks of the block in hand are cleared, and the block is put down
+-- the marks of the block in hand are cleared, and the seat goes on to the next one of its stretch
 clears : (c : Core) (i : ℕ) (s : SeatState) → Taken c i s ClearMarks → Before c → Left c i s ClearMarks
 clears c i s t k =
     let w : Words = words_of c.shape c.words in
     let g : ℕ = own_block s in
     let long : g < length w.marks = rw (marks-length c t.core) (in-place c i s ClearMarks t) in
+    let o : Option BlockState = next_in_stretch s.block in
     record {
       done_is_white = λ e b h l a.
           ⊎_elim
           (λ (z : b ≡ g). rw z (get_or-set_same w.marks g 0 0 long))
           (λ (z : b ≡ g → ⊥).
-          get_or-set_other w.marks g b 0 0 z ∙ k.done_is_white e b h l (none_had c i s ClearMarks None b t (own-is-not b s.block z) a))
+          get_or-set_other w.marks g b 0 0 z ∙ k.done_is_white e b h l (none_had c i s ClearMarks o b t (rest-is-not b s.block z (own_now c i s ClearMarks o b t a)) a))
           (cases_eq b g);
     }
 

@@ -16,6 +16,7 @@ use Rattle.mark_core.specs.Effects.{place}
 use Rattle.mark_core.specs.Steps.{AllTrue}
 use Rattle.mark_core.specs.Laws.{stores_in_object}
 use Rattle.mark_core.specs.Seats.{block_in_hand}
+use Rattle.mark_core.specs.Bounds.{IsStretch}
 use Rattle.mark_core.specs.declared.kinds.Shape.{Shape}
 use Rattle.mark_core.specs.declared.kinds.Step.{Step}
 use Rattle.mark_core.specs.declared.kinds.Step.TheVariants.{Reserve, Take, Give, Push, Pop, Look, ReadAlloc, ReadField, ReadRoot, SetMark, DirtyCard, ClearCard, ReadMarks, ReadCard, ReadOwn, ReadValue, ReadIdent, ReadCat, StoreField, StoreValue, StoreRoot, ClaimBlock, ReleaseBlock, ReadFree, StoreNew, PublishCells, ReadBlockMarks, StoreAlloc, ClearMarks, WipeCard, StorePosition, Reset, AddStat, ReadStat, StoreLength, ReadLength, ExchangeField, ExchangeValue, LoadSlot, StoreSlot, ReadSlot}
@@ -172,6 +173,6 @@ section-below n i true h f = f refl
 section-below n i false h f = omega (arith, h)
 
 -- the block in hand, or 0
-pub block-below : (sh : Shape) (o : Option BlockState) → IsShape sh → IfSome o (λ (x : BlockState). x.block < block_count sh) → unwrap_or (block_in_hand o) 0 < block_count sh
+pub block-below : (sh : Shape) (o : Option BlockState) → IsShape sh → IfSome o (IsStretch sh) → unwrap_or (block_in_hand o) 0 < block_count sh
 block-below sh None k h = omega (arith, k.cells)
-block-below sh (Some x) k h = h
+block-below sh (Some x) k h = omega (arith, h.0, h.1)

@@ -10,16 +10,17 @@ use Rattle.mark_core.specs.Layout.{Words, block_count}
 use Rattle.mark_core.specs.Bits.{has_bit, reference_in}
 use Rattle.mark_core.specs.Held.{has_length, length_in_hand, put_packet}
 use Rattle.mark_core.specs.Seats.{is_the, last_made}
-use Rattle.mark_core.specs.Bounds.{IsReference, SlotFits, CacheFits, SeatBounds}
+use Rattle.mark_core.specs.Bounds.{IsReference, SlotFits, CacheFits, IsStretch, SeatBounds}
 use Rattle.mark_core.specs.Steps.MutatorSteps.{fits_part, has_reference, names_last, seat_variable, variable_or_nil, with_free, with_making, with_made, without_used}
 use Rattle.mark_core.specs.Steps.ColourSteps.{with_alloc_word}
-use Rattle.mark_core.specs.Steps.SweepSteps.{with_mark_word, with_stored}
+use Rattle.mark_core.specs.Steps.SweepSteps.{with_mark_word, with_stored, untouched, stretch_end, next_in_stretch}
 use Rattle.mark_core.specs.Parts.{parts}
 use Rattle.mark_core.specs.Effects.{seat_after}
 use Rattle.mark_core.specs.Start.{start_seat, spent_seat}
 use Rattle.mark_core.specs.Steps.{AllTrue}
 use Rattle.mark_core.proofs.Writing.SlotBounds.{choose, length-fits, put-fits, drop-fits, set-fits}
 use Rattle.mark_core.proofs.Writing.Ranges.{section-below}
+use Rattle.mark_core.proofs.Blocks.BlocksStretch.{some-taken, end-within}
 use Rattle.mark_core.specs.declared.kinds.Shape.{Shape}
 use Rattle.mark_core.specs.declared.kinds.Step.{Step}
 use Rattle.mark_core.specs.declared.kinds.Step.TheVariants.{Take, Give, Push, Pop, ReadAlloc, ReadOwn, ReadCat, StoreRoot, ClaimBlock, ReleaseBlock, ReadFree, StoreNew, PublishCells, NextBlock, ReadBlockMarks, StoreAlloc, ClearMarks, StoreLength, ReadLength, Reserve, ExchangeField, StoreSlot, ReadSlot}
@@ -139,7 +140,7 @@ cache-after sh w seats s PublishCells old k ok = used_fits sh s.cache k
 cache-after sh w seats s step old k ok = k
 
 abbrev BlockFits : Shape → BlockState → Type 0
-BlockFits sh x = x.block < block_count sh
+BlockFits sh x = IsStretch sh x
 
 alloc_fits : (sh : Shape) (o : Option BlockState) (b word : ℕ) → IfSome o (BlockFits sh) → IfSome (with_alloc_word o b word) (BlockFits sh)
 alloc_fits sh None b word k = tt
@@ -153,18 +154,25 @@ stored_fits : (sh : Shape) (o : Option BlockState) → IfSome o (BlockFits sh) �
 stored_fits sh None k = tt
 stored_fits sh (Some x) k = k
 
-next_fits : (sh : Shape) (old : ℕ) (b : Bool) (o : Option BlockState) → (b ≡ true → old < block_count sh) → IfSome o (BlockFits sh)
-    → IfSome (cond b (Some (record { block = old; alloc_word = None; mark_word = None; stored = false })) o) (BlockFits sh)
-next_fits sh old true o h k = h refl
-next_fits sh old false o h k = k
+next_fits : (sh : Shape) (old : ℕ) (b : Bool) (o : Option BlockState) → 1 ≤ sh.stretch → (b ≡ true → old < block_count sh) → IfSome o (BlockFits sh) → IfSome (cond b (Some (untouched old (stretch_end sh old))) o) (BlockFits sh)
+next_fits sh old true o s h k = (some-taken sh old s (h refl), end-within sh old)
+next_fits sh old false o s h k = k
 
-pub block-after : (sh : Shape) (s : SeatState) (step : Step) (old : ℕ) → IfSome s.block (BlockFits sh) → IfSome (seat_after sh s step old).block (BlockFits sh)
-block-after sh s (ReadAlloc b) old k = alloc_fits sh s.block b old k
-block-after sh s NextBlock old k = next_fits sh old (nat_lt old (block_count sh)) s.block (λ e. ltb-true old (block_count sh) e) k
-block-after sh s ReadBlockMarks old k = mark_fits sh s.block old k
-block-after sh s StoreAlloc old k = stored_fits sh s.block k
-block-after sh s ClearMarks old k = tt
-block-after sh s step old k = k
+rest_fits : (sh : Shape) (x : BlockState) (b : Bool) → nat_lt (x.block + 1) x.until ≡ b → BlockFits sh x → IfSome (cond b (Some (untouched (x.block + 1) x.until)) None) (BlockFits sh)
+rest_fits sh x true e k = (ltb-true (x.block + 1) x.until e, k.1)
+rest_fits sh x false e k = tt
+
+goes_on_fits : (sh : Shape) (o : Option BlockState) → IfSome o (BlockFits sh) → IfSome (next_in_stretch o) (BlockFits sh)
+goes_on_fits sh None k = tt
+goes_on_fits sh (Some x) k = rest_fits sh x (nat_lt (x.block + 1) x.until) refl k
+
+pub block-after : (sh : Shape) (s : SeatState) (step : Step) (old : ℕ) → IsShape sh → IfSome s.block (BlockFits sh) → IfSome (seat_after sh s step old).block (BlockFits sh)
+block-after sh s (ReadAlloc b) old z k = alloc_fits sh s.block b old k
+block-after sh s NextBlock old z k = next_fits sh old (nat_lt old (block_count sh)) s.block z.stretch.0 (λ e. ltb-true old (block_count sh) e) k
+block-after sh s ReadBlockMarks old z k = mark_fits sh s.block old k
+block-after sh s StoreAlloc old z k = stored_fits sh s.block k
+block-after sh s ClearMarks old z k = goes_on_fits sh s.block k
+block-after sh s step old z k = k
 
 -- the last part of a new cell counts one more, below the most that a seat may make
 pub fits-made : (sh : Shape) (s : SeatState) (part word : ℕ) → sh.fields < part → fits_part sh s part word ≡ true → s.made < sh.objects
@@ -182,15 +190,15 @@ pub made-after : (sh : Shape) (w : Words) (seats : List SeatState) (s : SeatStat
 made-after sh w seats s (StoreNew c part word) old m ok = next_made (nat_le part sh.fields) s.made sh.objects m (λ e. fits-made sh s part word (leb-false part sh.fields e) ok.1.1.0)
 made-after sh w seats s step old m ok = m
 
-pub seat-bounds : (sh : Shape) (w : Words) (seats : List SeatState) (s : SeatState) (step : Step) (old : ℕ) → SeatBounds sh s → AllTrue (parts sh w seats s step) → Finds sh step old → SeatBounds sh (seat_after sh s step old)
-seat-bounds sh w seats s step old k ok f =
+pub seat-bounds : (sh : Shape) (w : Words) (seats : List SeatState) (s : SeatState) (step : Step) (old : ℕ) → IsShape sh → SeatBounds sh s → AllTrue (parts sh w seats s step) → Finds sh step old → SeatBounds sh (seat_after sh s step old)
+seat-bounds sh w seats s step old z k ok f =
     record {
       section = section-after sh s step old k.section;
       held = held-after sh w seats s step old k.held ok f;
       env = env-after sh w seats s step old k ok;
       got = got-after sh s step old k.got f;
       cache = cache-after sh w seats s step old k.cache ok;
-      block = block-after sh s step old k.block;
+      block = block-after sh s step old z k.block;
       made = made-after sh w seats s step old k.made ok;
     }
 

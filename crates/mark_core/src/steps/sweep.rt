@@ -1,14 +1,14 @@
 //! The steps of the sweep and of the counters.
 ghost use Rattle.std.specs.Prelude.{◌≡◌, ◌<◌, ◌+◌, if◌then◌else◌, true};
 ghost use Rattle.mark_core.specs.Bits.{wrapped_sum, wrapped_difference};
-ghost use Rattle.mark_core.specs.Steps.SweepSteps.{next_block_parts, next_block_effect, next_of_cards_parts, next_of_cards_effect, own_block as own_block_of, with_mark_word as with_mark_word_of, read_block_marks_parts, read_block_marks_effect, survivors as survivors_of, with_stored as with_stored_of, store_alloc_parts, clear_marks_parts, wipe_card_parts, store_position_parts, store_named_parts, reset_parts, add_stat_parts, read_stat_parts, read_stat_effect};
+ghost use Rattle.mark_core.specs.Steps.SweepSteps.{next_block_parts, next_block_effect, untouched as untouched_of, next_in_stretch as next_in_stretch_of, next_of_cards_parts, next_of_cards_effect, own_block as own_block_of, with_mark_word as with_mark_word_of, read_block_marks_parts, read_block_marks_effect, survivors as survivors_of, with_stored as with_stored_of, store_alloc_parts, clear_marks_parts, wipe_card_parts, store_position_parts, store_named_parts, reset_parts, add_stat_parts, read_stat_parts, read_stat_effect};
 ghost use Rattle.mark_core.specs.Steps.{first_false as first_false_of};
 ghost use Rattle.mark_core.specs.Numbers.{first_position};
 
 use crate::failing_part::first_false;
 use crate::hand;
 use crate::kinds::{Phase, Shape};
-use crate::layout::{block_count, card_count};
+use crate::layout::{block_count, card_count, stretch_end};
 use crate::numbers::{BLOCK_COUNTER, CARD_COUNTER, DONE, FIRST_POSITION, FREE, LAST};
 use crate::seat::{BlockState, SeatState};
 use crate::standing::{is_phase, may_clear, may_sweep, may_trace, takes_part};
@@ -24,21 +24,30 @@ pub fn check_next_block(phase: u64, s: &SeatState) -> Option<u8>
     ])
 }
 
-/// Kind 33: the block that was handed out is in hand, where there is one. The seat has to read the counter again before it raises it again.
+/// Kind 33: the blocks that were handed out are in hand, where there are any. The seat has to read the counter again before it raises it again.
 pub fn next_block(shape: &Shape, s: &mut SeatState, old: u64) -> u64
     ensures word { result ≡ (next_block_effect shape.now s.old).written old }
     ensures seat { s.new ≡ (next_block_effect shape.now s.old).seat old }
 {
     s.below_block = false;
     if old < u64::from(block_count(shape)) {
-        s.block = Some(BlockState {
-            block: old as u32,
-            alloc_word: None,
-            mark_word: None,
-            stored: false,
-        });
+        let first = old as u32;
+        s.block = Some(untouched(first, stretch_end(shape, first)));
     }
-    old.wrapping_add(1)
+    old.wrapping_add(u64::from(shape.stretch))
+}
+
+/// A block of which no word was read yet, with the blocks behind it up to `until`.
+fn untouched(block: u32, until: u32) -> BlockState
+    ensures { result ≡ untouched_of block until }
+{
+    BlockState {
+        block,
+        until,
+        alloc_word: None,
+        mark_word: None,
+        stored: false,
+    }
 }
 
 /// Kind 33: a counter that is raised unread would run away past its end.
@@ -134,12 +143,32 @@ pub fn check_clear_marks(phase: u64, s: &SeatState) -> Option<u8>
     first_false(&[s.block.is_some(), s.block.is_some() && swept])
 }
 
-/// Kind 36: the block has no mark, and isn't in hand any more.
+/// The next block of the stretch, where there is one.
+fn next_in_stretch(block: Option<BlockState>) -> Option<BlockState>
+    ensures { result ≡ next_in_stretch_of block }
+{
+    match block {
+        None => None,
+        Some(x) => {
+            if x.until <= x.block {
+                return None;
+            }
+            let next = x.block + 1;
+            if next < x.until {
+                Some(untouched(next, x.until))
+            } else {
+                None
+            }
+        }
+    }
+}
+
+/// Kind 36: the block has no mark, and isn't in hand any more. The next one of its stretch is, where there is one.
 pub fn clear_marks(s: &mut SeatState) -> u64
     ensures word { result ≡ 0 }
-    ensures seat { s.new ≡ record s.old { block = None } }
+    ensures seat { s.new ≡ record s.old { block = next_in_stretch_of s.old.block } }
 {
-    s.block = None;
+    s.block = next_in_stretch(s.block);
     0
 }
 

@@ -1,0 +1,122 @@
+-- The blocks of a stretch, and what is left of it once its first block is done.
+use Rattle.std.proofs.Common.{ℕ, ◌≡◌, ◌≢◌, ◌+◌, ◌<◌, ◌≤◌, arith, refl, sym, ap, ◌∙◌, Bool, true, false, not, ◌&&◌, cond, eqb, ◌⊎◌, inl, inr, Option, Some, None, ⊎_elim}
+use Rattle.std.specs.Prelude.{nat_le, nat_lt, unwrap_or}
+use Rattle.std.proofs.lemmas.Bool.{and_parts, and_from, and_left, and_right, and_cases, cases_eq, cases_lt, eq-eqb, ne_eqb, false_from_ne_true, leb-true, le-leb, lt-leb, lt-ltb, le-ltb, ltb-true, ltb-false, true≢false, false≢true}
+use Rattle.std.proofs.Math.Bool.{and-false}
+use Rattle.mark_core.specs.Layout.{block_count}
+use Rattle.mark_core.specs.Seats.{block_in_hand, in_stretch, is_swept}
+use Rattle.mark_core.specs.Cells.{is_unswept}
+use Rattle.mark_core.specs.Steps.SweepSteps.{untouched, stretch_end, next_in_stretch}
+use Rattle.mark_core.specs.Strong.{overlap}
+use Rattle.mark_core.specs.declared.kinds.Shape.{Shape}
+use Rattle.mark_core.specs.declared.seat.BlockState.{BlockState}
+
+pub in-from : (b : ℕ) (x : BlockState) → x.block ≤ b → b < x.until → in_stretch b (Some x) ≡ true
+in-from b x l h = and_from (nat_le x.block b) (nat_lt b x.until) (le-leb x.block b l) (lt-ltb b x.until h)
+
+pub in-to : (b : ℕ) (x : BlockState) → in_stretch b (Some x) ≡ true → (x.block ≤ b) × (b < x.until)
+in-to b x e = let two = and_parts (nat_le x.block b) (nat_lt b x.until) e in (leb-true x.block b two.0, ltb-true b x.until two.1)
+
+pub out-from : (b : ℕ) (x : BlockState) → (x.block ≤ b → b < x.until → ⊥) → in_stretch b (Some x) ≡ false
+out-from b x n = false_from_ne_true (in_stretch b (Some x)) (λ e. let two = in-to b x e in n two.0 two.1)
+
+pub out-to : (b : ℕ) (x : BlockState) → in_stretch b (Some x) ≡ false → x.block ≤ b → x.until ≤ b
+out-to b x e l = ⊎_elim (λ (h : b < x.until). absurd (true≢false (sym (in-from b x l h) ∙ e))) (λ (h : x.until ≤ b). h) (cases_lt b x.until)
+
+-- a stretch that begins below the counter's end has blocks, and ends there or where the counter comes to
+pub some-taken : (sh : Shape) (n : ℕ) → 1 ≤ sh.stretch → n < block_count sh → n < stretch_end sh n
+some-taken sh n s h = omega (arith, s, h)
+
+pub end-counted : (sh : Shape) (n : ℕ) → stretch_end sh n ≤ n + sh.stretch
+end-counted sh n = omega arith
+
+-- no stretch ends behind the last block
+pub end-within : (sh : Shape) (n : ℕ) → stretch_end sh n ≤ block_count sh
+end-within sh n = omega arith
+
+-- two stretches without a block in common follow each other
+pub apart-to : (x y : BlockState) → overlap (Some x) (Some y) ≡ false → (y.until ≤ x.block) ⊎ (x.until ≤ y.block)
+apart-to x y e = ⊎_elim (λ a. inl (ltb-false x.block y.until a)) (λ a. inr (ltb-false y.block x.until a)) (and_cases (nat_lt x.block y.until) (nat_lt y.block x.until) e)
+
+pub apart-from : (x y : BlockState) → (y.until ≤ x.block) ⊎ (x.until ≤ y.block) → overlap (Some x) (Some y) ≡ false
+apart-from x y (inl h) = and_left (nat_lt x.block y.until) (nat_lt y.block x.until) (le-ltb x.block y.until h)
+apart-from x y (inr h) = and_right (nat_lt x.block y.until) (nat_lt y.block x.until) (le-ltb y.block x.until h)
+
+-- the first block of a stretch is in no other
+pub first-apart : (x y : BlockState) → overlap (Some x) (Some y) ≡ false → x.block < x.until → in_stretch x.block (Some y) ≡ false
+first-apart x y e s = out-from x.block y (λ l h. ⊎_elim (λ (a : y.until ≤ x.block). absurd (omega (arith, a, h))) (λ (a : x.until ≤ y.block). absurd (omega (arith, a, l, s))) (apart-to x y e))
+
+pub firsts-differ : (x y : BlockState) → overlap (Some x) (Some y) ≡ false → x.block < x.until → y.block < y.until → eqb x.block y.block ≡ false
+firsts-differ x y e s t = ne_eqb x.block y.block (λ z. ⊎_elim (λ (a : y.until ≤ x.block). absurd (omega (arith, a, z, t))) (λ (a : x.until ≤ y.block). absurd (omega (arith, a, z, s))) (apart-to x y e))
+
+-- another number is above the last one where it isn't below it
+next_above : (a b : ℕ) → b ≢ a → nat_le (a + 1) b ≡ nat_le a b
+next_above a b n =
+    ⊎_elim
+    (λ (h : b < a). lt-leb (a + 1) b (omega (arith, h)) ∙ sym (lt-leb a b h))
+    (λ (h : a ≤ b). ⊎_elim (λ (l : a < b). le-leb (a + 1) b (omega (arith, l)) ∙ sym (le-leb a b h)) (λ (l : b ≤ a). absurd (n (omega (arith, h, l)))) (cases_lt a b))
+    (cases_lt b a)
+
+rest_in : (b : ℕ) (x : BlockState) (e : Bool) → nat_lt (x.block + 1) x.until ≡ e → b ≢ x.block → in_stretch b (cond e (Some (untouched (x.block + 1) x.until)) None) ≡ in_stretch b (Some x)
+rest_in b x true e n = ap (λ t. t && nat_lt b x.until) (next_above x.block b n)
+rest_in b x false e n =
+    let end = ltb-false (x.block + 1) x.until e in
+    sym (out-from b x (λ l h. n (omega (arith, l, h, end))))
+
+-- another block than the first is in the rest of a stretch where it is in the stretch
+pub rest-in : (b : ℕ) (o : Option BlockState) → b ≢ unwrap_or (block_in_hand o) 0 → in_stretch b (next_in_stretch o) ≡ in_stretch b o
+rest-in b None n = refl
+rest-in b (Some x) n = rest_in b x (nat_lt (x.block + 1) x.until) refl n
+
+rest_first : (x : BlockState) (e : Bool) → in_stretch x.block (cond e (Some (untouched (x.block + 1) x.until)) None) ≡ false
+rest_first x true = and_left (nat_le (x.block + 1) x.block) (nat_lt x.block x.until) (lt-leb (x.block + 1) x.block (omega arith))
+rest_first x false = refl
+
+-- the first block isn't in the rest
+pub rest-first : (x : BlockState) → in_stretch x.block (next_in_stretch (Some x)) ≡ false
+rest-first x = rest_first x (nat_lt (x.block + 1) x.until)
+
+rest_apart : (x : BlockState) (e : Bool) (y : Option BlockState) → overlap (Some x) y ≡ false → overlap (cond e (Some (untouched (x.block + 1) x.until)) None) y ≡ false
+rest_apart x false y a = refl
+rest_apart x true None a = refl
+rest_apart x true (Some y) a = apart-from (untouched (x.block + 1) x.until) y (⊎_elim (λ (h : y.until ≤ x.block). inl (omega (arith, h))) (λ (h : x.until ≤ y.block). inr h) (apart-to x y a))
+
+-- what a stretch has in common with no other, its rest hasn't either
+pub rest-apart : (o y : Option BlockState) → overlap o y ≡ false → overlap (next_in_stretch o) y ≡ false
+rest-apart None y a = refl
+rest-apart (Some x) y a = rest_apart x (nat_lt (x.block + 1) x.until) y a
+
+and_true : (b : Bool) → (b && true) ≡ b
+and_true true = refl
+and_true false = refl
+
+unswept_by : (b : ℕ) (x : BlockState) → (eqb x.block b && x.stored) ≡ false → is_unswept b (Some x) ≡ in_stretch b (Some x)
+unswept_by b x e = ap (λ t. in_stretch b (Some x) && not t) e ∙ and_true (in_stretch b (Some x))
+
+-- a block of which the bits weren't stored is unswept throughout its stretch
+pub unswept-unstored : (b : ℕ) (x : BlockState) → x.stored ≡ false → is_unswept b (Some x) ≡ in_stretch b (Some x)
+unswept-unstored b x e = unswept_by b x (and_right (eqb x.block b) x.stored e)
+
+-- and so is each other block of the stretch
+pub unswept-elsewhere : (b : ℕ) (x : BlockState) → b ≢ x.block → is_unswept b (Some x) ≡ in_stretch b (Some x)
+unswept-elsewhere b x n = unswept_by b x (and_left (eqb x.block b) x.stored (ne_eqb x.block b (λ e. n (sym e))))
+
+-- the first block is unswept until its bits are stored
+pub unswept-first : (x : BlockState) → x.block < x.until → is_unswept x.block (Some x) ≡ not x.stored
+unswept-first x h = rw (in-from x.block x (omega arith) h, eq-eqb x.block x.block refl) refl
+
+rest_unswept : (b : ℕ) (x : BlockState) (e : Bool) → is_unswept b (cond e (Some (untouched (x.block + 1) x.until)) None) ≡ in_stretch b (cond e (Some (untouched (x.block + 1) x.until)) None)
+rest_unswept b x true = unswept-unstored b (untouched (x.block + 1) x.until) refl
+rest_unswept b x false = refl
+
+stored_first : (b : ℕ) (x : BlockState) → x.stored ≡ true → b ≡ x.block → is_unswept b (Some x) ≡ false
+stored_first b x e z = ap (λ t. in_stretch b (Some x) && not (t && x.stored)) (eq-eqb x.block b (sym z)) ∙ (ap (λ t. in_stretch b (Some x) && not t) e ∙ and-false (in_stretch b (Some x)))
+
+rest_swept : (b : ℕ) (x : BlockState) → x.stored ≡ true → (b ≡ x.block) ⊎ (b ≢ x.block) → is_unswept b (next_in_stretch (Some x)) ≡ is_unswept b (Some x)
+rest_swept b x e (inl z) = rest_unswept b x (nat_lt (x.block + 1) x.until) ∙ (ap (λ g. in_stretch g (next_in_stretch (Some x))) z ∙ (rest-first x ∙ sym (stored_first b x e z)))
+rest_swept b x e (inr n) = rest_unswept b x (nat_lt (x.block + 1) x.until) ∙ (rest-in b (Some x) n ∙ sym (unswept-elsewhere b x n))
+
+-- a seat whose block is swept goes on to the next one, and leaves no block behind that is to be swept
+pub rest-swept : (b : ℕ) (o : Option BlockState) → is_swept o ≡ true → is_unswept b (next_in_stretch o) ≡ is_unswept b o
+rest-swept b None e = absurd (false≢true e)
+rest-swept b (Some x) e = rest_swept b x e (cases_eq b x.block)
