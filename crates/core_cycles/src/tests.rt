@@ -9,6 +9,7 @@ mod helped;
 mod overflow;
 mod precise;
 mod shared;
+mod stretches;
 
 use mark_core::{
     BLOCK_COUNTER, Cell, CoreState, EMPTY_POOL, Event, Phase, Rule, SECTION_SPAN, Shape, Step,
@@ -24,6 +25,7 @@ const SMALL: Shape = Shape {
     objects: 2_000_000,
     sharing: false,
     slots: 0,
+    stretch: 1,
 };
 
 /// One packet more than fit into a word of a pool.

@@ -15,6 +15,7 @@ pub const SMALL: Shape = Shape {
     objects: 2_000_000,
     sharing: false,
     slots: 0,
+    stretch: 1,
 };
 
 /// Where the words stand: 11 single words, 2 positions, 64 roots, and then a word for the one block each time, four

@@ -17,6 +17,7 @@ const TWO_BLOCKS: Shape = Shape {
     objects: 2_000_000,
     sharing: false,
     slots: 0,
+    stretch: 1,
 };
 
 /// There are two words of owners, at 77, before those of allocation bits; two of mark bits and eight cards follow, and

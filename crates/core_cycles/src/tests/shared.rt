@@ -8,6 +8,7 @@ const SHARED: Shape = Shape {
     objects: 2,
     sharing: true,
     slots: 2,
+    stretch: 1,
     ..events::SMALL
 };
 
