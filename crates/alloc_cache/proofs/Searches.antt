@@ -162,7 +162,7 @@ first-after lo mid end hi h v w x long a b shape m k =
     }
 
 -- the record after a try to claim a block, by whether it had an owner
-claim-state : (s : SeatState) (b n : ℕ) (free : Bool) → (n == 0) ≡ free → seat_after (record { cells = 0; packets = 0; entries = 0; sections = 0; fields = 0; objects = 0; sharing = false; slots = 0 }) s (ClaimBlock b) n ≡ record s { cache = cond free (Some (record { block = b; unread = true; free = 0; used = 0; making = None; last = None })) s.cache }
+claim-state : (s : SeatState) (b n : ℕ) (free : Bool) → (n == 0) ≡ free → seat_after (record { cells = 0; packets = 0; entries = 0; sections = 0; fields = 0; objects = 0; sharing = false; slots = 0; stretch = 0 }) s (ClaimBlock b) n ≡ record s { cache = cond free (Some (record { block = b; unread = true; free = 0; used = 0; making = None; last = None })) s.cache }
 claim-state s b n free e = ap (λ (q : Bool). record s { cache = cond q (Some (record { block = b; unread = true; free = 0; used = 0; making = None; last = None })) s.cache }) e
 
 -- another seat has the block

@@ -50,7 +50,7 @@ impl Size {
 
 /// Eight packets of 64 entries, one section, and objects of four fields.
 fn shape_of(cells: u32) -> Shape
-    requires { IsShape (record { cells = cells; packets = 8; entries = 64; sections = 1; fields = 4; objects = 2000000; sharing = false; slots = 0 }) }
+    requires { IsShape (record { cells = cells; packets = 8; entries = 64; sections = 1; fields = 4; objects = 2000000; sharing = false; slots = 0; stretch = 1 }) }
     ensures { IsShape result }
 {
     Shape {
@@ -62,6 +62,7 @@ fn shape_of(cells: u32) -> Shape
         objects: 2_000_000,
         sharing: false,
         slots: 0,
+        stretch: 1,
     }
 }
 

@@ -17,7 +17,7 @@ use Rattle.tracer.specs.Hands.{IsIdle}
 
 -- 64 blocks of 64 cells, and objects of four fields
 abbrev pub sizes : Shape
-sizes = record { cells = 4096; packets = 64; entries = 64; sections = 1; fields = 4; objects = 2000000; sharing = false; slots = 0 }
+sizes = record { cells = 4096; packets = 64; entries = 64; sections = 1; fields = 4; objects = 2000000; sharing = false; slots = 0; stretch = 1 }
 
 -- the heap has these sizes, and the catalogue's seat has this record and no object
 abbrev pub Blank : Heap → (Shape → ℕ → SeatState) → HeapSeat → Type 0

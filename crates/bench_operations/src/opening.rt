@@ -25,6 +25,7 @@ pub const SIZES: Shape = Shape {
     objects: 2_000_000,
     sharing: false,
     slots: 0,
+    stretch: 1,
 };
 
 /// A heap in which nothing has happened, and its seat, which is the catalogue's. None where there is no memory.

@@ -11,7 +11,7 @@ use Rattle.gc_table.specs.Seats.{Sits, view_of}
 
 -- 64 blocks of 64 cells, and objects of two fields
 abbrev pub sizes : Shape
-sizes = record { cells = 4096; packets = 2; entries = 2; sections = 1; fields = 2; objects = 2000000; sharing = false; slots = 0 }
+sizes = record { cells = 4096; packets = 2; entries = 2; sections = 1; fields = 2; objects = 2000000; sharing = false; slots = 0; stretch = 1 }
 
 -- how many blocks a heap has
 abbrev pub blocks_in_all : ℕ

@@ -9,7 +9,7 @@ use Rattle.packet_pools.specs.Seeking.{all_missed, deferred_pools, no_input, no_
 use Rattle.packet_pools.specs.Counts.{dirties_after_search}
 
 abbrev pub roomy : Shape
-roomy = record { cells = 64; packets = 2; entries = 4; sections = 2; fields = 1; objects = 2000000; sharing = false; slots = 0 }
+roomy = record { cells = 64; packets = 2; entries = 4; sections = 2; fields = 1; objects = 2000000; sharing = false; slots = 0; stretch = 1 }
 
 -- both pools to read from show no packet
 both_bare : no_input roomy (event (Look high_pool_number 0) 0 ∷ event (Look low_pool_number 0) 0 ∷ []) ≡ true

@@ -49,5 +49,5 @@ abbrev event_at : ℕ → ℕ → Step → Line
 event_at n seat step = record { line = n; event = record { seat = seat; step = step } }
 
 one_start : schedule (codes "gcschedule 1\nshape 64 2 2 2 4 2\n1 enter_step\n1 store_phase 1\n1 read_phase\n1 reserve\n1 read_count\n")
-    ≡ Ok (record { shape = record { cells = 64; packets = 2; entries = 2; sections = 2; fields = 4; objects = 2000000; sharing = false; slots = 0 }; seats = 2; events = event_at 3 1 EnterStep ∷ event_at 4 1 (StorePhase Marking) ∷ event_at 5 1 ReadPhase ∷ event_at 6 1 Reserve ∷ event_at 7 1 ReadCount ∷ [] })
+    ≡ Ok (record { shape = record { cells = 64; packets = 2; entries = 2; sections = 2; fields = 4; objects = 2000000; sharing = false; slots = 0; stretch = 1 }; seats = 2; events = event_at 3 1 EnterStep ∷ event_at 4 1 (StorePhase Marking) ∷ event_at 5 1 ReadPhase ∷ event_at 6 1 Reserve ∷ event_at 7 1 ReadCount ∷ [] })
 one_start = refl

@@ -75,7 +75,7 @@ sized_plain : (x y : Option (ℕ × ℕ × ℕ)) → IsPlain (sized x y)
 sized_plain None y = tt
 sized_plain (Some x) None = tt
 sized_plain (Some x) (Some y) =
-    limits_plain (record { cells = x.0; packets = x.1; entries = x.2; sections = y.0; fields = y.1; objects = objects_in_schedule; sharing = false; slots = 0 }) y.2 (is_in_limits (record { cells = x.0; packets = x.1; entries = x.2; sections = y.0; fields = y.1; objects = objects_in_schedule; sharing = false; slots = 0 }) y.2)
+    limits_plain (record { cells = x.0; packets = x.1; entries = x.2; sections = y.0; fields = y.1; objects = objects_in_schedule; sharing = false; slots = 0; stretch = 1 }) y.2 (is_in_limits (record { cells = x.0; packets = x.1; entries = x.2; sections = y.0; fields = y.1; objects = objects_in_schedule; sharing = false; slots = 0; stretch = 1 }) y.2)
 
 shape_test : (x y : Option (ℕ × ℕ × ℕ)) (b : Bool) → IsPlain (cond b (sized x y) None)
 shape_test x y true = sized_plain x y

@@ -23,8 +23,8 @@ short_shape (x ∷ y ∷ []) h = refl
 short_shape (x ∷ y ∷ z ∷ []) h = refl
 short_shape (x ∷ y ∷ z ∷ u ∷ xs) h = grind (arith)
 
-limits : (s : Shape) (n : ℕ) → is_in_limits s n ≡ true → s.objects ≡ objects_in_schedule → s.slots ≡ 0 → IsShape s × (1 ≤ n) × (n ≤ 41)
-limits s n h o z = (
+limits : (s : Shape) (n : ℕ) → is_in_limits s n ≡ true → s.objects ≡ objects_in_schedule → s.slots ≡ 0 → s.stretch ≡ 1 → IsShape s × (1 ≤ n) × (n ≤ 41)
+limits s n h o z y = (
   record {
     cells = (grind (arith, nat_tests), grind (arith, nat_tests));
     whole_blocks = grind (arith, nat_tests);
@@ -34,11 +34,12 @@ limits s n h o z = (
     fields = (grind (arith, nat_tests), grind (arith, nat_tests));
     objects = (omega (arith, o), omega (arith, o));
     slots = omega (arith, z);
+    stretch = (omega (arith, y), omega (arith, y));
   },
   grind (arith, nat_tests),
   grind (arith, nat_tests),
 )
 
-pub legal : (s : Shape) (n : ℕ) (es : List Line) → is_in_limits s n ≡ true → s.objects ≡ objects_in_schedule → s.slots ≡ 0 → es ≡ [] → IsLegalSchedule (record { shape = s; seats = n; events = es })
-legal s n [] h o z e = let l = limits s n h o z in record { shape = l.0; seats = (l.1, l.2); few = omega arith }
-legal s n (x ∷ es) h o z e = cc
+pub legal : (s : Shape) (n : ℕ) (es : List Line) → is_in_limits s n ≡ true → s.objects ≡ objects_in_schedule → s.slots ≡ 0 → s.stretch ≡ 1 → es ≡ [] → IsLegalSchedule (record { shape = s; seats = n; events = es })
+legal s n [] h o z y e = let l = limits s n h o z y in record { shape = l.0; seats = (l.1, l.2); few = omega arith }
+legal s n (x ∷ es) h o z y e = cc

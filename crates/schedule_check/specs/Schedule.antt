@@ -50,7 +50,7 @@ objects_in_schedule = 2000000
 
 -- six numbers: cells, packets, entries, sections, fields, seats
 abbrev pub sized : Option (ℕ × ℕ × ℕ) → Option (ℕ × ℕ × ℕ) → Option Schedule
-sized (Some x) (Some y) = if_in_limits (record { cells = x.0; packets = x.1; entries = x.2; sections = y.0; fields = y.1; objects = objects_in_schedule; sharing = false; slots = 0 }) y.2
+sized (Some x) (Some y) = if_in_limits (record { cells = x.0; packets = x.1; entries = x.2; sections = y.0; fields = y.1; objects = objects_in_schedule; sharing = false; slots = 0; stretch = 1 }) y.2
 sized x y = None
 
 -- the schedule that a shape line begins

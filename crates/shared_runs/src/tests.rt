@@ -12,6 +12,7 @@ const SHARED: Shape = Shape {
     objects: 1_000,
     sharing: true,
     slots: 0,
+    stretch: 1,
 };
 
 const DONE: Result<(), (usize, Rule)> = Ok(());

@@ -11,4 +11,5 @@ pub const SMALL: Shape = Shape {
     objects: 2_000_000,
     sharing: false,
     slots: 0,
+    stretch: 1,
 };

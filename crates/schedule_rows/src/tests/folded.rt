@@ -12,6 +12,7 @@ const SHAPE: Shape = Shape {
     objects: 2_000_000,
     sharing: false,
     slots: 0,
+    stretch: 1,
 };
 
 /// A step, and its words.

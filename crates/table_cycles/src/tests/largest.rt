@@ -15,6 +15,7 @@ fn words_of_largest(alloc: Global) -> Option<Words> {
         objects: 2_000_000,
         sharing: false,
         slots: 0,
+        stretch: 1,
     };
     let Ok((heap, seats)) = Heap::create(alloc, shape, SEATS, &NoPlan) else {
         return None;
