@@ -37,7 +37,7 @@ run_both [] b = b
 run_both (x ∷ xs) b = run_both xs (after_of (slice_get b.0.seats x.0.seat) x.0 x.1 b)
 
 abbrev pub small : Shape
-small = record { cells = 64; packets = 2; entries = 2; sections = 2; fields = 1; objects = 2000000; sharing = false; slots = 0 }
+small = record { cells = 64; packets = 2; entries = 2; sections = 2; fields = 1; objects = 2000000; sharing = false; slots = 0; stretch = 1 }
 
 abbrev begin : Both
 begin = (start_core small 2, start_meanings small)

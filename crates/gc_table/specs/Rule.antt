@@ -143,7 +143,7 @@ takes_in v w =
 
 -- no sizes
 abbrev pub no_shape : Shape
-no_shape = record { cells = 0; packets = 0; entries = 0; sections = 0; fields = 0; objects = 0; sharing = false; slots = 0 }
+no_shape = record { cells = 0; packets = 0; entries = 0; sections = 0; fields = 0; objects = 0; sharing = false; slots = 0; stretch = 0 }
 
 -- what is left of a seat that was joined into another
 abbrev pub nobody : View

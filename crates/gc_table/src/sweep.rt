@@ -8,15 +8,15 @@ use crate::seat::{Heap, HeapSeat};
 use mark_core::Step;
 
 impl Heap {
-    /// Draws the next block of the sweep, or of clearing, by its number (a block has 64 cells): it is in hand then, unless the counter was at its end. The seat
-    /// sweeps or clears, has no block in hand, and has read the counter below its end.
+    /// Draws the next stretch of blocks of the sweep, or of clearing, by the number of its first (a block has 64 cells): it is in hand then, unless the counter
+    /// was at its end. The seat sweeps or clears, has no block in hand, and has read the counter below its end.
     pub fn next_block(&self, seat: &mut HeapSeat) -> u64
         requires seat { Sits self.now seat.old }
         requires may { May Step.NextBlock (view_of seat.old) }
         ensures seat { Sits self.now seat.new }
         ensures view { Across (Found Step.NextBlock result) seat.old seat.new }
     {
-        self.fetch_add_step(seat, 1, Step::NextBlock)
+        self.fetch_add_step(seat, u64::from(self.shape.stretch), Step::NextBlock)
     }
 
     /// Draws the next card of the pass, by its number (`CARD_CELLS` cells a card); the counter may be at its end already. The seat is a tracer that has read
@@ -51,7 +51,7 @@ impl Heap {
         self.store_step(seat, Step::StoreAlloc)
     }
 
-    /// Clears the marks of the block in hand, which is out of hand then. In Sweep the block was swept before.
+    /// Clears the marks of the block in hand, and goes on to the next one of its stretch, where there is one. In Sweep the block was swept before.
     pub fn clear_marks(&self, seat: &mut HeapSeat)
         requires seat { Sits self.now seat.old }
         requires may { May Step.ClearMarks (view_of seat.old) }
