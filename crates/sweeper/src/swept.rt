@@ -1,10 +1,12 @@
-//! What the sweep of a block came to.
+//! What the sweep of some blocks came to.
 
-/// A block that was swept, and how many of its cells were freed.
+/// Blocks that were swept, and how many of their cells were freed.
 #[derive(Clone, Copy)]
 pub struct Swept {
-    /// Which block it is.
+    /// The first of them.
     pub block: u32,
+    /// How many they are. They follow each other.
+    pub blocks: u32,
     /// The cells whose allocation bits the sweep cleared.
     pub freed: u32,
 }
