@@ -1,10 +1,13 @@
 -- Blocks are cleared of their marks by a seat that is alone.
-use Rattle.std.proofs.Common.{ℕ, ◌≡◌, ◌≤◌, ◌<◌, [], ◌∷◌, length, refl, sym, ap, ◌∙◌, subst, arith, Bool, true, false, Option, ⊎_elim}
-use Rattle.std.specs.Prelude.{if◌then◌else◌, ◌++◌}
+use Rattle.std.proofs.Common.{ℕ, zero, suc, ◌≡◌, ◌≤◌, ◌<◌, ◌+◌, ◌-◌, ◌*◌, [], ◌∷◌, length, refl, sym, ap, ◌∙◌, subst, arith, Bool, true, false, Option, ⊎_elim}
+use Rattle.std.specs.Prelude.{if◌then◌else◌, ◌++◌, replicate}
 use Rattle.std.proofs.lemmas.Bool.{and_from, false≢true, le-ltb, lt-ltb}
+use Rattle.std.proofs.lemmas.List.{length-replicate}
+use Rattle.std.proofs.Math.Nat.{mul-le-mul_right}
 use Rattle.mark_core.specs.Layout.{block_count}
 use Rattle.mark_core.specs.Numbers.{block_counter}
 use Rattle.mark_core.specs.Seats.{is_the}
+use Rattle.mark_core.specs.Steps.SweepSteps.{stretch_end}
 use Rattle.mark_core.specs.Steps.WorldSteps.{has_nothing}
 use Rattle.mark_core.specs.declared.kinds.Phase.TheVariants.{Clear}
 use Rattle.mark_core.specs.declared.kinds.Shape.{Shape}
@@ -78,9 +81,28 @@ cleared-part v w a r o e =
 abbrev one_if : Bool → ℕ
 one_if b = if b then 1 else 0
 
--- one block came in hand and was cleared
-pub cleared-one : (n b seen : ℕ) → b < n → count_of (draws_block n) (block_drawn seen b ++ event ClearMarks 0 ∷ []) ≡ 1
-cleared-one n b seen l = let h = ap one_if (lt-ltb b n l) in omega (arith, h)
+-- nothing is drawn by clearing what is in hand
+clears-none : (n k : ℕ) → count_of (draws_block n) (replicate k (event ClearMarks 0)) ≡ 0
+clears-none n zero = refl
+clears-none n (suc k) = let rest = clears-none n k in omega (arith, rest)
+
+-- blocks came in hand once and were cleared
+pub cleared-one : (n b seen k : ℕ) → b < n → count_of (draws_block n) (block_drawn seen b ++ replicate k (event ClearMarks 0)) ≡ 1
+cleared-one n b seen k l = let h = ap one_if (lt-ltb b n l) in let rest = clears-none n k in omega (arith, h, rest)
+
+-- a look, a draw, and a step for each block of the stretch
+pub cleared-few : (sh : Shape) (b seen : ℕ) → length (block_drawn seen b ++ replicate (stretch_end sh b - b) (event ClearMarks 0)) ≤ 2 + sh.stretch
+cleared-few sh b seen = let long = length-replicate (stretch_end sh b - b) (event ClearMarks 0) in omega (arith, long)
+
+-- how many steps are taken for so many stretches
+pub more-stretches : (k each : ℕ) → k * each + each ≡ (k + 1) * each
+more-stretches k each = omega arith
+
+pub within-stretches : (k most each : ℕ) → k < most → k * each + each ≤ most * each
+within-stretches k most each below = let grown = mul-le-mul_right each (succ-le k most below) in omega (arith, grown)
+  where
+    succ-le : (j n : ℕ) → j < n → j + 1 ≤ n
+    succ-le j n l = omega (arith, l)
 
 -- none is left
 pub drawn-none : (n : ℕ) (v w : View) (e : SeesNoBlockLeft v w) → n ≤ e.number → count_of (draws_block n) (events v w) ≡ 0

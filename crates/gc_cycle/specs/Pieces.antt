@@ -1,5 +1,5 @@
 -- Where the seat stands between the pieces of a collection, and what each of them did.
-use Rattle.std.specs.Prelude.{ℕ, ◌≡◌, ◌≢◌, ◌≤◌, ◌<◌, ◌+◌, ◌-◌, ◌==◌, min, ◌*◌, List, [], ◌∷◌, Bool, is_some, IsTrue}
+use Rattle.std.specs.Prelude.{ℕ, ◌≡◌, ◌≢◌, ◌≤◌, ◌<◌, ◌+◌, ◌-◌, ◌==◌, max, min, ◌*◌, ◌/◌, List, [], ◌∷◌, Bool, is_some, IsTrue}
 use Rattle.mark_core.specs.Cards.{block_cells}
 use Rattle.mark_core.specs.Layout.{block_count, card_count}
 use Rattle.mark_core.specs.Numbers.{empty_offset}
@@ -23,6 +23,10 @@ use Rattle.gc_cycle.specs.Moments.{begins}
 use Rattle.gc_cycle.specs.Stepping.{Drains, IsAtRoots, IsOwner, notes_root}
 use Rattle.gc_cycle.specs.declared.card_steps.Look.{Look}
 use Rattle.gc_cycle.specs.declared.card_steps.Look.TheVariants as looks
+
+-- how many stretches have no more blocks than this between them, but at least one
+abbrev pub stretches_in : Shape → ℕ → ℕ
+stretches_in sh blocks = max (blocks / sh.stretch) 1
 
 -- alone in a clearing of marks, it hands out blocks
 pub record IsAtClear (v : View) : Type 0 where

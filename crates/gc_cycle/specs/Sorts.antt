@@ -162,7 +162,7 @@ abbrev pub gives_card : ℕ → Step → ℕ → Bool
 gives_card card NextOfCards found = found == card
 gives_card card step found = false
 
--- a block came in hand
+-- a stretch of blocks came in hand
 abbrev pub draws_block : ℕ → Step → ℕ → Bool
 draws_block blocks NextBlock found = nat_lt found blocks
 draws_block blocks step found = false

@@ -1,5 +1,5 @@
-//! All marks are cleared in pieces of so many blocks, and then the drain begins once more.
-ghost use Rattle.std.specs.Prelude.{◌≡◌, ◌≢◌, ◌≤◌, ◌*◌, [], ◌∷◌, length, IsTrue, IsFalse};
+//! All marks are cleared in pieces of so many stretches of blocks, and then the drain begins once more.
+ghost use Rattle.std.specs.Prelude.{◌≡◌, ◌≢◌, ◌≤◌, ◌+◌, ◌*◌, [], ◌∷◌, length, IsTrue, IsFalse};
 ghost use Rattle.mark_core.specs.Layout.{block_count};
 ghost use Rattle.mark_core.specs.Numbers.{block_counter, card_counter};
 ghost use Rattle.mark_core.specs.declared.kinds.Phase.TheVariants.{Clear, Drain};
@@ -34,14 +34,14 @@ pub fn start_clear(heap: &Heap, seat: &mut HeapSeat)
     begin_clear(heap, seat);
 }
 
-/// Clears the marks of the next block. False where no block is left.
+/// Clears the marks of the next stretch of blocks. False where no block is left.
 fn clear_next(heap: &Heap, seat: &mut HeapSeat) -> bool
     requires seat { Sits heap.now seat.old }
     requires alone { IsAloneIn Clear (view_of seat.old) }
     ensures seat { Sits heap.now seat.new }
     ensures part { Across (IsPart Clear) seat.old seat.new }
     ensures numbers { Across (Only leaves_numbers) seat.old seat.new }
-    ensures some { IsTrue result → (count_of (draws_block (block_count heap.now.shape)) (did seat.old seat.new) ≡ 1) × (length (did seat.old seat.new) ≤ 3) }
+    ensures some { IsTrue result → (count_of (draws_block (block_count heap.now.shape)) (did seat.old seat.new) ≡ 1) × (length (did seat.old seat.new) ≤ 2 + heap.now.shape.stretch) }
     ensures none { IsFalse result → (count_of (draws_block (block_count heap.now.shape)) (did seat.old seat.new) ≡ 0) × (length (did seat.old seat.new) ≤ 2) × (block_count heap.now.shape ≤ block_floor (view_of seat.new)) }
 {
     match clear_marks_next(heap, seat) {
@@ -50,7 +50,7 @@ fn clear_next(heap: &Heap, seat: &mut HeapSeat) -> bool
     }
 }
 
-/// Clears the marks of at most so many blocks: fewer come exactly where none is left. How many it cleared.
+/// Clears the marks of at most so many stretches of blocks: fewer come exactly where no block is left. How many stretches it took and cleared.
 pub fn clear_step(heap: &Heap, seat: &mut HeapSeat, most: u32) -> u32
     requires seat { Sits heap.now seat.old }
     requires clears { IsAtClear (view_of seat.old) }
@@ -58,14 +58,14 @@ pub fn clear_step(heap: &Heap, seat: &mut HeapSeat, most: u32) -> u32
     ensures part { Across (IsPart Clear) seat.old seat.new }
     ensures clears { IsAtClear (view_of seat.new) }
     ensures cleared { result ≢ most → HasCleared (view_of seat.new) }
-    ensures blocks { (result ≤ most) × (count_of (draws_block (block_count heap.now.shape)) (did seat.old seat.new) ≡ result) }
-    ensures few { length (did seat.old seat.new) ≤ 3 * most }
+    ensures stretches { (result ≤ most) × (count_of (draws_block (block_count heap.now.shape)) (did seat.old seat.new) ≡ result) }
+    ensures few { length (did seat.old seat.new) ≤ most * (2 + heap.now.shape.stretch) }
     ensures numbers { Across (Only leaves_numbers) seat.old seat.new }
     ensures keeps { Across Keeps seat.old seat.new }
 {
-    for blocks in 0..most {
+    for stretches in 0..most {
         if !clear_next(heap, seat) {
-            return blocks;
+            return stretches;
         }
     }
     most

@@ -270,7 +270,7 @@ pub(crate) fn sweep_rest(heap: &Heap, seat: &mut HeapSeat) -> u32
     sweeper::sweep_rest(heap, seat)
 }
 
-/// Sweeps the next block: how many of its cells were freed. None where no block is left.
+/// Sweeps the next stretch of blocks: how many of their cells were freed. None where no block is left.
 pub(crate) fn sweep_next(heap: &Heap, seat: &mut HeapSeat) -> Option<u32>
     requires seat { Sits heap.now seat.old }
     requires sweeps { IsTrue ((state_of seat.old).knows && is_the (look the_phase (view_of seat.old).known) (phase_number Sweep)) ⊎ IsTrue ((state_of seat.old).admitted && saw (state_of seat.old).phase_seen Sweep) }

@@ -16,7 +16,7 @@
 //! - of 4, [`root_piece`](crate::root_piece): so many roots;
 //! - of 5, [`trace_step`](crate::trace_step): so many objects; [`look_step`](crate::look_step): a look at so many cards, and once all are clean
 //!   [`finds_all_marked`](crate::finds_all_marked); and from a dirty card on [`clean_step`](crate::clean_step): so many cards are cleaned;
-//! - of 6, [`start_clear`](crate::start_clear), [`clear_step`](crate::clear_step): so many blocks, until none is left, and
+//! - of 6, [`start_clear`](crate::start_clear), [`clear_step`](crate::clear_step): so many stretches of blocks, until none is left, and
 //!   [`finish_clear`](crate::finish_clear);
 //! - of 7, after the sweep, [`start_count`](crate::start_count), [`count_step`](crate::count_step): so many blocks, and
 //!   [`finish_count`](crate::finish_count).

@@ -22,7 +22,7 @@ ghost use Rattle.gc_cycle.specs.Turns.{HelpsFor, HelpsInTurns, HelpsOnce, help_q
 use crate::helping::help_with;
 use crate::lower::{await_stopped, enter, join_help, leave, leave_help, poll, raise};
 use gc_table::{Heap, HeapSeat};
-use mark_core::{Phase, has_flag};
+use mark_core::{BLOCK_CELLS, BLOCK_COUNTER, Phase, has_flag};
 use packet_pools::all_empty;
 use std::sync::Wait;
 use std::thread;
@@ -31,8 +31,8 @@ use stop_world::Raised;
 /// How many objects a waiting seat traces before it looks again whether the stop has ended.
 const TURN: u32 = 1_024;
 
-/// How often a waiting seat looks whether the stop has ended, or its help is wanted, before it offers it unasked: seldom, since in a sweep helpers hold each
-/// other up.
+/// How often a waiting seat looks whether the stop has ended, or its help is wanted, before it offers it unasked: seldom, since helpers hold each other up in a
+/// sweep whose blocks are handed out one by one.
 const PAUSE: u32 = 65_536;
 
 /// Helps, where the stop is in a drain or a sweep. In a drain all cards are passed before, where this is asked for.
@@ -79,8 +79,23 @@ fn help_once(heap: &Heap, seat: &mut HeapSeat, cards: bool) -> bool
 /// How often a waiting seat yields between two looks: the word that it looks at stands beside those that the seat which stopped the world counts with.
 const YIELDS: u32 = 16;
 
-/// Whether help is open, and the count doesn't say that all packets are empty: so there is something to trace. There is none in a sweep, for which nobody is
-/// called.
+/// Whether a sweep is under way that has blocks left to hand out. Where they are handed out one by one helpers hold each other up, so nobody is called.
+fn has_blocks_left(heap: &Heap, seat: &mut HeapSeat) -> bool
+    requires seat { Sits heap.now seat.old × IsOut (view_of seat.old) }
+    ensures seat { Sits heap.now seat.new × IsOut (view_of seat.new) }
+    ensures out { Across GoesOut seat.old seat.new }
+    ensures own { (view_of seat.new).own ≡ (view_of seat.old).own }
+    ensures numbers { Across (Only leaves_numbers) seat.old seat.new }
+    ensures inside { IsTrue (never leaves (did seat.old seat.new)) }
+    ensures apart { IsTrue (never joins (did seat.old seat.new)) }
+{
+    let shape = heap.shape();
+    let next = heap.read_stat(seat, BLOCK_COUNTER);
+    1 < shape.stretch && 0 < next && next < u64::from(shape.cells / BLOCK_CELLS)
+}
+
+/// Whether help is open, and the count doesn't say that all packets are empty: so there is something to trace. In a sweep there is none; then whether blocks
+/// are left.
 fn is_wanted(heap: &Heap, seat: &mut HeapSeat) -> bool
     requires seat { Sits heap.now seat.old × IsOut (view_of seat.old) }
     ensures seat { Sits heap.now seat.new × IsOut (view_of seat.new) }
@@ -93,7 +108,10 @@ fn is_wanted(heap: &Heap, seat: &mut HeapSeat) -> bool
     if !has_flag(heap.see_help(seat)) {
         return false;
     }
-    !all_empty(heap, seat)
+    if !all_empty(heap, seat) {
+        return true;
+    }
+    has_blocks_left(heap, seat)
 }
 
 /// Looks whether the stop has ended, or the seat's help is wanted.

@@ -1,4 +1,4 @@
-//! The end of a collection in steps: the sweep, whole or in pieces of so many blocks, and the end of the cycle.
+//! The end of a collection in steps: the sweep, whole or in pieces of so many stretches of blocks, and the end of the cycle.
 ghost use Rattle.std.specs.Prelude.{◌≡◌, ◌≢◌, ◌≤◌, [], ◌∷◌, min, IsTrue};
 ghost use Rattle.mark_core.specs.Layout.{block_count};
 ghost use Rattle.mark_core.specs.declared.kinds.Phase.TheVariants.{Drain, Idle, Sweep};
@@ -26,8 +26,8 @@ use gc_table::{Heap, HeapSeat};
 /// What a step of the sweep did.
 #[derive(Clone, Copy, Debug, PartialEq, Eq, Drop)]
 pub struct SweepStep {
-    /// How many blocks it swept. Where it is fewer than it was to sweep, none is left.
-    pub blocks: u32,
+    /// How many stretches of blocks it took and swept. Where they are fewer than it was to sweep, no block is left.
+    pub stretches: u32,
     /// How many cells it freed.
     pub freed: u32,
 }
@@ -45,29 +45,29 @@ pub fn start_sweep(heap: &Heap, seat: &mut HeapSeat)
     begin_sweep(heap, seat);
 }
 
-/// Sweeps at most so many blocks: fewer come exactly where none is left.
+/// Sweeps at most so many stretches of blocks: fewer come exactly where no block is left.
 pub fn sweep_step(heap: &Heap, seat: &mut HeapSeat, most: u32) -> SweepStep
     requires seat { Sits heap.now seat.old }
     requires sweeps { IsAtSweep (view_of seat.old) }
     ensures seat { Sits heap.now seat.new }
     ensures part { Across (IsPart Sweep) seat.old seat.new }
     ensures sweeps { IsAtSweep (view_of seat.new) }
-    ensures swept { result.blocks ≢ most → HasSwept (view_of seat.new) }
-    ensures blocks { (result.blocks ≤ most) × (count_of (draws_block (block_count heap.now.shape)) (did seat.old seat.new) ≡ result.blocks) }
+    ensures swept { result.stretches ≢ most → HasSwept (view_of seat.new) }
+    ensures stretches { (result.stretches ≤ most) × (count_of (draws_block (block_count heap.now.shape)) (did seat.old seat.new) ≡ result.stretches) }
     ensures freed { result.freed ≡ min (freed_in (view_of seat.old) (did seat.old seat.new)) greatest }
     ensures exact { (u : View) → IsExactSince u (view_of seat.old) → IsExactSince u (view_of seat.new) }
     ensures numbers { Across (Only leaves_numbers) seat.old seat.new }
     ensures keeps { Across Keeps seat.old seat.new }
 {
     let mut freed: u32 = 0;
-    for blocks in 0..most {
+    for stretches in 0..most {
         let Some(more) = sweep_next(heap, seat) else {
-            return SweepStep { blocks, freed };
+            return SweepStep { stretches, freed };
         };
         freed = freed.saturating_add(more);
     }
     SweepStep {
-        blocks: most,
+        stretches: most,
         freed,
     }
 }

@@ -83,5 +83,5 @@ floor-low v b keeps order = by_note (look the_next_block v.floors) refl
         omega (arith, is, low)
 
 -- the next block lies above those that the seat knew to be handed out
-pub floor-rises : (v w : View) (b : ℕ) → keeps_bound v.state the_next_block ≡ true → ((m : ℕ) → AtLeast v the_next_block m → m ≤ b) → AtLeast w the_next_block (b + 1) → block_floor v < block_floor w
-floor-rises v w b keeps order above = let low = floor-low v b keeps order in let high = floor-above (b + 1) w above in omega (arith, low, high)
+pub floor-rises : (v w : View) (b e : ℕ) → keeps_bound v.state the_next_block ≡ true → b < e → ((m : ℕ) → AtLeast v the_next_block m → m ≤ b) → AtLeast w the_next_block e → block_floor v < block_floor w
+floor-rises v w b e keeps some order above = let low = floor-low v b keeps order in let high = floor-above e w above in omega (arith, low, high, some)

@@ -16,7 +16,7 @@ use Rattle.gc_cycle.specs.Moments.{Moment}
 
 -- one block, four cards, two packets of two entries, and one warehouse
 abbrev pub small : Shape
-small = record { cells = 64; packets = 2; entries = 2; sections = 2; fields = 1; objects = 2000000; sharing = false; slots = 0 }
+small = record { cells = 64; packets = 2; entries = 2; sections = 2; fields = 1; objects = 2000000; sharing = false; slots = 0; stretch = 1 }
 
 -- two blocks
 abbrev pub double : Shape

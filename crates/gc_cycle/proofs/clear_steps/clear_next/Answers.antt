@@ -1,6 +1,7 @@
-use Rattle.std.proofs.Common.{arith, ap, ◌∙◌, subst}
+use Rattle.std.proofs.Common.{◌-◌, arith, ap, ◌∙◌, subst}
 use Rattle.std.specs.Prelude.{◌<◌, ◌≤◌, length}
 use Rattle.mark_core.specs.Layout.{block_count}
+use Rattle.mark_core.specs.Steps.SweepSteps.{stretch_end}
 use Rattle.mark_core.specs.declared.kinds.Shape.{Shape}
 use Rattle.gc_table.specs.Seats.{view_of}
 use Rattle.gc_table.specs.declared.view.View.{View}
@@ -10,7 +11,7 @@ use Rattle.sweeper.specs.Freeing.{block_floor}
 use Rattle.sweeper.specs.Sweepers.{is_clearing}
 use Rattle.gc_cycle.specs.Sorts.{draws_block}
 use Rattle.gc_cycle.specs.Statistics.{leaves_numbers}
-use Rattle.gc_cycle.proofs.ClearedBlocks.{cleared-one, cleared-part, clearing-leaves, drawn-none, looks-few, may-clear}
+use Rattle.gc_cycle.proofs.ClearedBlocks.{cleared-few, cleared-one, cleared-part, clearing-leaves, drawn-none, looks-few, may-clear}
 use Rattle.gc_cycle.proofs.Ends.Swept.{floor-above}
 use Rattle.gc_cycle.proofs.clear_steps.clear_next.Goals as goal
 
@@ -28,9 +29,13 @@ pub returns-in-Some-clause-some : goal.returns-in-Some-clause-some
 returns-in-Some-clause-some c _ =
     let s = c.in-Some.ensures.some in
     let sh : Shape = c.args.heap.now.shape in
-    let long = ap length s.events in (
-      ap (count_of (draws_block (block_count sh))) s.events ∙ cleared-one (block_count sh) c.in-Some.field-0 s.seen (subst (λ (x : Shape). c.in-Some.field-0 < block_count x) c.requires.seat.1 s.there),
-      omega (arith, long),
+    let v : View = view_of c.args.seat.now in
+    let b = c.in-Some.field-0 in
+    let long = ap length s.events in
+    let few = cleared-few v.shape b s.seen in
+    let stretch = ap (λ (x : Shape). x.stretch) c.requires.seat.1 in (
+      ap (count_of (draws_block (block_count sh))) s.events ∙ cleared-one (block_count sh) b s.seen (stretch_end v.shape b - b) (subst (λ (x : Shape). b < block_count x) c.requires.seat.1 s.there),
+      omega (arith, long, few, stretch),
     )
 
 pub returns-in-None-clause-part : goal.returns-in-None-clause-part

@@ -1,4 +1,4 @@
-use Rattle.std.proofs.Common.{◌≡◌, ◌≤◌, ◌*◌}
+use Rattle.std.proofs.Common.{◌≡◌, ◌≤◌, ◌+◌, ◌*◌}
 use Rattle.std.specs.Prelude.{length}
 use Rattle.mark_core.specs.Layout.{block_count}
 use Rattle.mark_core.specs.declared.kinds.Phase.TheVariants.{Clear}
@@ -10,11 +10,11 @@ use Rattle.gc_cycle.specs.Sorts.{draws_block}
 use Rattle.gc_cycle.specs.Statistics.{leaves_numbers}
 use Rattle.gc_cycle.proofs.clear_steps.clear_step.Given as goal
 
-abbrev pub invariant-loop-blocks : goal.invariant-loop-blocks
-invariant-loop-blocks l = record {
+abbrev pub invariant-loop-stretches : goal.invariant-loop-stretches
+invariant-loop-stretches l = record {
   sits : Sits l.heap l.seat;
   part : IsPart Clear (view_of l.fn.seat) (view_of l.seat);
   numbers : Only leaves_numbers (view_of l.fn.seat) (view_of l.seat);
-  count : count_of (draws_block (block_count l.heap.shape)) (events (view_of l.fn.seat) (view_of l.seat)) ≡ l.blocks;
-  few : length (events (view_of l.fn.seat) (view_of l.seat)) ≤ 3 * l.blocks;
+  count : count_of (draws_block (block_count l.heap.shape)) (events (view_of l.fn.seat) (view_of l.seat)) ≡ l.stretches;
+  few : length (events (view_of l.fn.seat) (view_of l.seat)) ≤ l.stretches * (2 + l.heap.shape.stretch);
 }

@@ -1,5 +1,5 @@
-use Rattle.std.proofs.Common.{ℕ, arith, ◌≡◌, ◌≤◌, [], ◌∷◌, refl, sym, ap, ◌∙◌, subst, Bool, true, ⊎_elim}
-use Rattle.std.specs.Prelude.{if◌then◌else◌, ◌<◌, ◌++◌}
+use Rattle.std.proofs.Common.{ℕ, arith, ◌≡◌, ◌≤◌, List, [], ◌∷◌, refl, sym, ap, ◌∙◌, subst, Bool, true, ⊎_elim}
+use Rattle.std.specs.Prelude.{if◌then◌else◌, ◌+◌, ◌<◌, ◌++◌}
 use Rattle.std.proofs.lemmas.Bool.{and_from, and_parts, le-leb, lt-ltb, or_left, or_right}
 use Rattle.mark_core.specs.Layout.{block_count}
 use Rattle.mark_core.specs.Notes.{keeps_bound}
@@ -13,7 +13,7 @@ use Rattle.gc_table.specs.Seats.{view_of}
 use Rattle.gc_table.specs.declared.view.View.{View}
 use Rattle.packet_pools.specs.Counts.{count_of}
 use Rattle.packet_pools.specs.Seeking.{some_event}
-use Rattle.sweeper.specs.Blocks.{SeesNoBlockLeft, block_drawn, swept_events}
+use Rattle.sweeper.specs.Blocks.{SeesNoBlockLeft, block_drawn, swept_blocks}
 use Rattle.sweeper.specs.Freeing.{freed_in, block_floor}
 use Rattle.gc_cycle.specs.Lower.{sweeps_next}
 use Rattle.gc_cycle.specs.Sorts.{draws_block, sees_last_block}
@@ -27,9 +27,18 @@ same-state v w s e h = e ∙ (h ∙ (λ i. record v.state { below_block = sym (a
 abbrev one_if : Bool → ℕ
 one_if b = if b then 1 else 0
 
--- one block came in hand
-got-one : (n b seen alloc mark : ℕ) → b < n → count_of (draws_block n) (block_drawn seen b ++ swept_events b alloc mark) ≡ 1
-got-one n b seen alloc mark l = let h = ap one_if (lt-ltb b n l) in omega (arith, h)
+-- nothing is drawn by a sweep of what is in hand
+draws-none : (n b : ℕ) (xs : List (ℕ × ℕ)) → count_of (draws_block n) (swept_blocks b xs) ≡ 0
+draws-none n b [] = refl
+draws-none n b (x ∷ xs) = let rest = draws-none n (b + 1) xs in omega (arith, rest)
+
+-- blocks came in hand once
+got-one : (n b seen : ℕ) (xs : List (ℕ × ℕ)) → b < n → count_of (draws_block n) (block_drawn seen b ++ swept_blocks b xs) ≡ 1
+got-one n b seen xs l = let h = ap one_if (lt-ltb b n l) in let rest = draws-none n b xs in omega (arith, h, rest)
+
+only-sweeps : (b : ℕ) (xs : List (ℕ × ℕ)) → all_steps sweeps_next (swept_blocks b xs) ≡ true
+only-sweeps b [] = refl
+only-sweeps b (x ∷ xs) = only-sweeps (b + 1) xs
 
 -- the end was seen
 end-seen : (n : ℕ) (v w : View) (e : SeesNoBlockLeft v w) → n ≤ e.number → some_event (sees_last_block n) (events v w) ≡ true
@@ -43,7 +52,7 @@ pub sweep_next-requires : goal.sweep_next-requires
 sweep_next-requires c = record { seat = (c.requires.seat, record { may = ⊎_elim (λ a. or_left _ _ a) (λ b. or_right _ _ b) c.requires.sweeps; free = c.requires.block }) }
 
 pub returns-in-Some-clause-only : goal.returns-in-Some-clause-only
-returns-in-Some-clause-only c = ap (all_steps sweeps_next) c.in-Some.ensures.some.events
+returns-in-Some-clause-only c = let s = c.in-Some.ensures.some in ap (all_steps sweeps_next) s.events ∙ only-sweeps c.in-Some.swept.block s.words
 
 pub returns-in-Some-clause-state : goal.returns-in-Some-clause-state
 returns-in-Some-clause-state c = same-state (view_of c.args.seat.now) (view_of c.sweep_next.new.seat) _ c.in-Some.ensures.some.state refl
@@ -62,9 +71,9 @@ returns-in-Some-clause-some c =
     let there = s.there in
     let shape = c.requires.seat.1 in (
       s.counted,
-      floor-rises v w c.in-Some.swept.block keeps s.order s.above,
+      floor-rises v w c.in-Some.swept.block (c.in-Some.swept.block + c.in-Some.swept.blocks) keeps (let end = s.many.1 in let some = s.some in omega (arith, end, some)) s.order s.above,
       subst (λ (sh : Shape). block_floor v < block_count sh) shape (omega (arith, low, there)),
-      ap (count_of (draws_block (block_count c.args.heap.now.shape))) s.events ∙ got-one (block_count c.args.heap.now.shape) c.in-Some.swept.block s.seen s.alloc s.mark (subst (λ (sh : Shape). c.in-Some.swept.block < block_count sh) shape there),
+      ap (count_of (draws_block (block_count c.args.heap.now.shape))) s.events ∙ got-one (block_count c.args.heap.now.shape) c.in-Some.swept.block s.seen s.words (subst (λ (sh : Shape). c.in-Some.swept.block < block_count sh) shape there),
     )
 
 pub returns-in-None-clause-only : goal.returns-in-None-clause-only

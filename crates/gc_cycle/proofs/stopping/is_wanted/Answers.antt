@@ -15,8 +15,8 @@ returns-then-not-has_flag-clause-out c =
     let e = c.see_help.ensures.view in
     goes-out v w (ran-took v w SeeHelp refl (c.see_help.result, e)) (only-after stays_calm v w SeeHelp c.see_help.result refl e.0)
 
-pub returns-clause-out : goal.returns-clause-out
-returns-clause-out c =
+pub returns-then-not-all_empty-clause-out : goal.returns-then-not-all_empty-clause-out
+returns-then-not-all_empty-clause-out c =
     let v : View = view_of c.args.seat.now in
     let w : View = view_of c.see_help.new.seat in
     let x : View = view_of c.all_empty.new.seat in
@@ -24,3 +24,15 @@ returns-clause-out c =
     let t = c.all_empty.ensures.count in
     out-join v w x (goes-out v w (ran-took v w SeeHelp refl (c.see_help.result, e)) (only-after stays_calm v w SeeHelp c.see_help.result refl e.0))
     (goes-out w x c.all_empty.ensures.only.ran (only-after stays_calm w x ReadCount t.0 refl t.1))
+
+pub returns-clause-out : goal.returns-clause-out
+returns-clause-out c =
+    let v : View = view_of c.args.seat.now in
+    let w : View = view_of c.see_help.new.seat in
+    let x : View = view_of c.all_empty.new.seat in
+    let e = c.see_help.ensures.view in
+    let t = c.all_empty.ensures.count in
+    out-join v x (view_of c.has_blocks_left.new.seat)
+    (out-join v w x (goes-out v w (ran-took v w SeeHelp refl (c.see_help.result, e)) (only-after stays_calm v w SeeHelp c.see_help.result refl e.0))
+    (goes-out w x c.all_empty.ensures.only.ran (only-after stays_calm w x ReadCount t.0 refl t.1)))
+    c.has_blocks_left.ensures.out

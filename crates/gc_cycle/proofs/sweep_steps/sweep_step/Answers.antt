@@ -18,8 +18,8 @@ use Rattle.gc_cycle.proofs.Parts.{part-join, part-none}
 use Rattle.gc_cycle.proofs.Stepped.{has-swept, may-sweep, next-alone, no-block, part-keeps, sweeps-on}
 use Rattle.gc_cycle.proofs.sweep_steps.sweep_step.Goals as goal
 
-pub loop-blocks-init : goal.loop-blocks-init
-loop-blocks-init c =
+pub loop-stretches-init : goal.loop-stretches-init
+loop-stretches-init c =
     let v : View = view_of c.args.seat.now in
     let none = ap (freed_in v) (events-none v) in
     record {
@@ -31,17 +31,17 @@ loop-blocks-init c =
     }
 
 pub sweep_next-requires-clause-sweeps : goal.sweep_next-requires-clause-sweeps
-sweep_next-requires-clause-sweeps c = inl (may-sweep (view_of c.loop-blocks.seat) c.loop-blocks.invariant.part.alone)
+sweep_next-requires-clause-sweeps c = inl (may-sweep (view_of c.loop-stretches.seat) c.loop-stretches.invariant.part.alone)
 
 pub sweep_next-requires-clause-block : goal.sweep_next-requires-clause-block
-sweep_next-requires-clause-block c = no-block (view_of c.loop-blocks.seat) c.loop-blocks.invariant.part.alone
+sweep_next-requires-clause-block c = no-block (view_of c.loop-stretches.seat) c.loop-stretches.invariant.part.alone
 
-pub loop-blocks-preserved : goal.loop-blocks-preserved
-loop-blocks-preserved c =
+pub loop-stretches-preserved : goal.loop-stretches-preserved
+loop-stretches-preserved c =
     let u : View = view_of c.args.seat.now in
-    let v : View = view_of c.loop-blocks.seat in
+    let v : View = view_of c.loop-stretches.seat in
     let w : View = view_of c.sweep_next.new.seat in
-    let i = c.loop-blocks.invariant in
+    let i = c.loop-stretches.invariant in
     let e = c.in-Some.ensures in
     let p = next-alone v w i.part.alone e.ran e.only e.state e.left in
     let counts = count-run (draws_block (block_count c.args.heap.now.shape)) u v w i.part.ran e.ran in
@@ -62,9 +62,9 @@ loop-blocks-preserved c =
 pub returns-in_default : goal.returns-in_default
 returns-in_default c =
     let u : View = view_of c.args.seat.now in
-    let v : View = view_of c.loop-blocks.seat in
+    let v : View = view_of c.loop-stretches.seat in
     let w : View = view_of c.sweep_next.new.seat in
-    let i = c.loop-blocks.invariant in
+    let i = c.loop-stretches.invariant in
     let e = c.in_default.ensures in
     let p = part-join Sweep u v w i.part (next-alone v w i.part.alone e.ran e.only e.state e.left) in
     let counts = count-run (draws_block (block_count c.args.heap.now.shape)) u v w i.part.ran e.ran in
@@ -73,14 +73,14 @@ returns-in_default c =
     let total = freed-run u v w i.part.ran e.ran in
     let unfreed = e.unfreed in
     let before = i.freed in
-    let few = c.loop-blocks-test.true in
+    let few = c.loop-stretches-test.true in
     let s = sweeps-on u w c.requires.sweeps p in
     record {
       seat = e.seat;
       part = p;
       sweeps = s;
       swept = λ _. has-swept c.args.heap.now.shape w e.seat.1 s e.none.1;
-      blocks = (omega (arith, few), omega (arith, counts, none, so_far));
+      stretches = (omega (arith, few), omega (arith, counts, none, so_far));
       freed = omega (arith, total, unfreed, before);
       exact = λ x k. exact-part Sweep x u w p k;
       numbers = ran-only leaves_numbers u v w i.part.ran e.ran i.numbers (only-more sweeps_next leaves_numbers sweeps-leave v w e.only);
@@ -90,16 +90,16 @@ returns-in_default c =
 pub returns : goal.returns
 returns c =
     let u : View = view_of c.args.seat.now in
-    let v : View = view_of c.loop-blocks.seat in
-    let i = c.loop-blocks.invariant in
-    let far = c.loop-blocks-test.false in
+    let v : View = view_of c.loop-stretches.seat in
+    let i = c.loop-stretches.invariant in
+    let far = c.loop-stretches-test.false in
     let count = i.count in
     record {
       seat = i.sits;
       part = i.part;
       sweeps = sweeps-on u v c.requires.sweeps i.part;
       swept = λ n. absurd (n refl);
-      blocks = (omega arith, omega (arith, far, count));
+      stretches = (omega arith, omega (arith, far, count));
       freed = i.freed;
       exact = λ x k. exact-part Sweep x u v i.part k;
       numbers = i.numbers;

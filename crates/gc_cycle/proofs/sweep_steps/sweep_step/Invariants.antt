@@ -11,11 +11,11 @@ use Rattle.gc_cycle.specs.Sorts.{draws_block}
 use Rattle.gc_cycle.specs.Statistics.{leaves_numbers}
 use Rattle.gc_cycle.proofs.sweep_steps.sweep_step.Given as goal
 
-abbrev pub invariant-loop-blocks : goal.invariant-loop-blocks
-invariant-loop-blocks l = record {
+abbrev pub invariant-loop-stretches : goal.invariant-loop-stretches
+invariant-loop-stretches l = record {
   sits : Sits l.heap l.seat;
   part : IsPart Sweep (view_of l.fn.seat) (view_of l.seat);
   numbers : Only leaves_numbers (view_of l.fn.seat) (view_of l.seat);
-  count : count_of (draws_block (block_count l.heap.shape)) (events (view_of l.fn.seat) (view_of l.seat)) ≡ l.blocks;
+  count : count_of (draws_block (block_count l.heap.shape)) (events (view_of l.fn.seat) (view_of l.seat)) ≡ l.stretches;
   freed : l.freed ≡ min (freed_in (view_of l.fn.seat) (events (view_of l.fn.seat) (view_of l.seat))) 4294967295;
 }
