@@ -15,7 +15,7 @@ use crate::limits::see_script;
 use crate::season::{Ended, play_season, settle};
 use gc_script::Script;
 use gc_table::{Heap, HeapSeat, Words};
-use mark_core::Shape;
+use mark_core::{Shape, usual_stretch};
 use plain_heap::OutOfMemory;
 use play_contract::{Options, PlayError};
 use play_end::{Played, close_full, close_played};
@@ -50,6 +50,7 @@ fn shape_of(script: &Script<'_>, options: &Options) -> Shape
         objects: 2_000_000,
         sharing: false,
         slots: 0,
+        stretch: usual_stretch(options.cells),
     }
 }
 

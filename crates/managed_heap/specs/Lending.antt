@@ -2,6 +2,7 @@
 use Rattle.std.specs.Prelude.{ℕ, ◌≡◌, ◌⊎◌, ◌≤◌, ◌+◌, ◌<◌, ◌++◌, [], ◌∷◌, false, replicate, Bool, vec_len}
 use Rattle.std.specs.Arc.{arc_value}
 use Rattle.mark_core.specs.Numbers.{free_count, last_count, section_variables}
+use Rattle.mark_core.specs.Shapes.{usual_stretch}
 use Rattle.mark_core.specs.declared.kinds.Shape.{Shape}
 use Rattle.mark_core.specs.declared.kinds.Step.TheVariants.{ReadStat}
 use Rattle.plain_heap.specs.declared.object.Ref.TheVariants.{Nil}
@@ -41,7 +42,7 @@ AreAllBack w = (vec_len w.mutators ≡ w.sizes.mutators) × (vec_len w.tracers �
 
 -- the heap of a world of these sizes: a section for each mutator besides section 0; objects aren't shared, and their numbers have 32 bits
 abbrev pub shape_for : Sizes → Shape
-shape_for s = record { cells = s.cells; packets = s.packets; entries = s.entries; sections = 1 + s.mutators; fields = s.fields; objects = 4294967295; sharing = false; slots = 0 }
+shape_for s = record { cells = s.cells; packets = s.packets; entries = s.entries; sections = 1 + s.mutators; fields = s.fields; objects = 4294967295; sharing = false; slots = 0; stretch = usual_stretch s.cells }
 
 -- a new world of these sizes: its mutators are those of sections 1, 2 and so on, and its tracers have the seats after them; none has done anything, and nobody has one
 pub record IsOpened (sizes : Sizes) (w : World) : Type 0 where

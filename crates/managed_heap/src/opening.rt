@@ -15,7 +15,7 @@ ghost use Rattle.stop_world.specs.StopRecords.{flagged, stopped, KeepsMeaningAnd
 
 use crate::sizes::Sizes;
 use gc_table::{Heap, HeapSeat};
-use mark_core::{Phase, Shape};
+use mark_core::{Phase, Shape, usual_stretch};
 use mutator_turns::NotOpened;
 use plain_heap::NoPlan;
 use std::alloc::Global;
@@ -36,6 +36,7 @@ fn shape_of(sizes: &Sizes) -> Shape
         objects: u32::MAX,
         sharing: false,
         slots: 0,
+        stretch: usual_stretch(sizes.cells),
     }
 }
 

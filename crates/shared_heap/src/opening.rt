@@ -15,7 +15,7 @@ use alloc_cache::{Cache, claim, leave_with_seat, retire};
 use cache_refills::{Pass, try_enter};
 use gc_cycle::{ask_to_stop, finds_stopped};
 use gc_table::{Heap, HeapSeat};
-use mark_core::{Phase, Shape};
+use mark_core::{Phase, Shape, usual_stretch};
 use mutator_ops::share_create;
 use mutator_turns::NotOpened;
 use seat_turns::is_turn;
@@ -42,6 +42,7 @@ fn shape_of(sizes: &SharedSizes) -> Shape
         objects: u32::MAX,
         sharing: true,
         slots: sizes.slots,
+        stretch: usual_stretch(sizes.cells),
     }
 }
 
