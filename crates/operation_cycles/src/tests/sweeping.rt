@@ -1,5 +1,5 @@
 //! A stop in which a drain ends, and then every block is swept, or cleared of its marks.
-ghost use Rattle.std.specs.Prelude.{◌<◌};
+ghost use Rattle.std.specs.Prelude.{◌<◌, IfSome};
 ghost use Rattle.std.specs.Bool.{OnTrue};
 ghost use Rattle.mark_core.specs.declared.kinds.Phase.TheVariants.{Clear, Sweep};
 ghost use Rattle.gc_table.specs.Running.{Alone};
@@ -15,7 +15,8 @@ use super::seasons::joins;
 use alloc_cache::{Cache, retire};
 use card_clean::{is_drained, see_to_roots};
 use gc_table::{Heap, HeapSeat};
-use mark_core::Phase;
+use mark_core::{Phase, Shape};
+use std::alloc::Global;
 use std::sync::Wait;
 use sweeper::{Swept, clear_marks_next, clear_rest, end_clear, end_sweep, sweep_next, sweep_rest};
 use test_heaps::{
@@ -31,16 +32,16 @@ fn begins_clear(heap: &Heap, seat: &mut HeapSeat)
     heap.store_phase(seat, Phase::Clear);
 }
 
-/// The block, and how many of its cells were freed.
-fn told(swept: Option<Swept>) -> Option<(u32, u32)> {
+/// The first block, how many they are, and how many of their cells were freed.
+fn told(swept: Option<Swept>) -> Option<(u32, u32, u32)> {
     match swept {
-        Some(swept) => Some((swept.block, swept.freed)),
+        Some(swept) => Some((swept.block, swept.blocks, swept.freed)),
         None => None,
     }
 }
 
-/// The next block of the sweep, and how many of its cells it freed.
-fn sweeps(heap: &Heap, seat: &mut HeapSeat) -> Option<(u32, u32)>
+/// The next stretch of the sweep: its first block, how many they are, and how many of their cells it freed.
+fn sweeps(heap: &Heap, seat: &mut HeapSeat) -> Option<(u32, u32, u32)>
     requires { Sits heap.now seat.old × Sweeps (view_of seat.old) × Alone Sweep (view_of seat.old) }
     ensures { Sits heap.now seat.new × Sweeps (view_of seat.new) × Alone Sweep (view_of seat.new) }
 {
@@ -52,7 +53,7 @@ fn sweeps(heap: &Heap, seat: &mut HeapSeat) -> Option<(u32, u32)>
 fn sweeps_all(
     heap: &Heap,
     seat: &mut HeapSeat,
-) -> Option<(Option<(u32, u32)>, Option<(u32, u32)>, u32)>
+) -> Option<(Option<(u32, u32, u32)>, Option<(u32, u32, u32)>, u32)>
     requires { Sits heap.now seat.old × Alone Sweep (view_of seat.old) }
 {
     if seat.state().block.is_some() {
@@ -65,7 +66,7 @@ fn sweeps_all(
     Some((first, second, rest))
 }
 
-/// The next block that is cleared of its marks.
+/// The first of the next blocks that are cleared of their marks.
 fn clears(heap: &Heap, seat: &mut HeapSeat) -> Option<u32>
     requires { Sits heap.now seat.old × Clears (view_of seat.old) × Alone Clear (view_of seat.old) }
     ensures { Sits heap.now seat.new × Clears (view_of seat.new) × Alone Clear (view_of seat.new) }
@@ -73,7 +74,7 @@ fn clears(heap: &Heap, seat: &mut HeapSeat) -> Option<u32>
     clear_marks_next(heap, seat)
 }
 
-/// The blocks that two calls clear of their marks.
+/// The first blocks of those that two calls clear of their marks.
 fn clears_all(heap: &Heap, seat: &mut HeapSeat) -> Option<(Option<u32>, Option<u32>)>
     requires { Sits heap.now seat.old × Alone Clear (view_of seat.old) }
 {
@@ -152,6 +153,13 @@ fn ends_drain<R: Wait>(rt: &R, heap: &Heap, seat: &mut HeapSeat, k: u32) -> bool
     scans_all(heap, seat) && traces_in_stop(heap, seat) && drained_after_tracing(heap, seat)
 }
 
+/// Five blocks, of which two are handed out at a time.
+const STRETCHES: Shape = Shape {
+    cells: 320,
+    stretch: 2,
+    ..SMALL
+};
+
 /// Of five objects three stay: two cells of the block are freed.
 #[test]
 fn each_block_is_swept_once(rt: HostRuntime) {
@@ -168,7 +176,7 @@ fn each_block_is_swept_once(rt: HostRuntime) {
     let ended = ends_drain(&rt, &heap, &mut two, 2);
     assert!(&rt; ended);
     begins_sweep(&heap, &mut two);
-    assert!(&rt; sweeps_all(&heap, &mut two) == Some((Some((0, 2)), None, 0)));
+    assert!(&rt; sweeps_all(&heap, &mut two) == Some((Some((0, 1, 2)), None, 0)));
 }
 
 #[test]
@@ -184,4 +192,36 @@ fn each_block_is_cleared_once(rt: HostRuntime) {
     assert!(&rt; ended);
     begins_clear(&heap, &mut one);
     assert!(&rt; clears_all(&heap, &mut one) == Some((Some(0), None)));
+}
+
+/// A drain ends in a heap of five blocks, by seat 1.
+fn ends_drain_of_five<R: Wait>(rt: &R, alloc: Global) -> Option<(Heap, HeapSeat)>
+    ensures { IfSome result (λ r. Sits r.0 r.1 × IsDrained (view_of r.1)) }
+{
+    let (heap, mut seats) = open(alloc, STRETCHES, 3)?;
+    let mut zero = next_seat(&heap, &mut seats, 0);
+    let mut one = next_seat(&heap, &mut seats, 1);
+    if !next_turn(rt, &heap, &mut zero) || !ends_drain(rt, &heap, &mut one, 1) {
+        return None;
+    }
+    Some((heap, one))
+}
+
+#[test]
+fn stretches_are_swept_once(rt: HostRuntime) {
+    let Some((heap, mut seat)) = ends_drain_of_five(&rt, rt.alloc()) else {
+        panic!(&rt; "memory")
+    };
+    begins_sweep(&heap, &mut seat);
+    let swept = sweeps_all(&heap, &mut seat);
+    assert!(&rt; swept == Some((Some((0, 2, 0)), Some((2, 2, 0)), 0)));
+}
+
+#[test]
+fn stretches_are_cleared_once(rt: HostRuntime) {
+    let Some((heap, mut seat)) = ends_drain_of_five(&rt, rt.alloc()) else {
+        panic!(&rt; "memory")
+    };
+    begins_clear(&heap, &mut seat);
+    assert!(&rt; clears_all(&heap, &mut seat) == Some((Some(0), Some(2))));
 }
