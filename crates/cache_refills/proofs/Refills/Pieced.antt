@@ -313,12 +313,12 @@ answered-comes pieces.MarkingDone r u w e = absurd (none-some e)
     none-some : None ≡ Some r → ⊥
     none-some f = cc
 
--- steps that try no block leave what was seen
-pub seen-keeps : (n : ℕ) (u v w : View) → Ran v w → some_event comes_in (events v w) ≡ false → LeavesBlocks v w → SeenBelow n u v → SeenBelow n u w
+-- steps by which the seat neither comes in nor gets a block with a free cell leave what was seen
+pub seen-keeps : (n : ℕ) (u v w : View) → Ran v w → some_event comes_in (events v w) ≡ false → never takes_cells (events v w) ≡ true → SeenBelow n u v → SeenBelow n u w
 seen-keeps n u v w q i l a =
     record {
       ran = ran-join u v w a.ran q;
       inside = never-both comes_in u v w a.ran q a.inside (ap not i);
-      without = never-both takes_cells u v w a.ran q a.without l.without;
+      without = never-both takes_cells u v w a.ran q a.without l;
       seen = λ b e. ap (seen_taken b) (ran-events u v w a.ran q) ∙ taken-more b (events u v) (events v w) (a.seen b e);
     }

@@ -1,5 +1,5 @@
 -- A mutator's answer, once it has claimed a block and looked at the phase: it paid while a cycle was marking, and owed nothing where none was.
-use Rattle.std.proofs.Common.{ℕ, ◌≡◌, List, [], ◌∷◌, ◌++◌, ◌+◌, arith, refl, sym, ap, ◌∙◌, subst, Bool, true, false, not, ◌&&◌, ◌||◌, Some, None, Option, ⊎_elim, ◌⊎◌, eqb-true}
+use Rattle.std.proofs.Common.{ℕ, ◌≡◌, List, [], ◌∷◌, ◌++◌, ◌+◌, length, arith, refl, sym, ap, ◌∙◌, subst, Bool, true, false, not, ◌&&◌, ◌||◌, Some, None, Option, ⊎_elim, ◌⊎◌, eqb-true}
 use Rattle.std.specs.Prelude.{◌==◌, if◌then◌else◌, is_some, unwrap_or}
 use Rattle.std.specs.Int.Count.{ones}
 use Rattle.std.proofs.lemmas.Bool.{and_parts, false≢true, not-true, or_cases, or_left, or_right}
@@ -254,6 +254,7 @@ module _ (h : Cache) (done : ℕ) (u v w x : View) (n : ℕ) (k : HasClaimed h d
         unpopped = ap (never pops) alone;
         untold = ap (picked raises_traced) alone;
         free = free;
+        few = let three = ap length alone in omega (arith, three);
         cause = or_left (was_not_due (before_last claims (events u x))) (some_event raises_flag (events u x)) (ap was_not_due ahead ∙ due);
       }
     where

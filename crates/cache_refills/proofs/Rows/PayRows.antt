@@ -27,7 +27,7 @@ abbrev in_peace : List Entry
 in_peace = did (ReadStat last_count) 0 ∷ did (ReadStat rescanned_count) 0 ∷ did (ReadStat free_count) 64 ∷ claiming 0 64 ++ did ReadPhase 0 ∷ []
 
 pays_nothing : Pays small 1 64 free_of_charge (at_rest marker) in_peace
-pays_nothing = in_idle (record { outside = refl; read = refl; unmarked = refl; unpopped = refl; untold = refl; free = (refl, refl, refl); cause = refl })
+pays_nothing = in_idle (record { outside = refl; read = refl; unmarked = refl; unpopped = refl; untold = refl; free = (refl, refl, refl); few = omega arith; cause = refl })
 
 -- a cycle was due, and the mutator began none
 abbrev never_begins : List Entry

@@ -1,5 +1,5 @@
 -- What a mutator pays for its cache.
-use Rattle.std.specs.Prelude.{ℕ, ◌≡◌, ◌≢◌, ◌≤◌, ◌&&◌, ◌||◌, if◌then◌else◌, List, [], ◌∷◌, Bool, Some, IsTrue, IsFalse}
+use Rattle.std.specs.Prelude.{ℕ, ◌≡◌, ◌≢◌, ◌≤◌, ◌&&◌, ◌||◌, if◌then◌else◌, List, [], ◌∷◌, length, Bool, Some, IsTrue, IsFalse}
 use Rattle.mark_core.specs.declared.kinds.Phase.TheVariants.{Idle, Marking}
 use Rattle.mark_core.specs.declared.kinds.Shape.{Shape}
 use Rattle.gc_table.specs.declared.view.Entry.{Entry}
@@ -79,6 +79,8 @@ pub record PaysInIdle (paid : Paid) (es : List Entry) : Type 0 where
   pub unpopped : IsTrue (never pops (since_claim es))
   pub untold : picked raises_traced (since_claim es) ≡ []
   pub free : IsFree paid
+  -- the claim was ended by two steps, and a look at the phase followed
+  pub few : length (since_claim es) ≤ 3
   pub cause : IsTrue (was_not_due (before_last claims es) || some_event raises_flag es)
 
 -- the block was claimed in a stop of the call

@@ -108,7 +108,7 @@ returns c =
           (later-some o (λ r f. spares-refill r v x y l.ran t.plays.ran l.spares f) t.spares);
       none = none-without o v x y l.ran t.plays.ran unseen t.none;
       sees = sees-later c.args.from c.args.most c.search_some.result v x y l.ran t.plays.ran l.within still t.sees;
-      calls = λ u b. t.calls u (seen-keeps c.args.from u v x l.ran l.within still b);
+      calls = λ u b. t.calls u (seen-keeps c.args.from u v x l.ran l.within still.without b);
       few = short-later 5 c.args.most c.search_some.result v x y l.ran t.plays.ran (few-join 1 4 v w x e.ran s.ran (few-after v w ReadPhase k.looked.0 k.looked.1.0) s.few) t.few;
       keeps = plays-keeps v y p;
       due = due-join v w y e.ran (ran-join w x y s.ran t.plays.ran) (due-calm v w (only-more answers stays_calm answers-calm v w e.only)) (due-join w x y s.ran t.plays.ran s.due t.due);
