@@ -42,7 +42,7 @@ pub fn pass_by(hand: &mut Hand) -> u32
     }
 }
 
-/// One step of a collection, which marks at most `most` objects or sweeps at most `most` blocks: the status of the mutator's call, as not yet done.
+/// One step of a collection, which does at most `most` roots, objects, cards or blocks: the status of the mutator's call, as not yet done.
 /// `GIVEN_BACK` where the handle is empty.
 pub fn collect_by(hand: &mut Hand, most: u32) -> u32
     ensures answers { Answers (CollectsAtMost most) result hand.old.stepper hand.new.stepper }

@@ -1,34 +1,42 @@
 -- How much a step of a collection pops and draws.
 use Rattle.std.proofs.Common.{ℕ, ◌≡◌, ◌≤◌, ◌+◌, ◌-◌, List, [], ◌∷◌, length, map, refl, ap, ◌∙◌, Bool, true, false, arith}
 use Rattle.std.specs.List.{range_with_len}
+use Rattle.std.specs.Prelude.{if◌then◌else◌}
 use Rattle.std.proofs.lemmas.Bool.{false≢true}
 use Rattle.std.proofs.lemmas.List.{length-append}
-use Rattle.std.proofs.lemmas.List.FromFn.{length-map-range_with_len}
-use Rattle.mark_core.specs.Layout.{block_count, card_count}
-use Rattle.mark_core.specs.declared.kinds.Phase.TheVariants.{Drain, Sweep}
+use Rattle.mark_core.specs.declared.kinds.Phase.{Phase}
 use Rattle.mark_core.specs.declared.kinds.Shape.{Shape}
 use Rattle.mark_core.specs.declared.kinds.Step.{Step}
-use Rattle.mark_core.specs.declared.kinds.Step.TheVariants.{NextBlock, Pop, ReadCard}
+use Rattle.mark_core.specs.declared.kinds.Step.TheVariants.{AddStat, NextBlock, Pop, ReadCard, Reset, StorePhase}
 use Rattle.gc_table.specs.Log.{event, events}
 use Rattle.gc_table.specs.Running.{Ran}
 use Rattle.gc_table.specs.declared.view.Entry.{Entry}
 use Rattle.gc_table.specs.declared.view.View.{View}
 use Rattle.packet_pools.specs.Counts.{count_of}
+use Rattle.packet_pools.specs.Fields.{picked}
 use Rattle.packet_pools.proofs.Counting.{count-join}
-use Rattle.card_clean.specs.Drained.{FindsNoDirtyCard}
 use Rattle.card_clean.specs.Looking.{looks_clean}
 use Rattle.mutator_ops.specs.Few.{AtMost}
 use Rattle.mutator_ops.proofs.Few.{at-most-events, at-most-join}
 use Rattle.gc_cycle.specs.Answering.{retires}
+use Rattle.gc_cycle.specs.Courses.{TakesCourse, phase_stored}
 use Rattle.gc_cycle.specs.Events.{Sort, never}
 use Rattle.gc_cycle.specs.Finishing.{IsMove}
+use Rattle.gc_cycle.specs.Pieces.{LooksAt, ReadsCount}
 use Rattle.gc_cycle.specs.Sorts.{draws_block, pops}
+use Rattle.gc_cycle.specs.Statistics.{changing_step}
 use Rattle.gc_cycle.specs.Stepping.{AsksOnce, FindsRunning, FindsStopped}
+use Rattle.gc_cycle.specs.declared.card_steps.Look.{Look}
+use Rattle.gc_cycle.specs.declared.card_steps.Look.TheVariants as looks
 use Rattle.gc_cycle.proofs.Sequences.{count-none as count-missing, none-of-steps}
 use Rattle.gc_cycle.proofs.Stops.Admitted.{count-none, count-run}
 use Rattle.mutator_turns.specs.Coming.{GivesCache, StepsOut, WithOwn}
 use Rattle.seat_steps.specs.Amounts.{DrawsNone, PopsNone}
-use Rattle.seat_steps.specs.Bounds.{AsksInFew, DoesNeither, EndsDrainInFew, LooksOnce, PassesBlocks}
+use Rattle.seat_steps.specs.Bounds.{DoesFew, DoesNeither}
+
+-- one, where it is so
+abbrev bit : Bool → ℕ
+bit b = if b then 1 else 0
 
 -- one part after the other
 sums : (f : Sort) (u v w : View) → Ran u v → Ran v w → count_of f (events u v) ≡ 0 → count_of f (events v w) ≡ 0 → count_of f (events u w) ≡ 0
@@ -67,14 +75,14 @@ gives_neither v w g = (
   λ blocks. count-missing (draws_block blocks) (events v w) (none-of-steps retires (draws_block blocks) (retires_drawless blocks) (events v w) g.2.only),
 )
 
-pub asks-few : (done : ℕ) (yours : Bool) (u v w : View) → Ran u v → WithOwn GivesCache u v → AtMost 3 u v → Ran v w → AsksOnce done yours v w → AsksInFew u w
+pub asks-few : (done : ℕ) (yours : Bool) (u v w : View) → Ran u v → WithOwn GivesCache u v → AtMost 3 u v → Ran v w → AsksOnce done yours v w → DoesFew 6 u w
 asks-few done yours u v w r g few q a = (
   neither-join u v w r q (gives_neither u v g) (ap (count_of pops) a.all, λ blocks. ap (count_of (draws_block blocks)) a.all),
   at-most-join 3 3 u v w r q few (at-most-events 3 v w _ a.all (omega arith)),
 )
 
 -- looks at the world
-pub looks-once : (v w : View) → FindsRunning v w → LooksOnce v w
+pub looks-once : (v w : View) → FindsRunning v w → DoesFew 1 v w
 looks-once v w f = ((ap (count_of pops) f.all, λ blocks. ap (count_of (draws_block blocks)) f.all), at-most-events 1 v w _ f.all (omega arith))
 
 pub stopped-neither : (v w : View) → FindsStopped v w → DoesNeither v w
@@ -83,37 +91,61 @@ stopped-neither v w f = (ap (count_of pops) f.all, λ blocks. ap (count_of (draw
 pub out-neither : (v w : View) → StepsOut v w → DoesNeither v w
 out-neither v w s = (ap (count_of pops) s.1, λ blocks. ap (count_of (draws_block blocks)) s.1)
 
--- looks at all cards
-looks_popless : (cards : List ℕ) → count_of pops (map (λ k. event (ReadCard k) 0) cards) ≡ 0
-looks_popless [] = refl
-looks_popless (k ∷ ks) = let rest = looks_popless ks in omega (arith, rest)
+-- so few steps
+pub few-join : (j k : ℕ) (u v w : View) → Ran u v → Ran v w → DoesFew j u v → DoesFew k v w → DoesFew (j + k) u w
+few-join j k u v w r q a b = (neither-join u v w r q a.0 b.0, at-most-join j k u v w r q a.1 b.1)
 
-pub clean-pops : (sh : Shape) (es : List Entry) → FindsNoDirtyCard sh es → count_of pops es ≡ 0
-clean-pops sh es d =
-    let all = ap (count_of pops) d ∙ count-join pops (looks_clean 0 (card_count sh)) _ in
-    let none = looks_popless (range_with_len 0 (card_count sh - 0)) in
-    omega (arith, all, none)
+-- one move of the phase
+pub move-few : (from to : Phase) (v w : View) → IsMove from to v w → DoesFew 1 v w
+move-few from to v w m = ((ap (count_of pops) m.events_are, λ blocks. ap (count_of (draws_block blocks)) m.events_are), at-most-events 1 v w _ m.events_are (omega arith))
 
-clean_long : (sh : Shape) (es : List Entry) → FindsNoDirtyCard sh es → length es ≡ card_count sh + 1
-clean_long sh es d =
-    let all = ap length d ∙ length-append (looks_clean 0 (card_count sh)) _ in
-    let cards = length-map-range_with_len (λ k. event (ReadCard k) 0) 0 (card_count sh - 0) in
-    omega (arith, all, cards)
+-- one look at the count of packets
+pub reads-few : (all : Bool) (v w : View) → ReadsCount all v w → DoesFew 1 v w
+reads-few all v w r = ((ap (count_of pops) r.1, λ blocks. ap (count_of (draws_block blocks)) r.1), at-most-events 1 v w _ r.1 (omega arith))
 
--- and one move after them
-pub ends-drain : (u v w : View) → Ran u v → FindsNoDirtyCard u.shape (events u v) → DrawsNone u v → IsMove Drain Sweep v w → EndsDrainInFew u w
-ends-drain u v w r d undrawn m =
-    let long = clean_long u.shape (events u v) d in (
-      neither-join u v w r m.ran (clean-pops u.shape (events u v) d, undrawn) (ap (count_of pops) m.events_are, λ blocks. ap (count_of (draws_block blocks)) m.events_are),
-      (let both = at-most-join (card_count u.shape + 1) 1 u v w r m.ran (omega (arith, long)) (at-most-events 1 v w _ m.events_are (omega arith)) in omega (arith, both)),
-    )
+-- looks at cards
+looks_neither : (f : Sort) → ((k n : ℕ) → f (ReadCard k) n ≡ false) → (cards : List ℕ) → count_of f (map (λ k. event (ReadCard k) 0) cards) ≡ 0
+looks_neither f none [] = refl
+looks_neither f none (k ∷ ks) = let rest = looks_neither f none ks in let one = ap bit (none k 0) in omega (arith, rest, one)
 
--- and the clearing of all marks
-pub marks-again-passes :
-    (u v w : View) → Ran u v → FindsNoDirtyCard u.shape (events u v) → DrawsNone u v → Ran v w → never pops (events v w) ≡ true → ((blocks : ℕ) → count_of (draws_block blocks) (events v w) ≤ blocks + blocks) → PassesBlocks u w
-marks-again-passes u v w r d undrawn q n most =
-    let blocks = block_count u.shape in
-    let all = count-run (draws_block blocks) u v w r q in
-    let first = undrawn blocks in
-    let rest = most blocks in
-    (pops-join u v w r q (clean-pops u.shape (events u v) d) (unpopped v w n), omega (arith, all, first, rest))
+looks_none : (f : Sort) → ((k n : ℕ) → f (ReadCard k) n ≡ false) → (sh : Shape) (from most : ℕ) (l : Look) (es : List Entry) → LooksAt sh from most l es → count_of f es ≡ 0
+looks_none f none sh from most (looks.Clean n) es l = ap (count_of f) l.1 ∙ looks_neither f none (range_with_len from (from + n - from))
+looks_none f none sh from most (looks.Dirty card) es l =
+    let all = ap (count_of f) l.3 ∙ count-join f (looks_clean from card) (event (ReadCard card) 1 ∷ []) in
+    let clean = looks_neither f none (range_with_len from (card - from)) in
+    let one = ap bit (none card 1) in
+    omega (arith, all, clean, one)
+
+pub looks-neither : (sh : Shape) (from most : ℕ) (l : Look) (v w : View) → LooksAt sh from most l (events v w) → DoesNeither v w
+looks-neither sh from most l v w a = (looks_none pops (λ k n. refl) sh from most l (events v w) a, λ blocks. looks_none (draws_block blocks) (λ k n. refl) sh from most l (events v w) a)
+
+none_few : (a b c : ℕ) → a ≡ 0 → b ≡ 0 → c ≡ 0 → a + b + c ≤ 1
+none_few a b c p q r = omega (arith, p, q, r)
+
+-- a step that moves the phase, one that changes a number, and one that draws a block are three
+apart_steps : (blocks : ℕ) (step : Step) (n : ℕ) → length (phase_stored step n) + length (changing_step step n) + bit (draws_block blocks step n) ≤ 1
+apart_steps blocks (StorePhase to) n = omega arith
+apart_steps blocks (Reset which) n = omega arith
+apart_steps blocks (AddStat which by down) n = omega arith
+apart_steps blocks NextBlock n = one (draws_block blocks NextBlock n)
+  where
+    one : (b : Bool) → bit b ≤ 1
+    one true = omega arith
+    one false = omega arith
+apart_steps blocks step n = none_few (length (phase_stored step n)) (length (changing_step step n)) (bit (draws_block blocks step n)) refl refl refl
+
+apart_all : (blocks : ℕ) (es : List Entry) → length (picked phase_stored es) + length (picked changing_step es) + count_of (draws_block blocks) es ≤ length es
+apart_all blocks [] = omega arith
+apart_all blocks (e ∷ es) =
+    let rest = apart_all blocks es in
+    let one = apart_steps blocks e.step e.found in
+    let moved = length-append (phase_stored e.step e.found) (picked phase_stored es) in
+    let changed = length-append (changing_step e.step e.found) (picked changing_step es) in
+    omega (arith, rest, one, moved, changed)
+
+pub all-told : (blocks k : ℕ) (ps : List Phase) (ss : List Step) (v w : View) → TakesCourse ps ss v w → AtMost k v w → k ≤ length ps + length ss → count_of (draws_block blocks) (events v w) ≡ 0
+all-told blocks k ps ss v w c few all =
+    let apart = apart_all blocks (events v w) in
+    let moved = ap length c.moved in
+    let changed = ap length c.changed.all in
+    omega (arith, apart, moved, changed, few, all)

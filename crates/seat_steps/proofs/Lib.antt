@@ -1,14 +1,14 @@
 mod Amounts
 mod Answered
 mod Doing
-mod Drawn
 pub mod Few
 mod Filled
 mod Found
+mod LookedAt
 mod Made
+mod Passes
 pub mod Places
 mod ReadFull
-mod Rounds
 mod SinceAsked
 mod Sparing
 mod Stages

@@ -1,7 +1,8 @@
 -- What a stepper has done since it asked for a stop, from one step of its collection to the next.
 use Rattle.std.proofs.Common.{ℕ, ◌≡◌, refl, sym, ap, ◌∙◌, subst, Bool, true, false, not, Some, ⊎_elim}
 use Rattle.std.specs.Prelude.{IsFalse}
-use Rattle.std.proofs.Math.Logic.{∥∥₁_map}
+use Rattle.std.proofs.Math.Bool.{Bool-set}
+use Rattle.std.proofs.Math.Logic.{∥∥₁_elim, ∥∥₁_map}
 use Rattle.std.proofs.lemmas.Bool.{false≢true, not-true, true≢false}
 use Rattle.std.specs.Bool.{OnFalse, OnTrue}
 use Rattle.mark_core.specs.Seats.{saw}
@@ -25,10 +26,12 @@ use Rattle.gc_cycle.specs.Cycles.{collects_exactly}
 use Rattle.gc_cycle.specs.Events.{never}
 use Rattle.gc_cycle.specs.Finishing.{IsMove, IsPart, stays_in}
 use Rattle.gc_cycle.specs.Moments.{begins}
+use Rattle.gc_cycle.specs.Pieces.{HasCollectedSince}
 use Rattle.gc_cycle.specs.Sorts.{raises_flag}
 use Rattle.gc_cycle.specs.Stepping.{AsksOnce, FindsRunning, FindsStopped, IsExactSince}
+use Rattle.gc_cycle.proofs.Ends.Completing.{part-exact}
 use Rattle.gc_cycle.proofs.Sequences.{none-of-steps, some-none}
-use Rattle.seat_steps.specs.Asked.{HasAsked, MarksSinceAsked, SweepsSinceAsked, WaitsSinceAsked}
+use Rattle.seat_steps.specs.Asked.{CountsSinceAsked, HasAsked, MarksSinceAsked, SweepsSinceAsked, WaitsSinceAsked}
 use Rattle.seat_steps.specs.Course.{CollectsSinceAsked}
 
 -- it asked now
@@ -106,9 +109,13 @@ marks-begun v w h full a r o x = ∥∥₁_map a (λ (q : (u : View) × HasAsked
 pub marks-on : (again : Bool) (v w : View) → Ran v w → never raises_flag (events v w) ≡ true → ((u : View) → IsExactSince u v → IsExactSince u w) → MarksSinceAsked again v → MarksSinceAsked again w
 marks-on again v w r n x m = ∥∥₁_map m (λ (q : (u : View) × HasAsked u v × (IsFalse again → IsExactSince u v)). (q.0, asked-on q.0 v w q.1 r n, λ k. x q.0 (q.2 k)))
 
+-- all marks are taken away
+pub clears-begun : (again : Bool) (v w : View) → Ran v w → never raises_flag (events v w) ≡ true → MarksSinceAsked again v → WaitsSinceAsked w
+clears-begun again v w r n m = ∥∥₁_map m (λ (q : (u : View) × HasAsked u v × (IsFalse again → IsExactSince u v)). (q.0, asked-on q.0 v w q.1 r n))
+
 -- it began once more
-pub marks-again : (again : Bool) (v w : View) → Ran v w → Only goes_on v w → ((u : View) → Ran u v → IsExactSince u w) → MarksSinceAsked again v → MarksSinceAsked false w
-marks-again again v w r o x m = ∥∥₁_map m (λ (q : (u : View) × HasAsked u v × (IsFalse again → IsExactSince u v)). (q.0, asked-on q.0 v w q.1 r (course-calm v w o), λ k. x q.0 (asked-ran q.0 v q.1)))
+pub marks-again : (v w : View) → Ran v w → Only goes_on v w → ((u : View) → Ran u v → IsExactSince u w) → WaitsSinceAsked v → MarksSinceAsked false w
+marks-again v w r o x m = ∥∥₁_map m (λ (q : (u : View) × HasAsked u v). (q.0, asked-on q.0 v w q.1 r (course-calm v w o), λ k. x q.0 (asked-ran q.0 v q.1)))
 
 -- the sweep
 pub sweeps-begun : (v w : View) → Ran v w → never raises_flag (events v w) ≡ true → ((u : View) → IsExactSince u v → IsExactSince u w) → MarksSinceAsked false v → SweepsSinceAsked w
@@ -117,11 +124,21 @@ sweeps-begun v w r n x m = ∥∥₁_map m (λ (q : (u : View) × HasAsked u v �
 pub sweeps-on : (v w : View) → Ran v w → never raises_flag (events v w) ≡ true → ((u : View) → IsExactSince u v → IsExactSince u w) → SweepsSinceAsked v → SweepsSinceAsked w
 sweeps-on v w r n x s = ∥∥₁_map s (λ (q : (u : View) × HasAsked u v × IsExactSince u v). (q.0, asked-on q.0 v w q.1 r n, x q.0 q.2))
 
-pub collects-all : (h : Heap) (v : View) (y : HeapSeat) → Sits h y → Ran v (view_of y) → Only goes_on v (view_of y) → ((u : View) → IsExactSince u v → collects_exactly h.shape (begins u) (events u (view_of y)) ≡ true) → SweepsSinceAsked v → ∥ CollectsSinceAsked (view_of y) ∥₁
+-- the cycle ended
+pub counts-begun : (v w : View) → Ran v w → never raises_flag (events v w) ≡ true → ((u : View) → IsExactSince u v → HasCollectedSince u w × (w.state.exact ≡ true)) → SweepsSinceAsked v → CountsSinceAsked w
+counts-begun v w r n x s = (
+  ∥∥₁_map s (λ (q : (u : View) × HasAsked u v × IsExactSince u v). (q.0, asked-on q.0 v w q.1 r n, (x q.0 q.2).0)),
+  ∥∥₁_elim s (Bool-set _ _) (λ (q : (u : View) × HasAsked u v × IsExactSince u v). (x q.0 q.2).1),
+)
+
+pub counts-on : (v w : View) → IsPart Idle v w → ((u : View) → HasCollectedSince u v → HasCollectedSince u w) → CountsSinceAsked v → CountsSinceAsked w
+counts-on v w p x s = (∥∥₁_map s.0 (λ (q : (u : View) × HasAsked u v × HasCollectedSince u v). (q.0, asked-on q.0 v w q.1 p.ran (part-calm Idle v w p), x q.0 q.2)), part-exact Idle v w p ∙ s.1)
+
+pub collects-all : (h : Heap) (v : View) (y : HeapSeat) → Sits h y → Ran v (view_of y) → Only goes_on v (view_of y) → ((u : View) → HasCollectedSince u v → collects_exactly h.shape (begins u) (events u (view_of y)) ≡ true) → CountsSinceAsked v → ∥ CollectsSinceAsked (view_of y) ∥₁
 collects-all h v y sits r o k s =
     let w : View = view_of y in
-    ∥∥₁_map s
-    (λ (q : (u : View) × HasAsked u v × IsExactSince u v).
+    ∥∥₁_map s.0
+    (λ (q : (u : View) × HasAsked u v × HasCollectedSince u v).
     record {
       start = q.0;
       asked = asked-on q.0 v w q.1 r (course-calm v w o);

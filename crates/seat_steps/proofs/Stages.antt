@@ -5,7 +5,7 @@ use Rattle.gc_table.specs.declared.seat.Heap.{Heap}
 use Rattle.seat_steps.specs.Bounds.{IsBounded, IsBoundedStep}
 use Rattle.seat_steps.specs.Course.{EndsBy}
 use Rattle.seat_steps.specs.Stepping.{Arrives, KeepsAll}
-use Rattle.seat_steps.specs.Steps.{StepsCollection, StepsOn}
+use Rattle.seat_steps.specs.Steps.{StepsCollection, StepsOn, counts_of}
 use Rattle.seat_steps.specs.declared.stepper.Came.{Came}
 use Rattle.seat_steps.specs.declared.stepper.Came.TheVariants as cames
 use Rattle.seat_steps.specs.declared.stepper.Stage.{Stage}
@@ -19,7 +19,7 @@ pub bounded-on : (most : ℕ) (x y : Stepper) (s t : Stage) → x.stage ≡ s �
 bounded-on most x y s t e f p = subst (λ (a : Stage). IsBounded a y.stage most x y) (sym e) (subst (λ (b : Stage). IsBounded s b most x y) (sym f) p)
 
 -- the last step, where the stepper left
-pub ends-out : (most : ℕ) (came : Came) (h : Heap) (x y : Stepper) → (came ≡ cames.Done → ⊥) → Arrives came h y.seat → x.stage ≡ stages.Ending → Across (EndsBy x.freed came) x.seat y.seat → y.stage ≡ stages.Outside → KeepsAll x y → StepsCollection most came x y
+pub ends-out : (most : ℕ) (came : Came) (h : Heap) (x y : Stepper) → (came ≡ cames.Done → ⊥) → Arrives came h y.seat → x.stage ≡ stages.Ending → Across (EndsBy (counts_of x) came) x.seat y.seat → y.stage ≡ stages.Outside → KeepsAll x y → StepsCollection most came x y
 ends-out most cames.Done h x y other a e p f k = absurd (other refl)
 ends-out most cames.Stopped h x y other a e p f k = (inr (e, p), f, k)
 ends-out most cames.Full h x y other a e p f k = (inr (e, p), a.1, f, k)

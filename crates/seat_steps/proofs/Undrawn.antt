@@ -12,7 +12,7 @@ use Rattle.mark_core.specs.declared.kinds.Phase.{Phase}
 use Rattle.mark_core.specs.declared.kinds.Phase.TheVariants.{Clear, Drain, Full, Idle, Marking, Sweep}
 use Rattle.mark_core.specs.declared.kinds.Shape.{Shape}
 use Rattle.mark_core.specs.declared.kinds.Step.{Step}
-use Rattle.mark_core.specs.declared.kinds.Step.TheVariants.{DropStep, JoinHelpStep, LeaveHelpStep, NextBlock, Observe, OpenStep, RaiseStep, ReadPhase, StoreAlloc, StorePhase}
+use Rattle.mark_core.specs.declared.kinds.Step.TheVariants.{DropStep, JoinHelpStep, LeaveHelpStep, NextBlock, Observe, OpenStep, Pop, RaiseStep, ReadField, ReadPhase, StoreAlloc, StorePhase}
 use Rattle.mark_core.specs.declared.seat.SeatState.{SeatState}
 use Rattle.mark_core.proofs.Acting.{parts_hold, some_none}
 use Rattle.mark_core.proofs.Notes.NotesKept.{single-word}
@@ -212,16 +212,18 @@ holds-apart v h = by h.phase h.left h.alone
     by Sweep l a = absurd (⊎_elim (λ e. other Sweep Idle refl refl e) (λ m. ⊎_elim (λ e. other Sweep Marking refl refl e) (λ e. other Sweep Full refl refl e) m) l)
     by Clear l a = absurd (⊎_elim (λ e. other Clear Idle refl refl e) (λ m. ⊎_elim (λ e. other Clear Marking refl refl e) (λ e. other Clear Full refl refl e) m) l)
 
--- a part of a drain
-part_keeps : (step : Step) → stays_in Drain step ≡ true → keeps_apart step ≡ true
-part_keeps (StorePhase to) e = absurd (false≢true e)
-part_keeps ReadPhase e = absurd (false≢true e)
-part_keeps DropStep e = absurd (false≢true e)
-part_keeps StoreAlloc e = refl
-part_keeps step e = e
+-- a part of a stop
+part_keeps : (p : Phase) (step : Step) → stays_in p step ≡ true → keeps_apart step ≡ true
+part_keeps p (StorePhase to) e = absurd (false≢true e)
+part_keeps p ReadPhase e = absurd (false≢true e)
+part_keeps p DropStep e = absurd (false≢true e)
+part_keeps p StoreAlloc e = refl
+part_keeps p (Pop packet) e = refl
+part_keeps p (ReadField c i) e = refl
+part_keeps p step e = e
 
-pub part-draws-none : (v w : View) → IsPart Drain v w → IsApart v → DrawsNone v w
-part-draws-none v w p i = λ blocks. count-none (draws_block blocks) (events v w) (all_undrawn blocks (events v w) v (only-more (stays_in Drain) keeps_apart part_keeps v w p.only) p.ran.seen i)
+pub part-draws-none : (p : Phase) (v w : View) → IsPart p v w → IsApart v → DrawsNone v w
+part-draws-none p v w h i = λ blocks. count-none (draws_block blocks) (events v w) (all_undrawn blocks (events v w) v (only-more (stays_in p) keeps_apart (part_keeps p) v w h.only) h.ran.seen i)
 
 -- a course through such phases
 abbrev pub all_apart : List Phase → Bool

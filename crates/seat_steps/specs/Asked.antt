@@ -4,6 +4,7 @@ use Rattle.gc_table.specs.Log.{events}
 use Rattle.gc_table.specs.Running.{Ran}
 use Rattle.gc_table.specs.declared.view.View.{View}
 use Rattle.gc_cycle.specs.Events.{never}
+use Rattle.gc_cycle.specs.Pieces.{HasCollectedSince}
 use Rattle.gc_cycle.specs.Sorts.{raises_flag}
 use Rattle.gc_cycle.specs.Stepping.{AsksOnce, IsExactSince}
 
@@ -27,3 +28,7 @@ MarksSinceAsked again v = ∥ ((u : View) × HasAsked u v × (IsFalse again → 
 -- since it asked a drain began with no cell marked
 abbrev pub SweepsSinceAsked : View → Type 0
 SweepsSinceAsked v = ∥ ((u : View) × HasAsked u v × IsExactSince u v) ∥₁
+
+-- since it asked a drain began with no cell marked, and then its cycle ended
+abbrev pub CountsSinceAsked : View → Type 0
+CountsSinceAsked v = ∥ ((u : View) × HasAsked u v × HasCollectedSince u v) ∥₁ × IsTrue v.state.exact

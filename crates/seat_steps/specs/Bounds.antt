@@ -1,16 +1,14 @@
 -- How much a step of a collection does at most, by the stage that it was in and the one that it is in: how many steps it takes where that is so many at most,
--- how many cells it pops, and how many blocks it draws. Cells are popped in a drain alone.
-use Rattle.std.specs.Prelude.{ℕ, ◌≡◌, ◌≤◌, ◌+◌}
-use Rattle.mark_core.specs.Layout.{block_count, card_count}
-use Rattle.gc_table.specs.Log.{events}
+-- or else how many roots it sees to, how many cells it pops, how many cards it cleans, or how many blocks it sweeps. Cells are popped while it traces alone, and
+-- blocks are drawn while it clears or sweeps alone. No bound depends on the size of the heap.
+use Rattle.std.specs.Prelude.{ℕ, ◌≡◌, ◌≤◌, ◌+◌, ◌*◌}
 use Rattle.gc_table.specs.Running.{Ran}
-use Rattle.gc_table.specs.Seats.{Across, did}
+use Rattle.gc_table.specs.Seats.{Across}
 use Rattle.gc_table.specs.declared.view.View.{View}
-use Rattle.packet_pools.specs.Counts.{count_of}
 use Rattle.mutator_ops.specs.Few.{AtMost}
-use Rattle.gc_cycle.specs.Sorts.{draws_block, pops}
 use Rattle.seat_steps.specs.Amounts.{DrawsNone, PopsNone}
-use Rattle.seat_steps.specs.Steps.{StepsCollection, blocks_drawn}
+use Rattle.seat_steps.specs.Passes.{CleansFewCards, SeesFewRoots}
+use Rattle.seat_steps.specs.Steps.{StepsCollection, blocks_drawn, objects_popped}
 use Rattle.seat_steps.specs.declared.stepper.Came.{Came}
 use Rattle.seat_steps.specs.declared.stepper.Came.TheVariants as cames
 use Rattle.seat_steps.specs.declared.stepper.Stage.{Stage}
@@ -21,46 +19,48 @@ use Rattle.seat_steps.specs.declared.stepper.Stepper.{Stepper}
 abbrev pub DoesNeither : View → View → Type 0
 DoesNeither v w = PopsNone v w × DrawsNone v w
 
--- it asked for its stop: the cache was given up by 3 steps at most, and 3 more followed
-abbrev pub AsksInFew : View → View → Type 0
-AsksInFew v w = DoesNeither v w × AtMost 6 v w
+-- neither was done, and so many steps were taken at most
+abbrev pub DoesFew : ℕ → View → View → Type 0
+DoesFew most v w = DoesNeither v w × AtMost most v w
 
--- it looked whether the world has stopped
-abbrev pub LooksOnce : View → View → Type 0
-LooksOnce v w = DoesNeither v w × AtMost 1 v w
+-- no cell was popped, and so many steps were taken at most
+abbrev pub PassesFew : ℕ → View → View → Type 0
+PassesFew most v w = PopsNone v w × AtMost most v w
 
--- each card was looked at, and the count of empty packets, and the phase was moved
-abbrev pub EndsDrainInFew : View → View → Type 0
-EndsDrainInFew v w = DoesNeither v w × AtMost (card_count v.shape + 2) v w
-
--- no cell was popped, and each block was drawn twice at most: their counter is set once
-abbrev pub PassesBlocks : View → View → Type 0
-PassesBlocks v w = PopsNone v w × (count_of (draws_block (block_count v.shape)) (events v w) ≤ block_count v.shape + block_count v.shape)
-
--- the cycle was ended, which pops no cell and draws no block, and then it came to its turn or left, by so many steps at most
+-- the numbers for the next cycle were set and the world went on, by so many steps at most, which pop no cell and draw no block; and then it came to its turn or
+-- left, by so many
 pub record EndsInFew (v w : View) : Type 0 where
   pub ended : View
   pub ran : Ran v ended
-  pub unpopped : PopsNone v ended
-  pub undrawn : count_of (draws_block (block_count v.shape)) (events v ended) ≡ 0
+  pub sets : DoesFew 9 v ended
   pub last : Ran ended w
   pub few : AtMost 8 ended w
 
--- how much is done at most from one stage to another: while it drains so many objects are popped, and while it sweeps so many blocks are swept
+-- how much is done at most from one stage to another: so many roots, objects, cards or blocks
 abbrev pub IsBounded : Stage → Stage → ℕ → Stepper → Stepper → Type 0
 IsBounded stages.Outside stages.Outside most x y = Across (AtMost 0) x.seat y.seat
-IsBounded stages.Inside stages.Stopping most x y = Across AsksInFew x.seat y.seat
-IsBounded stages.Inside stages.Outside most x y = Across AsksInFew x.seat y.seat
-IsBounded stages.Stopping stages.Stopping most x y = Across LooksOnce x.seat y.seat
+IsBounded stages.Inside stages.Stopping most x y = Across (DoesFew 6) x.seat y.seat
+IsBounded stages.Inside stages.Outside most x y = Across (DoesFew 6) x.seat y.seat
+IsBounded stages.Stopping stages.Stopping most x y = Across (DoesFew 1) x.seat y.seat
 IsBounded stages.Stopping stages.Rooting most x y = Across DoesNeither x.seat y.seat
 IsBounded stages.Stopping stages.Outside most x y = Across DoesNeither x.seat y.seat
-IsBounded stages.Rooting stages.Rooting most x y = Across DoesNeither x.seat y.seat
-IsBounded stages.Rooting stages.Draining most x y = Across DoesNeither x.seat y.seat
-IsBounded stages.Draining stages.Draining most x y = (count_of pops (did x.seat y.seat) ≤ most) × Across DrawsNone x.seat y.seat
-IsBounded stages.Draining stages.Rooting most x y = Across PassesBlocks x.seat y.seat
-IsBounded stages.Draining stages.Sweeping most x y = Across EndsDrainInFew x.seat y.seat
+IsBounded stages.Rooting stages.Rooting most x y = Across (SeesFewRoots x.next most) x.seat y.seat × Across DoesNeither x.seat y.seat
+IsBounded stages.Rooting stages.Draining most x y = Across (SeesFewRoots x.next most) x.seat y.seat × Across DoesNeither x.seat y.seat
+IsBounded stages.Draining stages.Draining most x y = (objects_popped x y ≤ most) × Across DrawsNone x.seat y.seat
+IsBounded stages.Draining stages.Looking most x y = (objects_popped x y ≤ most) × Across DrawsNone x.seat y.seat
+IsBounded stages.Looking stages.Looking most x y = Across (DoesFew most) x.seat y.seat
+IsBounded stages.Looking stages.Cleaning most x y = Across (DoesFew most) x.seat y.seat
+IsBounded stages.Looking stages.Draining most x y = Across (DoesFew (most + 1)) x.seat y.seat
+IsBounded stages.Looking stages.Clearing most x y = Across (DoesFew (most + 2)) x.seat y.seat
+IsBounded stages.Looking stages.Sweeping most x y = Across (DoesFew (most + 2)) x.seat y.seat
+IsBounded stages.Cleaning stages.Cleaning most x y = Across (CleansFewCards x.next most) x.seat y.seat × Across DoesNeither x.seat y.seat
+IsBounded stages.Cleaning stages.Draining most x y = Across (CleansFewCards x.next most) x.seat y.seat × Across DoesNeither x.seat y.seat
+IsBounded stages.Clearing stages.Clearing most x y = (blocks_drawn x y ≤ most) × Across (PassesFew (3 * most)) x.seat y.seat
+IsBounded stages.Clearing stages.Rooting most x y = (blocks_drawn x y ≤ most) × Across (PassesFew (3 * most + 3)) x.seat y.seat
 IsBounded stages.Sweeping stages.Sweeping most x y = (blocks_drawn x y ≤ most) × Across PopsNone x.seat y.seat
-IsBounded stages.Sweeping stages.Ending most x y = (blocks_drawn x y ≤ most) × Across PopsNone x.seat y.seat
+IsBounded stages.Sweeping stages.Counting most x y = (blocks_drawn x y ≤ most) × Across PopsNone x.seat y.seat
+IsBounded stages.Counting stages.Counting most x y = Across (DoesFew most) x.seat y.seat
+IsBounded stages.Counting stages.Ending most x y = Across (DoesFew most) x.seat y.seat
 IsBounded stages.Ending stages.Inside most x y = Across EndsInFew x.seat y.seat
 IsBounded stages.Ending stages.Outside most x y = Across EndsInFew x.seat y.seat
 IsBounded s t most x y = ⊥

@@ -1,15 +1,13 @@
 -- A stepper's collection, from the moment that it asked for a stop.
-use Rattle.std.specs.Prelude.{ℕ, ◌≡◌, [], ◌∷◌, Bool, IsTrue}
+use Rattle.std.specs.Prelude.{◌≡◌, [], ◌∷◌, Bool, IsTrue}
 use Rattle.mark_core.specs.Numbers.{block_counter, card_counter}
 use Rattle.mark_core.specs.Seats.{saw}
-use Rattle.mark_core.specs.declared.kinds.Phase.TheVariants.{Clear, Drain, Idle, Marking, Sweep}
+use Rattle.mark_core.specs.declared.kinds.Phase.TheVariants.{Drain, Marking}
 use Rattle.mark_core.specs.declared.kinds.Step.TheVariants.{Reset}
 use Rattle.gc_table.specs.Log.{events}
 use Rattle.gc_table.specs.declared.view.View.{View}
-use Rattle.card_clean.specs.Drained.{FindsNoDirtyCard}
 use Rattle.gc_cycle.specs.Courses.{TakesCourse, sets_numbers}
 use Rattle.gc_cycle.specs.Cycles.{collects_exactly}
-use Rattle.gc_cycle.specs.Finishing.{IsMove}
 use Rattle.gc_cycle.specs.Moments.{begins}
 use Rattle.gc_cycle.specs.Stepping.{AsksOnce, EndsCollection, FindsStopped}
 use Rattle.gc_cycle.specs.declared.counts.Counts.{Counts}
@@ -46,25 +44,12 @@ pub record FindsHeapFull (v w : View) : Type 0 where
   pub leaves : StepsOut resumed w
   pub full : FoundFull v w
 
--- no card was found dirty and all packets empty; then all marks were taken away, and the drain began once more
-pub record MarksAgain (v w : View) : Type 0 where
-  pub drained : View
-  pub looks : FindsNoDirtyCard v.shape (events v drained)
-  pub course : TakesCourse (Clear ∷ Drain ∷ []) (Reset card_counter ∷ Reset block_counter ∷ []) drained w
-
--- no card was found dirty and all packets empty; then the sweep began
-pub record BeginsSweep (v w : View) : Type 0 where
-  pub drained : View
-  pub looks : FindsNoDirtyCard v.shape (events v drained)
-  pub moved : IsMove Drain Sweep drained w
-
--- the cycle ended, in which so many cells were freed, the numbers for the next one were set, and the world went on: so a precise collection was made since the
--- seat asked for its stop; then the seat came to its turn, or left
-pub record EndsBy (freed : ℕ) (came : Came) (v w : View) : Type 0 where
+-- the numbers for the next cycle were set, by how many cells are in use and were freed, and the world went on: so a precise collection was made since the seat
+-- asked for its stop, and its drain began with no cell marked; then the seat came to its turn, or left
+pub record EndsBy (counts : Counts) (came : Came) (v w : View) : Type 0 where
   pub ended : View
-  pub counts : Counts
+  pub exact : IsTrue v.state.exact
   pub ends : EndsCollection counts v ended
-  pub freed_is : counts.freed ≡ freed
-  pub course : TakesCourse (Idle ∷ []) (sets_numbers v.shape counts) v ended
+  pub course : TakesCourse [] (sets_numbers v.shape counts) v ended
   pub collected : ∥ CollectsSinceAsked ended ∥₁
   pub arrives : ArrivesBy came ended w

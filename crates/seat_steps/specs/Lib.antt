@@ -9,6 +9,7 @@ pub mod Course
 pub mod Doing
 pub mod Filling
 pub mod Handing
+pub mod Passes
 pub mod Stepping
 pub mod Steps
 pub mod Tallying

@@ -1,16 +1,23 @@
 -- What a step of a stepper's collection came to, by the stage that it was in and the one that it is in.
-use Rattle.std.specs.Prelude.{ℕ, ◌≡◌, ◌<◌, ◌+◌, ◌⊎◌, min, true, false, IsTrue, IsFalse}
+use Rattle.std.specs.Prelude.{ℕ, ◌≡◌, ◌≤◌, ◌<◌, ◌+◌, ◌-◌, ◌⊎◌, min, true, false, IsTrue, IsFalse}
 use Rattle.std.specs.Arc.{arc_value}
-use Rattle.mark_core.specs.Layout.{block_count}
-use Rattle.mark_core.specs.declared.kinds.Phase.TheVariants.{Drain}
+use Rattle.mark_core.specs.Layout.{block_count, card_count, root_count}
+use Rattle.mark_core.specs.declared.kinds.Phase.TheVariants.{Clear}
+use Rattle.mark_core.specs.declared.kinds.Shape.{Shape}
+use Rattle.gc_table.specs.Log.{steps_of}
 use Rattle.gc_table.specs.Rule.{KnowsFull}
 use Rattle.gc_table.specs.Seats.{Across, did, view_of}
 use Rattle.packet_pools.specs.Counts.{count_of}
 use Rattle.sweeper.specs.Freeing.{freed_in}
 use Rattle.gc_cycle.specs.Finishing.{IsPart, most as greatest}
-use Rattle.gc_cycle.specs.Sorts.{draws_block}
-use Rattle.gc_cycle.specs.Stepping.{FindsRunning, LacksPacket, MakesRound}
-use Rattle.seat_steps.specs.Course.{AsksForStop, BeginsMarking, BeginsSweep, EndsBy, FindsHeapFull, MarksAgain}
+use Rattle.gc_cycle.specs.Pieces.{CleansCards, LooksAt}
+use Rattle.gc_cycle.specs.Settling.{alloc_reads}
+use Rattle.gc_cycle.specs.Sorts.{draws_block, pops}
+use Rattle.gc_cycle.specs.Stepping.{FindsRunning, LacksPacket}
+use Rattle.gc_cycle.specs.declared.card_steps.Look.TheVariants as looks
+use Rattle.gc_cycle.specs.declared.counts.Counts.{Counts}
+use Rattle.seat_steps.specs.Course.{AsksForStop, BeginsMarking, EndsBy, FindsHeapFull}
+use Rattle.seat_steps.specs.Passes.{BeginsAgain, BeginsClear, BeginsSweep, EndsSweep, FindsPacketLeft, SeesRoots, TracesFor}
 use Rattle.seat_steps.specs.Stepping.{KeepsAll}
 use Rattle.seat_steps.specs.declared.stepper.Came.{Came}
 use Rattle.seat_steps.specs.declared.stepper.Came.TheVariants as cames
@@ -18,33 +25,73 @@ use Rattle.seat_steps.specs.declared.stepper.Stage.{Stage}
 use Rattle.seat_steps.specs.declared.stepper.Stage.TheVariants as stages
 use Rattle.seat_steps.specs.declared.stepper.Stepper.{Stepper}
 
+-- the sizes of its heap
+abbrev pub shape_of : Stepper → Shape
+shape_of x = (arc_value x.heap).shape
+
+-- how many roots, cards and blocks are left of the pass that it is in
+abbrev pub roots_left : Stepper → ℕ
+roots_left x = root_count (shape_of x) - x.next
+
+abbrev pub cards_left : Stepper → ℕ
+cards_left x = card_count (shape_of x) - x.next
+
+abbrev pub blocks_left : Stepper → ℕ
+blocks_left x = block_count (shape_of x) - x.next
+
+-- how many objects were popped
+abbrev pub objects_popped : Stepper → Stepper → ℕ
+objects_popped x y = count_of pops (did x.seat y.seat)
+
 -- how many blocks came in hand
 abbrev pub blocks_drawn : Stepper → Stepper → ℕ
-blocks_drawn x y = count_of (draws_block (block_count (arc_value x.heap).shape)) (did x.seat y.seat)
+blocks_drawn x y = count_of (draws_block (block_count (shape_of x))) (did x.seat y.seat)
 
 -- the cells that the step freed were added to those freed before
 abbrev pub CountsFreed : Stepper → Stepper → Type 0
 CountsFreed x y = y.freed ≡ min (x.freed + freed_in (view_of x.seat) (did x.seat y.seat)) greatest
 
+-- so many roots were seen to, or no packet was found for it
+abbrev pub SeesSome : ℕ → Stepper → Stepper → Type 0
+SeesSome most x y = ((most ≤ roots_left x) × (y.next ≡ x.next + most) × Across (SeesRoots x.next most) x.seat y.seat) ⊎ ((y.next ≡ x.next) × Across LacksPacket x.seat y.seat)
+
+-- so many cards were passed, and cleaned where they were dirty, or no packet was found for it
+abbrev pub CleansSome : ℕ → Stepper → Stepper → Type 0
+CleansSome most x y = ((most ≤ cards_left x) × (y.next ≡ x.next + most) × Across (CleansCards x.next most) x.seat y.seat) ⊎ ((y.next ≡ x.next) × Across LacksPacket x.seat y.seat)
+
 -- what a step did after which there is more to do
 abbrev pub StepsOn : Stage → Stage → ℕ → Stepper → Stepper → Type 0
 StepsOn stages.Inside stages.Stopping most x y = Across (AsksForStop true) x.seat y.seat
 StepsOn stages.Stopping stages.Stopping most x y = Across FindsRunning x.seat y.seat
-StepsOn stages.Stopping stages.Rooting most x y = Across (BeginsMarking y.again) x.seat y.seat
-StepsOn stages.Rooting stages.Rooting most x y = Across LacksPacket x.seat y.seat × (y.again ≡ x.again)
-StepsOn stages.Rooting stages.Draining most x y = Across (IsPart Drain) x.seat y.seat × (y.again ≡ x.again)
-StepsOn stages.Draining stages.Draining most x y = Across (MakesRound most) x.seat y.seat × (y.again ≡ x.again)
-StepsOn stages.Draining stages.Rooting most x y = IsTrue x.again × IsFalse y.again × Across MarksAgain x.seat y.seat
-StepsOn stages.Draining stages.Sweeping most x y = IsFalse x.again × (y.freed ≡ 0) × Across BeginsSweep x.seat y.seat
+StepsOn stages.Stopping stages.Rooting most x y = Across (BeginsMarking y.again) x.seat y.seat × (y.next ≡ 0)
+StepsOn stages.Rooting stages.Rooting most x y = SeesSome most x y × (y.again ≡ x.again)
+StepsOn stages.Rooting stages.Draining most x y = (roots_left x < most) × Across (SeesRoots x.next (roots_left x)) x.seat y.seat × (y.again ≡ x.again)
+StepsOn stages.Draining stages.Draining most x y = (objects_popped x y ≡ most) × Across (TracesFor most) x.seat y.seat × (y.again ≡ x.again)
+StepsOn stages.Draining stages.Looking most x y = (objects_popped x y < most) × Across (TracesFor most) x.seat y.seat × (y.next ≡ 0) × (y.again ≡ x.again)
+StepsOn stages.Looking stages.Looking most x y = LooksAt (shape_of x) x.next most (looks.Clean most) (did x.seat y.seat) × (y.next ≡ x.next + most) × (y.again ≡ x.again)
+StepsOn stages.Looking stages.Cleaning most x y = LooksAt (shape_of x) x.next most (looks.Dirty y.next) (did x.seat y.seat) × (y.again ≡ x.again)
+StepsOn stages.Looking stages.Draining most x y = (cards_left x < most) × Across (FindsPacketLeft x.next) x.seat y.seat × (y.again ≡ x.again)
+StepsOn stages.Looking stages.Clearing most x y = (cards_left x < most) × Across (BeginsClear x.next) x.seat y.seat × IsTrue x.again
+StepsOn stages.Looking stages.Sweeping most x y = (cards_left x < most) × Across (BeginsSweep x.next) x.seat y.seat × IsFalse x.again × (y.freed ≡ 0)
+StepsOn stages.Cleaning stages.Cleaning most x y = CleansSome most x y × (y.again ≡ x.again)
+StepsOn stages.Cleaning stages.Draining most x y = (cards_left x < most) × Across (CleansCards x.next (cards_left x)) x.seat y.seat × (y.again ≡ x.again)
+StepsOn stages.Clearing stages.Clearing most x y = (blocks_drawn x y ≡ most) × Across (IsPart Clear) x.seat y.seat
+StepsOn stages.Clearing stages.Rooting most x y = Across (BeginsAgain most) x.seat y.seat × (y.next ≡ 0) × IsFalse y.again
 StepsOn stages.Sweeping stages.Sweeping most x y = (blocks_drawn x y ≡ most) × CountsFreed x y
-StepsOn stages.Sweeping stages.Ending most x y = (blocks_drawn x y < most) × CountsFreed x y
+StepsOn stages.Sweeping stages.Counting most x y = (blocks_drawn x y < most) × CountsFreed x y × Across EndsSweep x.seat y.seat × (y.next ≡ 0) × (y.counted ≡ 0)
+StepsOn stages.Counting stages.Counting most x y = (most ≤ blocks_left x) × (steps_of (did x.seat y.seat) ≡ alloc_reads x.next most) × (y.next ≡ x.next + most) × (y.freed ≡ x.freed)
+StepsOn stages.Counting stages.Ending most x y = (blocks_left x < most) × (steps_of (did x.seat y.seat) ≡ alloc_reads x.next (blocks_left x)) × (y.freed ≡ x.freed)
 StepsOn s t most x y = ⊥
+
+-- what its collection has counted: no object is told as scanned again
+abbrev pub counts_of : Stepper → Counts
+counts_of x = record { marked = x.counted; freed = x.freed; rescanned = 0 }
 
 -- what the last step did
 abbrev pub Finishes : Came → Stepper → Stepper → Type 0
-Finishes came x y = (x.stage ≡ stages.Ending) × Across (EndsBy x.freed came) x.seat y.seat
+Finishes came x y = (x.stage ≡ stages.Ending) × Across (EndsBy (counts_of x) came) x.seat y.seat
 
--- what a step of a collection came to, of so many objects or blocks
+-- what a step of a collection came to, of so many roots, objects, cards or blocks
 abbrev pub StepsCollection : ℕ → Came → Stepper → Stepper → Type 0
 StepsCollection most cames.NotYet x y = StepsOn x.stage y.stage most x y × KeepsAll x y
 StepsCollection most cames.Done x y = Finishes cames.Done x y × (y.stage ≡ stages.Inside) × KeepsAll x y

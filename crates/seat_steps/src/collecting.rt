@@ -1,32 +1,32 @@
-//! A collection that a mutator makes, step by step. No call waits.
-ghost use Rattle.std.specs.Prelude.{ℕ, ◌≡◌, ◌≢◌, ◌≤◌, ◌+◌, [], ◌∷◌, min, Bool, false};
+//! How a collection begins and ends that a mutator makes step by step. No call waits.
+ghost use Rattle.std.specs.Prelude.{◌≡◌, ◌≢◌, ◌≤◌, ◌+◌, ◌-◌, [], ◌∷◌, min, false};
 ghost use Rattle.std.specs.Bool.{OnFalse, OnTrue};
 ghost use Rattle.mark_core.specs.Layout.{block_count};
 ghost use Rattle.mark_core.specs.Numbers.{block_counter, card_counter};
 ghost use Rattle.mark_core.specs.Seats.{saw};
-ghost use Rattle.mark_core.specs.declared.kinds.Phase.TheVariants.{Clear, Drain, Idle, Marking, Sweep};
+ghost use Rattle.mark_core.specs.declared.kinds.Phase.TheVariants.{Drain, Idle, Marking, Sweep};
 ghost use Rattle.mark_core.specs.declared.kinds.Step.TheVariants.{Reset};
+ghost use Rattle.gc_table.specs.Log.{steps_of};
 ghost use Rattle.gc_table.specs.Rule.{KnowsFull};
-ghost use Rattle.gc_table.specs.Running.{Ran};
 ghost use Rattle.gc_table.specs.Seats.{Across, did, state_of, view_of};
 ghost use Rattle.packet_pools.specs.Counts.{count_of};
-ghost use Rattle.card_clean.specs.Drained.{FindsNoDirtyCard};
 ghost use Rattle.sweeper.specs.Freeing.{freed_in};
 ghost use Rattle.gc_cycle.specs.Courses.{TakesCourse, sets_numbers};
 ghost use Rattle.gc_cycle.specs.Finishing.{IsMove, IsPart, most as greatest};
+ghost use Rattle.gc_cycle.specs.Settling.{alloc_reads};
 ghost use Rattle.gc_cycle.specs.Sorts.{draws_block};
-ghost use Rattle.gc_cycle.specs.Stepping.{AsksOnce, EndsCollection, FindsRunning, FindsStopped, LacksPacket, MakesRound};
-ghost use Rattle.gc_cycle.specs.declared.counts.Counts.{Counts};
+ghost use Rattle.gc_cycle.specs.Stepping.{AsksOnce, EndsCollection, FindsRunning, FindsStopped};
 ghost use Rattle.seat_steps.specs.Amounts.{DrawsNone, PopsNone};
-ghost use Rattle.seat_steps.specs.Asked.{MarksSinceAsked, SweepsSinceAsked, WaitsSinceAsked};
-ghost use Rattle.seat_steps.specs.Collecting.{AsksStop, SitsAtDrain, HoldsStop, SitsMarkedAll, SitsSweptAll, SitsAtRoots, SitsAtSweep};
+ghost use Rattle.seat_steps.specs.Asked.{CountsSinceAsked, MarksSinceAsked, SweepsSinceAsked, WaitsSinceAsked};
+ghost use Rattle.seat_steps.specs.Bounds.{DoesFew};
+ghost use Rattle.seat_steps.specs.Collecting.{AsksStop, HoldsStop, SitsAtCount, SitsAtRoots, SitsAtSweep, SitsCounted, SitsMarkedAll, SitsSweptAll};
 ghost use Rattle.seat_steps.specs.Course.{CollectsSinceAsked};
 ghost use Rattle.mutator_turns.specs.Sharing.{LeavesHeap};
 ghost use Rattle.mutator_turns.specs.Standing.{Halts, IsMutatorOutside, plain_of};
 
 use gc_cycle::{
-    SweepStep, ask_to_stop, begin_collection, drain_again, drain_step, finds_stopped,
-    finish_collection, root_step, start_sweep, sweep_step,
+    CountStep, SweepStep, ask_to_stop, begin_collection, count_step, finds_stopped, finish_count,
+    start_count, start_sweep, sweep_step,
 };
 use gc_table::{Heap, HeapSeat};
 use mark_core::Phase;
@@ -74,7 +74,7 @@ pub fn saw_marking(seat: &HeapSeat) -> bool
 pub fn begins(heap: &Heap, seat: &mut HeapSeat) -> bool
     requires stopped { HoldsStop heap.now seat.old }
     requires waits { WaitsSinceAsked (view_of seat.old) }
-    ensures begun { OnTrue result (SitsAtRoots heap.now seat.new) }
+    ensures begun { OnTrue result (SitsAtRoots 0 heap.now seat.new) }
     ensures full { OnFalse result (Halts heap.now seat.new × KnowsFull (view_of seat.new)) }
     ensures same { plain_of seat.new ≡ plain_of seat.old }
     ensures leaves { Across LeavesHeap seat.old seat.new }
@@ -85,51 +85,6 @@ pub fn begins(heap: &Heap, seat: &mut HeapSeat) -> bool
     ensures marks { OnTrue result (MarksSinceAsked (saw (state_of seat.old).phase_seen Marking) (view_of seat.new)) }
 {
     begin_collection(heap, seat)
-}
-
-/// Sees to the roots. False where it is to be called again.
-pub fn roots(heap: &Heap, seat: &mut HeapSeat) -> bool
-    requires rooting { SitsAtRoots heap.now seat.old }
-    ensures rooted { OnTrue result (SitsAtDrain heap.now seat.new) }
-    ensures not_yet { OnFalse result (SitsAtRoots heap.now seat.new) }
-    ensures same { plain_of seat.new ≡ plain_of seat.old }
-    ensures leaves { Across LeavesHeap seat.old seat.new }
-    ensures part { Across (IsPart Drain) seat.old seat.new }
-    ensures lacks { OnFalse result (Across LacksPacket seat.old seat.new) }
-    ensures unpopped { Across PopsNone seat.old seat.new }
-    ensures undrawn { Across DrawsNone seat.old seat.new }
-    ensures marks { (again : Bool) → MarksSinceAsked again (view_of seat.old) → MarksSinceAsked again (view_of seat.new) }
-{
-    root_step(heap, seat)
-}
-
-/// Drains on, by so many objects. False where it is to be called again.
-pub fn drains(heap: &Heap, seat: &mut HeapSeat, most: u32) -> bool
-    requires draining { SitsAtDrain heap.now seat.old }
-    ensures drained { OnTrue result (SitsMarkedAll heap.now seat.new) }
-    ensures not_yet { OnFalse result (SitsAtDrain heap.now seat.new) }
-    ensures round { OnFalse result (Across (MakesRound most) seat.old seat.new) }
-    ensures same { plain_of seat.new ≡ plain_of seat.old }
-    ensures leaves { Across LeavesHeap seat.old seat.new }
-    ensures ran { Across Ran seat.old seat.new }
-    ensures undrawn { Across DrawsNone seat.old seat.new }
-    ensures clean { OnTrue result (FindsNoDirtyCard (view_of seat.old).shape (did seat.old seat.new)) }
-    ensures marks { (again : Bool) → MarksSinceAsked again (view_of seat.old) → MarksSinceAsked again (view_of seat.new) }
-{
-    drain_step(heap, seat, most)
-}
-
-/// Takes all marks away, to mark once more what is reachable now.
-pub fn marks_again(heap: &Heap, seat: &mut HeapSeat)
-    requires marked { SitsMarkedAll heap.now seat.old }
-    ensures rooting { SitsAtRoots heap.now seat.new }
-    ensures same { plain_of seat.new ≡ plain_of seat.old }
-    ensures leaves { Across LeavesHeap seat.old seat.new }
-    ensures course { Across (TakesCourse (Clear ∷ Drain ∷ []) (Reset card_counter ∷ Reset block_counter ∷ [])) seat.old seat.new }
-    ensures drawn { (blocks : ℕ) → count_of (draws_block blocks) (did seat.old seat.new) ≤ blocks + blocks }
-    ensures marks { (again : Bool) → MarksSinceAsked again (view_of seat.old) → MarksSinceAsked false (view_of seat.new) }
-{
-    drain_again(heap, seat);
 }
 
 /// Begins to sweep.
@@ -150,6 +105,7 @@ pub fn sweeps(heap: &Heap, seat: &mut HeapSeat, most: u32) -> SweepStep
     requires sweeps { SweepsSinceAsked (view_of seat.old) }
     ensures sweeping { SitsAtSweep heap.now seat.new }
     ensures swept { result.blocks ≢ most → SitsSweptAll heap.now seat.new }
+    ensures part { Across (IsPart Sweep) seat.old seat.new }
     ensures blocks { (result.blocks ≤ most) × (count_of (draws_block (block_count heap.now.shape)) (did seat.old seat.new) ≡ result.blocks) }
     ensures unpopped { Across PopsNone seat.old seat.new }
     ensures freed { result.freed ≡ min (freed_in (view_of seat.old) (did seat.old seat.new)) greatest }
@@ -160,17 +116,46 @@ pub fn sweeps(heap: &Heap, seat: &mut HeapSeat, most: u32) -> SweepStep
     sweep_step(heap, seat, most)
 }
 
-/// Ends the cycle, in which so many cells were freed, and lets the world go on.
-pub fn ends(heap: &Heap, seat: &mut HeapSeat, freed: u32)
+/// Ends the cycle, where no block is left to sweep, and begins to count the cells in use.
+pub fn ends_sweep(heap: &Heap, seat: &mut HeapSeat)
     requires swept { SitsSweptAll heap.now seat.old }
     requires sweeps { SweepsSinceAsked (view_of seat.old) }
+    ensures counting { SitsAtCount 0 0 heap.now seat.new }
+    ensures same { plain_of seat.new ≡ plain_of seat.old }
+    ensures leaves { Across LeavesHeap seat.old seat.new }
+    ensures moved { Across (IsMove Sweep Idle) seat.old seat.new }
+    ensures counts { CountsSinceAsked (view_of seat.new) }
+{
+    start_count(heap, seat);
+}
+
+/// Counts the cells in use of at most so many blocks from this one on: fewer come only where none is left.
+pub fn counts(heap: &Heap, seat: &mut HeapSeat, from: u32, counted: u32, most: u32) -> CountStep
+    requires counting { SitsAtCount from counted heap.now seat.old }
+    requires counts { CountsSinceAsked (view_of seat.old) }
+    ensures counting { SitsAtCount (from + result.blocks) result.counted heap.now seat.new }
+    ensures counted { result.blocks ≢ most → SitsCounted result.counted heap.now seat.new }
+    ensures blocks { result.blocks ≡ min most (block_count heap.now.shape - from) }
+    ensures reads { steps_of (did seat.old seat.new) ≡ alloc_reads from result.blocks }
+    ensures few { Across (DoesFew most) seat.old seat.new }
+    ensures same { plain_of seat.new ≡ plain_of seat.old }
+    ensures leaves { Across LeavesHeap seat.old seat.new }
+    ensures counts { CountsSinceAsked (view_of seat.new) }
+{
+    count_step(heap, seat, from, counted, most)
+}
+
+/// Sets the numbers for the next cycle, where so many cells are in use and so many were freed, and lets the world go on.
+pub fn ends(heap: &Heap, seat: &mut HeapSeat, counted: u32, freed: u32)
+    requires counted { SitsCounted counted heap.now seat.old }
+    requires counts { CountsSinceAsked (view_of seat.old) }
     ensures halts { Halts heap.now seat.new }
     ensures same { plain_of seat.new ≡ plain_of seat.old }
     ensures leaves { Across LeavesHeap seat.old seat.new }
-    ensures ran { Across Ran seat.old seat.new }
-    ensures ends { (counts : Counts) × Across (EndsCollection counts) seat.old seat.new × (counts.freed ≡ freed) × Across (TakesCourse (Idle ∷ []) (sets_numbers (view_of seat.old).shape counts)) seat.old seat.new }
-    ensures undrawn { count_of (draws_block (block_count (view_of seat.old).shape)) (did seat.old seat.new) ≡ 0 }
+    ensures ends { Across (EndsCollection (record { marked = counted; freed = freed; rescanned = 0 })) seat.old seat.new }
+    ensures course { Across (TakesCourse [] (sets_numbers (view_of seat.old).shape (record { marked = counted; freed = freed; rescanned = 0 }))) seat.old seat.new }
+    ensures few { Across (DoesFew 9) seat.old seat.new }
     ensures collects { ∥ CollectsSinceAsked (view_of seat.new) ∥₁ }
 {
-    finish_collection(heap, seat, freed);
+    finish_count(heap, seat, counted, freed);
 }

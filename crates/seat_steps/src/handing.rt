@@ -20,6 +20,8 @@ impl Stepper {
             in_stops: resting.in_stops,
             again: false,
             freed: 0,
+            next: 0,
+            counted: 0,
         }
     }
 

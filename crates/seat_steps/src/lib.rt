@@ -5,7 +5,7 @@
 //! is told by an answer of its own ([`Came::NotShared`]).
 //!
 //! `stepper` and `background` are the types. A stepper's calls are in `stepping` and `asking`, those of a world that shares its objects in `acting`, `spilling`
-//! and `knowing`; `operations` has one operation of either kind of heap. Its collection is in `steps`, over `tries`, `leaving` and `collecting`. `resting` and `handing`
+//! and `knowing`; `operations` has one operation of either kind of heap. Its collection is in `steps`, over `tries`, `leaving`, `collecting` and `draining`. `resting` and `handing`
 //! say how a stepper is made of a seat and comes apart again. `marking` is a tracer's turn, `try_turns` one that doesn't wait, and `dismissing` ends them.
 #![tactic(auto)]
 
@@ -14,6 +14,7 @@ mod asking;
 mod background;
 mod collecting;
 mod dismissing;
+mod draining;
 mod handing;
 mod knowing;
 mod leaving;

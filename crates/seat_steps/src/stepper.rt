@@ -2,8 +2,8 @@
 ghost use Rattle.std.specs.Arc.{arc_value};
 ghost use Rattle.std.specs.Prelude.{◌≡◌};
 ghost use Rattle.gc_table.specs.Seats.{view_of};
-ghost use Rattle.seat_steps.specs.Asked.{MarksSinceAsked, SweepsSinceAsked, WaitsSinceAsked};
-ghost use Rattle.seat_steps.specs.Collecting.{AsksStop, SitsAtDrain, SitsSweptAll, SitsAtRoots, SitsAtSweep};
+ghost use Rattle.seat_steps.specs.Asked.{CountsSinceAsked, MarksSinceAsked, SweepsSinceAsked, WaitsSinceAsked};
+ghost use Rattle.seat_steps.specs.Collecting.{AsksStop, SitsAtClear, SitsAtCount, SitsAtDrain, SitsAtLook, SitsAtRoots, SitsAtSweep, SitsCounted};
 ghost use Rattle.mutator_turns.specs.Standing.{IsAtTurn, IsMutatorOutside};
 ghost use Rattle.seat_steps.specs.declared.stepper.Stage.TheVariants as stages;
 
@@ -22,11 +22,19 @@ pub enum Stage {
     Stopping,
     /// It collects, and sees to the roots.
     Rooting,
-    /// It collects, and drains.
+    /// It collects, and traces objects.
     Draining,
+    /// It collects, and looks for a dirty card, since it found no object to trace.
+    Looking,
+    /// It collects, and cleans cards, since it found a dirty one.
+    Cleaning,
+    /// It collects, and clears all marks, to mark once more.
+    Clearing,
     /// It collects, and sweeps.
     Sweeping,
-    /// It collects, and has swept all blocks.
+    /// It collects, and counts the cells in use, since all blocks are swept.
+    Counting,
+    /// It collects, and has counted all cells in use.
     Ending,
 }
 
@@ -76,16 +84,28 @@ pub struct Stepper {
     pub(crate) again: bool,
     /// How many cells its sweep has freed, at most 4,294,967,295.
     pub(crate) freed: u32,
+    /// From which root, card or block on the pass is to go on that its stage makes.
+    pub(crate) next: u32,
+    /// How many cells in use it has counted.
+    pub(crate) counted: u32,
     ghost outside: { stage ≡ stages.Outside → IsMutatorOutside (arc_value heap) seat },
     ghost inside: { stage ≡ stages.Inside → IsAtTurn (arc_value heap) seat },
     ghost stopping: { stage ≡ stages.Stopping → AsksStop (arc_value heap) seat },
-    ghost rooting: { stage ≡ stages.Rooting → SitsAtRoots (arc_value heap) seat },
+    ghost rooting: { stage ≡ stages.Rooting → SitsAtRoots next (arc_value heap) seat },
     ghost draining: { stage ≡ stages.Draining → SitsAtDrain (arc_value heap) seat },
+    ghost looking: { stage ≡ stages.Looking → SitsAtLook next (arc_value heap) seat },
+    ghost cleaning: { stage ≡ stages.Cleaning → SitsAtDrain (arc_value heap) seat },
+    ghost clearing: { stage ≡ stages.Clearing → SitsAtClear (arc_value heap) seat },
     ghost sweeping: { stage ≡ stages.Sweeping → SitsAtSweep (arc_value heap) seat },
-    ghost ending: { stage ≡ stages.Ending → SitsSweptAll (arc_value heap) seat },
+    ghost counting: { stage ≡ stages.Counting → SitsAtCount next counted (arc_value heap) seat },
+    ghost ending: { stage ≡ stages.Ending → SitsCounted counted (arc_value heap) seat },
     ghost waits: { stage ≡ stages.Stopping → WaitsSinceAsked (view_of seat) },
     ghost marks_roots: { stage ≡ stages.Rooting → MarksSinceAsked again (view_of seat) },
     ghost marks: { stage ≡ stages.Draining → MarksSinceAsked again (view_of seat) },
+    ghost marks_looking: { stage ≡ stages.Looking → MarksSinceAsked again (view_of seat) },
+    ghost marks_cleaning: { stage ≡ stages.Cleaning → MarksSinceAsked again (view_of seat) },
+    ghost clears: { stage ≡ stages.Clearing → WaitsSinceAsked (view_of seat) },
     ghost sweeps: { stage ≡ stages.Sweeping → SweepsSinceAsked (view_of seat) },
-    ghost ends: { stage ≡ stages.Ending → SweepsSinceAsked (view_of seat) },
+    ghost counts: { stage ≡ stages.Counting → CountsSinceAsked (view_of seat) },
+    ghost ends: { stage ≡ stages.Ending → CountsSinceAsked (view_of seat) },
 }

@@ -1,9 +1,9 @@
 //! A stepper collects.
 ghost use Rattle.std.specs.Prelude.{ℕ, ◌≡◌};
 ghost use Rattle.gc_table.specs.Seats.{Across, view_of};
-ghost use Rattle.seat_steps.specs.Asked.{SweepsSinceAsked};
+ghost use Rattle.seat_steps.specs.Asked.{CountsSinceAsked};
 ghost use Rattle.seat_steps.specs.Bounds.{CollectsAtMost, EndsInFew, IsBoundedStep};
-ghost use Rattle.seat_steps.specs.Collecting.{SitsSweptAll};
+ghost use Rattle.seat_steps.specs.Collecting.{SitsCounted};
 ghost use Rattle.seat_steps.specs.Course.{EndsBy};
 ghost use Rattle.mutator_turns.specs.Sharing.{LeavesHeap};
 ghost use Rattle.mutator_turns.specs.Standing.{plain_of};
@@ -12,28 +12,32 @@ ghost use Rattle.seat_steps.specs.Steps.{StepsCollection};
 ghost use Rattle.seat_steps.specs.declared.stepper.Stage.TheVariants as stages;
 
 use crate::collecting::{
-    asks, begins, begins_sweep, drains, ends, marks_again, roots, saw_marking, stops, sweeps,
+    asks, begins, begins_sweep, counts, ends, ends_sweep, saw_marking, stops, sweeps,
+};
+use crate::draining::{
+    begins_again, begins_clear, cleans, clears, finds_marked, looks, roots, traces,
 };
 use crate::leaving::gives_own_up;
 use crate::stepper::{Came, Stage, Stepper};
 use crate::tries::arrive;
+use gc_cycle::Look;
 use gc_table::{Heap, HeapSeat};
 use mutator_turns::leave;
 
-/// How many objects a step pops at most, or how many blocks it sweeps, where its caller says nothing of it.
+/// How many roots, objects, cards or blocks a step does at most, where its caller says nothing of it.
 const STEP: u32 = 4_096;
 
-/// Ends the cycle, lets the world go on, and comes to its turn.
-fn end_to_turn(heap: &Heap, seat: &mut HeapSeat, freed: u32) -> Came
-    requires swept { SitsSweptAll heap.now seat.old }
-    requires sweeps { SweepsSinceAsked (view_of seat.old) }
+/// Sets the numbers for the next cycle, lets the world go on, and comes to its turn.
+fn end_to_turn(heap: &Heap, seat: &mut HeapSeat, counted: u32, freed: u32) -> Came
+    requires counted { SitsCounted counted heap.now seat.old }
+    requires counts { CountsSinceAsked (view_of seat.old) }
     ensures arrives { Arrives result heap.now seat.new }
     ensures same { plain_of seat.new ≡ plain_of seat.old }
     ensures leaves { Across LeavesHeap seat.old seat.new }
-    ensures ends { Across (EndsBy freed result) seat.old seat.new }
+    ensures ends { Across (EndsBy (record { marked = counted; freed = freed; rescanned = 0 }) result) seat.old seat.new }
     ensures few { Across EndsInFew seat.old seat.new }
 {
-    ends(heap, seat, freed);
+    ends(heap, seat, counted, freed);
     arrive(heap, seat)
 }
 
@@ -46,8 +50,8 @@ impl Stepper {
         self.take_step(STEP)
     }
 
-    /// The next step of a collection, with a bound: where it drains it pops so many objects, or as many as there are, and where it sweeps it sweeps at most so
-    /// many blocks. It is at least 1: 0 is out of range. A drain besides looks at each card, and cleans those that are dirty.
+    /// The next step of a collection, with a bound: it sees to at most so many roots, traces at most so many objects, looks at or cleans at most so many cards, or
+    /// clears, sweeps or counts at most so many blocks. It is at least 1: 0 is out of range.
     pub fn collect_at_most(&mut self, most: u32) -> Came
         ensures collects { CollectsAtMost most result self.old self.new }
     {
@@ -66,9 +70,13 @@ impl Stepper {
             Stage::Outside => Came::Outside,
             Stage::Inside => self.ask(),
             Stage::Stopping => self.begin(),
-            Stage::Rooting => self.scan(),
-            Stage::Draining => self.drain(most),
+            Stage::Rooting => self.scan(most),
+            Stage::Draining => self.trace(most),
+            Stage::Looking => self.look(most),
+            Stage::Cleaning => self.clean(most),
+            Stage::Clearing => self.clear(most),
             Stage::Sweeping => self.sweep(most),
+            Stage::Counting => self.count(most),
             Stage::Ending => self.end(),
         }
     }
@@ -99,6 +107,7 @@ impl Stepper {
         }
         self.again = saw_marking(&self.seat);
         if begins(&self.heap, &mut self.seat) {
+            self.next = 0;
             self.stage = Stage::Rooting;
             return Came::NotYet;
         }
@@ -107,31 +116,62 @@ impl Stepper {
         Came::Full
     }
 
-    /// Sees to the roots.
-    fn scan(&mut self) -> Came
+    /// Sees to the roots on.
+    fn scan(&mut self, most: u32) -> Came
         requires rooting { self.old.stage ≡ stages.Rooting }
-        ensures collects { (most : ℕ) → StepsCollection most result self.old self.new }
-        ensures bounded { (most : ℕ) → IsBoundedStep most self.old self.new }
+        ensures collects { StepsCollection most result self.old self.new }
+        ensures bounded { IsBoundedStep most self.old self.new }
     {
-        if roots(&self.heap, &mut self.seat) {
-            self.stage = Stage::Draining;
+        let Some(number) = roots(&self.heap, &mut self.seat, self.next, most) else {
+            return Came::NotYet;
+        };
+        if number == most {
+            self.next += number;
+            return Came::NotYet;
         }
+        self.stage = Stage::Draining;
         Came::NotYet
     }
 
-    /// Drains on. Where all is marked it begins to sweep, or marks once more.
-    fn drain(&mut self, most: u32) -> Came
+    /// Traces on. Where there is no object left it is to look for a dirty card.
+    fn trace(&mut self, most: u32) -> Came
         requires draining { self.old.stage ≡ stages.Draining }
         ensures collects { StepsCollection most result self.old self.new }
         ensures bounded { IsBoundedStep most self.old self.new }
     {
-        if !drains(&self.heap, &mut self.seat, most) {
+        let popped = traces(&self.heap, &mut self.seat, most);
+        if popped != most {
+            self.next = 0;
+            self.stage = Stage::Looking;
+        }
+        Came::NotYet
+    }
+
+    /// Looks on for a dirty card. Where all is marked it begins to sweep, or to clear all marks.
+    fn look(&mut self, most: u32) -> Came
+        requires looking { self.old.stage ≡ stages.Looking }
+        ensures collects { StepsCollection most result self.old self.new }
+        ensures bounded { IsBoundedStep most self.old self.new }
+    {
+        let number = match looks(&self.heap, &mut self.seat, self.next, most) {
+            Look::Clean(number) => number,
+            Look::Dirty(card) => {
+                self.next = card;
+                self.stage = Stage::Cleaning;
+                return Came::NotYet;
+            }
+        };
+        if number == most {
+            self.next += number;
+            return Came::NotYet;
+        }
+        if !finds_marked(&self.heap, &mut self.seat) {
+            self.stage = Stage::Draining;
             return Came::NotYet;
         }
         if self.again {
-            marks_again(&self.heap, &mut self.seat);
-            self.again = false;
-            self.stage = Stage::Rooting;
+            begins_clear(&self.heap, &mut self.seat);
+            self.stage = Stage::Clearing;
             return Came::NotYet;
         }
         begins_sweep(&self.heap, &mut self.seat);
@@ -140,7 +180,40 @@ impl Stepper {
         Came::NotYet
     }
 
-    /// Sweeps on.
+    /// Cleans on. After the last card it traces again.
+    fn clean(&mut self, most: u32) -> Came
+        requires cleaning { self.old.stage ≡ stages.Cleaning }
+        ensures collects { StepsCollection most result self.old self.new }
+        ensures bounded { IsBoundedStep most self.old self.new }
+    {
+        let Some(number) = cleans(&self.heap, &mut self.seat, self.next, most) else {
+            return Came::NotYet;
+        };
+        if number == most {
+            self.next += number;
+            return Came::NotYet;
+        }
+        self.stage = Stage::Draining;
+        Came::NotYet
+    }
+
+    /// Clears marks on. Where no cell is marked it begins to mark once more.
+    fn clear(&mut self, most: u32) -> Came
+        requires clearing { self.old.stage ≡ stages.Clearing }
+        ensures collects { StepsCollection most result self.old self.new }
+        ensures bounded { IsBoundedStep most self.old self.new }
+    {
+        if clears(&self.heap, &mut self.seat, most) == most {
+            return Came::NotYet;
+        }
+        begins_again(&self.heap, &mut self.seat);
+        self.again = false;
+        self.next = 0;
+        self.stage = Stage::Rooting;
+        Came::NotYet
+    }
+
+    /// Sweeps on. After the last block the cycle ends.
     fn sweep(&mut self, most: u32) -> Came
         requires sweeping { self.old.stage ≡ stages.Sweeping }
         ensures collects { StepsCollection most result self.old self.new }
@@ -148,9 +221,29 @@ impl Stepper {
     {
         let step = sweeps(&self.heap, &mut self.seat, most);
         self.freed = self.freed.saturating_add(step.freed);
-        if step.blocks != most {
-            self.stage = Stage::Ending;
+        if step.blocks == most {
+            return Came::NotYet;
         }
+        ends_sweep(&self.heap, &mut self.seat);
+        self.next = 0;
+        self.counted = 0;
+        self.stage = Stage::Counting;
+        Came::NotYet
+    }
+
+    /// Counts the cells in use on.
+    fn count(&mut self, most: u32) -> Came
+        requires counting { self.old.stage ≡ stages.Counting }
+        ensures collects { StepsCollection most result self.old self.new }
+        ensures bounded { IsBoundedStep most self.old self.new }
+    {
+        let step = counts(&self.heap, &mut self.seat, self.next, self.counted, most);
+        self.counted = step.counted;
+        if step.blocks == most {
+            self.next += step.blocks;
+            return Came::NotYet;
+        }
+        self.stage = Stage::Ending;
         Came::NotYet
     }
 
@@ -160,7 +253,7 @@ impl Stepper {
         ensures collects { (most : ℕ) → StepsCollection most result self.old self.new }
         ensures bounded { (most : ℕ) → IsBoundedStep most self.old self.new }
     {
-        match end_to_turn(&self.heap, &mut self.seat, self.freed) {
+        match end_to_turn(&self.heap, &mut self.seat, self.counted, self.freed) {
             Came::Done => {
                 self.stage = Stage::Inside;
                 Came::Done

@@ -3,6 +3,7 @@ use Rattle.std.proofs.lemmas.Bool.{OnFalse_at, OnFalse_from, OnTrue_at, OnTrue_f
 use Rattle.std.proofs.Common.{refl}
 use Rattle.gc_table.specs.Seats.{view_of}
 use Rattle.seat_steps.proofs.Amounts.{either-way, unpopped}
+use Rattle.seat_steps.proofs.Passes.{sees-first}
 use Rattle.seat_steps.proofs.Undrawn.{course-draws-none, holds-apart}
 use Rattle.mutator_turns.proofs.Seats.{mutator-kept}
 use Rattle.seat_steps.proofs.collecting.begins.Goals as goal
@@ -12,7 +13,7 @@ pub returns-clause-begun : goal.returns-clause-begun
 returns-clause-begun c =
     let e = c.begin_collection.ensures in
     let m = mutator-kept (view_of c.args.seat.now) (view_of c.begin_collection.new.seat) c.requires.stopped.mutator e.ran e.keeps.0 e.keeps.1 in
-    OnTrue_from c.begin_collection.result _ (λ is. record { sits = e.seat; mutator = m; roots = (OnTrue_at is e.begun).0 })
+    OnTrue_from c.begin_collection.result _ (λ is. record { sits = e.seat; mutator = m; roots = sees-first (view_of c.begin_collection.new.seat) (OnTrue_at is e.begun).0 })
 
 pub returns-clause-full : goal.returns-clause-full
 returns-clause-full c =

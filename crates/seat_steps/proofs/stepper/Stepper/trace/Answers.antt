@@ -1,0 +1,40 @@
+use Rattle.std.proofs.Common.{ℕ, ◌≡◌, ◌≤◌, ◌<◌, arith, refl, sym, subst}
+use Rattle.gc_table.specs.Seats.{did}
+use Rattle.packet_pools.specs.Counts.{count_of}
+use Rattle.gc_cycle.specs.Sorts.{pops}
+use Rattle.seat_steps.specs.declared.stepper.Stage.TheVariants as stages
+use Rattle.seat_steps.proofs.Stages.{bounded-on, step-on}
+use Rattle.seat_steps.proofs.stepper.Stepper.trace.Goals as goal
+
+pub returns-then-popped-most-clause-collects : goal.returns-then-popped-most-clause-collects
+returns-then-popped-most-clause-collects c =
+    let x = c.args.self.now in
+    let e = c.traces-popped.ensures in
+    let bound = e.popped.0 in
+    let count = e.popped.1 in
+    let other = c.if-popped-most.true in
+    let fewer : count_of pops (did x.seat c.traces-popped.new.seat) < c.args.most = omega (arith, bound, count, other) in
+    step-on c.args.most x _ stages.Draining stages.Looking c.requires.draining refl (fewer, e.traces, refl, refl) (record { heap = e.same; leaves = e.leaves; world = refl; name_is = refl })
+
+pub returns-then-popped-most-clause-bounded : goal.returns-then-popped-most-clause-bounded
+returns-then-popped-most-clause-bounded c =
+    let e = c.traces-popped.ensures in
+    let bound = e.popped.0 in
+    let count = e.popped.1 in
+    bounded-on c.args.most c.args.self.now _ stages.Draining stages.Looking c.requires.draining refl (omega (arith, bound, count), e.undrawn)
+
+pub returns-clause-collects : goal.returns-clause-collects
+returns-clause-collects c =
+    let x = c.args.self.now in
+    let e = c.traces-popped.ensures in
+    let count = e.popped.1 in
+    let all = c.if-popped-most.false in
+    let popped : count_of pops (did x.seat c.traces-popped.new.seat) ≡ c.args.most = omega (arith, count, all) in
+    step-on c.args.most x _ stages.Draining stages.Draining c.requires.draining c.requires.draining (popped, e.traces, refl) (record { heap = e.same; leaves = e.leaves; world = refl; name_is = refl })
+
+pub returns-clause-bounded : goal.returns-clause-bounded
+returns-clause-bounded c =
+    let e = c.traces-popped.ensures in
+    let bound = e.popped.0 in
+    let count = e.popped.1 in
+    bounded-on c.args.most c.args.self.now _ stages.Draining stages.Draining c.requires.draining c.requires.draining (omega (arith, bound, count), e.undrawn)
