@@ -11,7 +11,7 @@ use Rattle.mark_core.specs.declared.seat.Cleaning.{Cleaning}
 use Rattle.gc_table.specs.declared.view.Entry.{Entry}
 use Rattle.gc_table.specs.declared.view.View.{View}
 use Rattle.gc_table.specs.Seats.{Stored}
-use Rattle.gc_table.specs.Log.{events, event}
+use Rattle.gc_table.specs.Log.{event}
 use Rattle.gc_table.specs.Running.{Ran}
 use Rattle.gc_table.proofs.History.Log.{events-after, events-none}
 use Rattle.gc_table.proofs.Running.{ran-events}
