@@ -15,6 +15,7 @@ pub mod Given
 pub mod Quiets
 pub mod Exchanged
 pub mod Filled
+pub mod Few
 pub mod Counting
 pub mod ScanSteps
 pub mod Settled

@@ -5,6 +5,7 @@ pub mod Hands
 pub mod Quiet
 pub mod Seeking
 pub mod Gains
+pub mod StepBounds
 pub mod Scanning
 pub mod Orders
 pub mod Counts

@@ -44,6 +44,9 @@
 //! into packets (`specs/Fields.antt`, `specs/Counts.antt`); and that the slots are as they were, but for the packet
 //! that stands in the place of the one handed in (`specs/Scanning.antt`).
 //!
+//! Each search, and each scan, says how many steps it takes at most (`few`, by `specs/StepBounds.antt`). A search reads each word of the pools that it asks, and tries each
+//! packet once in each: two steps for one that it takes, one for one that it loses, and four where it is full and goes back.
+//!
 //! # Where things are
 //!
 //! `held` has the packet in hand, `entries` puts cells in and takes them out, `giving` returns a packet, `seeking`

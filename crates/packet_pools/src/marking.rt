@@ -1,5 +1,5 @@
 //! A cell that was loaded is marked, and goes into a packet.
-ghost use Rattle.std.specs.Prelude.{◌≡◌, ◌≤◌, [], ◌∷◌, if◌then◌else◌, Some, None, IsTrue};
+ghost use Rattle.std.specs.Prelude.{◌≡◌, ◌≤◌, ◌+◌, [], ◌∷◌, length, if◌then◌else◌, Some, None, IsTrue};
 ghost use Rattle.mark_core.specs.Held.{has_free_slot};
 ghost use Rattle.gc_table.specs.Seats.{Across, did, state_of, view_of};
 ghost use Rattle.packet_pools.specs.OnlyTraced.{OnlyTraced, IsNotedMarked};
@@ -8,6 +8,7 @@ ghost use Rattle.packet_pools.specs.Hands.{HoldsPacket};
 ghost use Rattle.packet_pools.specs.Scanning.{InHand, Pushes};
 ghost use Rattle.packet_pools.specs.Counts.{CountsMarked, CountsScanned};
 ghost use Rattle.packet_pools.specs.Fields.{AsksToMark};
+ghost use Rattle.packet_pools.specs.StepBounds.{give_steps, mark_steps, output_steps};
 
 use crate::entries::push;
 use crate::held::{Held, PacketFull};
@@ -27,6 +28,7 @@ fn push_marked(heap: &Heap, seat: &mut HeapSeat, out: &mut Held, cell: Cell) -> 
     ensures pushes { Across (Pushes out.old out.new (state_of seat.old).scan (state_of seat.old).cleaning) seat.old seat.new }
     ensures counts { CountsMarked heap.now.shape 0 (if result then 0 else 1) (if result then 1 else 0) (did seat.old seat.new) }
     ensures asks { AsksToMark [] (did seat.old seat.new) }
+    ensures few { length (did seat.old seat.new) ≤ output_steps heap.now.shape + give_steps + 1 }
 {
     make_room(heap, seat, out);
     match push(heap, seat, out, cell) {
@@ -52,6 +54,7 @@ pub fn mark_cell(heap: &Heap, seat: &mut HeapSeat, out: &mut Held, cell: Cell) -
     ensures counts { CountsScanned heap.now.shape result (did seat.old seat.new) }
     ensures asks { AsksToMark (cell ∷ []) (did seat.old seat.new) }
     ensures noted { IsTrue (state_of seat.old).alone → IsNotedMarked (view_of seat.new) cell }
+    ensures few { length (did seat.old seat.new) ≤ mark_steps heap.now.shape }
 {
     if !heap.set_mark(seat, cell) {
         return Scanned::none();

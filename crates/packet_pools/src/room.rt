@@ -1,5 +1,5 @@
 //! A full packet is changed for one with room.
-ghost use Rattle.std.specs.Prelude.{◌≡◌, ◌<◌, ◌≢◌, IsTrue};
+ghost use Rattle.std.specs.Prelude.{◌≡◌, ◌<◌, ◌≤◌, ◌+◌, ◌≢◌, length, IsTrue};
 ghost use Rattle.mark_core.specs.Held.{drop_packet, has_free_slot};
 ghost use Rattle.gc_table.specs.Seats.{Across, did, state_of, view_of};
 ghost use Rattle.packet_pools.specs.OnlyTraced.{OnlyTraced};
@@ -7,6 +7,7 @@ ghost use Rattle.packet_pools.specs.Tracing.{IsTracer};
 ghost use Rattle.packet_pools.specs.Hands.{HoldsPacket};
 ghost use Rattle.packet_pools.specs.Seeking.{NoOutput, only_moves, output_pools};
 ghost use Rattle.packet_pools.specs.Scanning.{Fills};
+ghost use Rattle.packet_pools.specs.StepBounds.{give_steps, output_steps};
 
 use crate::giving::give;
 use crate::held::Held;
@@ -24,6 +25,7 @@ fn change(heap: &Heap, seat: &mut HeapSeat, out: &mut Held, other: Held)
     ensures out { out.new ≡ other }
     ensures state { state_of seat.new ≡ record (state_of seat.old) { held = drop_packet (state_of seat.old).held out.old.packet } }
     ensures moves { IsTrue (only_moves output_pools (did seat.old seat.new)) }
+    ensures few { length (did seat.old seat.new) ≤ give_steps }
 {
     let full = mem::replace(out, other);
     give(heap, seat, full, false);
@@ -40,6 +42,7 @@ fn change_full(heap: &Heap, seat: &mut HeapSeat, out: &mut Held)
     ensures state { state_of seat.new ≡ record (state_of seat.old) { held = (state_of seat.new).held } }
     ensures moves { IsTrue (only_moves output_pools (did seat.old seat.new)) }
     ensures full { out.new.length ≡ heap.now.shape.entries → NoOutput heap.now.shape (did seat.old seat.new) }
+    ensures few { length (did seat.old seat.new) ≤ output_steps heap.now.shape + give_steps }
 {
     if let Some(other) = take_output(heap, seat) {
         change(heap, seat, out, other);
@@ -57,6 +60,7 @@ pub(crate) fn make_room(heap: &Heap, seat: &mut HeapSeat, out: &mut Held)
     ensures state { state_of seat.new ≡ record (state_of seat.old) { held = (state_of seat.new).held } }
     ensures moves { IsTrue (only_moves output_pools (did seat.old seat.new)) }
     ensures full { out.new.length ≡ heap.now.shape.entries → NoOutput heap.now.shape (did seat.old seat.new) }
+    ensures few { length (did seat.old seat.new) ≤ output_steps heap.now.shape + give_steps }
 {
     if out.length == heap.shape().entries {
         change_full(heap, seat, out);

@@ -1,5 +1,5 @@
 //! Objects are scanned: what they refer to is marked, and goes into packets.
-ghost use Rattle.std.specs.Prelude.{◌≡◌, ◌<◌, ◌≤◌, ◌+◌, ◌-◌, [], ◌∷◌, Some, None, IsTrue, IsFalse};
+ghost use Rattle.std.specs.Prelude.{◌≡◌, ◌<◌, ◌≤◌, ◌+◌, ◌-◌, [], ◌∷◌, length, Some, None, IsTrue, IsFalse};
 ghost use Rattle.mark_core.specs.Steps.ColourSteps.{may_read_field, without_cell};
 ghost use Rattle.mark_core.specs.Held.{has_free_slot};
 ghost use Rattle.mark_core.specs.Seats.{cleaning_left, may_scan, scan_left, work_in_hand};
@@ -10,6 +10,7 @@ ghost use Rattle.packet_pools.specs.Hands.{HoldsPacket};
 ghost use Rattle.packet_pools.specs.Scanning.{InHand, Pushes, scan_end, cleaning_end};
 ghost use Rattle.packet_pools.specs.Counts.{CountsScanned};
 ghost use Rattle.packet_pools.specs.Fields.{Follows, fields_from, fields_left};
+ghost use Rattle.packet_pools.specs.StepBounds.{follow_steps, scan_steps};
 
 use crate::held::Held;
 use crate::marking::mark_cell;
@@ -30,6 +31,7 @@ fn scan_field(heap: &Heap, seat: &mut HeapSeat, out: &mut Held, cell: Cell, i: u
     ensures most { (result.overflowed ≤ result.marked) × (result.marked ≤ 1) }
     ensures counts { CountsScanned heap.now.shape result (did seat.old seat.new) }
     ensures follows { Follows ((cell, i) ∷ []) (did seat.old seat.new) }
+    ensures few { length (did seat.old seat.new) ≤ follow_steps heap.now.shape }
 {
     let word = heap.read_field(seat, cell, i);
     if word == 0 {
@@ -51,6 +53,7 @@ fn scan_fields(heap: &Heap, seat: &mut HeapSeat, out: &mut Held, cell: Cell, nex
     ensures most { (result.overflowed ≤ result.marked) × (result.marked ≤ heap.now.shape.fields - next) }
     ensures counts { CountsScanned heap.now.shape result (did seat.old seat.new) }
     ensures follows { Follows (fields_from cell next (heap.now.shape.fields - next)) (did seat.old seat.new) }
+    ensures few { length (did seat.old seat.new) ≤ scan_steps (heap.now.shape.fields - next) heap.now.shape }
 {
     let mut scanned = Scanned::none();
     for i in next..heap.shape().fields as u8 {
@@ -78,6 +81,7 @@ pub fn scan_cell(heap: &Heap, seat: &mut HeapSeat, out: &mut Held) -> Scanned
     ensures most { (result.overflowed ≤ result.marked) × (result.marked ≤ heap.now.shape.fields) }
     ensures counts { CountsScanned heap.now.shape result (did seat.old seat.new) }
     ensures follows { Follows (fields_left heap.now.shape.fields (state_of seat.old).scan) (did seat.old seat.new) }
+    ensures few { length (did seat.old seat.new) ≤ scan_steps heap.now.shape.fields heap.now.shape }
 {
     match seat.state().scan {
         None => Scanned::none(),
@@ -100,6 +104,7 @@ pub fn scan_whole(heap: &Heap, seat: &mut HeapSeat, out: &mut Held, cell: Cell) 
     ensures most { (result.overflowed ≤ result.marked) × (result.marked ≤ heap.now.shape.fields) }
     ensures counts { CountsScanned heap.now.shape result (did seat.old seat.new) }
     ensures follows { Follows (fields_left heap.now.shape.fields (state_of seat.old).scan) (did seat.old seat.new) }
+    ensures few { length (did seat.old seat.new) ≤ scan_steps heap.now.shape.fields heap.now.shape }
 {
     scan_fields(heap, seat, out, cell, 0)
 }
@@ -117,6 +122,7 @@ pub fn scan_again(heap: &Heap, seat: &mut HeapSeat, out: &mut Held, cell: Cell) 
     ensures most { (result.overflowed ≤ result.marked) × (result.marked ≤ heap.now.shape.fields) }
     ensures counts { CountsScanned heap.now.shape result (did seat.old seat.new) }
     ensures follows { Follows (fields_from cell 0 heap.now.shape.fields) (did seat.old seat.new) }
+    ensures few { length (did seat.old seat.new) ≤ scan_steps heap.now.shape.fields heap.now.shape }
 {
     let first = scan_field(heap, seat, out, cell, 0);
     let rest = scan_fields(heap, seat, out, cell, 1);

@@ -1,4 +1,4 @@
-use Rattle.std.proofs.Common.{◌-◌, ◌≡◌, ◌+◌, ◌%◌, [], ◌∷◌, ◌++◌, List, refl, sym, ap, ◌∙◌, subst, Bool, true, false, not, cond}
+use Rattle.std.proofs.Common.{ℕ, arith, ◌-◌, ◌≡◌, ◌+◌, ◌%◌, [], ◌∷◌, ◌++◌, List, refl, sym, ap, ◌∙◌, subst, Bool, true, false, not, cond, ◌≤◌}
 use mir.Val.{bool_byte}
 use Rattle.std.proofs.lemmas.Bool.{true≢false, false≢true}
 use Rattle.mark_core.specs.Bits.{has_bit}
@@ -16,6 +16,8 @@ use Rattle.packet_pools.proofs.Marked.{marked-stays}
 use Rattle.packet_pools.proofs.TracedSteps.{traced-join, marks-noted}
 use Rattle.packet_pools.proofs.Doing.{traces-on}
 use Rattle.packet_pools.proofs.ScanSteps.{may-set_mark, traced-set_mark}
+use Rattle.packet_pools.specs.StepBounds.{give_steps, output_steps}
+use Rattle.packet_pools.proofs.Few.{few-after, few-join}
 use Rattle.packet_pools.proofs.Counting.{counts-join, counts-mark}
 use Rattle.packet_pools.specs.Fields.{AsksToMark}
 use Rattle.packet_pools.proofs.Reading.{asks-join}
@@ -31,6 +33,16 @@ from_not false false e = refl
 one-byte : (b : Bool) → 0 + cond b 1 0 ≡ bool_byte b
 one-byte true = refl
 one-byte false = refl
+
+byte-most : (b : Bool) → bool_byte b ≤ 1
+byte-most true = omega arith
+byte-most false = omega arith
+
+pub returns-clause-most : goal.returns-clause-most
+returns-clause-most c =
+    let most = byte-most c.push_marked-overflowed.result in
+    let byte = c.from.ensures in
+    (omega (arith, most, byte), omega arith)
 
 one-less : (b : Bool) → 0 + cond b 0 1 ≡ 1 - bool_byte b
 one-less true = refl
@@ -135,3 +147,17 @@ returns-clause-noted c alone =
     let v : View = view_of c.args.seat.now in
     let s = c.set_mark.ensures.view in
     marked-stays (view_of c.set_mark.new.seat) (view_of c.push_marked-overflowed.new.seat) c.push_marked-overflowed.ensures.only.ran c.push_marked-overflowed.ensures.only.only c.args.cell (ap (λ (z : View). z.state.alone) s.1 ∙ alone) (subst (λ (z : View). IsNotedMarked z c.args.cell) (sym s.1) (marks-noted v c.args.cell s.0 alone))
+
+pub returns-then-not-set_mark-clause-few : goal.returns-then-not-set_mark-clause-few
+returns-then-not-set_mark-clause-few c = let one = few-after (view_of c.args.seat.now) (view_of c.set_mark.new.seat) (SetMark c.args.cell) _ c.set_mark.ensures.view.1 in omega (arith, one)
+
+pub returns-clause-few : goal.returns-clause-few
+returns-clause-few c =
+    let v : View = view_of c.args.seat.now in
+    let w : View = view_of c.set_mark.new.seat in
+    let x : View = view_of c.push_marked-overflowed.new.seat in
+    let s = c.set_mark.ensures.view in
+    let p = c.push_marked-overflowed.ensures in
+    let n : ℕ = output_steps c.args.heap.now.shape + give_steps in
+    let all = few-join 1 (n + 1) v w x (traced-set_mark v w _ c.args.cell s.2 c.requires.hand.fresh s.1).ran p.only.ran (few-after v w _ _ s.1) p.few in
+    omega (arith, all)

@@ -13,6 +13,8 @@ use Rattle.gc_table.proofs.History.Log.{entry_of, events-after, events-join}
 use Rattle.packet_pools.proofs.TracedSteps.{traced-join}
 use Rattle.packet_pools.proofs.Doing.{traces-on}
 use Rattle.packet_pools.proofs.ScanSteps.{fresh-answers, may-dirty_card, traced-dirty_card}
+use Rattle.packet_pools.specs.StepBounds.{give_steps, output_steps}
+use Rattle.packet_pools.proofs.Few.{few-after, few-join}
 use Rattle.packet_pools.proofs.Counting.{counts-join, counts-lost, counts-moves, counts-push}
 use Rattle.packet_pools.proofs.Reading.{asks-join, asks-moves}
 use Rattle.packet_pools.proofs.Pushed.{dirtied, pushed, pushes-from}
@@ -136,3 +138,22 @@ returns-in-Err-clause-asks c =
     (events-join v w y m.only.log (traced-dirty_card w y _ (card_of c.args.cell) refl (fresh-answers w.state c.args.cell (card_of c.args.cell) (same-hand v w c.args.cell m.state c.requires.hand).fresh refl) e).log ∙ ap (λ (l : List Entry). events v w ++ l) (events-after w y _ _ e))
     (asks-moves (events v w) m.moves)
     (record { read = refl; named = refl; asked = refl })
+
+pub returns-in-Ok-clause-few : goal.returns-in-Ok-clause-few
+returns-in-Ok-clause-few c =
+    let v : View = view_of c.args.seat.now in
+    let w : View = view_of c.make_room.new.seat in
+    let x : View = view_of c.push.new.seat in
+    let m = c.make_room.ensures in
+    let e = c.in-Ok.ensures in
+    few-join (output_steps c.args.heap.now.shape + give_steps) 1 v w x m.only.ran e.only.ran m.few (few-after w x _ _ e.pushed.2)
+
+pub returns-in-Err-clause-few : goal.returns-in-Err-clause-few
+returns-in-Err-clause-few c =
+    let v : View = view_of c.args.seat.now in
+    let w : View = view_of c.make_room.new.seat in
+    let y : View = view_of c.dirty_card.new.seat in
+    let m = c.make_room.ensures in
+    let e = lost-step w (view_of c.push.new.seat) y c.card_of.result (card_of c.args.cell) _ c.in-Err.ensures.full.2 c.card_of.ensures c.dirty_card.ensures.view in
+    let last = traced-dirty_card w y _ (card_of c.args.cell) refl (fresh-answers w.state c.args.cell (card_of c.args.cell) (same-hand v w c.args.cell m.state c.requires.hand).fresh refl) e in
+    few-join (output_steps c.args.heap.now.shape + give_steps) 1 v w y m.only.ran last.ran m.few (few-after w y _ _ e)

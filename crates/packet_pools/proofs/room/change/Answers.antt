@@ -1,4 +1,4 @@
-use Rattle.std.proofs.Common.{sym, subst}
+use Rattle.std.proofs.Common.{false, sym, subst}
 use Rattle.std.specs.Prelude.{IsTrue, ◌==◌}
 use Rattle.mark_core.specs.Held.{holds_another}
 use Rattle.gc_table.specs.declared.view.View.{View}
@@ -8,6 +8,8 @@ use Rattle.packet_pools.specs.declared.held.Held.{Held}
 use Rattle.gc_table.specs.Log.{events}
 use Rattle.packet_pools.proofs.InHand.{known-held}
 use Rattle.packet_pools.proofs.Exchanged.{another-held}
+use Rattle.packet_pools.specs.StepBounds.{give_steps}
+use Rattle.packet_pools.proofs.Few.{few-steps, given-few}
 use Rattle.packet_pools.proofs.Counting.{given-moves}
 use Rattle.packet_pools.proofs.room.change.Goals as goal
 
@@ -22,3 +24,6 @@ give-requires-clause-work c =
 
 pub returns-clause-moves : goal.returns-clause-moves
 returns-clause-moves c = given-moves output_pools c.replace-full.result.packet (c.replace-full.result.length == 0) (events (view_of c.args.seat.now) (view_of c.give.new.seat)) c.give.ensures.steps
+
+pub returns-clause-few : goal.returns-clause-few
+returns-clause-few c = few-steps give_steps (view_of c.args.seat.now) (view_of c.give.new.seat) _ c.give.ensures.steps (given-few c.replace-full.result.packet false (c.replace-full.result.length == 0))

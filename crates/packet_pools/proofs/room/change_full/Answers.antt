@@ -8,6 +8,8 @@ use Rattle.packet_pools.specs.Scanning.{Fills}
 use Rattle.gc_table.proofs.History.Log.{events-join}
 use Rattle.packet_pools.proofs.TracedSteps.{traced-join}
 use Rattle.packet_pools.proofs.Searches.{moves-join}
+use Rattle.packet_pools.specs.StepBounds.{give_steps, output_steps}
+use Rattle.packet_pools.proofs.Few.{few-join}
 use Rattle.packet_pools.proofs.Filled.{apart, fills-other, kept}
 use Rattle.packet_pools.proofs.room.change_full.Goals as goal
 
@@ -41,3 +43,9 @@ returns-in-Some-clause-moves c =
     let e = c.in-Some.ensures in
     let f = c.change.ensures in
     ap (only_moves output_pools) (events-join v w x e.only.log f.only.log) ∙ moves-join output_pools (events v w) (events w x) e.some.0.moves f.moves
+
+pub returns-in-Some-clause-few : goal.returns-in-Some-clause-few
+returns-in-Some-clause-few c =
+    let e = c.in-Some.ensures in
+    let f = c.change.ensures in
+    few-join (output_steps c.args.heap.now.shape) give_steps (view_of c.args.seat.now) (view_of c.take_output.new.seat) (view_of c.change.new.seat) e.only.ran f.only.ran e.few f.few

@@ -1,4 +1,4 @@
-use Rattle.std.proofs.Common.{ℕ, ◌-◌, [], ◌∷◌, subst, arith, refl}
+use Rattle.std.proofs.Common.{ℕ, ◌*◌, ◌-◌, [], ◌∷◌, subst, arith, refl}
 use Rattle.mark_core.specs.declared.kinds.Shape.{Shape}
 use Rattle.gc_table.specs.declared.view.View.{View}
 use Rattle.gc_table.specs.Seats.{view_of}
@@ -7,6 +7,8 @@ use Rattle.gc_table.proofs.History.Log.{events-join}
 use Rattle.packet_pools.proofs.TracedSteps.{traced-join}
 use Rattle.packet_pools.specs.Fields.{Follows, fields_from}
 use Rattle.packet_pools.proofs.Reading.{fields-first, follows-join}
+use Rattle.packet_pools.specs.StepBounds.{follow_steps}
+use Rattle.packet_pools.proofs.Few.{few-join, first-more}
 use Rattle.packet_pools.proofs.Counting.{counts-join}
 use Rattle.packet_pools.proofs.Rounds.{first-field, read_again}
 use Rattle.packet_pools.proofs.scanning.scan_again.Goals as goal
@@ -48,3 +50,14 @@ returns-clause-follows c =
     let f = c.scan_fields-rest.ensures in
     subst (λ l. Follows l (events v x)) (fields-first c.args.cell n c.args.heap.now.shaped.fields.0)
     (follows-join ((c.args.cell, 0) ∷ []) (fields_from c.args.cell 1 (n - 1)) (events v w) (events w x) (events v x) (events-join v w x e.only.log f.only.log) e.follows f.follows)
+
+pub returns-clause-few : goal.returns-clause-few
+returns-clause-few c =
+    let sh : Shape = c.args.heap.now.shape in
+    let each : ℕ = follow_steps sh in
+    let n : ℕ = sh.fields in
+    let e = c.scan_field-first.ensures in
+    let f = c.scan_fields-rest.ensures in
+    let all = few-join each ((n - 1) * each) (view_of c.args.seat.now) (view_of c.scan_field-first.new.seat) (view_of c.scan_fields-rest.new.seat) e.only.ran f.only.ran e.few f.few in
+    let sum = first-more n each c.args.heap.now.shaped.fields.0 in
+    omega (arith, all, sum)

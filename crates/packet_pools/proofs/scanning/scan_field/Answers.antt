@@ -16,6 +16,8 @@ use Rattle.packet_pools.proofs.ScanSteps.{may-read_field, traced-read_field}
 use Rattle.packet_pools.specs.Fields.{AsksToMark}
 use Rattle.std.proofs.lemmas.Bool.{ne_eqb}
 use Rattle.packet_pools.proofs.Reading.{follows-cell, follows-nil}
+use Rattle.packet_pools.specs.StepBounds.{mark_steps}
+use Rattle.packet_pools.proofs.Few.{few-after, few-join}
 use Rattle.packet_pools.proofs.Counting.{counts-join, counts-read}
 use Rattle.packet_pools.proofs.scanning.scan_field.Goals as goal
 
@@ -107,3 +109,14 @@ returns-clause-follows c =
     (events-join v w x (traced-read_field v w n c.args.cell c.args.i e.1 e.0).log m.only.log ∙ ap (λ (l : List Entry). l ++ events w x) (events-after v w _ _ e.0))
     (ne_eqb n 0 c.if-word-eq0.false)
     (subst (λ (k : ℕ). AsksToMark (k ∷ []) (events w x)) c.cell_of.ensures m.asks)
+
+pub returns-then-word-eq0-clause-few : goal.returns-then-word-eq0-clause-few
+returns-then-word-eq0-clause-few c = let one = few-after (view_of c.args.seat.now) (view_of c.read_field-word.new.seat) (ReadField c.args.cell c.args.i) _ c.read_field-word.ensures.view.0 in omega (arith, one)
+
+pub returns-clause-few : goal.returns-clause-few
+returns-clause-few c =
+    let v : View = view_of c.args.seat.now in
+    let w : View = view_of c.read_field-word.new.seat in
+    let e = c.read_field-word.ensures.view in
+    let m = c.mark_cell.ensures in
+    few-join 1 (mark_steps c.args.heap.now.shape) v w (view_of c.mark_cell.new.seat) (traced-read_field v w _ c.args.cell c.args.i e.1 e.0).ran m.only.ran (few-after v w _ _ e.0) m.few

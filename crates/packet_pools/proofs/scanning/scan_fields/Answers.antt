@@ -7,6 +7,8 @@ use Rattle.gc_table.proofs.History.Log.{events-join}
 use Rattle.packet_pools.proofs.TracedSteps.{traced-join}
 use Rattle.packet_pools.specs.Fields.{Follows, fields_from}
 use Rattle.packet_pools.proofs.Reading.{fields-next, follows-join}
+use Rattle.packet_pools.specs.StepBounds.{follow_steps}
+use Rattle.packet_pools.proofs.Few.{more-fields}
 use Rattle.packet_pools.proofs.Counting.{counts-join}
 use Rattle.packet_pools.proofs.Rounds.{round}
 use Rattle.packet_pools.proofs.scanning.scan_fields.Goals as goal
@@ -42,4 +44,5 @@ loop-i-preserved c =
       follows =
           subst (λ l. Follows l (events v x)) (fields-next c.args.cell c.args.next c.loop-i.i i.order)
           (follows-join (fields_from c.args.cell c.args.next (c.loop-i.i - c.args.next)) ((c.args.cell, c.loop-i.i) ∷ []) (events v w) (events w x) (events v x) (events-join v w x i.only.log e.only.log) i.follows e.follows);
+      few = more-fields c.args.next c.loop-i.i (follow_steps sh) v w x i.order i.only.ran e.only.ran i.few e.few;
     }

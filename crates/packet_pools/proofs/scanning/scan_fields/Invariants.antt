@@ -1,4 +1,4 @@
-use Rattle.std.proofs.Common.{◌-◌, ◌≡◌, ◌≤◌, ◌+◌, Some}
+use Rattle.std.proofs.Common.{◌-◌, ◌≡◌, ◌≤◌, ◌+◌, length, Some}
 use Rattle.gc_table.specs.Seats.{Sits, view_of}
 use Rattle.packet_pools.specs.OnlyTraced.{OnlyTraced}
 use Rattle.gc_table.specs.Log.{events}
@@ -6,6 +6,7 @@ use Rattle.packet_pools.specs.Tracing.{Traces}
 use Rattle.packet_pools.specs.Scanning.{Pushes}
 use Rattle.packet_pools.specs.Counts.{CountsMarked}
 use Rattle.packet_pools.specs.Fields.{Follows, fields_from}
+use Rattle.packet_pools.specs.StepBounds.{scan_steps}
 use Rattle.packet_pools.proofs.Rounds.{cleaned}
 use Rattle.packet_pools.proofs.scanning.scan_fields.Given as goal
 
@@ -20,4 +21,5 @@ invariant-loop-i l = record {
   most : (l.scanned.overflowed ≤ l.scanned.marked) × (l.scanned.marked + l.fn.next ≤ l.i);
   counts : CountsMarked l.heap.shape l.scanned.marked (l.scanned.marked - l.scanned.overflowed) l.scanned.overflowed (events (view_of l.fn.seat) (view_of l.seat));
   follows : Follows (fields_from l.fn.cell l.fn.next (l.i - l.fn.next)) (events (view_of l.fn.seat) (view_of l.seat));
+  few : length (events (view_of l.fn.seat) (view_of l.seat)) ≤ scan_steps (l.i - l.fn.next) l.heap.shape;
 }

@@ -1,4 +1,5 @@
-use Rattle.std.proofs.Common.{ℕ, ◌≡◌, ◌+◌, ◌*◌, arith, subst, sym, ap, ◌∙◌, List}
+use Rattle.std.proofs.Common.{ℕ, ◌≡◌, ◌+◌, ◌*◌, arith, subst, sym, ap, ◌∙◌, refl, List, [], ◌∷◌}
+use Rattle.std.proofs.lemmas.Bool.{false≢true}
 use Rattle.mark_core.specs.Layout.{pool_words}
 use Rattle.mark_core.specs.Numbers.{word_bits}
 use Rattle.mark_core.specs.declared.kinds.Shape.{Shape}
@@ -6,9 +7,11 @@ use Rattle.gc_table.specs.declared.view.Entry.{Entry}
 use Rattle.gc_table.specs.declared.view.View.{View}
 use Rattle.gc_table.specs.Seats.{view_of}
 use Rattle.gc_table.specs.Log.{events}
+use Rattle.packet_pools.specs.Seeking.{only_moves, was_got}
 use Rattle.packet_pools.specs.Gains.{MissesPackets}
-use Rattle.gc_table.proofs.History.Log.{events-join}
-use Rattle.packet_pools.proofs.TracedSteps.{traced-join}
+use Rattle.gc_table.proofs.History.Log.{events-join, events-none}
+use Rattle.packet_pools.proofs.Few.{few-none, tries-all, tries-start, tries-word}
+use Rattle.packet_pools.proofs.TracedSteps.{traced-join, traced-refl}
 use Rattle.packet_pools.proofs.Searches.{misses-join}
 use Rattle.packet_pools.proofs.WordSearch.{seeks-on, gains-from}
 use Rattle.packet_pools.proofs.seeking.take_any.Goals as goal
@@ -41,6 +44,7 @@ loop-g-preserved c =
       misses =
           subst (λ (x : ℕ × List Entry). MissesPackets sh c.args.q c.args.not_full 0 x.0 x.1) (λ y. (next y, sym (events-join v w u i.only.log e.only.log) y))
           (misses-join sh c.args.q c.args.not_full 0 (word_bits * g) (word_bits * g + word_bits) (events v w) (events w u) (omega arith) i.misses e.none.1);
+      few = tries-word sh c.args.not_full g 0 v w u i.only.ran e.only.ran i.few e.few;
     }
 
 pub returns-clause-none : goal.returns-clause-none
@@ -54,3 +58,36 @@ returns-clause-none c =
     let packets : c.shape.result.packets ≡ sh.packets = ap (λ (x : Shape). x.packets) c.shape.ensures in
     let last : g ≡ pool_words sh = omega (arith, past, most, end, packets) in
     (i.state, subst (λ x. MissesPackets sh c.args.q c.args.not_full 0 (word_bits * x) (events (view_of c.args.seat.now) (view_of c.loop-g.seat))) last i.misses)
+
+pub loop-g-init : goal.loop-g-init
+loop-g-init c =
+    let v : View = view_of c.args.seat.now in
+    let none = events-none v in
+    record {
+      sits = c.requires.seat.0;
+      only = traced-refl v;
+      state = refl;
+      misses = record { all = λ p a b l. absurd (omega (arith, b)); got = λ p t. absurd (false≢true (ap (was_got p) (sym none) ∙ t)); moves = ap (only_moves (c.args.q ∷ [])) none };
+      few = tries-start c.args.heap.now.shape c.args.not_full 0 0 (events v v) (omega arith) (few-none v);
+    }
+
+pub returns-in-Some-clause-few : goal.returns-in-Some-clause-few
+returns-in-Some-clause-few c =
+    let sh : Shape = c.args.heap.now.shape in
+    let i = c.loop-g.invariant in
+    let e = c.in-Some.ensures in
+    let g : ℕ = c.loop-g.g in
+    let below = c.loop-g-test.true in
+    let end = c.div_ceil-g-end.ensures in
+    let packets : c.shape.result.packets ≡ sh.packets = ap (λ (x : Shape). x.packets) c.shape.ensures in
+    tries-all sh c.args.not_full (g + 1) 1 (word_bits * (g + 1)) _ (omega (arith, below, end, packets))
+    (tries-word sh c.args.not_full g 1 (view_of c.args.seat.now) (view_of c.loop-g.seat) (view_of c.take_in_word.new.seat) i.only.ran e.only.ran i.few e.few)
+
+pub returns-clause-few : goal.returns-clause-few
+returns-clause-few c =
+    let sh : Shape = c.args.heap.now.shape in
+    let g : ℕ = c.loop-g.g in
+    let most = c.loop-g.auto.g-end in
+    let end = c.div_ceil-g-end.ensures in
+    let packets : c.shape.result.packets ≡ sh.packets = ap (λ (x : Shape). x.packets) c.shape.ensures in
+    tries-all sh c.args.not_full g 0 (word_bits * g) _ (omega (arith, most, end, packets)) c.loop-g.invariant.few

@@ -4,6 +4,7 @@ use Rattle.gc_table.specs.Seats.{Sits, view_of}
 use Rattle.packet_pools.specs.OnlyTraced.{OnlyTraced}
 use Rattle.gc_table.specs.Log.{events}
 use Rattle.packet_pools.specs.Gains.{MissesPackets}
+use Rattle.packet_pools.specs.StepBounds.{TriesPackets}
 use Rattle.packet_pools.proofs.seeking.take_any.Given as goal
 
 abbrev pub invariant-loop-g : goal.invariant-loop-g
@@ -12,4 +13,5 @@ invariant-loop-g l = record {
   only : OnlyTraced (view_of l.fn.seat) (view_of l.seat);
   state : (view_of l.seat).state ≡ (view_of l.fn.seat).state;
   misses : MissesPackets l.heap.shape l.fn.q l.fn.not_full 0 (word_bits * l.g) (events (view_of l.fn.seat) (view_of l.seat));
+  few : TriesPackets l.heap.shape l.fn.not_full l.g 0 (word_bits * l.g) 0 (events (view_of l.fn.seat) (view_of l.seat));
 }

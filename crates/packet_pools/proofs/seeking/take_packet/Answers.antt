@@ -13,7 +13,9 @@ use Rattle.packet_pools.specs.Gains.{MissesPackets}
 use Rattle.gc_table.proofs.History.Log.{events-after}
 use Rattle.packet_pools.proofs.TracedSteps.{traced-join}
 use Rattle.packet_pools.proofs.Conditions.{may-take, may-read_length}
-use Rattle.packet_pools.proofs.Doing.{traced-take}
+use Rattle.packet_pools.specs.StepBounds.{try_steps}
+use Rattle.packet_pools.proofs.Few.{few-after, few-join, few-steps, given-full, some-tries}
+use Rattle.packet_pools.proofs.Doing.{traced-read_length, traced-take}
 use Rattle.packet_pools.proofs.TakenOne.{lost-state, lost-misses, work-holds}
 use Rattle.packet_pools.proofs.TakenRead.{w-there, w-holds, w-unread, only-traced, held, gains, traces, keeps-another, back-state, back-misses, fits}
 use Rattle.packet_pools.proofs.seeking.take_packet.Goals.{else-not_full-via-then-not_full+else-length-shape, else-not_full-via-else-not_full}
@@ -138,3 +140,38 @@ returns-clause-some c =
       | else-not_full-via-else-not_full u ↦ absurd (true≢false (sym e ∙ u.if-not_full.false))
     ] in
     gains v w q p t.0 k low c.requires.packet.1 t.1 bit x r.0 n r.1 r.2 r.3 c.args.not_full roomy
+
+pub returns-then-not-take-clause-few : goal.returns-then-not-take-clause-few
+returns-then-not-take-clause-few c =
+    let one = few-after (view_of c.args.seat.now) (view_of c.take.new.seat) (Take c.args.q c.args.p) _ c.take.ensures.view.1 in
+    let some = some-tries c.args.not_full in
+    omega (arith, one, some)
+
+pub returns-then-length-shape-clause-few : goal.returns-then-length-shape-clause-few
+returns-then-length-shape-clause-few c =
+    let v : View = view_of c.args.seat.now in
+    let w : View = view_of c.take.new.seat in
+    let x : View = view_of c.read_length-length.new.seat in
+    let y : View = view_of c.give.new.seat in
+    let t = c.take.ensures.view in
+    let r = c.read_length-length.ensures.view in
+    let low = there c.args.heap.now.shape v c.args.p c.requires.seat.0.1 c.requires.packet.0 in
+    let only = only-traced v w c.args.q c.args.p t.0 c.requires.seat.1 low c.requires.packet.1 t.1 (sym t.3 ∙ c.if-not-take.false) x r.0 c.read_length-length.result r.1 r.2 r.3 t.2 in
+    let pair = few-join 1 1 v w x (traced-take v w t.0 c.args.q c.args.p t.2 t.1).ran (traced-read_length w x r.0 c.args.p r.2 r.1).ran (few-after v w _ _ t.1) (few-after w x _ _ r.1) in
+    let full = c.if-length-shape.true ∙ ap (λ (s : Shape). s.entries) c.shape.ensures in
+    let two = c.args.heap.now.shaped.entries.0 in
+    let back = few-steps 2 x y _ c.give.ensures.steps (given-full c.args.p c.read_length-length.result false (omega (arith, full, two))) in
+    let all = few-join 2 2 v x y only.ran c.give.ensures.only.ran pair back in
+    let tries = ap try_steps c.if-not_full.true in
+    omega (arith, all, tries)
+
+pub returns-clause-few : goal.returns-clause-few
+returns-clause-few c =
+    let v : View = view_of c.args.seat.now in
+    let w : View = view_of c.take.new.seat in
+    let x : View = view_of c.read_length-length.new.seat in
+    let t = c.take.ensures.view in
+    let r = c.read_length-length.ensures.view in
+    let pair = few-join 1 1 v w x (traced-take v w t.0 c.args.q c.args.p t.2 t.1).ran (traced-read_length w x r.0 c.args.p r.2 r.1).ran (few-after v w _ _ t.1) (few-after w x _ _ r.1) in
+    let some = some-tries c.args.not_full in
+    omega (arith, pair, some)

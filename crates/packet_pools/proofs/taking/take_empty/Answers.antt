@@ -1,4 +1,4 @@
-use Rattle.std.proofs.Common.{ℕ, ◌≡◌, ◌*◌, ◌++◌, [], ◌∷◌, sym, ap, ◌∙◌, subst, arith, false, inl}
+use Rattle.std.proofs.Common.{ℕ, ◌≡◌, ◌*◌, ◌++◌, [], ◌∷◌, sym, ap, ◌∙◌, subst, arith, false, inl, ◌+◌}
 use Rattle.mark_core.specs.Layout.{pool_words}
 use Rattle.mark_core.specs.Held.{has_free_slot, holds}
 use Rattle.mark_core.specs.Numbers.{empty_pool_number, word_bits}
@@ -21,6 +21,8 @@ use Rattle.packet_pools.proofs.TracedSteps.{traced-join}
 use Rattle.packet_pools.proofs.Conditions.{may-reserve, traces-later}
 use Rattle.packet_pools.proofs.Doing.{traced-reserve, traced-credit, traces-on}
 use Rattle.packet_pools.proofs.PoolSearch.{misses-within}
+use Rattle.packet_pools.specs.StepBounds.{pool_steps}
+use Rattle.packet_pools.proofs.Few.{few-after, few-join}
 use Rattle.packet_pools.proofs.Choices.{traces-gained}
 use Rattle.packet_pools.proofs.taking.take_empty.Goals as goal
 
@@ -122,3 +124,27 @@ returns-in-None-clause-none c =
       same-state v w u x _ _ t.unreserved t.uncredited e f.none.0 d,
       subst (MissesPackets sh empty_pool_number false 0 (word_bits * pool_words sh)) (sym es) (misses-within sh 0 false 0 (word_bits * pool_words sh) (events v w) (events w u) (events u x) first_none last_none (ap (only_moves (0 ∷ [])) (events-after v w Reserve _ e)) (ap (only_moves (0 ∷ [])) (events-after u x Credit _ d)) f.none.1),
     )
+
+pub returns-in-Some-clause-few : goal.returns-in-Some-clause-few
+returns-in-Some-clause-few c =
+    let v : View = view_of c.args.seat.now in
+    let w : View = view_of c.reserve.new.seat in
+    let e = c.reserve.ensures.view.1 in
+    let f = c.in-Some.ensures in
+    let all = few-join 1 (pool_steps false c.args.heap.now.shape + 1) v w (view_of c.take_any.new.seat) (traced-reserve v w _ e.1 e.0).ran f.only.ran (few-after v w _ _ e.0) f.few in
+    omega (arith, all)
+
+pub returns-in-None-clause-few : goal.returns-in-None-clause-few
+returns-in-None-clause-few c =
+    let n : ℕ = pool_steps false c.args.heap.now.shape in
+    let v : View = view_of c.args.seat.now in
+    let w : View = view_of c.reserve.new.seat in
+    let u : View = view_of c.take_any.new.seat in
+    let x : View = view_of c.credit.new.seat in
+    let e = c.reserve.ensures.view.1 in
+    let d = c.credit.ensures.view.1 in
+    let f = c.in-None.ensures in
+    let last = traced-credit u x _ d.1 d.0 in
+    let rest = few-join (n + 0) 1 w u x f.only.ran last.ran f.few (few-after u x _ _ d.0) in
+    let all = few-join 1 (n + 0 + 1) v w x (traced-reserve v w _ e.1 e.0).ran (traced-join w u x f.only last).ran (few-after v w _ _ e.0) rest in
+    omega (arith, all)

@@ -1,7 +1,7 @@
 use Rattle.std.specs.Prelude.{IsTrue, nat_le}
 use Rattle.gc_table.specs.Fetching.{is_in_range}
 use Rattle.std.proofs.lemmas.Bool.{and_from, and_parts, leb-true}
-use Rattle.std.proofs.Common.{ℕ, true, ◌≡◌, ◌≤◌, ◌<◌, ◌*◌, ◌++◌, [], ◌∷◌, refl, sym, ap, ◌∙◌, subst, arith, false}
+use Rattle.std.proofs.Common.{ℕ, true, ◌≡◌, ◌≤◌, ◌<◌, ◌*◌, ◌++◌, [], ◌∷◌, refl, sym, ap, ◌∙◌, subst, arith, false, ◌+◌}
 use Rattle.mark_core.specs.Layout.{pool_words}
 use Rattle.mark_core.specs.Numbers.{high_pool_number, low_pool_number, word_bits}
 use Rattle.mark_core.specs.declared.kinds.Shape.{Shape}
@@ -16,6 +16,8 @@ use Rattle.packet_pools.proofs.TracedSteps.{traced-join}
 use Rattle.packet_pools.proofs.AllMissed.{all-range}
 use Rattle.packet_pools.proofs.Searches.{none-got, first-pool, moves-join, next-pools, was-missed-left, was-missed-right}
 use Rattle.packet_pools.proofs.PoolSearch.{pool-missed, takes-first, takes-next}
+use Rattle.packet_pools.specs.StepBounds.{had_steps, pool_steps}
+use Rattle.packet_pools.proofs.Few.{few-join, had-most}
 use Rattle.packet_pools.proofs.Choices.{if-some, if-none, seeks-from, traces-same, traces-gained, traces-either, low-some}
 use Rattle.packet_pools.proofs.taking.take_input.Goals as goal
 
@@ -87,3 +89,15 @@ returns-in-Some-clause-some c =
     let e = c.in-Some.ensures in
     let two : 2 ≤ v.shape.entries = subst (λ (s : Shape). 2 ≤ s.entries) (sym c.requires.seat.0.1) c.args.heap.now.shaped.entries.0 in
     (takes-first high_pool_number (low_pool_number ∷ []) false c.in-Some.held v w c.requires.seat.1.unreserved e.some, high-some v.shape c.in-Some.held.length two e.some.range)
+
+pub returns-in-Some-clause-few : goal.returns-in-Some-clause-few
+returns-in-Some-clause-few c = let few = c.in-Some.ensures.few in omega (arith, few)
+
+pub returns-in-None-clause-few : goal.returns-in-None-clause-few
+returns-in-None-clause-few c =
+    let n : ℕ = pool_steps false c.args.heap.now.shape in
+    let e = c.in-None.ensures in
+    let f = c.take_any-in-None.ensures in
+    let most = had-most c.take_any-in-None.result in
+    let all = few-join n (n + had_steps c.take_any-in-None.result) (view_of c.args.seat.now) (view_of c.take_any.new.seat) (view_of c.take_any-in-None.new.seat) e.only.ran f.only.ran (let few = e.few in omega (arith, few)) f.few in
+    omega (arith, all, most)

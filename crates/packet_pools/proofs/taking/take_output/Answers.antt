@@ -1,6 +1,6 @@
 use Rattle.std.specs.Prelude.{IsTrue}
 use Rattle.gc_table.specs.Fetching.{is_in_range}
-use Rattle.std.proofs.Common.{ℕ, inl, ⊎_elim, eqb-true, ◌≡◌, ◌≤◌, ◌<◌, ◌*◌, ◌++◌, [], ◌∷◌, refl, sym, ap, ◌∙◌, subst, arith, true, false, List}
+use Rattle.std.proofs.Common.{ℕ, inl, ⊎_elim, eqb-true, ◌≡◌, ◌≤◌, ◌<◌, ◌*◌, ◌++◌, [], ◌∷◌, refl, sym, ap, ◌∙◌, subst, arith, true, false, List, length, ◌+◌, Option, Some, None}
 use Rattle.mark_core.specs.Layout.{pool_words}
 use Rattle.mark_core.specs.Numbers.{empty_pool_number, high_pool_number, low_pool_number, word_bits}
 use Rattle.mark_core.specs.declared.kinds.Shape.{Shape}
@@ -18,6 +18,9 @@ use Rattle.std.proofs.lemmas.Bool.{and_from}
 use Rattle.packet_pools.proofs.AllMissed.{all-range}
 use Rattle.packet_pools.proofs.Searches.{missed-right, none-got, first-pool, moves-join, next-pools, was-missed-left, was-missed-right}
 use Rattle.packet_pools.proofs.PoolSearch.{below-words, pool-missed, takes-first, takes-next}
+use Rattle.packet_pools.specs.OnlyTraced.{OnlyTraced}
+use Rattle.packet_pools.specs.StepBounds.{had_steps, pool_steps}
+use Rattle.packet_pools.proofs.Few.{few-join, had-most}
 use Rattle.packet_pools.proofs.Choices.{if-some, if-none, seeks-from, traces-same, traces-gained, traces-either, low-room}
 use Rattle.packet_pools.proofs.taking.take_output.Goals as goal
 
@@ -143,3 +146,33 @@ returns-in-Some-clause-some c =
       record { unheld = t.unheld; held = t.held; state = t.state; from = inl from; moves = first-pool empty_pool_number (low_pool_number ∷ high_pool_number ∷ []) (events v w) t.moves },
       subst (λ (s : Shape). h.length < s.entries) c.requires.seat.0.1 (empty-room v.shape h.length two from.0),
     )
+
+pub returns-in-Some-clause-few : goal.returns-in-Some-clause-few
+returns-in-Some-clause-few c = let few = c.in-Some.ensures.few in omega (arith, few)
+
+-- the first two pools
+two-few : (n : ℕ) (o : Option Held) (u v w : View) → OnlyTraced u v → OnlyTraced v w → length (events u v) ≤ n + 2 → length (events v w) ≤ n + had_steps o → length (events u w) ≤ 2 * n + had_steps o + 2
+two-few n o u v w a b p q = let all = few-join (n + 2) (n + had_steps o) u v w a.ran b.ran p q in omega (arith, all)
+
+pub returns-in-Some-take_any-clause-few : goal.returns-in-Some-take_any-clause-few
+returns-in-Some-take_any-clause-few c =
+    let e = c.in_default.ensures in
+    let f = c.in-Some-take_any.ensures in
+    let all = two-few (pool_steps false c.args.heap.now.shape) (Some c.in-Some-take_any.held) (view_of c.args.seat.now) (view_of c.take_empty.new.seat) (view_of c.take_any.new.seat) e.only f.only e.few f.few in
+    omega (arith, all)
+
+pub returns-clause-few : goal.returns-clause-few
+returns-clause-few c =
+    let sh : Shape = c.args.heap.now.shape in
+    let n : ℕ = pool_steps false sh in
+    let v : View = view_of c.args.seat.now in
+    let a : View = view_of c.take_empty.new.seat in
+    let b : View = view_of c.take_any.new.seat in
+    let d : View = view_of c.take_any-2.new.seat in
+    let e = c.in_default.ensures in
+    let f = c.in_default-take_any.ensures in
+    let g = c.take_any-2.ensures in
+    let most = had-most c.take_any-2.result in
+    let two = two-few n None v a b e.only f.only e.few f.few in
+    let all = few-join (2 * n + 0 + 2) (pool_steps true sh + had_steps c.take_any-2.result) v b d (traced-join v a b e.only f.only).ran g.only.ran two g.few in
+    omega (arith, all, most)

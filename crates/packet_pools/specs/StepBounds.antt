@@ -1,0 +1,59 @@
+-- How many steps a call takes at most, by the words of a pool, the packets and the fields.
+use Rattle.std.specs.Prelude.{ℕ, ◌≤◌, ◌+◌, ◌*◌, List, length, Bool, true, false, Option, Some, None}
+use Rattle.mark_core.specs.Layout.{pool_words}
+use Rattle.mark_core.specs.declared.kinds.Shape.{Shape}
+use Rattle.gc_table.specs.declared.view.Entry.{Entry}
+use Rattle.packet_pools.specs.declared.held.Held.{Held}
+
+-- a packet that isn't had: its take is lost; or, where it must not be full, it is taken, read as full, and given back
+abbrev pub try_steps : Bool → ℕ
+try_steps false = 1
+try_steps true = 4
+
+-- the length of a packet that was had is read
+abbrev pub had_steps : Option Held → ℕ
+had_steps None = 0
+had_steps (Some h) = 1
+
+-- so many words were read, and packets from lo on and below hi were tried, those that there are, each once
+pub record TriesPackets (sh : Shape) (not_full : Bool) (words lo hi more : ℕ) (es : List Entry) : Type 0 where
+  pub tried : ℕ
+  pub within : lo + tried ≤ hi
+  pub there : lo + tried ≤ sh.packets
+  pub few : length es ≤ words + try_steps not_full * tried + more
+
+-- a search of one pool: each word is read, and each packet tried
+abbrev pub pool_steps : Bool → Shape → ℕ
+pool_steps not_full sh = pool_words sh + try_steps not_full * sh.packets
+
+-- a search for a deferred packet
+abbrev pub deferred_steps : Shape → ℕ
+deferred_steps sh = pool_steps false sh + 1
+
+-- a search for a packet to read from, in two pools
+abbrev pub input_steps : Shape → ℕ
+input_steps sh = 2 * pool_steps false sh + 1
+
+-- a search for a packet with room, in three pools, with a reservation that is taken and given up
+abbrev pub output_steps : Shape → ℕ
+output_steps sh = 2 * pool_steps false sh + pool_steps true sh + 3
+
+-- a packet goes back: its length is stored, it is given, and counted where it is empty
+abbrev pub give_steps : ℕ
+give_steps = 3
+
+-- a cell is marked and pushed, or its card dirtied, after a full packet was changed for another
+abbrev pub mark_steps : Shape → ℕ
+mark_steps sh = output_steps sh + give_steps + 2
+
+-- a search for any packet: for one with room, and then for one to read from
+abbrev pub any_steps : Shape → ℕ
+any_steps sh = output_steps sh + input_steps sh
+
+-- a field or a root is read, and what it refers to is marked
+abbrev pub follow_steps : Shape → ℕ
+follow_steps sh = 1 + mark_steps sh
+
+-- an object is scanned, field by field
+abbrev pub scan_steps : ℕ → Shape → ℕ
+scan_steps fields sh = fields * follow_steps sh
