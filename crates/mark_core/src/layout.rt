@@ -195,14 +195,6 @@ pub fn identity_at(shape: &Shape, c: u32) -> usize
     identities(shape) + c as usize
 }
 
-/// How many commands each section has done, as stored last: a word a section.
-pub fn positions_of<'a>(shape: &Shape, words: &'a [u64]) -> &'a [u64]
-    requires { length words.now ≡ total_words_of (region_sizes shape.now) }
-    ensures { result.now ≡ (words_of shape.now words.now).positions }
-{
-    &words[positions(shape)..roots(shape)]
-}
-
 /// The words of the roots: the 32 variables of each section, section by section, and the slots of each section behind.
 pub fn roots_of<'a>(shape: &Shape, words: &'a [u64]) -> &'a [u64]
     requires shaped { IsShape shape.now }
@@ -237,31 +229,4 @@ pub fn cards_of<'a>(shape: &Shape, words: &'a [u64]) -> &'a [u64]
     ensures { result.now ≡ (words_of shape.now words.now).cards }
 {
     &words[cards(shape)..heads(shape)]
-}
-
-/// The identity of each cell: its section times `SECTION_SPAN`, and the number of its object.
-pub fn identities_of<'a>(shape: &Shape, words: &'a [u64]) -> &'a [u64]
-    requires shaped { IsShape shape.now }
-    requires whole { length words.now ≡ total_words_of (region_sizes shape.now) }
-    ensures { result.now ≡ (words_of shape.now words.now).identities }
-{
-    &words[identities(shape)..values(shape)]
-}
-
-/// The value of each cell.
-pub fn values_of<'a>(shape: &Shape, words: &'a [u64]) -> &'a [u64]
-    requires shaped { IsShape shape.now }
-    requires whole { length words.now ≡ total_words_of (region_sizes shape.now) }
-    ensures { result.now ≡ (words_of shape.now words.now).values }
-{
-    &words[values(shape)..fields(shape)]
-}
-
-/// The fields of all cells, cell by cell: as many for each as the shape says.
-pub fn fields_of<'a>(shape: &Shape, words: &'a [u64]) -> &'a [u64]
-    requires shaped { IsShape shape.now }
-    requires whole { length words.now ≡ total_words_of (region_sizes shape.now) }
-    ensures { result.now ≡ (words_of shape.now words.now).fields }
-{
-    &words[fields(shape)..pools(shape)]
 }

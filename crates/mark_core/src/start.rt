@@ -107,10 +107,11 @@ pub fn start_words(alloc: Global, shape: &Shape) -> Result<Vec<u64>, AllocError>
     ensures { IfOk result (λ v. v.items ≡ start_words_of shape.now) }
 {
     let empty = EMPTY_OFFSET + u64::from(shape.packets);
-    let mut words = Vec::new(alloc);
+    let total = layout::total_words(shape);
+    let mut words = Vec::with_capacity(alloc, total)?;
     words.extend_from_slice(&[0, 0, empty, 0, 0, 0, 0, 0, 0, u64::from(shape.cells), 0])?;
     words.resize(layout::pools(shape), 0)?;
     words.extend_from_slice(full_pool(alloc, shape)?.as_slice())?;
-    words.resize(layout::total_words(shape), 0)?;
+    words.resize(total, 0)?;
     Ok(words)
 }
