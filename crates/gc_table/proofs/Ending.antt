@@ -3,7 +3,6 @@ use Rattle.std.proofs.Common.{ℕ, ◌≡◌, ◌<◌, List, length, Option, Som
 use Rattle.std.specs.Prelude.{slice_get, nat_lt, if◌then◌else◌, Contains}
 use Rattle.std.proofs.Math.Logic.{∥∥₁_elim}
 use Rattle.std.proofs.Props.{props}
-use Rattle.mark_core.specs.Layout.{region_sizes, total_words}
 use Rattle.mark_core.specs.Start.{spent_seat}
 use Rattle.mark_core.specs.declared.kinds.Shape.{Shape}
 use Rattle.mark_core.specs.declared.seat.SeatState.{SeatState}
@@ -63,9 +62,6 @@ found_full sh v ws w f same words k =
 
 pub final-shape : (sh : Shape) (v : View) (ws : List ℕ) (f : IsFinal v ws) → v.shape ≡ sh → f.state.core.shape ≡ sh
 final-shape sh v ws f shaped = sym f.agrees.shape ∙ shaped
-
-pub final-length : (sh : Shape) (v : View) (ws : List ℕ) → IsFinal v ws → v.shape ≡ sh → length ws ≡ total_words (region_sizes sh)
-final-length sh v ws f shaped = ap length (sym f.words) ∙ (f.whole.core.formed.words ∙ ap (λ (x : Shape). total_words (region_sizes x)) (final-shape sh v ws f shaped))
 
 -- a section is as its seat left it
 section_left : (v : View) (ws : List ℕ) (f : IsFinal v ws) (k : ℕ) (x : SectionState) → HasSection v k x → slice_get f.state.sections k ≡ Some x

@@ -1,5 +1,5 @@
 -- The records of all seats, as the core sees them.
-use Rattle.std.proofs.Common.{ℕ, ◌≡◌, ◌+◌, ◌<◌, ◌≤◌, zero, suc, ◌≢◌, List, [], ◌∷◌, ◌++◌, set, get_or, take, drop, length, arith, refl, sym, ap, ◌∙◌, subst, inl, inr, ◌⊎◌, ⊎_elim, Bool, Some, cond}
+use Rattle.std.proofs.Common.{ℕ, ◌≡◌, ◌+◌, ◌<◌, zero, suc, ◌≢◌, List, [], ◌∷◌, ◌++◌, set, get_or, take, drop, length, arith, refl, sym, ap, ◌∙◌, subst, inl, inr, ◌⊎◌, ⊎_elim, Bool, Some, cond}
 use Rattle.std.specs.Prelude.{slice_get, IsFalse}
 use mathlib.Core.Option.{some, some-injective, some-ne-none}
 use lib.ListN.{get_elem?}
@@ -90,8 +90,13 @@ module _ {A : Type 0} where
       go (y ∷ ys) zero x e = ap (λ (z : A). z ∷ []) (some-injective y x e)
       go (y ∷ ys) (suc i) x e = ap (λ l. y ∷ l) (go ys i x e)
 
-  pub take-whole : (xs : List A) (n : ℕ) → length xs ≤ n → take n xs ≡ xs
-  take-whole [] zero h = refl
-  take-whole [] (suc n) h = refl
-  take-whole (x ∷ xs) zero h = absurd (omega (arith, h))
-  take-whole (x ∷ xs) (suc n) h = ap (λ l. x ∷ l) (take-whole xs n (omega (arith, h)))
+  -- what stands so far behind a place
+  pub got-behind : (xs : List A) (a i : ℕ) (x : A) → get_elem? xs (a + i) ≡ some x → get_elem? (drop a xs) i ≡ some x
+  got-behind xs zero i x e = let same : 0 + i ≡ i = omega arith in subst (λ (n : ℕ). get_elem? xs n ≡ some x) same e
+  got-behind [] (suc a) i x e = absurd (some-ne-none x (sym e))
+  got-behind (y ∷ ys) (suc a) i x e = let next : suc a + i ≡ suc (a + i) = omega arith in got-behind ys a i x (subst (λ (n : ℕ). get_elem? (y ∷ ys) n ≡ some x) next e)
+
+  pub got-is : (xs : List A) (i : ℕ) (x d : A) → get_elem? xs i ≡ some x → x ≡ get_or xs i d
+  got-is [] i x d e = absurd (some-ne-none x (sym e))
+  got-is (y ∷ ys) zero x d e = sym (some-injective y x e)
+  got-is (y ∷ ys) (suc i) x d e = got-is ys i x d e

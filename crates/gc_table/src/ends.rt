@@ -1,9 +1,9 @@
 //! A heap is made with all its seats, and closed with all of them.
-ghost use Rattle.std.specs.Prelude.{◌≡◌, ◌≢◌, ℕ, ◌+◌, ◌<◌, ◌≤◌, [], slice_get, Some, IfOk, vec_len, vec_capacity};
+ghost use Rattle.std.specs.Prelude.{◌≡◌, ◌≢◌, ℕ, ◌<◌, ◌≤◌, slice_get, Some, IfOk, vec_len};
 ghost use Rattle.mark_core.specs.Shapes.{IsShape};
 ghost use Rattle.mark_core.specs.Start.{start_seat as start_seat_of};
 ghost use Rattle.gc_table.specs.Ends.{IsEnd, IsLeft};
-ghost use Rattle.gc_table.specs.Rule.{newcomer, opens, opened_by, takes_in, nobody, HasLog, HasSection, IsFinal, KnowsFull};
+ghost use Rattle.gc_table.specs.Rule.{newcomer, opens, opened_by, takes_in, nobody, HasLog, HasSection, KnowsFull};
 ghost use Rattle.gc_table.specs.Seats.{IsFresh, IsOutside, Sits, state_of, view_of};
 ghost use Rattle.mark_core.specs.Numbers.{most_seats};
 
@@ -148,35 +148,21 @@ impl Heap {
         first
     }
 
-    fn close_with(self, mut words: Vec<u64>, first: Seat<(), View>) -> Vec<u64>
-        requires left { IsLeft self first }
-        requires room { (words.items ≡ []) × (self.table.shared.table_id.words ≤ vec_capacity words) }
-        ensures { IsFinal first.me.0 result.items }
-    {
-        let Heap {
-            table,
-            shape: _,
-            bases: _,
-        } = self;
-        let count = table.word_count();
-        let closed = table.close_with(first);
-        for i in 0..count {
-            words.push_reserved(closed.word(i));
-        }
-        closed.free();
-        words
-    }
-
     fn close_all(self, alloc: Global, seats: Vec<HeapSeat>) -> Result<Words, AllocError>
         requires some { 0 < vec_len seats }
         requires seats { (i : ℕ) (s : HeapSeat) → slice_get seats.items i ≡ Some s → Sits self s × ((state_of s).number ≡ i) × IsOutside (view_of s) }
         ensures { IfOk result (λ w. IsEnd self.shape seats.items w) }
     {
-        let shape = self.shape;
-        let words = Vec::with_capacity(alloc, self.table.word_count())?;
         let first = self.join_all(seats);
-        let words = self.close_with(words, first);
-        words_of(alloc, &shape, words.as_slice())
+        let Heap {
+            table,
+            shape: _,
+            bases,
+        } = self;
+        let closed = table.close_with(first);
+        let words = words_of(alloc, &bases, &closed);
+        closed.free();
+        words
     }
 
     /// Joins all seats, and gives the words that say what lies where. The seats are all the heap's, in order, and each is

@@ -1,13 +1,11 @@
 //! The words of a closed heap that say what lies where.
-ghost use Rattle.std.specs.Prelude.{◌≡◌, IfOk, length};
+ghost use Rattle.std.specs.Prelude.{◌≡◌, ◌-◌, ◌≤◌, IfOk, take, drop};
+ghost use Rattle.std.specs.Slots.{slots_items, slots_len, IsFull};
 ghost use Rattle.mark_core.specs.Layout.{region_sizes, total_words};
-ghost use Rattle.mark_core.specs.Shapes.{IsShape};
 ghost use Rattle.gc_table.specs.Ends.{AreWords};
 
-use mark_core::{
-    NAMED, PHASE, Phase, Shape, allocs_of, fields_of, identities_of, phase_of, positions_of,
-    read_word, reference_in, roots_of, values_of,
-};
+use atomic_table::Closed;
+use mark_core::{Bases, NAMED, PHASE, Phase, phase_of, reference_in};
 use std::alloc::{AllocError, Global};
 
 /// What lay in the words of a heap when it was closed.
@@ -31,20 +29,42 @@ pub struct Words {
     pub roots: Vec<u64>,
 }
 
+/// Copies the words from one place up to another.
+fn region(
+    alloc: Global,
+    closed: &Closed<(), Global>,
+    from: usize,
+    to: usize,
+) -> Result<Vec<u64>, AllocError>
+    requires full { IsFull closed.now.words }
+    requires within { (from ≤ to) × (to ≤ slots_len closed.now.words) }
+    ensures { IfOk result (λ v. v.items ≡ take (to - from) (drop from (slots_items closed.now.words))) }
+{
+    let mut words = Vec::with_capacity(alloc, to - from)?;
+    for i in from..to {
+        words.push_reserved(closed.word(i));
+    }
+    Ok(words)
+}
+
 /// Copies the regions.
-pub(crate) fn words_of(alloc: Global, shape: &Shape, words: &[u64]) -> Result<Words, AllocError>
-    requires shaped { IsShape shape.now }
-    requires whole { length words.now ≡ total_words (region_sizes shape.now) }
-    ensures { IfOk result (AreWords shape.now words.now) }
+pub(crate) fn words_of(
+    alloc: Global,
+    bases: &Bases,
+    closed: &Closed<(), Global>,
+) -> Result<Words, AllocError>
+    requires full { IsFull closed.now.words }
+    requires whole { slots_len closed.now.words ≡ total_words (region_sizes bases.now.shape) }
+    ensures { IfOk result (AreWords bases.now.shape (slots_items closed.now.words)) }
 {
     Ok(Words {
-        idents: identities_of(shape, words).to_vec(alloc)?,
-        values: values_of(shape, words).to_vec(alloc)?,
-        fields: fields_of(shape, words).to_vec(alloc)?,
-        alloc: allocs_of(shape, words).to_vec(alloc)?,
-        positions: positions_of(shape, words).to_vec(alloc)?,
-        phase: phase_of(read_word(words, PHASE)),
-        named: reference_in(read_word(words, NAMED)),
-        roots: roots_of(shape, words).to_vec(alloc)?,
+        idents: region(alloc, closed, bases.identity_at(0), bases.value_at(0))?,
+        values: region(alloc, closed, bases.value_at(0), bases.field_at(0, 0))?,
+        fields: region(alloc, closed, bases.field_at(0, 0), bases.pool_at(0, 0))?,
+        alloc: region(alloc, closed, bases.alloc_at(0), bases.mark_at(0))?,
+        positions: region(alloc, closed, bases.position_at(0), bases.root_at(0, 0))?,
+        phase: phase_of(closed.word(PHASE)),
+        named: reference_in(closed.word(NAMED)),
+        roots: region(alloc, closed, bases.root_at(0, 0), bases.owner_at(0))?,
     })
 }

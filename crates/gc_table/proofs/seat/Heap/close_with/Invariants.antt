@@ -1,6 +1,0 @@
-use Rattle.std.proofs.Common.{◌≡◌, take}
-use Rattle.std.specs.Slots.{slots_items}
-use Rattle.gc_table.proofs.seat.Heap.close_with.Given as goal
-
-abbrev pub invariant-loop-i : goal.invariant-loop-i
-invariant-loop-i l = l.words.items ≡ take l.i (slots_items l.closed.words)
