@@ -1,4 +1,5 @@
 pub mod Hands
+pub mod StepBounds
 pub mod Deferral
 pub mod Tally
 pub mod Moments

@@ -34,6 +34,9 @@
 //! Counts are counts of events (`specs/Tally.antt`), and a packet with deferred cells is given to the deferred pool before a cell is popped out of that packet
 //! again (`specs/Deferral.antt`). Each call leaves the record as it was, but for the object in scan and the card that is being cleaned.
 //!
+//! Each call says how many steps it takes at most (`few`, by `specs/StepBounds.antt`): for each object that was popped a turn and a scan, in which each field may
+//! want a search for a packet with room.
+//!
 //! # Where things are
 //!
 //! `tracing` has the loop, `finding` the next cell, `deferring` defers cells, `packets` has the packets of a tracer, `recycling` moves deferred packets back,

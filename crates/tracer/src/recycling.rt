@@ -1,11 +1,12 @@
 //! Deferred cells are traced again.
-ghost use Rattle.std.specs.Prelude.{◌≡◌, ◌<◌, ◌≤◌, ◌+◌, ◌*◌, ◌/◌, if◌then◌else◌};
+ghost use Rattle.std.specs.Prelude.{◌≡◌, ◌<◌, ◌≤◌, ◌+◌, ◌*◌, ◌/◌, if◌then◌else◌, ◌-◌, length};
 ghost use Rattle.mark_core.specs.Numbers.{word_bits};
 ghost use Rattle.gc_table.specs.Seats.{Across, did, state_of, view_of};
 ghost use Rattle.packet_pools.specs.OnlyTraced.{OnlyTraced};
 ghost use Rattle.packet_pools.specs.Tracing.{IsTracer};
 ghost use Rattle.tracer.specs.Hands.{IsIdle};
 ghost use Rattle.tracer.specs.Recycling.{Recycled, Recycles};
+ghost use Rattle.tracer.specs.StepBounds.{packet_steps, recycle_steps};
 
 use gc_table::{Heap, HeapSeat};
 use mark_core::{DEFERRED_POOL, WORD_BITS, has_bit};
@@ -20,6 +21,7 @@ fn recycle(heap: &Heap, seat: &mut HeapSeat, p: u32) -> bool
     ensures only { Across OnlyTraced seat.old seat.new }
     ensures state { state_of seat.new ≡ state_of seat.old }
     ensures recycles { Recycles p (p + 1) (if result then 1 else 0) (did seat.old seat.new) }
+    ensures few { length (did seat.old seat.new) ≤ packet_steps }
 {
     let word = heap.look(seat, DEFERRED_POOL, p / WORD_BITS);
     if !has_bit(word, p % WORD_BITS) {
@@ -42,6 +44,7 @@ fn recycle_between(heap: &Heap, seat: &mut HeapSeat, first: u32, end: u32) -> u3
     ensures state { state_of seat.new ≡ state_of seat.old }
     ensures most { result + first ≤ end }
     ensures recycles { Recycles first end result (did seat.old seat.new) }
+    ensures few { length (did seat.old seat.new) ≤ packet_steps * (end - first) }
 {
     let mut moved = 0;
     for p in first..end {
@@ -60,6 +63,7 @@ fn recycle_in_word(heap: &Heap, seat: &mut HeapSeat, g: u32, end: u32) -> u32
     ensures state { state_of seat.new ≡ state_of seat.old }
     ensures most { result + word_bits * g ≤ end }
     ensures recycles { Recycles (word_bits * g) end result (did seat.old seat.new) }
+    ensures few { length (did seat.old seat.new) ≤ 1 + packet_steps * (end - word_bits * g) }
 {
     if heap.look(seat, DEFERRED_POOL, g) == 0 {
         return 0;
@@ -76,6 +80,7 @@ fn recycle_words(heap: &Heap, seat: &mut HeapSeat) -> u32
     ensures state { state_of seat.new ≡ state_of seat.old }
     ensures most { result ≤ word_bits * (heap.now.shape.packets / word_bits) }
     ensures recycles { Recycles 0 (word_bits * (heap.now.shape.packets / word_bits)) result (did seat.old seat.new) }
+    ensures few { length (did seat.old seat.new) ≤ heap.now.shape.packets / word_bits + packet_steps * (word_bits * (heap.now.shape.packets / word_bits)) }
 {
     let mut moved = 0;
     for g in 0..heap.shape().packets / WORD_BITS {
@@ -94,6 +99,7 @@ pub fn recycle_deferred(heap: &Heap, seat: &mut HeapSeat) -> u32
     ensures only { Across OnlyTraced seat.old seat.new }
     ensures state { state_of seat.new ≡ state_of seat.old }
     ensures recycled { Recycled heap.now.shape result (did seat.old seat.new) }
+    ensures few { length (did seat.old seat.new) ≤ recycle_steps heap.now.shape }
 {
     let moved = recycle_words(heap, seat);
     let packets = heap.shape().packets;

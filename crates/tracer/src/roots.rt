@@ -1,5 +1,5 @@
 //! The roots of a section are scanned.
-ghost use Rattle.std.specs.Prelude.{◌≡◌, ◌<◌, ◌≤◌, [], ◌∷◌, Some, None, IsTrue, IsFalse, IfSome, IfNone};
+ghost use Rattle.std.specs.Prelude.{◌≡◌, ◌<◌, ◌≤◌, [], ◌∷◌, Some, None, IsTrue, IsFalse, IfSome, IfNone, length};
 ghost use Rattle.mark_core.specs.Numbers.{section_variables};
 ghost use Rattle.mark_core.specs.Seats.{work_in_hand};
 ghost use Rattle.gc_table.specs.Seats.{Across, did, state_of, view_of};
@@ -9,6 +9,8 @@ ghost use Rattle.packet_pools.specs.Tracing.{IsTracer};
 ghost use Rattle.tracer.specs.Causes.{FoundNoPacket};
 ghost use Rattle.tracer.specs.Hands.{Carries, IsIdle, KeepsRecord};
 ghost use Rattle.tracer.specs.Roots.{FollowsRoots, RootsScanned, SeesRoots, root_marked};
+ghost use Rattle.packet_pools.specs.StepBounds.{any_steps, follow_steps};
+ghost use Rattle.tracer.specs.StepBounds.{section_steps};
 
 use crate::traced::RootScan;
 use gc_table::{Heap, HeapSeat};
@@ -25,6 +27,7 @@ fn take_either(heap: &Heap, seat: &mut HeapSeat) -> Option<Held>
     ensures moves { IsTrue (only_moves output_pools (did seat.old seat.new)) }
     ensures some { IfSome result (λ h. Carries (h ∷ []) (view_of seat.new)) }
     ensures none { IfNone result ((state_of seat.new ≡ state_of seat.old) × Across FoundNoPacket seat.old seat.new) }
+    ensures few { length (did seat.old seat.new) ≤ any_steps heap.now.shape }
 {
     match take_output(heap, seat) {
         Some(held) => Some(held),
@@ -51,6 +54,7 @@ fn scan_root(
     ensures most { (result.overflowed ≤ result.marked) × (result.marked ≤ 1) }
     ensures follows { FollowsRoots heap.now.shape ((section, variable) ∷ []) result.marked result.overflowed (did seat.old seat.new) }
     ensures seen { IsTrue (root_marked section variable (did seat.old seat.new)) }
+    ensures few { length (did seat.old seat.new) ≤ follow_steps heap.now.shape }
 {
     let word = heap.read_root(seat, section, variable);
     if word == 0 {
@@ -77,6 +81,7 @@ pub fn scan_roots(heap: &Heap, seat: &mut HeapSeat, section: u32) -> RootScan
     ensures state { Across KeepsRecord seat.old seat.new }
     ensures scanned { Across (RootsScanned section result) seat.old seat.new }
     ensures seen { SeesRoots section result (did seat.old seat.new) }
+    ensures few { length (did seat.old seat.new) ≤ section_steps heap.now.shape }
 {
     let Some(mut out) = take_either(heap, seat) else {
         return RootScan::NoPacket;

@@ -1,5 +1,5 @@
 //! A tracer gives some of its work to others where they lack it.
-ghost use Rattle.std.specs.Prelude.{ℕ, ◌≡◌, ◌<◌, ◌==◌, ◌∷◌, List, Option, None, IsTrue, IsFalse};
+ghost use Rattle.std.specs.Prelude.{ℕ, ◌≡◌, ◌<◌, ◌==◌, ◌∷◌, List, Option, None, IsTrue, IsFalse, ◌≤◌, ◌*◌, length};
 ghost use Rattle.mark_core.specs.Layout.{pool_words};
 ghost use Rattle.mark_core.specs.Numbers.{pools_in_all};
 ghost use Rattle.mark_core.specs.Seats.{work_in_hand};
@@ -10,6 +10,8 @@ ghost use Rattle.packet_pools.specs.Seeking.{input_pools, only_moves};
 ghost use Rattle.packet_pools.specs.Tracing.{IsTracer};
 ghost use Rattle.tracer.specs.Hands.{Carries, packets_of};
 ghost use Rattle.tracer.specs.Parts.{Part};
+ghost use Rattle.packet_pools.specs.StepBounds.{output_steps};
+ghost use Rattle.tracer.specs.StepBounds.{share_steps};
 
 use crate::packets::{Packets, give_some, go_on};
 use gc_table::{Heap, HeapSeat};
@@ -32,6 +34,7 @@ fn is_bare(heap: &Heap, seat: &mut HeapSeat, q: u8, g: u32) -> bool
     ensures state { state_of seat.new ≡ state_of seat.old }
     ensures looks { Across (Answered (Look q g) (λ n. result ≡ (n == 0))) seat.old seat.new }
     ensures moves { (qs : List ℕ) → IsTrue (only_moves qs (did seat.old seat.new)) }
+    ensures few { length (did seat.old seat.new) ≤ 1 }
 {
     heap.look(seat, q, g) == 0
 }
@@ -44,6 +47,7 @@ fn are_bare(heap: &Heap, seat: &mut HeapSeat, g: u32) -> bool
     ensures only { Across OnlyTraced seat.old seat.new }
     ensures state { state_of seat.new ≡ state_of seat.old }
     ensures moves { IsTrue (only_moves input_pools (did seat.old seat.new)) }
+    ensures few { length (did seat.old seat.new) ≤ 2 }
 {
     if !is_bare(heap, seat, HIGH_POOL, g) {
         return false;
@@ -58,6 +62,7 @@ pub fn lacks_work(heap: &Heap, seat: &mut HeapSeat) -> bool
     ensures only { Across OnlyTraced seat.old seat.new }
     ensures state { state_of seat.new ≡ state_of seat.old }
     ensures moves { IsTrue (only_moves input_pools (did seat.old seat.new)) }
+    ensures few { length (did seat.old seat.new) ≤ 2 * pool_words heap.now.shape }
 {
     for g in 0..heap.shape().packets.div_ceil(WORD_BITS) {
         if !are_bare(heap, seat, g) {
@@ -77,6 +82,7 @@ fn fill_another(heap: &Heap, seat: &mut HeapSeat, packets: &mut Packets)
     ensures packets { Carries (packets_of packets.new) (view_of seat.new) × (packets.new.deferred ≡ packets.old.deferred) }
     ensures work { IsFalse (work_in_hand heap.now.shape.fields (state_of seat.new)) }
     ensures part { (o : Option ℕ) → Part heap.now.shape o o 0 0 0 (view_of seat.old) (did seat.old seat.new) }
+    ensures few { length (did seat.old seat.new) ≤ output_steps heap.now.shape }
 {
     let fresh = take_output(heap, seat);
     let nothing = mem::replace(&mut packets.output, fresh);
@@ -93,6 +99,7 @@ fn part_with(heap: &Heap, seat: &mut HeapSeat, packets: &mut Packets)
     ensures packets { Carries (packets_of packets.new) (view_of seat.new) × (packets.new.deferred ≡ packets.old.deferred) }
     ensures work { IsFalse (work_in_hand heap.now.shape.fields (state_of seat.new)) }
     ensures part { (o : Option ℕ) → Part heap.now.shape o o 0 0 0 (view_of seat.old) (did seat.old seat.new) }
+    ensures few { length (did seat.old seat.new) ≤ share_steps heap.now.shape }
 {
     if packets.input.length() <= SHARE_CELLS {
         return;
@@ -112,6 +119,7 @@ fn share(heap: &Heap, seat: &mut HeapSeat, packets: &mut Packets)
     ensures packets { Carries (packets_of packets.new) (view_of seat.new) × (packets.new.deferred ≡ packets.old.deferred) }
     ensures work { IsFalse (work_in_hand heap.now.shape.fields (state_of seat.new)) }
     ensures part { (o : Option ℕ) → Part heap.now.shape o o 0 0 0 (view_of seat.old) (did seat.old seat.new) }
+    ensures few { length (did seat.old seat.new) ≤ share_steps heap.now.shape }
 {
     match mem::replace(&mut packets.output, None) {
         Some(output) => go_on(heap, seat, packets, output),
@@ -129,6 +137,7 @@ pub(crate) fn share_in_turn(heap: &Heap, seat: &mut HeapSeat, packets: &mut Pack
     ensures packets { Carries (packets_of packets.new) (view_of seat.new) × (packets.new.deferred ≡ packets.old.deferred) }
     ensures work { IsFalse (work_in_hand heap.now.shape.fields (state_of seat.new)) }
     ensures part { (o : Option ℕ) → Part heap.now.shape o o 0 0 0 (view_of seat.old) (did seat.old seat.new) }
+    ensures few { length (did seat.old seat.new) ≤ share_steps heap.now.shape }
 {
     if turn % SHARE_EACH == SHARE_EACH - 1 {
         share(heap, seat, packets);

@@ -1,5 +1,5 @@
 //! The loop of a tracer.
-ghost use Rattle.std.specs.Prelude.{ℕ, ◌≡◌, ◌<◌, ◌≤◌, ◌+◌, ◌⊎◌, Option, Some, None, false, IsTrue, IsFalse, IfSome, IfNone};
+ghost use Rattle.std.specs.Prelude.{ℕ, ◌≡◌, ◌<◌, ◌≤◌, ◌+◌, ◌⊎◌, Option, Some, None, false, IsTrue, IsFalse, IfSome, IfNone, ◌*◌, length};
 ghost use Rattle.mark_core.specs.Seats.{cleaning_left, work_in_hand};
 ghost use Rattle.gc_table.specs.Seats.{Across, did, state_of, view_of};
 ghost use Rattle.packet_pools.specs.OnlyTraced.{OnlyTraced};
@@ -12,6 +12,8 @@ ghost use Rattle.tracer.specs.Ends.{all_end_well};
 ghost use Rattle.tracer.specs.Hands.{Carries, HasCellAndRoom, IsIdle, KeepsRecord, no_packets, packet_of, packets_of};
 ghost use Rattle.tracer.specs.Parts.{SearchedInVain, HasPopped, Part};
 ghost use Rattle.tracer.specs.Tally.{Tally};
+ghost use Rattle.packet_pools.specs.StepBounds.{give_steps, input_steps, scan_steps};
+ghost use Rattle.tracer.specs.StepBounds.{object_steps, trace_steps, turn_steps};
 
 use crate::deferring::defer;
 use crate::finding::next_cell;
@@ -34,6 +36,7 @@ fn scan(heap: &Heap, seat: &mut HeapSeat, packets: &mut Packets, cell: Cell) -> 
     ensures work { IsFalse (work_in_hand heap.now.shape.fields (state_of seat.new)) }
     ensures most { (result.overflowed ≤ result.marked) × (result.marked ≤ heap.now.shape.fields) }
     ensures part { (o : Option ℕ) → Part heap.now.shape o o 0 0 result.overflowed (view_of seat.old) (did seat.old seat.new) }
+    ensures few { length (did seat.old seat.new) ≤ scan_steps heap.now.shape.fields heap.now.shape }
 {
     match &mut packets.output {
         Some(output) => scan_whole(heap, seat, output, cell),
@@ -52,6 +55,7 @@ fn trace_cell(heap: &Heap, seat: &mut HeapSeat, packets: &mut Packets, cell: Cel
     ensures work { IsFalse (work_in_hand heap.now.shape.fields (state_of seat.new)) }
     ensures most { (result.deferred ≤ 1) × (result.overflowed ≤ 16) }
     ensures part { Part heap.now.shape (packet_of packets.old.deferred) (packet_of packets.new.deferred) 0 result.deferred result.overflowed (view_of seat.old) (did seat.old seat.new) }
+    ensures few { length (did seat.old seat.new) ≤ object_steps heap.now.shape }
 {
     let word = heap.read_alloc(seat, cell.number() / BLOCK_CELLS);
     if has_bit(word, cell.number() % BLOCK_CELLS) {
@@ -79,6 +83,7 @@ fn trace_all(heap: &Heap, seat: &mut HeapSeat, packets: &mut Packets, quota: u32
     ensures work { IsFalse (work_in_hand heap.now.shape.fields (state_of seat.new)) }
     ensures part { Part heap.now.shape (packet_of packets.old.deferred) (packet_of packets.new.deferred) result.done result.deferred result.overflowed (view_of seat.old) (did seat.old seat.new) }
     ensures stopped { ((result.stopped ≡ Stopped.Quota) × (result.done ≡ quota)) ⊎ ((result.stopped ≡ Stopped.NoWork) × (result.done < quota) × Across (SearchedInVain heap.now.shape packets.new) seat.old seat.new) }
+    ensures few { length (did seat.old seat.new) ≤ result.done * (turn_steps heap.now.shape + object_steps heap.now.shape) + turn_steps heap.now.shape }
 {
     let mut traced = Traced::started();
     for turn in 0..quota {
@@ -105,6 +110,7 @@ fn begin(heap: &Heap, seat: &mut HeapSeat) -> Option<Packets>
     ensures part { Part heap.now.shape None None 0 0 0 (view_of seat.old) (did seat.old seat.new) }
     ensures some { IfSome result (λ x. Carries (packets_of x) (view_of seat.new) × (x.deferred ≡ None)) }
     ensures none { IfNone result ((state_of seat.new ≡ state_of seat.old) × NoInput heap.now.shape (did seat.old seat.new) × IsTrue (only_moves input_pools (did seat.old seat.new))) }
+    ensures few { length (did seat.old seat.new) ≤ input_steps heap.now.shape }
 {
     let input = take_input(heap, seat)?;
     Some(Packets {
@@ -124,6 +130,7 @@ fn finish(heap: &Heap, seat: &mut HeapSeat, packets: Packets)
     ensures held { (state_of seat.new).held ≡ no_packets }
     ensures work { IsFalse (work_in_hand heap.now.shape.fields (state_of seat.new)) }
     ensures part { Part heap.now.shape (packet_of packets.deferred) None 0 0 0 (view_of seat.old) (did seat.old seat.new) }
+    ensures few { length (did seat.old seat.new) ≤ 3 * give_steps }
 {
     let Packets {
         input,
@@ -151,6 +158,7 @@ pub fn trace(heap: &Heap, seat: &mut HeapSeat, quota: u32) -> Traced
     ensures tally { Across (Tally result.done result.deferred result.overflowed) seat.old seat.new }
     ensures deferral { Across Defers seat.old seat.new }
     ensures ends { IsTrue (all_end_well (view_of seat.old) (did seat.old seat.new)) }
+    ensures few { length (did seat.old seat.new) ≤ trace_steps result.done heap.now.shape }
 {
     if quota == 0 {
         return Traced::started();

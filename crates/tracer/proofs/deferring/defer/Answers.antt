@@ -1,4 +1,4 @@
-use Rattle.std.proofs.Common.{ℕ, ◌≡◌, None, Option, [], ◌∷◌, sym, ap, ◌∙◌, subst, refl}
+use Rattle.std.proofs.Common.{ℕ, ◌≡◌, None, Option, [], ◌∷◌, sym, ap, ◌∙◌, subst, refl, ◌+◌, arith}
 use Rattle.std.proofs.lemmas.Bool.{false≢true}
 use Rattle.mark_core.specs.declared.kinds.Shape.{Shape}
 use Rattle.mark_core.specs.declared.kinds.Step.TheVariants.{DirtyCard}
@@ -19,6 +19,10 @@ use Rattle.gc_table.specs.declared.view.View.{View}
 use Rattle.gc_table.specs.Seats.{view_of}
 use Rattle.packet_pools.specs.declared.held.Held.{Held}
 use Rattle.gc_table.specs.Log.{events}
+use Rattle.packet_pools.specs.StepBounds.{give_steps, output_steps}
+use Rattle.tracer.specs.StepBounds.{given_steps}
+use Rattle.packet_pools.proofs.Few.{few-after, few-join}
+use Rattle.tracer.proofs.Few.{given-nothing}
 use Rattle.tracer.proofs.deferring.defer.Goals as goal
 
 pub dirty_card-requires-clause-may : goal.dirty_card-requires-clause-may
@@ -96,3 +100,29 @@ returns-clause-part c =
     (part-then sh o o q 0 0 0 1 0 0 0 1 0 v w y e.only (traced-join w x y p.only g.only) refl refl refl
     (part-moves sh o v (events v w) e.moves)
     (part-then sh o q q 0 0 1 0 0 0 0 1 0 w x y p.only g.only refl refl refl (p.part o e.some.1) (g.part q (λ d. absurd (false≢true d)))))
+
+pub returns-in_default-clause-few : goal.returns-in_default-clause-few
+returns-in_default-clause-few c =
+    let v : View = view_of c.args.seat.now in
+    let w : View = view_of c.take_deferring.new.seat in
+    let y : View = view_of c.dirty_card.new.seat in
+    let e = c.in_default.ensures in
+    let d = c.dirty_card.ensures.view in
+    let answers = popped-answers w.state c.args.cell c.card_of.result (ap (λ (s : SeatState). s.popped) e.state ∙ c.requires.cell.popped) (sym c.card_of.ensures) in
+    let all = few-join (output_steps c.args.heap.now.shape) 1 v w y e.only.ran (traced-dirty_card w y _ c.card_of.result refl answers d).ran e.few (few-after w y _ _ d) in
+    omega (arith, all)
+
+pub returns-clause-few : goal.returns-clause-few
+returns-clause-few c =
+    let v : View = view_of c.args.seat.now in
+    let w : View = view_of c.take_deferring.new.seat in
+    let x : View = view_of c.put_into-rest.new.seat in
+    let y : View = view_of c.give_some.new.seat in
+    let n : ℕ = output_steps c.args.heap.now.shape in
+    let e = c.in-Some.ensures in
+    let p = c.put_into-rest.ensures in
+    let g = c.give_some.ensures in
+    let nothing = given-nothing c.replace-nothing.result (c.replace-nothing.ensures.value ∙ ap (λ (x : Packets). x.deferred) e.packets.0) in
+    let first = few-join n (1 + give_steps) v w x e.only.ran p.only.ran e.few p.few in
+    let all = few-join (n + (1 + give_steps)) (given_steps c.replace-nothing.result) v x y (traced-join v w x e.only p.only).ran g.only.ran first g.few in
+    omega (arith, all, nothing)

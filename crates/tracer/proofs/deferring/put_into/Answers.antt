@@ -1,4 +1,4 @@
-use Rattle.std.proofs.Common.{ℕ, ◌≡◌, ◌+◌, Some, None, Result, Ok, Err, OnOk, OnErr, List, ◌∷◌, sym, ap, ◌∙◌, subst, refl, arith}
+use Rattle.std.proofs.Common.{ℕ, ◌≡◌, ◌+◌, Some, None, Result, Ok, Err, OnOk, OnErr, List, ◌∷◌, sym, ap, ◌∙◌, subst, refl, arith, true}
 use Rattle.std.specs.Prelude.{◌==◌}
 use Rattle.mark_core.specs.Seats.{work_in_hand}
 use Rattle.mark_core.specs.declared.kinds.Shape.{Shape}
@@ -16,6 +16,8 @@ use Rattle.tracer.proofs.OneStep.{part-push, part-deferred}
 use Rattle.gc_table.specs.declared.view.View.{View}
 use Rattle.packet_pools.specs.declared.held.Held.{Held}
 use Rattle.gc_table.specs.Log.{events}
+use Rattle.packet_pools.specs.StepBounds.{give_steps}
+use Rattle.packet_pools.proofs.Few.{few-after, few-join, few-steps, given-few}
 use Rattle.tracer.proofs.deferring.put_into.Goals as goal
 
 -- there was room
@@ -77,3 +79,23 @@ returns-then-length-shape-clause-part c =
     part-then sh o (Some h.packet) None 0 0 1 0 0 0 0 1 0 v w x e.only c.give.ensures.only refl refl refl
     (part-push sh o h.packet c.args.cell _ v w p.2 (popped-fresh v w h.packet c.args.cell _ c.requires.cell p.2) either)
     (subst (λ q. Part sh (Some q) None 0 0 0 w (events w x)) (ap (λ (h : Held). h.packet) p.1) (part-deferred sh k.packet (k.length == 0) w (events w x) c.give.ensures.steps))
+
+pub returns-clause-few : goal.returns-clause-few
+returns-clause-few c =
+    let v : View = view_of c.args.seat.now in
+    let w : View = view_of c.push-pushed.new.seat in
+    let e = c.push-pushed.ensures in
+    let p = sure c.push-pushed.result _ _ e.pushed e.full (λ q. let r = c.requires.held.1 in let l = q.0 in absurd (omega (arith, r, l))) in
+    let one = few-after v w _ _ p.2 in
+    omega (arith, one)
+
+pub returns-then-length-shape-clause-few : goal.returns-then-length-shape-clause-few
+returns-then-length-shape-clause-few c =
+    let v : View = view_of c.args.seat.now in
+    let w : View = view_of c.push-pushed.new.seat in
+    let x : View = view_of c.give.new.seat in
+    let k : Held = c.push-pushed.new.held in
+    let e = c.push-pushed.ensures in
+    let g = c.give.ensures in
+    let p = sure c.push-pushed.result _ _ e.pushed e.full (λ q. let r = c.requires.held.1 in let l = q.0 in absurd (omega (arith, r, l))) in
+    few-join 1 give_steps v w x e.only.ran g.only.ran (few-after v w _ _ p.2) (few-steps give_steps w x _ g.steps (given-few k.packet true (k.length == 0)))

@@ -16,6 +16,8 @@ use Rattle.tracer.proofs.OneStep.{part-pop}
 use Rattle.gc_table.specs.declared.view.View.{View}
 use Rattle.packet_pools.specs.declared.held.Held.{Held}
 use Rattle.gc_table.specs.Log.{events}
+use Rattle.tracer.specs.StepBounds.{find_steps}
+use Rattle.packet_pools.proofs.Few.{few-after, few-join}
 use Rattle.tracer.proofs.finding.next_cell.Goals as goal
 
 pub returns-clause-only : goal.returns-clause-only
@@ -53,3 +55,14 @@ returns-clause-some c =
       was-popped w x t.input.packet s.0 _ idle block s.2.2.3 s.2.2.1,
       part-then sh o o o 0 1 0 0 0 0 1 0 0 v w x f.only p.only refl refl refl (f.part o) (part-pop sh o t.input.packet _ w x s.2.2.1 (ap (λ d. is_the (packet_of d) t.input.packet) (sym f.packets.1) ∙ input-apart t.input t.output t.deferred w f.packets.0)),
     )
+
+pub returns-clause-few : goal.returns-clause-few
+returns-clause-few c =
+    let v : View = view_of c.args.seat.now in
+    let w : View = view_of c.find_input.new.seat in
+    let x : View = view_of c.pop.new.seat in
+    let f = c.find_input.ensures in
+    let p = c.pop.ensures in
+    let some : 0 < c.find_input.new.packets.input.length = f.some c.if-not-find_input.false in
+    let s = sure-some c.pop.result _ _ p.popped p.empty (λ q. let z = q.0 in absurd (omega (arith, some, z))) in
+    few-join (find_steps c.args.heap.now.shape) 1 v w x f.only.ran p.only.ran f.few (few-after w x _ _ s.2.2.1)

@@ -1,8 +1,8 @@
-use Rattle.std.proofs.Common.{◌≡◌, Option, [], ◌∷◌, sym, ap, ◌∙◌, subst, refl, arith}
+use Rattle.std.proofs.Common.{ap, refl, arith}
 use Rattle.mark_core.specs.declared.kinds.Shape.{Shape}
 use Rattle.packet_pools.proofs.TracedSteps.{traced-join}
 use Rattle.tracer.specs.declared.packets.Packets.{Packets}
-use Rattle.tracer.specs.Hands.{Carries, packets_of}
+use Rattle.tracer.specs.Hands.{packets_of}
 use Rattle.tracer.proofs.Carried.{carries-free, carries-take, packets-three}
 use Rattle.tracer.proofs.Joined.{part-then}
 use Rattle.tracer.proofs.Moves.{input-moves}
@@ -10,8 +10,9 @@ use Rattle.tracer.proofs.Quiet.{part-moves}
 use Rattle.gc_table.specs.declared.view.View.{View}
 use Rattle.gc_table.specs.Seats.{view_of}
 use Rattle.packet_pools.specs.Seeking.{input_pools}
-use Rattle.packet_pools.specs.declared.held.Held.{Held}
 use Rattle.gc_table.specs.Log.{events}
+use Rattle.packet_pools.specs.StepBounds.{give_steps, input_steps}
+use Rattle.packet_pools.proofs.Few.{few-join}
 use Rattle.tracer.proofs.finding.take_next.Goals as goal
 
 pub take_input-requires-clause-free : goal.take_input-requires-clause-free
@@ -49,3 +50,12 @@ returns-clause-part c =
     part-then sh o o o 0 0 0 0 0 0 0 0 0 v w y e.only g.only refl refl refl
     (part-moves sh o v (events v w) (input-moves (events v w) e.some.0.moves))
     (g.part o)
+
+pub returns-in_default-clause-few : goal.returns-in_default-clause-few
+returns-in_default-clause-few c = let few = c.in_default.ensures.few in omega (arith, few)
+
+pub returns-clause-few : goal.returns-clause-few
+returns-clause-few c =
+    let e = c.in-Some.ensures in
+    let g = c.go_on.ensures in
+    few-join (input_steps c.args.heap.now.shape) give_steps (view_of c.args.seat.now) (view_of c.take_input.new.seat) (view_of c.go_on.new.seat) e.only.ran g.only.ran e.few g.few

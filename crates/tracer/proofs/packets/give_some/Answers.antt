@@ -1,4 +1,4 @@
-use Rattle.std.proofs.Common.{◌≡◌, Some, None, cond, Bool, true, false, Option, ℕ, List, [], ◌∷◌, sym, ap, ◌∙◌, subst, refl}
+use Rattle.std.proofs.Common.{◌≡◌, Some, None, cond, Bool, true, false, Option, ℕ, List, [], ◌∷◌, sym, ap, ◌∙◌, subst, refl, ◌≤◌, length}
 use Rattle.std.specs.Prelude.{◌==◌}
 use Rattle.mark_core.specs.declared.kinds.Shape.{Shape}
 use Rattle.mark_core.specs.declared.kinds.Step.TheVariants.{Credit, Give, StoreLength}
@@ -15,6 +15,9 @@ use Rattle.gc_table.specs.declared.view.View.{View}
 use Rattle.gc_table.specs.Seats.{view_of}
 use Rattle.packet_pools.specs.Seeking.{output_pools}
 use Rattle.packet_pools.specs.declared.held.Held.{Held}
+use Rattle.packet_pools.specs.StepBounds.{give_steps}
+use Rattle.tracer.specs.StepBounds.{given_steps}
+use Rattle.packet_pools.proofs.Few.{few-steps, given-few}
 use Rattle.tracer.proofs.packets.give_some.Goals as goal
 
 either : (sh : Shape) (d : Bool) (o : Option ℕ) (p : ℕ) (b : Bool) (v : View) (es : List Entry) → steps_of es ≡ StoreLength p ∷ Give p d ∷ (cond b (Credit ∷ []) []) → (d ≡ true → o ≡ Some p) → Part sh o (cond d None o) 0 0 0 v es
@@ -38,3 +41,9 @@ returns-in-Some-clause-part c =
     let w : View = view_of c.give.new.seat in
     let h : Held = c.in-Some.held in
     λ o is. either c.args.heap.now.shape c.args.deferred o h.packet (h.length == 0) v (events v w) c.give.ensures.steps (λ d. is d ∙ ap packet_of c.in-Some.is)
+
+pub returns-in-Some-clause-few : goal.returns-in-Some-clause-few
+returns-in-Some-clause-few c =
+    let h : Held = c.in-Some.held in
+    let few = few-steps give_steps (view_of c.args.seat.now) (view_of c.give.new.seat) _ c.give.ensures.steps (given-few h.packet c.args.deferred (h.length == 0)) in
+    subst (λ o. length (events (view_of c.args.seat.now) (view_of c.give.new.seat)) ≤ given_steps o) (sym c.in-Some.is) few

@@ -1,4 +1,4 @@
-use Rattle.std.proofs.Common.{◌≡◌, Option, [], ◌∷◌, List, sym, ap, ◌∙◌, subst, refl}
+use Rattle.std.proofs.Common.{◌≡◌, [], ◌∷◌, sym, ap, subst, false}
 use Rattle.std.specs.Prelude.{◌==◌}
 use Rattle.mark_core.specs.declared.seat.SeatState.{SeatState}
 use Rattle.packet_pools.proofs.Counting.{given-moves}
@@ -11,6 +11,8 @@ use Rattle.gc_table.specs.Seats.{view_of}
 use Rattle.packet_pools.specs.Seeking.{output_pools}
 use Rattle.packet_pools.specs.declared.held.Held.{Held}
 use Rattle.gc_table.specs.Log.{events}
+use Rattle.packet_pools.specs.StepBounds.{give_steps}
+use Rattle.packet_pools.proofs.Few.{few-steps, given-few}
 use Rattle.tracer.proofs.packets.go_on.Goals as goal
 
 -- the old input stands before the others
@@ -40,3 +42,8 @@ returns-clause-part c =
     let w : View = view_of c.give.new.seat in
     let h : Held = c.replace-old.result in
     λ o. part-moves c.args.heap.now.shape o v (events v w) (given-moves output_pools h.packet (h.length == 0) (events v w) c.give.ensures.steps)
+
+pub returns-clause-few : goal.returns-clause-few
+returns-clause-few c =
+    let h : Held = c.replace-old.result in
+    few-steps give_steps (view_of c.args.seat.now) (view_of c.give.new.seat) _ c.give.ensures.steps (given-few h.packet false (h.length == 0))

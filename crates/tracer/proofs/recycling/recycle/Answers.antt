@@ -24,6 +24,8 @@ use Rattle.gc_table.specs.declared.view.View.{View}
 use Rattle.gc_table.specs.Seats.{view_of}
 use Rattle.packet_pools.specs.declared.held.Held.{Held}
 use Rattle.packet_pools.specs.OnlyTraced.{OnlyTraced}
+use Rattle.packet_pools.specs.StepBounds.{give_steps}
+use Rattle.packet_pools.proofs.Few.{few-after, few-join, few-steps, given-few}
 use Rattle.tracer.proofs.recycling.recycle.Goals as goal
 
 pub look-word-requires-clause-may : goal.look-word-requires-clause-may
@@ -122,3 +124,31 @@ returns-clause-recycles c =
     moved v w x y c.args.p c.look-word.result (h.length == 0) c.look-word.ensures.view.1 c.look-word.ensures.view.0 c.in-Some.ensures.only c.give.ensures.only s.2
     (subst (λ q. was_got_from deferred_pool_number q (events w x) ≡ true) s.1 s.0.got)
     (subst (λ q. steps_of (events x y) ≡ StoreLength q ∷ Give q false ∷ (cond (h.length == 0) (Credit ∷ []) [])) s.1 c.give.ensures.steps)
+
+pub returns-then-not-has_bit-clause-few : goal.returns-then-not-has_bit-clause-few
+returns-then-not-has_bit-clause-few c =
+    let one = few-after (view_of c.args.seat.now) (view_of c.look-word.new.seat) (Look deferred_pool_number (c.args.p / word_bits)) _ c.look-word.ensures.view.0 in
+    omega (arith, one)
+
+pub returns-in_default-clause-few : goal.returns-in_default-clause-few
+returns-in_default-clause-few c =
+    let v : View = view_of c.args.seat.now in
+    let w : View = view_of c.look-word.new.seat in
+    let x : View = view_of c.take_deferred_at.new.seat in
+    let e = c.look-word.ensures.view in
+    let f = c.in_default.ensures in
+    let all = few-join 1 1 v w x (traced-look v w _ deferred_pool_number (c.args.p / word_bits) e.1 e.0).ran f.only.ran (few-after v w _ _ e.0) (few-steps 1 w x _ f.none.2 (omega arith)) in
+    omega (arith, all)
+
+pub returns-clause-few : goal.returns-clause-few
+returns-clause-few c =
+    let v : View = view_of c.args.seat.now in
+    let w : View = view_of c.look-word.new.seat in
+    let x : View = view_of c.take_deferred_at.new.seat in
+    let y : View = view_of c.give.new.seat in
+    let h : Held = c.in-Some.held in
+    let e = c.look-word.ensures.view in
+    let f = c.in-Some.ensures in
+    let g = c.give.ensures in
+    let last = few-join 2 give_steps w x y f.only.ran g.only.ran (few-steps 2 w x _ f.some.2 (omega arith)) (few-steps give_steps x y _ g.steps (given-few h.packet false (h.length == 0))) in
+    few-join 1 (2 + give_steps) v w y (traced-look v w _ deferred_pool_number (c.args.p / word_bits) e.1 e.0).ran (traced-join w x y f.only g.only).ran (few-after v w _ _ e.0) last

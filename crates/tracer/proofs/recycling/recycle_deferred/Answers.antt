@@ -1,4 +1,4 @@
-use Rattle.std.proofs.Common.{ℕ, ◌≡◌, ◌≤◌, ◌*◌, ◌/◌, List, ap, subst, refl, arith}
+use Rattle.std.proofs.Common.{ℕ, ◌≡◌, ◌≤◌, ◌*◌, ◌/◌, List, ap, subst, refl, arith, ◌+◌, ◌-◌, length}
 use Rattle.mark_core.specs.Numbers.{word_bits}
 use Rattle.mark_core.specs.declared.kinds.Shape.{Shape}
 use Rattle.packet_pools.proofs.TracedSteps.{traced-join}
@@ -9,6 +9,8 @@ use Rattle.gc_table.specs.declared.view.Entry.{Entry}
 use Rattle.gc_table.specs.declared.view.View.{View}
 use Rattle.gc_table.specs.Seats.{view_of}
 use Rattle.gc_table.specs.Log.{events}
+use Rattle.tracer.specs.StepBounds.{packet_steps}
+use Rattle.packet_pools.proofs.Few.{few-join}
 use Rattle.tracer.proofs.recycling.recycle_deferred.Goals as goal
 
 -- all packets were seen to
@@ -41,3 +43,20 @@ returns-clause-recycled c =
     (recycles-join 0 (word_bits * (sh.packets / word_bits)) sh.packets c.recycle_words-moved.result c.recycle_in_word.result _ (events v w) (events w x) (events v x)
     (events-join v w x a.only.log b.only.log) (omega arith) (omega arith) refl a.recycles
     (subst (λ (k : ℕ). Recycles (word_bits * (k / word_bits)) k c.recycle_in_word.result (events w x)) packets b.recycles))
+
+pub returns-then-packets-eq0-clause-few : goal.returns-then-packets-eq0-clause-few
+returns-then-packets-eq0-clause-few c = let few = c.recycle_words-moved.ensures.few in omega (arith, few)
+
+pub returns-clause-few : goal.returns-clause-few
+returns-clause-few c =
+    let sh : Shape = c.args.heap.now.shape in
+    let v : View = view_of c.args.seat.now in
+    let w : View = view_of c.recycle_words-moved.new.seat in
+    let x : View = view_of c.recycle_in_word.new.seat in
+    let a = c.recycle_words-moved.ensures in
+    let b = c.recycle_in_word.ensures in
+    let packets : c.shape-packets.result.packets ≡ sh.packets = ap (λ (s : Shape). s.packets) c.shape-packets.ensures in
+    let last = subst (λ (k : ℕ). length (events w x) ≤ 1 + packet_steps * (k - word_bits * (k / word_bits))) packets b.few in
+    let rest = c.if-packets-eq0.false in
+    let all = few-join (sh.packets / word_bits + packet_steps * (word_bits * (sh.packets / word_bits))) (1 + packet_steps * (sh.packets - word_bits * (sh.packets / word_bits))) v w x a.only.ran b.only.ran a.few last in
+    omega (arith, all, rest, packets)

@@ -1,4 +1,4 @@
-use Rattle.std.proofs.Common.{◌≤◌, ◌*◌, ap, sym, ◌∙◌, subst, arith}
+use Rattle.std.proofs.Common.{◌≤◌, ◌*◌, ap, sym, ◌∙◌, subst, arith, ◌-◌}
 use Rattle.mark_core.specs.Numbers.{deferred_pool_number, word_bits}
 use Rattle.mark_core.specs.declared.kinds.Shape.{Shape}
 use Rattle.mark_core.specs.declared.kinds.Step.TheVariants.{Look}
@@ -11,6 +11,8 @@ use Rattle.tracer.proofs.Recycled.{recycles-empty, recycles-join, recycles-look,
 use Rattle.gc_table.specs.declared.view.View.{View}
 use Rattle.gc_table.specs.Seats.{view_of}
 use Rattle.gc_table.specs.Log.{events}
+use Rattle.tracer.specs.StepBounds.{packet_steps}
+use Rattle.packet_pools.proofs.Few.{few-after, few-join}
 use Rattle.tracer.proofs.recycling.recycle_in_word.Goals as goal
 
 pub look-requires-clause-may : goal.look-requires-clause-may
@@ -76,3 +78,14 @@ returns-clause-recycles c =
     (omega arith) (omega (arith, some)) (omega arith)
     (recycles-look (word_bits * c.args.g) c.args.g c.look.result (events v w) (events-after v w (Look deferred_pool_number c.args.g) c.look.result e.0))
     r.recycles
+
+pub returns-then-look-eq0-clause-few : goal.returns-then-look-eq0-clause-few
+returns-then-look-eq0-clause-few c = let one = few-after (view_of c.args.seat.now) (view_of c.look.new.seat) (Look deferred_pool_number c.args.g) _ c.look.ensures.view.0 in omega (arith, one)
+
+pub returns-clause-few : goal.returns-clause-few
+returns-clause-few c =
+    let v : View = view_of c.args.seat.now in
+    let w : View = view_of c.look.new.seat in
+    let e = c.look.ensures.view in
+    let r = c.recycle_between.ensures in
+    few-join 1 (packet_steps * (c.args.end - word_bits * c.args.g)) v w (view_of c.recycle_between.new.seat) (traced-look v w _ deferred_pool_number c.args.g e.1 e.0).ran r.only.ran (few-after v w _ _ e.0) r.few

@@ -1,10 +1,11 @@
-use Rattle.std.proofs.Common.{◌≡◌, ◌≤◌, ◌*◌}
+use Rattle.std.proofs.Common.{◌≡◌, ◌≤◌, ◌+◌, ◌*◌, length}
 use Rattle.mark_core.specs.Numbers.{word_bits}
 use Rattle.gc_table.specs.Seats.{Sits, view_of}
 use Rattle.packet_pools.specs.OnlyTraced.{OnlyTraced}
 use Rattle.gc_table.specs.Log.{events}
 use Rattle.packet_pools.specs.Tracing.{Traces}
 use Rattle.tracer.specs.Recycling.{Recycles}
+use Rattle.tracer.specs.StepBounds.{packet_steps}
 use Rattle.tracer.proofs.recycling.recycle_words.Given as goal
 
 abbrev pub invariant-loop-g : goal.invariant-loop-g
@@ -15,4 +16,5 @@ invariant-loop-g l = record {
   state : (view_of l.seat).state ≡ (view_of l.fn.seat).state;
   most : l.moved ≤ word_bits * l.g;
   recycles : Recycles 0 (word_bits * l.g) l.moved (events (view_of l.fn.seat) (view_of l.seat));
+  few : length (events (view_of l.fn.seat) (view_of l.seat)) ≤ l.g + packet_steps * (word_bits * l.g);
 }

@@ -15,6 +15,8 @@ use Rattle.tracer.proofs.RootScans.{cell-seen, holds-one, loaded, marked-work, m
 use Rattle.gc_table.specs.declared.view.View.{View}
 use Rattle.gc_table.specs.Seats.{view_of}
 use Rattle.gc_table.specs.Log.{events}
+use Rattle.packet_pools.specs.StepBounds.{mark_steps}
+use Rattle.packet_pools.proofs.Few.{few-after, few-join}
 use Rattle.tracer.proofs.roots.scan_root.Goals as goal
 
 pub read_root-word-requires-clause-may : goal.read_root-word-requires-clause-may
@@ -132,3 +134,14 @@ returns-clause-seen c =
     cell-seen c.args.section c.args.variable n (events w x) (events v x)
     (events-join v w x (traced-read_root v w n c.args.section c.args.variable e.1 e.0).log m.only.log ∙ ap (λ (l : List Entry). l ++ events w x) (events-after v w _ _ e.0))
     (subst (λ (k : ℕ). AsksToMark (k ∷ []) (events w x)) c.cell_of.ensures m.asks).asked
+
+pub returns-then-word-eq0-clause-few : goal.returns-then-word-eq0-clause-few
+returns-then-word-eq0-clause-few c = let one = few-after (view_of c.args.seat.now) (view_of c.read_root-word.new.seat) (ReadRoot c.args.section c.args.variable) _ c.read_root-word.ensures.view.0 in omega (arith, one)
+
+pub returns-clause-few : goal.returns-clause-few
+returns-clause-few c =
+    let v : View = view_of c.args.seat.now in
+    let w : View = view_of c.read_root-word.new.seat in
+    let e = c.read_root-word.ensures.view in
+    let m = c.mark_cell.ensures in
+    few-join 1 (mark_steps c.args.heap.now.shape) v w (view_of c.mark_cell.new.seat) (traced-read_root v w _ c.args.section c.args.variable e.1 e.0).ran m.only.ran (few-after v w _ _ e.0) m.few

@@ -1,4 +1,4 @@
-use Rattle.std.proofs.Common.{ℕ, ◌≡◌, ◌+◌, [], ◌∷◌, sym, ap, ◌∙◌, subst, refl, arith}
+use Rattle.std.proofs.Common.{ℕ, ◌≡◌, ◌+◌, [], ◌∷◌, sym, ap, ◌∙◌, subst, refl, arith, ◌≤◌, ◌*◌, false, length}
 use Rattle.std.specs.Prelude.{◌==◌}
 use Rattle.mark_core.specs.Numbers.{section_variables}
 use Rattle.mark_core.specs.Seats.{work_in_hand}
@@ -17,6 +17,8 @@ use Rattle.gc_table.specs.Seats.{view_of}
 use Rattle.packet_pools.specs.OnlyTraced.{OnlyTraced}
 use Rattle.packet_pools.specs.Seeking.{output_pools}
 use Rattle.gc_table.specs.Log.{events}
+use Rattle.packet_pools.specs.StepBounds.{any_steps, follow_steps, give_steps}
+use Rattle.packet_pools.proofs.Few.{another, few-join, few-steps, given-few}
 use Rattle.tracer.proofs.roots.scan_roots.Goals as goal
 
 pub loop-variable-init : goal.loop-variable-init
@@ -33,6 +35,7 @@ loop-variable-init c =
       most = omega arith;
       follows = (0, omega arith, roots-moves c.args.heap.now.shape (events v w) e.moves);
       seen = λ v l. absurd (omega (arith, l));
+      few = let few = e.few in omega (arith, few);
     }
 
 pub loop-variable-preserved : goal.loop-variable-preserved
@@ -58,6 +61,11 @@ loop-variable-preserved c =
             (roots-join sh (roots_of c.args.section n) ((c.args.section, n) ∷ []) _ _ _ _ _ _ (events v w) (events w x) (events v x) (events-join v w x i.only.log e.only.log) refl refl i.follows.2 e.follows),
       );
       seen = seen-next c.args.section n (events v w) (events w x) (events v x) (events-join v w x i.only.log e.only.log) i.seen e.seen;
+      few =
+          (let each : ℕ = follow_steps sh in
+          let all = few-join (any_steps sh + n * each) each v w x i.only.ran e.only.ran i.few e.few in
+          let grown = another n each in
+          omega (arith, all, grown));
     }
 
 pub returns-clause-only : goal.returns-clause-only
@@ -133,3 +141,15 @@ returns-clause-seen c =
     let past = c.loop-variable-test.false in
     let most = c.loop-variable.auto.variable-end in
     seen-all c.args.section c.loop-variable.variable (events v w) (events w x) (events v x) (events-join v w x i.only.log c.give.ensures.only.log) (omega (arith, past, most)) i.seen
+
+pub returns-clause-few : goal.returns-clause-few
+returns-clause-few c =
+    let sh : Shape = c.args.heap.now.shape in
+    let each : ℕ = follow_steps sh in
+    let i = c.loop-variable.invariant in
+    let g = c.give.ensures in
+    let past = c.loop-variable-test.false in
+    let most = c.loop-variable.auto.variable-end in
+    let all : c.loop-variable.variable ≡ section_variables = omega (arith, past, most) in
+    let few : length (events (view_of c.args.seat.now) (view_of c.loop-variable.seat)) ≤ any_steps sh + section_variables * each = subst (λ n. length (events (view_of c.args.seat.now) (view_of c.loop-variable.seat)) ≤ any_steps sh + n * each) all i.few in
+    few-join (any_steps sh + section_variables * each) give_steps (view_of c.args.seat.now) (view_of c.loop-variable.seat) (view_of c.give.new.seat) i.only.ran g.only.ran few (few-steps give_steps (view_of c.loop-variable.seat) (view_of c.give.new.seat) _ g.steps (given-few c.loop-variable.out.packet false (c.loop-variable.out.length == 0)))

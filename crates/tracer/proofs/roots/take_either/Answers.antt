@@ -21,6 +21,8 @@ use Rattle.gc_table.specs.Seats.{view_of}
 use Rattle.packet_pools.specs.declared.held.Held.{Held}
 use Rattle.packet_pools.specs.OnlyTraced.{OnlyTraced}
 use Rattle.gc_table.specs.Log.{events}
+use Rattle.packet_pools.specs.StepBounds.{input_steps, output_steps}
+use Rattle.packet_pools.proofs.Few.{few-join}
 use Rattle.tracer.proofs.roots.take_either.Goals as goal
 
 pub take_output-requires-clause-free : goal.take_output-requires-clause-free
@@ -91,3 +93,13 @@ returns-in-None-clause-none c =
       found v w x (subst (λ (h : Slots). holds_any h ≡ false) (sym c.requires.idle.held) refl) (subst (λ (h : Slots). holds_any h ≡ false) (sym held) refl) e.only f.only (subst (λ (s : Shape). NoOutput s (events v w)) (sym shape) e.none.1) e.none.2 (subst (λ (s : Shape). NoInput s (events w x)) (sym shape) n.1) n.2 (both-move v w x r e.only f.only e.none.2 n.2),
     ))
     f.none
+
+pub returns-in-Some-clause-few : goal.returns-in-Some-clause-few
+returns-in-Some-clause-few c = let few = c.in-Some.ensures.few in omega (arith, few)
+
+pub returns-in-None-clause-few : goal.returns-in-None-clause-few
+returns-in-None-clause-few c =
+    let sh : Shape = c.args.heap.now.shape in
+    let e = c.in-None.ensures in
+    let f = c.take_input.ensures in
+    few-join (output_steps sh) (input_steps sh) (view_of c.args.seat.now) (view_of c.take_output.new.seat) (view_of c.take_input.new.seat) e.only.ran f.only.ran e.few f.few

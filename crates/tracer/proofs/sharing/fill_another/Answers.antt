@@ -1,4 +1,4 @@
-use Rattle.std.proofs.Common.{◌≡◌, None, Option, [], ◌∷◌, sym, ap, ◌∙◌, subst, refl, arith}
+use Rattle.std.proofs.Common.{◌≡◌, None, Option, [], ◌∷◌, sym, ◌∙◌, subst, refl, arith}
 use Rattle.std.specs.Prelude.{IsTrue}
 use Rattle.std.proofs.lemmas.Bool.{false≢true}
 use Rattle.mark_core.specs.declared.kinds.Shape.{Shape}
@@ -16,6 +16,10 @@ use Rattle.gc_table.specs.declared.view.View.{View}
 use Rattle.gc_table.specs.Seats.{view_of}
 use Rattle.packet_pools.specs.declared.held.Held.{Held}
 use Rattle.gc_table.specs.Log.{events}
+use Rattle.packet_pools.specs.StepBounds.{output_steps}
+use Rattle.tracer.specs.StepBounds.{given_steps}
+use Rattle.packet_pools.proofs.Few.{few-join}
+use Rattle.tracer.proofs.Few.{given-nothing}
 use Rattle.tracer.proofs.sharing.fill_another.Goals as goal
 
 pub take_output-fresh-requires-clause-free : goal.take_output-fresh-requires-clause-free
@@ -52,3 +56,11 @@ returns-clause-part c =
     part-then sh o o o 0 0 0 0 0 0 0 0 0 v w y e.only g.only refl refl refl
     (part-moves sh o v (events v w) (either-way r (IsTrue (only_moves output_pools (events v w))) (if-some r _ (λ h. IsTrue (only_moves output_pools (events v w))) (λ h t. t.0.moves) e.some) (if-none r _ (IsTrue (only_moves output_pools (events v w))) (λ n. n.2) e.none)))
     (g.part o (λ d. absurd (false≢true d)))
+
+pub returns-clause-few : goal.returns-clause-few
+returns-clause-few c =
+    let e = c.take_output-fresh.ensures in
+    let g = c.give_some.ensures in
+    let nothing = given-nothing c.replace-nothing.result (c.replace-nothing.ensures.value ∙ c.requires.packets.1) in
+    let all = few-join (output_steps c.args.heap.now.shape) (given_steps c.replace-nothing.result) (view_of c.args.seat.now) (view_of c.take_output-fresh.new.seat) (view_of c.give_some.new.seat) e.only.ran g.only.ran e.few g.few in
+    omega (arith, all, nothing)

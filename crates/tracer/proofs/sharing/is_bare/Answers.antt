@@ -8,6 +8,7 @@ use Rattle.gc_table.proofs.History.Log.{events-after}
 use Rattle.packet_pools.specs.Seeking.{only_moves}
 use Rattle.packet_pools.proofs.Conditions.{may-look}
 use Rattle.packet_pools.proofs.Doing.{traced-look, traces-on}
+use Rattle.packet_pools.proofs.Few.{few-after}
 use Rattle.tracer.proofs.sharing.is_bare.Goals as goal
 
 pub look-requires-clause-may : goal.look-requires-clause-may
@@ -28,3 +29,6 @@ returns-clause-state c = ap (λ (z : View). z.state) c.look.ensures.view.0
 
 pub returns-clause-moves : goal.returns-clause-moves
 returns-clause-moves c = λ qs. ap (only_moves qs) (events-after (view_of c.args.seat.now) (view_of c.look.new.seat) (Look c.args.q c.args.g) _ c.look.ensures.view.0)
+
+pub returns-clause-few : goal.returns-clause-few
+returns-clause-few c = few-after (view_of c.args.seat.now) (view_of c.look.new.seat) (Look c.args.q c.args.g) _ c.look.ensures.view.0

@@ -1,9 +1,11 @@
-use Rattle.std.proofs.Common.{◌∙◌}
+use Rattle.std.proofs.Common.{◌∙◌, ◌≡◌, ◌*◌, ap, arith}
 use Rattle.gc_table.specs.declared.view.View.{View}
 use Rattle.gc_table.specs.Seats.{view_of}
 use Rattle.packet_pools.specs.Seeking.{input_pools}
 use Rattle.packet_pools.proofs.TracedSteps.{traced-join}
 use Rattle.tracer.proofs.Moves.{moves-then}
+use Rattle.mark_core.specs.declared.kinds.Shape.{Shape}
+use Rattle.packet_pools.proofs.Few.{few-join}
 use Rattle.tracer.proofs.sharing.lacks_work.Goals as goal
 
 pub returns-then-not-are_bare-clause-only : goal.returns-then-not-are_bare-clause-only
@@ -28,4 +30,25 @@ loop-g-preserved c =
       only = traced-join v w x i.only e.only;
       state = e.state ∙ i.state;
       moves = moves-then input_pools v w x i.only e.only i.moves e.moves;
+      few = let all = few-join (2 * c.loop-g.g) 2 v w x i.only.ran e.only.ran i.few e.few in omega (arith, all);
     }
+
+pub returns-then-not-are_bare-clause-few : goal.returns-then-not-are_bare-clause-few
+returns-then-not-are_bare-clause-few c =
+    let sh : Shape = c.args.heap.now.shape in
+    let i = c.loop-g.invariant in
+    let e = c.are_bare.ensures in
+    let below = c.loop-g-test.true in
+    let end = c.div_ceil-g-end.ensures in
+    let packets : c.shape.result.packets ≡ sh.packets = ap (λ (x : Shape). x.packets) c.shape.ensures in
+    let all = few-join (2 * c.loop-g.g) 2 (view_of c.args.seat.now) (view_of c.loop-g.seat) (view_of c.are_bare.new.seat) i.only.ran e.only.ran i.few e.few in
+    omega (arith, all, below, end, packets)
+
+pub returns-clause-few : goal.returns-clause-few
+returns-clause-few c =
+    let sh : Shape = c.args.heap.now.shape in
+    let few = c.loop-g.invariant.few in
+    let most = c.loop-g.auto.g-end in
+    let end = c.div_ceil-g-end.ensures in
+    let packets : c.shape.result.packets ≡ sh.packets = ap (λ (x : Shape). x.packets) c.shape.ensures in
+    omega (arith, few, most, end, packets)

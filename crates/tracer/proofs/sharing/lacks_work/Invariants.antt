@@ -1,4 +1,4 @@
-use Rattle.std.proofs.Common.{◌≡◌}
+use Rattle.std.proofs.Common.{◌≡◌, ◌≤◌, ◌*◌, length}
 use Rattle.std.specs.Prelude.{IsTrue}
 use Rattle.gc_table.specs.Seats.{Sits, view_of}
 use Rattle.gc_table.specs.Log.{events}
@@ -14,4 +14,5 @@ invariant-loop-g l = record {
   only : OnlyTraced (view_of l.fn.seat) (view_of l.seat);
   state : (view_of l.seat).state ≡ (view_of l.fn.seat).state;
   moves : IsTrue (only_moves input_pools (events (view_of l.fn.seat) (view_of l.seat)));
+  few : length (events (view_of l.fn.seat) (view_of l.seat)) ≤ 2 * l.g;
 }

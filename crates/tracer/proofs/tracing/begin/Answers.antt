@@ -1,4 +1,4 @@
-use Rattle.std.proofs.Common.{◌≡◌, None, [], ◌∷◌, refl, arith}
+use Rattle.std.proofs.Common.{None, [], refl, arith}
 use Rattle.packet_pools.specs.Seeking.{input_pools}
 use Rattle.tracer.proofs.Carried.{carries-free, carries-none, carries-take}
 use Rattle.tracer.proofs.Moves.{input-moves}

@@ -1,4 +1,4 @@
-use Rattle.std.proofs.Common.{ℕ, None, Option, List, [], ◌∷◌, ap, refl}
+use Rattle.std.proofs.Common.{ℕ, None, Option, List, [], ◌∷◌, ap, refl, ◌+◌, arith, false}
 use Rattle.std.specs.Prelude.{◌==◌}
 use Rattle.std.proofs.lemmas.Bool.{false≢true}
 use Rattle.mark_core.specs.declared.kinds.Shape.{Shape}
@@ -15,6 +15,10 @@ use Rattle.gc_table.specs.Seats.{view_of}
 use Rattle.packet_pools.specs.Seeking.{output_pools}
 use Rattle.packet_pools.specs.declared.held.Held.{Held}
 use Rattle.gc_table.specs.Log.{events}
+use Rattle.packet_pools.specs.StepBounds.{give_steps}
+use Rattle.tracer.specs.StepBounds.{given_steps}
+use Rattle.packet_pools.proofs.Few.{few-join, few-steps, given-few}
+use Rattle.tracer.proofs.Few.{given-most}
 use Rattle.tracer.proofs.tracing.finish.Goals as goal
 
 pub give_some-requires-clause-held : goal.give_some-requires-clause-held
@@ -77,3 +81,19 @@ returns-clause-part c =
     (part-then sh None None None 0 0 0 0 0 0 0 0 0 w y z f.only g.only refl refl refl
     (f.part None (λ d. absurd (false≢true d)))
     (part-moves sh None y (events y z) (given-moves output_pools x.input.packet (x.input.length == 0) (events y z) g.steps)))
+
+pub returns-clause-few : goal.returns-clause-few
+returns-clause-few c =
+    let v : View = view_of c.args.seat.now in
+    let w : View = view_of c.give_some.new.seat in
+    let y : View = view_of c.give_some-2.new.seat in
+    let z : View = view_of c.give.new.seat in
+    let x : Packets = c.args.packets in
+    let e = c.give_some.ensures in
+    let f = c.give_some-2.ensures in
+    let g = c.give.ensures in
+    let last = few-join (given_steps x.output) give_steps w y z f.only.ran g.only.ran f.few (few-steps give_steps y z _ g.steps (given-few x.input.packet false (x.input.length == 0))) in
+    let all = few-join (given_steps x.deferred) (given_steps x.output + give_steps) v w z e.only.ran (traced-join w y z f.only g.only).ran e.few last in
+    let one = given-most x.deferred in
+    let two = given-most x.output in
+    omega (arith, all, one, two)

@@ -1,4 +1,4 @@
-use Rattle.std.proofs.Common.{ℕ, ◌≡◌, ◌+◌, inl, inr, None, Option, sym, ap, ◌∙◌, subst, refl, arith, false, ⊎_elim}
+use Rattle.std.proofs.Common.{ℕ, ◌≡◌, ◌+◌, inl, inr, None, Option, sym, ap, ◌∙◌, subst, refl, arith, false, ⊎_elim, ◌*◌}
 use Rattle.mark_core.specs.Seats.{work_in_hand}
 use Rattle.mark_core.specs.declared.kinds.Shape.{Shape}
 use Rattle.mark_core.specs.declared.seat.SeatState.{SeatState}
@@ -15,6 +15,9 @@ use Rattle.gc_table.specs.declared.view.View.{View}
 use Rattle.gc_table.specs.Seats.{view_of}
 use Rattle.packet_pools.specs.OnlyTraced.{OnlyTraced}
 use Rattle.gc_table.specs.Log.{events}
+use Rattle.packet_pools.specs.StepBounds.{give_steps, input_steps}
+use Rattle.tracer.specs.StepBounds.{object_steps, turn_steps}
+use Rattle.packet_pools.proofs.Few.{few-join}
 use Rattle.tracer.proofs.tracing.trace.Goals as goal
 
 pub returns-in_default-clause-stopped : goal.returns-in_default-clause-stopped
@@ -146,3 +149,21 @@ returns-clause-ends c =
     let g = c.finish.ensures in
     let later : OnlyTraced v y = traced-join v w y e.only (traced-join w x y f.only g.only) in
     all-end v (events v y) (later.cells refl) (whole sh t.done t.deferred t.overflowed _ _ v w x y e.only f.only g.only (ap packet_of e.some.1) e.part f.part g.part).did.steps
+
+pub returns-in_default-clause-few : goal.returns-in_default-clause-few
+returns-in_default-clause-few c = let few = c.in_default.ensures.few in omega (arith, few)
+
+pub returns-clause-few : goal.returns-clause-few
+returns-clause-few c =
+    let sh : Shape = c.args.heap.now.shape in
+    let v : View = view_of c.args.seat.now in
+    let w : View = view_of c.begin.new.seat in
+    let x : View = view_of c.trace_all-traced.new.seat in
+    let y : View = view_of c.finish.new.seat in
+    let k : ℕ = c.trace_all-traced.result.done * (turn_steps sh + object_steps sh) in
+    let e = c.in-Some.ensures in
+    let f = c.trace_all-traced.ensures in
+    let g = c.finish.ensures in
+    let last = few-join (k + turn_steps sh) (3 * give_steps) w x y f.only.ran g.only.ran f.few g.few in
+    let all = few-join (input_steps sh) (k + turn_steps sh + 3 * give_steps) v w y e.only.ran (traced-join w x y f.only g.only).ran e.few last in
+    omega (arith, all)

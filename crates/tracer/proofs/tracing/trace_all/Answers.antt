@@ -1,4 +1,4 @@
-use Rattle.std.proofs.Common.{ℕ, ◌≡◌, ◌+◌, inr, Option, sym, ap, ◌∙◌, subst, refl, arith}
+use Rattle.std.proofs.Common.{ℕ, ◌≡◌, ◌+◌, inr, Option, sym, ap, ◌∙◌, subst, refl, arith, ◌*◌}
 use Rattle.mark_core.specs.Seats.{is_the}
 use Rattle.mark_core.specs.declared.kinds.Shape.{Shape}
 use Rattle.mark_core.specs.declared.seat.SeatState.{SeatState}
@@ -13,6 +13,9 @@ use Rattle.gc_table.specs.declared.view.View.{View}
 use Rattle.gc_table.specs.Seats.{view_of}
 use Rattle.packet_pools.specs.OnlyTraced.{OnlyTraced}
 use Rattle.gc_table.specs.Log.{events}
+use Rattle.tracer.specs.StepBounds.{find_steps, object_steps, share_steps, turn_steps}
+use Rattle.packet_pools.proofs.Few.{few-join}
+use Rattle.tracer.proofs.Few.{another-object}
 use Rattle.tracer.proofs.tracing.trace_all.Goals as goal
 
 pub share_in_turn-requires-clause-seat : goal.share_in_turn-requires-clause-seat
@@ -127,4 +130,19 @@ loop-turn-preserved c =
           part-then sh o q r c.loop-turn.traced.done 1 c.loop-turn.traced.deferred c.trace_cell-passed.result.deferred c.loop-turn.traced.overflowed c.trace_cell-passed.result.overflowed _ _ _ v w y i.only whole refl refl (ap (λ n. c.loop-turn.traced.overflowed + n) (sym c.from.ensures)) i.part
           (part-then sh q q r 0 1 0 _ 0 _ 1 _ _ w u y g.only on refl (zero-plus _) (zero-plus _) (g.part q)
           (part-then sh q q r 1 0 0 _ 0 _ 1 _ _ u x y e.only f.only refl (zero-plus _) (zero-plus _) found last));
+      few =
+          another-object c.loop-turn.traced.done (turn_steps sh) (share_steps sh) (find_steps sh + 1) (object_steps sh) v w u x y i.only.ran g.only.ran e.only.ran f.only.ran on.ran whole.ran i.few g.few e.few f.few (omega arith);
     }
+
+pub returns-in_default-clause-few : goal.returns-in_default-clause-few
+returns-in_default-clause-few c =
+    let sh : Shape = c.args.heap.now.shape in
+    let w : View = view_of c.loop-turn.seat in
+    let u : View = view_of c.share_in_turn.new.seat in
+    let x : View = view_of c.next_cell.new.seat in
+    let i = c.loop-turn.invariant in
+    let g = c.share_in_turn.ensures in
+    let e = c.in_default.ensures in
+    let last = few-join (share_steps sh) (find_steps sh + 1) w u x g.only.ran e.only.ran g.few e.few in
+    let all = few-join (c.loop-turn.traced.done * (turn_steps sh + object_steps sh)) (share_steps sh + (find_steps sh + 1)) (view_of c.args.seat.now) w x i.only.ran (traced-join w u x g.only e.only).ran i.few last in
+    omega (arith, all)

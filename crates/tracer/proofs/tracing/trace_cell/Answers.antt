@@ -18,6 +18,9 @@ use Rattle.tracer.proofs.OneStep.{part-alloc}
 use Rattle.gc_table.specs.declared.view.View.{View}
 use Rattle.packet_pools.specs.OnlyTraced.{OnlyTraced}
 use Rattle.gc_table.specs.Log.{events}
+use Rattle.packet_pools.specs.StepBounds.{follow_steps, scan_steps}
+use Rattle.packet_pools.proofs.Few.{few-after, few-join}
+use Rattle.tracer.proofs.Few.{some-field}
 use Rattle.tracer.proofs.tracing.trace_cell.Goals as goal
 
 pub read_alloc-word-requires-clause-may : goal.read_alloc-word-requires-clause-may
@@ -140,3 +143,23 @@ returns-clause-part c =
     (zero-plus (cond b 1 0) ∙ (lost-byte b ∙ sym c.from-2.ensures))
     (part-alloc sh o (c.args.cell / block_cells) _ v w r.view)
     p.part
+
+pub returns-then-has_bit-clause-few : goal.returns-then-has_bit-clause-few
+returns-then-has_bit-clause-few c =
+    let sh : Shape = c.args.heap.now.shape in
+    let v : View = view_of c.args.seat.now in
+    let w : View = view_of c.read_alloc-word.new.seat in
+    let r = was-read c.args.cell c.number.result c.read_alloc-word.result v w c.requires.cell c.requires.seat.1 c.number.ensures c.read_alloc-word.ensures.view in
+    let s = c.scan-scanned.ensures in
+    few-join 1 (scan_steps sh.fields sh) v w (view_of c.scan-scanned.new.seat) r.only.ran s.only.ran (few-after v w _ _ r.view) s.few
+
+pub returns-clause-few : goal.returns-clause-few
+returns-clause-few c =
+    let sh : Shape = c.args.heap.now.shape in
+    let v : View = view_of c.args.seat.now in
+    let w : View = view_of c.read_alloc-word.new.seat in
+    let r = was-read c.args.cell c.number.result c.read_alloc-word.result v w c.requires.cell c.requires.seat.1 c.number.ensures c.read_alloc-word.ensures.view in
+    let p = c.defer-overflowed.ensures in
+    let few = p.few in
+    let some = some-field sh.fields (follow_steps sh) c.args.heap.now.shaped.fields.0 in
+    few-join 1 (scan_steps sh.fields sh) v w (view_of c.defer-overflowed.new.seat) r.only.ran p.only.ran (few-after v w _ _ r.view) (omega (arith, few, some))
