@@ -1,4 +1,4 @@
-# Words that the field doesn't use stand nowhere, each with what is used instead; names in backquotes and programs aren't looked at. README.md has 1,500 words
+# Words that the field doesn't use stand nowhere, each with what is used instead; names in backquotes and programs aren't looked at. README.md has 1,200 words
 # at most, and docs/GLOSSARY.md a word a row. $1: a folder to write in.
 set -eu
 
@@ -27,5 +27,5 @@ for text in README.md docs/*.md bench/README.md tests/README.md crates/*/README.
     done <"$1/discarded"
 done
 
-[ "$(wc -w <README.md)" -le 1500 ] || echo "README.md: more than 1,500 words"
+[ "$(wc -w <README.md)" -le 1200 ] || echo "README.md: more than 1,200 words"
 awk -F'|' '/^\|/ && $2 ~ /[,;]/ { print "docs/GLOSSARY.md: more than one word in a row:" $2 }' docs/GLOSSARY.md
