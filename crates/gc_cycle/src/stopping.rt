@@ -1,5 +1,6 @@
 //! A mutator stops the world, and waits for the stop of another.
-ghost use Rattle.std.specs.Prelude.{ℕ, ◌≡◌, ◌∷◌, [], if◌then◌else◌, List, None, is_some, IsTrue};
+ghost use Rattle.std.specs.Prelude.{ℕ, ◌≡◌, ◌<◌, ◌↔◌, ◌∷◌, [], if◌then◌else◌, List, None, is_some, IsTrue};
+ghost use Rattle.mark_core.specs.Layout.{block_count};
 ghost use Rattle.std.specs.Bool.{OnTrue, OnFalse};
 ghost use Rattle.gc_table.specs.Seats.{Across, did, Sits, state_of, view_of};
 ghost use Rattle.packet_pools.specs.Seeking.{some_event};
@@ -22,7 +23,7 @@ ghost use Rattle.gc_cycle.specs.Turns.{HelpsFor, HelpsInTurns, HelpsOnce, help_q
 use crate::helping::help_with;
 use crate::lower::{await_stopped, enter, join_help, leave, leave_help, poll, raise};
 use gc_table::{Heap, HeapSeat};
-use mark_core::{BLOCK_CELLS, BLOCK_COUNTER, Phase, has_flag};
+use mark_core::{BLOCK_CELLS, BLOCK_COUNTER, Phase, Shape, has_flag};
 use packet_pools::all_empty;
 use std::sync::Wait;
 use std::thread;
@@ -79,7 +80,15 @@ fn help_once(heap: &Heap, seat: &mut HeapSeat, cards: bool) -> bool
 /// How often a waiting seat yields between two looks: the word that it looks at stands beside those that the seat which stopped the world counts with.
 const YIELDS: u32 = 16;
 
-/// Whether a sweep is under way that has blocks left to hand out. Where they are handed out one by one helpers hold each other up, so nobody is called.
+/// Whether blocks are left to hand out where some were, by the number of the next one. Where they are handed out one by one helpers hold each other up, so then
+/// none is called left.
+fn is_partly_handed_out(shape: &Shape, next: u64) -> bool
+    ensures { IsTrue result ↔ ((1 < shape.now.stretch) × (0 < next) × (next < block_count shape.now)) }
+{
+    1 < shape.stretch && 0 < next && next < u64::from(shape.cells / BLOCK_CELLS)
+}
+
+/// Whether a sweep is under way that has blocks left to hand out, by a look at the number of the next one.
 fn has_blocks_left(heap: &Heap, seat: &mut HeapSeat) -> bool
     requires seat { Sits heap.now seat.old × IsOut (view_of seat.old) }
     ensures seat { Sits heap.now seat.new × IsOut (view_of seat.new) }
@@ -89,9 +98,8 @@ fn has_blocks_left(heap: &Heap, seat: &mut HeapSeat) -> bool
     ensures inside { IsTrue (never leaves (did seat.old seat.new)) }
     ensures apart { IsTrue (never joins (did seat.old seat.new)) }
 {
-    let shape = heap.shape();
     let next = heap.read_stat(seat, BLOCK_COUNTER);
-    1 < shape.stretch && 0 < next && next < u64::from(shape.cells / BLOCK_CELLS)
+    is_partly_handed_out(&heap.shape(), next)
 }
 
 /// Whether help is open, and the count doesn't say that all packets are empty: so there is something to trace. In a sweep there is none; then whether blocks

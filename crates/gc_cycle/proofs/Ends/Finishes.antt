@@ -1,5 +1,5 @@
 -- An ordinary cycle, and a precise one, from their first move to their end.
-use Rattle.std.proofs.Common.{ℕ, ◌≡◌, ◌<◌, ◌+◌, List, [], ◌∷◌, ◌++◌, append_assoc, get_or, length, refl, sym, ap, ◌∙◌, subst, Bool, true, false, not, ◌&&◌, ⊎_elim, arith}
+use Rattle.std.proofs.Common.{ℕ, ◌≡◌, ◌<◌, List, [], ◌∷◌, ◌++◌, append_assoc, get_or, length, refl, sym, ap, ◌∙◌, subst, Bool, true, false, not, ◌&&◌, ⊎_elim, arith}
 use Rattle.std.specs.Prelude.{if◌then◌else◌}
 use Rattle.std.specs.List.{list_any}
 use Rattle.std.proofs.lemmas.Bool.{and_from, and_parts, false≢true, not-true, or_cases, or_from, or_left, or_right}

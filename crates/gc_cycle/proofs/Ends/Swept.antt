@@ -1,5 +1,5 @@
 -- What a sweep keeps, and how far the counter of blocks has come after it.
-use Rattle.std.proofs.Common.{ℕ, ◌≡◌, ◌≤◌, ◌<◌, ◌+◌, refl, ap, arith, true, false, Some, None, Option, not, Bool, is_some, ◌&&◌, ◌||◌}
+use Rattle.std.proofs.Common.{ℕ, ◌≡◌, ◌≤◌, ◌<◌, refl, ap, arith, true, false, Some, None, Option, not, Bool, is_some, ◌&&◌, ◌||◌}
 use Rattle.std.specs.Prelude.{unwrap_or, is_none, ◌==◌}
 use Rattle.std.proofs.lemmas.Bool.{false≢true, and_parts, or_parts}
 use Rattle.mark_core.specs.Notes.{keeps_bound}
