@@ -48,12 +48,12 @@ pub fn stretch_end(shape: &Shape, b: u32) -> u32
     end.min(u64::from(block_count(shape))) as u32
 }
 
-/// How many blocks a sweeper takes at a time in a heap of so many cells, unless it is told otherwise: a 256th of all, but at least one and at most 128. So a heap
-/// of fewer than 512 blocks hands them out one by one.
+/// How many blocks a sweeper takes at a time in a heap of so many cells, unless it is told otherwise: a 16th of all, but at least one and at most 128. So a heap
+/// of fewer than 32 blocks hands them out one by one.
 pub fn usual_stretch(cells: u32) -> u32
     ensures { result ≡ usual_stretch_of cells }
 {
-    (cells / (BLOCK_CELLS * 256)).min(128).max(1)
+    (cells / (BLOCK_CELLS * 16)).min(128).max(1)
 }
 
 /// How many cards there are, numbered from 0 on.
