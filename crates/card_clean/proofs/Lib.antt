@@ -11,6 +11,7 @@ pub mod CardLooks
 mod Rooting
 pub mod Leavings
 pub mod Takings
+pub mod Few
 pub mod Staying
 pub mod Drawn
 pub mod DrainEnds

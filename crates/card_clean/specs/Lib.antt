@@ -8,3 +8,4 @@ pub mod Taking
 pub mod Drained
 pub mod DirtyCards
 pub mod Leaving
+pub mod StepBounds

@@ -1,5 +1,5 @@
 //! One card is cleaned.
-ghost use Rattle.std.specs.Prelude.{◌≡◌, ◌<◌, ◌≤◌, ◌⊎◌, ◌||◌, nat_lt, [], ◌∷◌, if◌then◌else◌, Some, None, IsTrue, IsFalse};
+ghost use Rattle.std.specs.Prelude.{◌≡◌, ◌<◌, ◌≤◌, ◌⊎◌, ◌||◌, nat_lt, [], ◌∷◌, if◌then◌else◌, Some, None, IsTrue, IsFalse, ◌+◌, length};
 ghost use Rattle.mark_core.specs.Cards.{card_cells};
 ghost use Rattle.mark_core.specs.Layout.{card_count};
 ghost use Rattle.mark_core.specs.Held.{has_free_slot};
@@ -14,6 +14,7 @@ ghost use Rattle.packet_pools.specs.Scanning.{Fills, InHand, owes_redirty};
 ghost use Rattle.card_clean.specs.Cleaning.{Cleans, LearnsCells, RescansCard};
 ghost use Rattle.card_clean.specs.Leaving.{rescanned_in};
 ghost use Rattle.card_clean.specs.Rescanning.{OnlyOwes, just_cleared, left_word};
+ghost use Rattle.card_clean.specs.StepBounds.{clean_steps, rescan_steps};
 
 use crate::cleaned::Cleaned;
 use crate::rescanning::rescan_cells;
@@ -40,6 +41,7 @@ fn read_block(heap: &Heap, seat: &mut HeapSeat, card: u32) -> (u64, bool)
     ensures seat { IsTracer heap.now seat.new }
     ensures only { Across OnlyTraced seat.old seat.new }
     ensures learns { Across (LearnsCells card result.0 result.1) seat.old seat.new }
+    ensures few { length (did seat.old seat.new) ≤ 2 }
 {
     heap.read_marks(seat, card / BLOCK_CARDS);
     heap.read_alloc(seat, card / BLOCK_CARDS);
@@ -65,6 +67,7 @@ fn redirty(heap: &Heap, seat: &mut HeapSeat, card: u32, redirtied: bool)
     ensures work { IsFalse (work_in_hand heap.now.shape.fields (state_of seat.new)) }
     ensures owed { ((state_of seat.new).owes ≡ (state_of seat.old).owes) ⊎ ((state_of seat.new).owes ≡ None) }
     ensures events { did seat.old seat.new ≡ (if redirtied then event (DirtyCard card) 1 ∷ [] else []) }
+    ensures few { length (did seat.old seat.new) ≤ 1 }
 {
     if redirtied {
         heap.dirty_card(seat, card);
@@ -87,6 +90,7 @@ fn rescan_card(heap: &Heap, seat: &mut HeapSeat, card: u32, out: &mut Held) -> C
     ensures most { result.rescanned ≤ card_cells }
     ensures left { rescanned_in (view_of seat.old) (did seat.old seat.new) ≡ result.rescanned }
     ensures rescans { RescansCard heap.now.shape card result (did seat.old seat.new) }
+    ensures few { length (did seat.old seat.new) ≤ rescan_steps result.rescanned heap.now.shape + 3 }
 {
     let (left, owes) = read_block(heap, seat, card);
     let all = rescan_cells(heap, seat, out, card, left);
@@ -130,6 +134,7 @@ pub fn clean_card(heap: &Heap, seat: &mut HeapSeat, card: u32, out: &mut Held) -
     ensures most { result.rescanned ≤ card_cells }
     ensures left { rescanned_in (view_of seat.old) (did seat.old seat.new) ≡ result.rescanned }
     ensures cleans { Cleans heap.now.shape card result (did seat.old seat.new) }
+    ensures few { length (did seat.old seat.new) ≤ clean_steps result.rescanned heap.now.shape }
 {
     if !heap.clear_card(seat, card) {
         return Cleaned::nothing();

@@ -1,5 +1,5 @@
 //! A look at every card, and a pass over all cards that cleans the dirty ones.
-ghost use Rattle.std.specs.Prelude.{◌≡◌, ◌<◌, ◌≤◌, ◌-◌, ◌*◌, IsTrue, IsFalse, IfSome, IfNone};
+ghost use Rattle.std.specs.Prelude.{◌≡◌, ◌<◌, ◌≤◌, ◌-◌, ◌*◌, IsTrue, IsFalse, IfSome, IfNone, length, min};
 ghost use Rattle.mark_core.specs.Cards.{card_cells};
 ghost use Rattle.mark_core.specs.Layout.{card_count};
 ghost use Rattle.mark_core.specs.Held.{has_free_slot};
@@ -16,6 +16,8 @@ ghost use Rattle.card_clean.specs.Looking.{KeepsAllNotes, looks_clean, looks_dir
 ghost use Rattle.card_clean.specs.Taking.{CleansWithPacket, NoPacket};
 ghost use Rattle.packet_pools.specs.Seeking.{only_moves, output_pools};
 ghost use Rattle.packet_pools.specs.Hands.{free_slots};
+ghost use Rattle.packet_pools.specs.StepBounds.{any_steps};
+ghost use Rattle.card_clean.specs.StepBounds.{clean_dirty_steps, clean_round_steps, clean_some_steps, pass_steps};
 
 use crate::cleaning::clean_card;
 use crate::taking::take_some;
@@ -35,6 +37,7 @@ pub fn dirty_between(heap: &Heap, seat: &mut HeapSeat, from: u32, end: u32) -> O
     ensures dirty { IfSome result (λ card. (from ≤ card) × (card < end) × (did seat.old seat.new ≡ looks_dirty from card)) }
     ensures clean { IfNone result (did seat.old seat.new ≡ looks_clean from end) }
     ensures noted { IfNone result (IsTrue (state_of seat.old).alone → AreNotedClean from end (view_of seat.new)) }
+    ensures few { length (did seat.old seat.new) ≤ end - from }
 {
     for card in from..end {
         if heap.read_card(seat, card) {
@@ -54,6 +57,7 @@ pub(crate) fn first_dirty(heap: &Heap, seat: &mut HeapSeat, from: u32) -> Option
     ensures dirty { IfSome result (λ card. (from ≤ card) × (card < card_count heap.now.shape) × (did seat.old seat.new ≡ looks_dirty from card)) }
     ensures clean { IfNone result (did seat.old seat.new ≡ looks_clean from (card_count heap.now.shape)) }
     ensures noted { IfNone result (IsTrue (state_of seat.old).alone → AreNotedClean from (card_count heap.now.shape) (view_of seat.new)) }
+    ensures few { length (did seat.old seat.new) ≤ card_count heap.now.shape - from }
 {
     dirty_between(heap, seat, from, heap.shape().cells / CARD_CELLS)
 }
@@ -71,6 +75,7 @@ fn clean_where_dirty(heap: &Heap, seat: &mut HeapSeat, card: u32, out: &mut Held
     ensures most { result ≤ card_cells }
     ensures left { rescanned_in (view_of seat.old) (did seat.old seat.new) ≡ result }
     ensures cleans { CleanedWhereDirty heap.now.shape card result (did seat.old seat.new) }
+    ensures few { length (did seat.old seat.new) ≤ pass_steps 1 result heap.now.shape }
 {
     if !heap.read_card(seat, card) {
         return 0;
@@ -92,6 +97,7 @@ fn clean_between(heap: &Heap, seat: &mut HeapSeat, first: u32, end: u32, out: &m
     ensures most { result ≤ card_cells * (end - first) }
     ensures left { rescanned_in (view_of seat.old) (did seat.old seat.new) ≡ result }
     ensures cleans { CleanedFrom heap.now.shape first (end - first) result (did seat.old seat.new) }
+    ensures few { length (did seat.old seat.new) ≤ pass_steps (end - first) result heap.now.shape }
 {
     let mut rescanned = 0;
     for card in first..end {
@@ -114,6 +120,7 @@ pub fn clean_dirty(heap: &Heap, seat: &mut HeapSeat) -> u32
     ensures work { IsFalse (work_in_hand heap.now.shape.fields (state_of seat.new)) }
     ensures left { rescanned_in (view_of seat.old) (did seat.old seat.new) ≡ result }
     ensures cleans { CleansDirty heap.now.shape result (did seat.old seat.new) }
+    ensures few { length (did seat.old seat.new) ≤ clean_dirty_steps result heap.now.shape }
 {
     let Some(card) = first_dirty(heap, seat, 0) else {
         return 0;
@@ -141,6 +148,7 @@ pub fn clean_some(heap: &Heap, seat: &mut HeapSeat, first: u32, end: u32) -> Opt
     ensures work { IsFalse (work_in_hand heap.now.shape.fields (state_of seat.new)) }
     ensures some { IfSome result (λ n. (n ≤ card_cells * (end - first)) × (rescanned_in (view_of seat.old) (did seat.old seat.new) ≡ n) × CleansWithPacket (CleanedFrom heap.now.shape first (end - first) n) (did seat.old seat.new)) }
     ensures none { IfNone result (NoPacket heap.now.shape (did seat.old seat.new) × IsTrue (only_moves output_pools (did seat.old seat.new)) × (rescanned_in (view_of seat.old) (did seat.old seat.new) ≡ 0)) }
+    ensures few { IfSome result (λ n. length (did seat.old seat.new) ≤ clean_some_steps (end - first) n heap.now.shape) × IfNone result (length (did seat.old seat.new) ≤ any_steps heap.now.shape) }
 {
     let Some(mut out) = take_some(heap, seat) else {
         return None;
@@ -166,6 +174,7 @@ fn clean_stretch(heap: &Heap, seat: &mut HeapSeat, s: u32) -> u32
     ensures most { result ≤ card_cells * stretch_cards }
     ensures left { rescanned_in (view_of seat.old) (did seat.old seat.new) ≡ result }
     ensures cleans { CleansStretch heap.now.shape s result (did seat.old seat.new) }
+    ensures few { length (did seat.old seat.new) ≤ clean_some_steps (min stretch_cards (card_count heap.now.shape)) result heap.now.shape }
 {
     let first = s * STRETCH;
     let end = (first + STRETCH).min(heap.shape().cells / CARD_CELLS);
@@ -199,6 +208,7 @@ pub fn clean_dirty_round(heap: &Heap, seat: &mut HeapSeat) -> u32
     ensures work { IsFalse (work_in_hand heap.now.shape.fields (state_of seat.new)) }
     ensures left { rescanned_in (view_of seat.old) (did seat.old seat.new) ≡ result }
     ensures cleans { CleansRound heap.now.shape result (did seat.old seat.new) }
+    ensures few { length (did seat.old seat.new) ≤ clean_round_steps result heap.now.shape }
 {
     let stretches = (heap.shape().cells / CARD_CELLS).div_ceil(STRETCH);
     let begin = first_stretch(seat.state().number, heap.shape().sections, stretches);

@@ -3,12 +3,13 @@
 //! What such a seat reads stays until it changes it. So once the roots are seen to (each is nil, or names a marked cell), they are: tracing sets
 //! mark bits and clears none, and no mutator stores a root. Then it is enough to look at every card, and at the count of empty packets, with no
 //! step between that dirties a card or takes a packet.
-ghost use Rattle.std.specs.Prelude.{◌≡◌, IsTrue, IsFalse};
+ghost use Rattle.std.specs.Prelude.{◌≡◌, IsTrue, IsFalse, ◌≤◌, ◌+◌, length};
 ghost use Rattle.mark_core.specs.Seats.{work_in_hand};
 ghost use Rattle.gc_table.specs.Seats.{Across, did, Sits, state_of, view_of};
 ghost use Rattle.packet_pools.specs.OnlyTraced.{OnlyTraced};
 ghost use Rattle.card_clean.specs.Drained.{FindsNoDirtyCard, FindsWork, IsDrained, IsRooted};
 ghost use Rattle.card_clean.specs.Leaving.{rescanned_in};
+ghost use Rattle.mark_core.specs.Layout.{card_count};
 
 use crate::dirty_cards::first_dirty;
 use gc_table::{Heap, HeapSeat};
@@ -28,6 +29,7 @@ pub fn is_drained(heap: &Heap, seat: &mut HeapSeat) -> bool
     ensures over { IsTrue result → FindsNoDirtyCard heap.now.shape (did seat.old seat.new) }
     ensures undrained { IsFalse result → FindsWork heap.now.shape (did seat.old seat.new) }
     ensures left { rescanned_in (view_of seat.old) (did seat.old seat.new) ≡ 0 }
+    ensures few { length (did seat.old seat.new) ≤ card_count heap.now.shape + 1 }
 {
     match first_dirty(heap, seat, 0) {
         Some(_) => false,

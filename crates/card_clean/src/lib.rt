@@ -31,6 +31,11 @@
 //! Each of these can be done a part at a time: some roots ([`see_to_some`]), a look at some cards ([`dirty_between`]), and the cleaning of some
 //! ([`clean_some`]). The caller keeps how far it has come; what the seat has noted of the earlier parts stays while it does nothing that ends it.
 //!
+//! # How many steps they take
+//!
+//! Each of these calls says how many steps it takes at most (`few`, by `specs/StepBounds.antt`): so many for each card, for each root, and for each cell that was
+//! scanned again, and those of the searches for a packet.
+//!
 //! # Where things are
 //!
 //! - `barrier`: a mutator's stores; `sharing`: its stores and exchanges where objects are shared;

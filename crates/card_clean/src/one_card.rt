@@ -1,5 +1,5 @@
 //! A card is cleaned with a packet that is taken for it.
-ghost use Rattle.std.specs.Prelude.{◌≡◌, ◌<◌, ◌≤◌, ◌⊎◌, [], ◌∷◌, None, IsTrue, IsFalse, IfSome, IfNone};
+ghost use Rattle.std.specs.Prelude.{◌≡◌, ◌<◌, ◌≤◌, ◌⊎◌, [], ◌∷◌, None, IsTrue, IsFalse, IfSome, IfNone, length};
 ghost use Rattle.mark_core.specs.Cards.{card_cells};
 ghost use Rattle.mark_core.specs.Layout.{card_count};
 ghost use Rattle.mark_core.specs.Seats.{work_in_hand};
@@ -10,6 +10,8 @@ ghost use Rattle.packet_pools.specs.Seeking.{NoOutput, only_moves, output_pools}
 ghost use Rattle.packet_pools.specs.Tracing.{IsTracer};
 ghost use Rattle.card_clean.specs.Cleaning.{CleansOne};
 ghost use Rattle.card_clean.specs.Leaving.{rescanned_in};
+ghost use Rattle.packet_pools.specs.StepBounds.{output_steps};
+ghost use Rattle.card_clean.specs.StepBounds.{clean_one_steps};
 
 use crate::cleaned::Cleaned;
 use crate::cleaning::clean_card;
@@ -32,6 +34,7 @@ pub fn clean_one(heap: &Heap, seat: &mut HeapSeat, card: u32) -> Option<Cleaned>
     ensures owes { ((state_of seat.new).owes ≡ (state_of seat.old).owes) ⊎ ((state_of seat.new).owes ≡ None) }
     ensures some { IfSome result (λ r. CleansOne heap.now.shape card r (did seat.old seat.new) × (r.rescanned ≤ card_cells) × (rescanned_in (view_of seat.old) (did seat.old seat.new) ≡ r.rescanned)) }
     ensures none { IfNone result ((state_of seat.new ≡ state_of seat.old) × NoOutput heap.now.shape (did seat.old seat.new) × IsTrue (only_moves output_pools (did seat.old seat.new)) × (rescanned_in (view_of seat.old) (did seat.old seat.new) ≡ 0)) }
+    ensures few { IfSome result (λ r. length (did seat.old seat.new) ≤ clean_one_steps r.rescanned heap.now.shape) × IfNone result (length (did seat.old seat.new) ≤ output_steps heap.now.shape) }
 {
     let Some(mut out) = take_output(heap, seat) else {
         return None;

@@ -1,5 +1,5 @@
 //! Roots are seen to: what each refers to is marked.
-ghost use Rattle.std.specs.Prelude.{◌≡◌, ◌<◌, ◌≤◌, ◌+◌, ◌-◌, ◌*◌, [], ◌∷◌, IsTrue, IsFalse};
+ghost use Rattle.std.specs.Prelude.{◌≡◌, ◌<◌, ◌≤◌, ◌+◌, ◌-◌, ◌*◌, [], ◌∷◌, IsTrue, IsFalse, length};
 ghost use Rattle.std.specs.List.{range_with_len};
 ghost use Rattle.mark_core.specs.Held.{has_free_slot};
 ghost use Rattle.mark_core.specs.Layout.{root_count};
@@ -16,6 +16,8 @@ ghost use Rattle.card_clean.specs.Drained.{IsNotedRoot, IsBeforeSweep, IsRooted,
 ghost use Rattle.packet_pools.specs.Hands.{free_slots};
 ghost use Rattle.card_clean.specs.Leaving.{rescanned_in};
 ghost use Rattle.card_clean.specs.Taking.{NoPacket};
+ghost use Rattle.packet_pools.specs.StepBounds.{follow_steps};
+ghost use Rattle.card_clean.specs.StepBounds.{see_to_steps};
 
 use crate::taking::take_some;
 use gc_table::{Heap, HeapSeat};
@@ -39,6 +41,7 @@ fn mark_root(heap: &Heap, seat: &mut HeapSeat, out: &mut Held, section: u32, v: 
     ensures steps { Across (Only sees_roots) seat.old seat.new }
     ensures noted { IsTrue (state_of seat.old).alone → IsNotedRoot (section * section_variables + v) (view_of seat.new) }
     ensures reads { picked (roots_read heap.now.shape) (did seat.old seat.new) ≡ (section * section_variables + v) ∷ [] }
+    ensures few { length (did seat.old seat.new) ≤ follow_steps heap.now.shape }
 {
     let word = heap.read_root(seat, section, v);
     if word != 0 {
@@ -60,6 +63,7 @@ fn mark_slot(heap: &Heap, seat: &mut HeapSeat, out: &mut Held, section: u32, k: 
     ensures steps { Across (Only sees_roots) seat.old seat.new }
     ensures noted { IsTrue (state_of seat.old).alone → IsNotedRoot (slot_index heap.now.shape section k) (view_of seat.new) }
     ensures reads { picked (roots_read heap.now.shape) (did seat.old seat.new) ≡ slot_index heap.now.shape section k ∷ [] }
+    ensures few { length (did seat.old seat.new) ≤ follow_steps heap.now.shape }
 {
     let word = heap.load_slot(seat, section, k);
     if word != 0 {
@@ -81,6 +85,7 @@ fn mark_one(heap: &Heap, seat: &mut HeapSeat, out: &mut Held, i: u32)
     ensures steps { Across (Only sees_roots) seat.old seat.new }
     ensures noted { IsTrue (state_of seat.old).alone → IsNotedRoot i (view_of seat.new) }
     ensures reads { picked (roots_read heap.now.shape) (did seat.old seat.new) ≡ i ∷ [] }
+    ensures few { length (did seat.old seat.new) ≤ follow_steps heap.now.shape }
 {
     let shape = heap.shape();
     let variables = shape.sections * ROW;
@@ -112,6 +117,7 @@ fn mark_between(heap: &Heap, seat: &mut HeapSeat, out: &mut Held, from: u32, end
     ensures steps { Across (Only sees_roots) seat.old seat.new }
     ensures noted { IsTrue (state_of seat.old).alone → RootsBetween from end (view_of seat.new) }
     ensures reads { picked (roots_read heap.now.shape) (did seat.old seat.new) ≡ range_with_len from (end - from) }
+    ensures few { length (did seat.old seat.new) ≤ (end - from) * follow_steps heap.now.shape }
 {
     for i in from..end {
         mark_one(heap, seat, out, i);
@@ -138,6 +144,7 @@ pub fn see_to_some(heap: &Heap, seat: &mut HeapSeat, from: u32, end: u32) -> boo
     ensures none { IsFalse result → (state_of seat.new ≡ state_of seat.old) × NoPacket heap.now.shape (did seat.old seat.new) }
     ensures noted { IsTrue result → RootsBetween from end (view_of seat.new) }
     ensures reads { IsTrue result → picked (roots_read heap.now.shape) (did seat.old seat.new) ≡ range_with_len from (end - from) }
+    ensures few { length (did seat.old seat.new) ≤ see_to_steps (end - from) heap.now.shape }
 {
     let Some(mut out) = take_some(heap, seat) else {
         return false;
@@ -174,6 +181,7 @@ pub fn see_to_roots(heap: &Heap, seat: &mut HeapSeat) -> bool
     ensures steps { Across (Only sees_roots) seat.old seat.new }
     ensures none { IsFalse result → (state_of seat.new ≡ state_of seat.old) × NoPacket heap.now.shape (did seat.old seat.new) }
     ensures rooted { IsTrue result → IsRooted (view_of seat.new) }
+    ensures few { length (did seat.old seat.new) ≤ see_to_steps (root_count heap.now.shape) heap.now.shape }
 {
     let end = count_roots(heap, seat);
     see_to_some(heap, seat, 0, end)

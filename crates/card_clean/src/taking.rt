@@ -1,5 +1,5 @@
 //! A packet is taken for the cells that are marked.
-ghost use Rattle.std.specs.Prelude.{◌≡◌, IsTrue, IsFalse, IfSome, IfNone};
+ghost use Rattle.std.specs.Prelude.{◌≡◌, IsTrue, IsFalse, IfSome, IfNone, ◌≤◌, length};
 ghost use Rattle.mark_core.specs.Held.{has_free_slot, holds};
 ghost use Rattle.gc_table.specs.Seats.{Across, did, state_of, view_of};
 ghost use Rattle.packet_pools.specs.OnlyTraced.{OnlyTraced};
@@ -7,6 +7,7 @@ ghost use Rattle.packet_pools.specs.Tracing.{IsTracer};
 ghost use Rattle.packet_pools.specs.Hands.{HoldsPacket, with_packet};
 ghost use Rattle.packet_pools.specs.Seeking.{only_moves, output_pools};
 ghost use Rattle.card_clean.specs.Taking.{NoPacket};
+ghost use Rattle.packet_pools.specs.StepBounds.{any_steps};
 
 use gc_table::{Heap, HeapSeat};
 use packet_pools::{Held, take_input, take_output};
@@ -20,6 +21,7 @@ pub(crate) fn take_some(heap: &Heap, seat: &mut HeapSeat) -> Option<Held>
     ensures moves { IsTrue (only_moves output_pools (did seat.old seat.new)) }
     ensures some { IfSome result (λ h. IsFalse (holds (state_of seat.old).held h.packet) × HoldsPacket h (view_of seat.new) × (state_of seat.new ≡ record (state_of seat.old) { held = with_packet (state_of seat.old).held h.packet h.length })) }
     ensures none { IfNone result ((state_of seat.new ≡ state_of seat.old) × NoPacket heap.now.shape (did seat.old seat.new)) }
+    ensures few { length (did seat.old seat.new) ≤ any_steps heap.now.shape }
 {
     match take_output(heap, seat) {
         Some(held) => Some(held),

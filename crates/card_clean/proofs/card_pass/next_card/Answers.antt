@@ -14,6 +14,7 @@ use Rattle.gc_table.specs.Taking.{May, Finds, after}
 use Rattle.packet_pools.specs.Tracing.{Traces}
 use Rattle.card_clean.specs.Passing.{card_floor, draws_card}
 use Rattle.card_clean.proofs.Drawing.{looked-traces, drawn-traces, may-draw, rises}
+use Rattle.packet_pools.proofs.Few.{few-after, few-events}
 use Rattle.card_clean.proofs.card_pass.next_card.Goals as goal
 
 both-ran : (v w x : View) (seen n : ℕ) → Found (ReadStat card_counter) seen v w → Found NextOfCards n w x → Ran v x
@@ -114,3 +115,18 @@ returns-else-number-end-clause-draws c =
     let under : c.read_stat.result < card_count v.shape = omega (arith, c.if-read_stat-end.false, c.from-end.ensures, cells) in
     let over : card_count v.shape ≤ n = omega (arith, c.if-number-end.false, c.from-end.ensures, cells) in
     inr (n, record { seen = c.read_stat.result; finds = e.1; under = under; draws = subst (Finds NextOfCards n) e.0 f.1; view = f.0 ∙ ap (after NextOfCards n) e.0; events_are = both-events v (view_of c.read_stat.new.seat) (view_of c.next_of_cards-number.new.seat) c.read_stat.result n e f }, sym (ap (λ b. cond b (Some n) None) (le-ltb n (card_count v.shape) over)))
+
+pub returns-then-read_stat-end-clause-few : goal.returns-then-read_stat-end-clause-few
+returns-then-read_stat-end-clause-few c = let one = few-after (view_of c.args.seat.now) (view_of c.read_stat.new.seat) (ReadStat card_counter) c.read_stat.result c.read_stat.ensures.view.0 in omega (arith, one)
+
+pub returns-then-number-end-clause-few : goal.returns-then-number-end-clause-few
+returns-then-number-end-clause-few c =
+    let v : View = view_of c.args.seat.now in
+    let x : View = view_of c.next_of_cards-number.new.seat in
+    few-events 2 v x _ (both-events v (view_of c.read_stat.new.seat) x c.read_stat.result c.next_of_cards-number.result c.read_stat.ensures.view c.next_of_cards-number.ensures.view) (omega arith)
+
+pub returns-else-number-end-clause-few : goal.returns-else-number-end-clause-few
+returns-else-number-end-clause-few c =
+    let v : View = view_of c.args.seat.now in
+    let x : View = view_of c.next_of_cards-number.new.seat in
+    few-events 2 v x _ (both-events v (view_of c.read_stat.new.seat) x c.read_stat.result c.next_of_cards-number.result c.read_stat.ensures.view c.next_of_cards-number.ensures.view) (omega arith)

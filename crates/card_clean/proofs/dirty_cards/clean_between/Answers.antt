@@ -8,6 +8,7 @@ use Rattle.packet_pools.proofs.TracedSteps.{cleaned-join}
 use Rattle.gc_table.proofs.History.Log.{events-join}
 use Rattle.card_clean.specs.DirtyCards.{CleanedFrom, CleanedWhereDirty}
 use Rattle.card_clean.proofs.Leavings.{rescanned-join}
+use Rattle.card_clean.proofs.Few.{pass-few}
 use Rattle.card_clean.proofs.dirty_cards.clean_between.Goals as goal
 
 pub clean_where_dirty-rescanned-requires-clause-seat : goal.clean_where_dirty-rescanned-requires-clause-seat
@@ -49,4 +50,12 @@ loop-card-preserved c =
       cleans =
           subst (λ k. CleanedFrom sh from k (done + one) (events v x)) more
           (done, one, events v w, events w x, events-join v w x i.only.log e.only.log, refl, i.cleans, subst (λ k. CleanedWhereDirty sh k one (events w x)) at e.cleans);
+      few = pass-few from card done one sh v w x i.order i.only.ran e.only.ran i.few e.few;
     }
+
+pub returns-clause-few : goal.returns-clause-few
+returns-clause-few c =
+    let i = c.loop-card.invariant in
+    let few = i.few in
+    let end = i.end in
+    omega (arith, few, end)

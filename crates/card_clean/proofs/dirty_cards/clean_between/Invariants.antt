@@ -1,4 +1,4 @@
-use Rattle.std.proofs.Common.{◌≡◌, ◌≤◌, ◌-◌, ◌*◌}
+use Rattle.std.proofs.Common.{◌≡◌, ◌≤◌, ◌-◌, ◌*◌, length}
 use Rattle.std.specs.Prelude.{IsFalse}
 use Rattle.mark_core.specs.Cards.{card_cells}
 use Rattle.mark_core.specs.Seats.{work_in_hand}
@@ -9,6 +9,7 @@ use Rattle.packet_pools.specs.Tracing.{Traces}
 use Rattle.packet_pools.specs.Scanning.{Fills}
 use Rattle.card_clean.specs.Leaving.{rescanned_in}
 use Rattle.card_clean.specs.DirtyCards.{CleanedFrom}
+use Rattle.card_clean.specs.StepBounds.{pass_steps}
 use Rattle.card_clean.proofs.dirty_cards.clean_between.Given as goal
 
 abbrev pub invariant-loop-card : goal.invariant-loop-card
@@ -23,4 +24,5 @@ invariant-loop-card l = record {
   most : l.rescanned ≤ card_cells * (l.card - l.fn.first);
   left : rescanned_in (view_of l.fn.seat) (events (view_of l.fn.seat) (view_of l.seat)) ≡ l.rescanned;
   cleans : CleanedFrom l.heap.shape l.fn.first (l.card - l.fn.first) l.rescanned (events (view_of l.fn.seat) (view_of l.seat));
+  few : length (events (view_of l.fn.seat) (view_of l.seat)) ≤ pass_steps (l.card - l.fn.first) l.rescanned l.heap.shape;
 }

@@ -1,4 +1,4 @@
-use Rattle.std.proofs.Common.{◌≡◌, ◌++◌, ◌-◌, ◌≤◌, ◌==◌, arith, refl, sym, ap, ◌∙◌, subst, inl, inr}
+use Rattle.std.proofs.Common.{◌≡◌, ◌++◌, ◌-◌, ◌≤◌, ◌==◌, arith, refl, sym, ap, ◌∙◌, subst, inl, inr, ℕ, ◌+◌, false, length}
 use Rattle.mark_core.specs.Held.{has_free_slot, drop_packet}
 use Rattle.mark_core.specs.Layout.{card_count}
 use Rattle.mark_core.specs.declared.kinds.Shape.{Shape}
@@ -18,6 +18,9 @@ use Rattle.packet_pools.specs.Seeking.{output_pools}
 use Rattle.card_clean.proofs.Leavings.{rescanned-join, rescanned-moves}
 use Rattle.card_clean.proofs.Takings.{some-free, with-free}
 use Rattle.card_clean.proofs.CardLooks.{rescanned-clean, rescanned-dirty}
+use Rattle.packet_pools.specs.StepBounds.{any_steps, give_steps}
+use Rattle.card_clean.specs.StepBounds.{pass_steps}
+use Rattle.packet_pools.proofs.Few.{few-join, few-steps, given-few}
 use Rattle.card_clean.proofs.dirty_cards.clean_dirty.Goals as goal
 
 pub returns-in_default-clause-seat : goal.returns-in_default-clause-seat
@@ -150,3 +153,36 @@ returns-clause-cleans c =
           }
           ),
     )
+
+pub returns-in_default-clause-few : goal.returns-in_default-clause-few
+returns-in_default-clause-few c = let few = c.first_dirty.ensures.few in omega (arith, few)
+
+pub returns-in_default-take_some-clause-few : goal.returns-in_default-take_some-clause-few
+returns-in_default-take_some-clause-few c =
+    let sh : Shape = c.args.heap.now.shape in
+    let a = c.first_dirty.ensures in
+    let b = c.take_some.ensures in
+    let all = few-join (card_count sh - 0) (any_steps sh) (view_of c.args.seat.now) (view_of c.first_dirty.new.seat) (view_of c.take_some.new.seat) a.only.ran b.only.ran a.few b.few in
+    omega (arith, all)
+
+pub returns-clause-few : goal.returns-clause-few
+returns-clause-few c =
+    let sh : Shape = c.args.heap.now.shape in
+    let v : View = view_of c.args.seat.now in
+    let w : View = view_of c.first_dirty.new.seat in
+    let x : View = view_of c.take_some.new.seat in
+    let y : View = view_of c.clean_between-rescanned.new.seat in
+    let z : View = view_of c.give.new.seat in
+    let k = c.clean_between-rescanned.new.out in
+    let n : ℕ = pass_steps (card_count sh - c.in-Some.card) c.clean_between-rescanned.result sh in
+    let a = c.first_dirty.ensures in
+    let b = c.take_some.ensures in
+    let d = c.clean_between-rescanned.ensures in
+    let g = c.give.ensures in
+    let passed : length (events x y) ≤ n = subst (λ (s : Shape). length (events x y) ≤ pass_steps (card_count s - c.in-Some.card) c.clean_between-rescanned.result sh) c.shape.ensures d.few in
+    let one = few-join (card_count sh - 0) (any_steps sh) v w x a.only.ran b.only.ran a.few b.few in
+    let two = cleaned-join v w x (traced-cleaned v w a.only) (traced-cleaned w x b.only) in
+    let three = cleaned-join v x y two d.only in
+    let part = few-join (card_count sh - 0 + any_steps sh) n v x y two.ran d.only.ran one passed in
+    let all = few-join (card_count sh - 0 + any_steps sh + n) give_steps v y z three.ran g.only.ran part (few-steps give_steps y z _ g.steps (given-few k.packet false (k.length == 0))) in
+    omega (arith, all)

@@ -1,4 +1,4 @@
-use Rattle.std.proofs.Common.{◌≡◌, ◌++◌, arith, ap, ◌∙◌}
+use Rattle.std.proofs.Common.{◌≡◌, ◌++◌, arith, ap, ◌∙◌, ℕ, ◌+◌, ◌-◌, false}
 use Rattle.std.specs.Prelude.{◌==◌}
 use Rattle.mark_core.specs.Held.{has_free_slot, drop_packet}
 use Rattle.mark_core.specs.declared.seat.SeatState.{SeatState}
@@ -13,6 +13,10 @@ use Rattle.card_clean.specs.Leaving.{rescanned_in}
 use Rattle.packet_pools.specs.Seeking.{output_pools}
 use Rattle.card_clean.proofs.Leavings.{rescanned-join, rescanned-moves}
 use Rattle.card_clean.proofs.Takings.{some-free, with-free}
+use Rattle.mark_core.specs.declared.kinds.Shape.{Shape}
+use Rattle.packet_pools.specs.StepBounds.{any_steps, give_steps}
+use Rattle.card_clean.specs.StepBounds.{pass_steps}
+use Rattle.packet_pools.proofs.Few.{few-join, few-steps, given-few}
 use Rattle.card_clean.proofs.dirty_cards.clean_some.Goals as goal
 
 pub take_some-requires-clause-free : goal.take_some-requires-clause-free
@@ -74,3 +78,22 @@ returns-clause-some c =
         gives = given-moves output_pools k.packet (k.length == 0) (events y z) g.steps;
       },
     )
+
+pub returns-in_default-clause-few : goal.returns-in_default-clause-few
+returns-in_default-clause-few c = (tt, c.take_some.ensures.few)
+
+pub returns-clause-few : goal.returns-clause-few
+returns-clause-few c =
+    let sh : Shape = c.args.heap.now.shape in
+    let v : View = view_of c.args.seat.now in
+    let x : View = view_of c.take_some.new.seat in
+    let y : View = view_of c.clean_between-rescanned.new.seat in
+    let z : View = view_of c.give.new.seat in
+    let k = c.clean_between-rescanned.new.out in
+    let n : ℕ = pass_steps (c.args.end - c.args.first) c.clean_between-rescanned.result sh in
+    let b = c.take_some.ensures in
+    let d = c.clean_between-rescanned.ensures in
+    let g = c.give.ensures in
+    let first = few-join (any_steps sh) n v x y b.only.ran d.only.ran b.few d.few in
+    let both = cleaned-join v x y (traced-cleaned v x b.only) d.only in
+    (few-join (any_steps sh + n) give_steps v y z both.ran g.only.ran first (few-steps give_steps y z _ g.steps (given-few k.packet false (k.length == 0))), tt)

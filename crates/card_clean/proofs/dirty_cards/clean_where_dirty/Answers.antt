@@ -12,6 +12,8 @@ use Rattle.gc_table.proofs.History.Log.{events-after, events-join}
 use Rattle.card_clean.specs.Leaving.{rescanned_in}
 use Rattle.card_clean.proofs.Leavings.{rescanned-join}
 use Rattle.card_clean.proofs.Steps.{traced-read_card, card-small}
+use Rattle.card_clean.specs.StepBounds.{clean_steps}
+use Rattle.packet_pools.proofs.Few.{few-after, few-join}
 use Rattle.card_clean.proofs.dirty_cards.clean_where_dirty.Goals as goal
 
 pub returns-then-not-read_card-clause-only : goal.returns-then-not-read_card-clause-only
@@ -86,3 +88,15 @@ returns-clause-left c =
     let first : rescanned_in v (events v w) ≡ 0 = ap (rescanned_in v) (events-after v w (ReadCard c.args.card) e.0 e.1) in
     let j = rescanned-join v w x (traced-read_card v w e.0 c.args.card e.2 e.1).ran c.clean_card-cleaned.ensures.only.ran in
     omega (arith, j, first, c.clean_card-cleaned.ensures.left)
+
+pub returns-then-not-read_card-clause-few : goal.returns-then-not-read_card-clause-few
+returns-then-not-read_card-clause-few c = let one = few-after (view_of c.args.seat.now) (view_of c.read_card.new.seat) (ReadCard c.args.card) _ c.read_card.ensures.view.1 in omega (arith, one)
+
+pub returns-clause-few : goal.returns-clause-few
+returns-clause-few c =
+    let v : View = view_of c.args.seat.now in
+    let w : View = view_of c.read_card.new.seat in
+    let e = c.read_card.ensures.view in
+    let d = c.clean_card-cleaned.ensures in
+    let all = few-join 1 (clean_steps c.clean_card-cleaned.result.rescanned c.args.heap.now.shape) v w (view_of c.clean_card-cleaned.new.seat) (traced-read_card v w e.0 c.args.card e.2 e.1).ran d.only.ran (few-after v w _ _ e.1) d.few in
+    omega (arith, all)

@@ -1,4 +1,4 @@
-use Rattle.std.proofs.Common.{ℕ, ◌<◌, ◌+◌, arith, refl, sym, ap, ◌∙◌, subst}
+use Rattle.std.proofs.Common.{ℕ, ◌<◌, ◌+◌, arith, refl, sym, ap, ◌∙◌, subst, ◌≤◌, ◌-◌, ⊎_elim}
 use Rattle.mark_core.specs.Layout.{card_count}
 use Rattle.mark_core.specs.declared.kinds.Shape.{Shape}
 use Rattle.mark_core.specs.declared.kinds.Step.TheVariants.{ReadCard}
@@ -12,6 +12,8 @@ use Rattle.card_clean.specs.Looking.{KeepsAllNotes}
 use Rattle.card_clean.proofs.CardLooks.{clean-look, clean-more, dirty-look}
 use Rattle.card_clean.proofs.Noted.{look-keeps, keeps-join}
 use Rattle.card_clean.proofs.Steps.{traced-read_card}
+use Rattle.std.proofs.lemmas.Bool.{cases_lt}
+use Rattle.packet_pools.proofs.Few.{few-after, few-join}
 use Rattle.card_clean.proofs.dirty_cards.dirty_between.Goals as goal
 
 pub returns-then-read_card-clause-only : goal.returns-then-read_card-clause-only
@@ -62,4 +64,23 @@ loop-card-preserved c =
           λ alone.
           subst (AreNotedClean c.args.from (card + 1)) (sym e.1)
           (clean-more w c.args.from card e.0 there e.2 (sym e.3 ∙ c.if-read_card.false) (ap (λ (s : SeatState). s.alone) i.state ∙ alone) (i.clean alone));
+      few = let all = few-join (card - c.args.from) 1 v w x i.only.ran k.ran i.few (few-after w x _ _ e.1) in omega (arith, all, i.order);
     }
+
+pub returns-then-read_card-clause-few : goal.returns-then-read_card-clause-few
+returns-then-read_card-clause-few c =
+    let e = c.read_card.ensures.view in
+    let i = c.loop-card.invariant in
+    let w : View = view_of c.loop-card.seat in
+    let x : View = view_of c.read_card.new.seat in
+    let all = few-join (c.loop-card.card - c.args.from) 1 (view_of c.args.seat.now) w x i.only.ran (traced-read_card w x e.0 c.loop-card.card e.2 e.1).ran i.few (few-after w x _ _ e.1) in
+    omega (arith, all, i.order, c.loop-card-test.true)
+
+pub returns-clause-few : goal.returns-clause-few
+returns-clause-few c =
+    let i = c.loop-card.invariant in
+    let few = i.few in
+    ⊎_elim
+    (λ (l : c.args.end < c.args.from). let still = i.still (omega (arith, l)) in omega (arith, few, still))
+    (λ (l : c.args.from ≤ c.args.end). let most = c.loop-card.auto.card-end l in omega (arith, few, most))
+    (cases_lt c.args.end c.args.from)

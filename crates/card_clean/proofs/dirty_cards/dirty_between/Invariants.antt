@@ -1,4 +1,4 @@
-use Rattle.std.proofs.Common.{◌≡◌, ◌≤◌}
+use Rattle.std.proofs.Common.{◌≡◌, ◌≤◌, ◌-◌, length}
 use Rattle.std.specs.Prelude.{IsTrue}
 use Rattle.gc_table.specs.Seats.{Sits, view_of}
 use Rattle.packet_pools.specs.OnlyTraced.{OnlyTraced}
@@ -17,4 +17,5 @@ invariant-loop-card l = record {
   notes : KeepsAllNotes (view_of l.fn.seat) (view_of l.seat);
   looked : events (view_of l.fn.seat) (view_of l.seat) ≡ looks_clean l.fn.from l.card;
   clean : IsTrue (view_of l.fn.seat).state.alone → AreNotedClean l.fn.from l.card (view_of l.seat);
+  few : length (events (view_of l.fn.seat) (view_of l.seat)) ≤ l.card - l.fn.from;
 }

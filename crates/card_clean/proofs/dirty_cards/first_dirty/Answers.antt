@@ -1,4 +1,4 @@
-use Rattle.std.proofs.Common.{subst}
+use Rattle.std.proofs.Common.{subst, ap, arith}
 use Rattle.std.specs.Prelude.{◌≡◌, ◌≤◌, ◌<◌, IfNone, IfSome, IsTrue}
 use Rattle.mark_core.specs.Layout.{card_count}
 use Rattle.mark_core.specs.declared.kinds.Shape.{Shape}
@@ -24,3 +24,9 @@ returns-clause-noted c =
     let v : View = view_of c.args.seat.now in
     let w : View = view_of c.dirty_between.new.seat in
     subst (λ (sh : Shape). IfNone c.dirty_between.result (IsTrue v.state.alone → AreNotedClean c.args.from (card_count sh) w)) c.shape.ensures c.dirty_between.ensures.noted
+
+pub returns-clause-few : goal.returns-clause-few
+returns-clause-few c =
+    let few = c.dirty_between.ensures.few in
+    let cells : c.shape.result.cells ≡ c.args.heap.now.shape.cells = ap (λ (s : Shape). s.cells) c.shape.ensures in
+    omega (arith, few, cells)

@@ -1,4 +1,4 @@
-use Rattle.std.proofs.Common.{◌≡◌, ◌+◌, [], ◌∷◌, ◌++◌, arith, refl, sym, ap, ◌∙◌, subst, true, Some, eqb-true, eq-eqb, inl, inr}
+use Rattle.std.proofs.Common.{◌≡◌, ◌+◌, [], ◌∷◌, ◌++◌, arith, refl, sym, ap, ◌∙◌, subst, true, Some, eqb-true, eq-eqb, inl, inr, ◌-◌}
 use Rattle.std.proofs.lemmas.Bool.{true≢false}
 use Rattle.mark_core.specs.Layout.{card_count}
 use Rattle.mark_core.specs.Numbers.{empty_offset}
@@ -20,6 +20,7 @@ use Rattle.card_clean.proofs.CardLooks.{clean-kept, count-noted, rescanned-clean
 use Rattle.card_clean.proofs.Staying.{rooted-stays}
 use Rattle.card_clean.proofs.Leavings.{rescanned-join}
 use Rattle.card_clean.proofs.Noted.{look-keeps}
+use Rattle.packet_pools.proofs.Few.{few-after, few-join}
 use Rattle.card_clean.proofs.drain_end.is_drained.Goals as goal
 
 pub returns-in-Some-clause-rooted : goal.returns-in-Some-clause-rooted
@@ -97,3 +98,15 @@ returns-in-None-clause-over c full =
     let all : n.0 ≡ empty_offset + c.args.heap.now.shape.packets = eqb-true _ _ (sym n.3 ∙ full) in
     events-join v w x c.first_dirty.ensures.only.log c.all_empty.ensures.only.log
     ∙ ((λ i. c.in-None.ensures.clean i ++ events-after w x ReadCount n.0 n.1 i) ∙ ap (λ k. looks_clean 0 (card_count c.args.heap.now.shape) ++ event ReadCount k ∷ []) all)
+
+pub returns-in-Some-clause-few : goal.returns-in-Some-clause-few
+returns-in-Some-clause-few c = let few = c.first_dirty.ensures.few in omega (arith, few)
+
+pub returns-in-None-clause-few : goal.returns-in-None-clause-few
+returns-in-None-clause-few c =
+    let w : View = view_of c.first_dirty.new.seat in
+    let x : View = view_of c.all_empty.new.seat in
+    let n = c.all_empty.ensures.count in
+    let f = c.first_dirty.ensures in
+    let all = few-join (card_count c.args.heap.now.shape - 0) 1 (view_of c.args.seat.now) w x f.only.ran c.all_empty.ensures.only.ran f.few (few-after w x ReadCount n.0 n.1) in
+    omega (arith, all)

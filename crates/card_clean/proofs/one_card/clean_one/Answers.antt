@@ -1,4 +1,4 @@
-use Rattle.std.proofs.Common.{◌≡◌, ◌++◌, ◌==◌, arith, ap, ◌∙◌}
+use Rattle.std.proofs.Common.{◌≡◌, ◌++◌, ◌==◌, arith, ap, ◌∙◌, ℕ, ◌+◌, false}
 use Rattle.packet_pools.specs.Seeking.{output_pools}
 use Rattle.mark_core.specs.Held.{has_free_slot, drop_packet}
 use Rattle.mark_core.specs.declared.seat.SeatState.{SeatState}
@@ -12,6 +12,10 @@ use Rattle.packet_pools.proofs.TracedSteps.{cleaned-join, traced-cleaned}
 use Rattle.card_clean.specs.Leaving.{rescanned_in}
 use Rattle.card_clean.proofs.Leavings.{rescanned-join, rescanned-moves}
 use Rattle.card_clean.proofs.Takings.{some-free, with-free}
+use Rattle.mark_core.specs.declared.kinds.Shape.{Shape}
+use Rattle.packet_pools.specs.StepBounds.{give_steps, output_steps}
+use Rattle.card_clean.specs.StepBounds.{clean_steps}
+use Rattle.packet_pools.proofs.Few.{few-join, few-steps, given-few}
 use Rattle.card_clean.proofs.one_card.clean_one.Goals as goal
 
 pub take_output-requires-clause-free : goal.take_output-requires-clause-free
@@ -73,3 +77,22 @@ returns-in_default-clause-none c =
     let v : View = view_of c.args.seat.now in
     let e = c.in_default.ensures.none in
     (e.0, e.1, e.2, rescanned-moves output_pools (events v (view_of c.take_output.new.seat)) v e.2)
+
+pub returns-in_default-clause-few : goal.returns-in_default-clause-few
+returns-in_default-clause-few c = (tt, c.in_default.ensures.few)
+
+pub returns-clause-few : goal.returns-clause-few
+returns-clause-few c =
+    let sh : Shape = c.args.heap.now.shape in
+    let v : View = view_of c.args.seat.now in
+    let w : View = view_of c.take_output.new.seat in
+    let x : View = view_of c.clean_card-cleaned.new.seat in
+    let y : View = view_of c.give.new.seat in
+    let k = c.clean_card-cleaned.new.out in
+    let n : ℕ = clean_steps c.clean_card-cleaned.result.rescanned sh in
+    let a = c.take_output.ensures in
+    let d = c.clean_card-cleaned.ensures in
+    let g = c.give.ensures in
+    let first = few-join (output_steps sh) n v w x a.only.ran d.only.ran a.few d.few in
+    let both = cleaned-join v w x (traced-cleaned v w a.only) d.only in
+    (few-join (output_steps sh + n) give_steps v x y both.ran g.only.ran first (few-steps give_steps x y _ g.steps (given-few k.packet false (k.length == 0))), tt)

@@ -11,6 +11,8 @@ use Rattle.card_clean.proofs.RootReads.{reads-more}
 use Rattle.card_clean.proofs.Rooting.{roots-next}
 use Rattle.card_clean.proofs.Leavings.{rescanned-join}
 use Rattle.gc_table.proofs.Running.{ran-only}
+use Rattle.packet_pools.specs.StepBounds.{follow_steps}
+use Rattle.packet_pools.proofs.Few.{last-fields, more-fields}
 use Rattle.card_clean.proofs.roots.mark_between.Goals as goal
 
 pub mark_one-requires-clause-seat : goal.mark_one-requires-clause-seat
@@ -48,4 +50,8 @@ loop-i-preserved c =
           let now_alone : w.state.alone ≡ true = ap (λ (s : SeatState). s.alone) i.only.rest ∙ alone in
           roots-next c.args.from c.loop-i.i w x (λ k r. root-stays w x e.only.ran e.only.only k now_alone r) (i.noted alone) (e.noted now_alone);
       reads = reads-more sh c.args.from c.loop-i.i v w x i.order i.only e.only i.reads e.reads;
+      few = more-fields c.args.from c.loop-i.i (follow_steps sh) v w x i.order i.only.ran e.only.ran i.few e.few;
     }
+
+pub returns-clause-few : goal.returns-clause-few
+returns-clause-few c = let i = c.loop-i.invariant in last-fields c.args.from c.loop-i.i c.args.end (follow_steps c.args.heap.now.shape) _ i.end i.few

@@ -23,6 +23,8 @@ use Rattle.gc_table.proofs.Running.{ran-only}
 use Rattle.card_clean.proofs.RootReads.{reads-join, scans-none}
 use Rattle.card_clean.proofs.RootSteps.{marks-see}
 use Rattle.packet_pools.specs.Fields.{picked}
+use Rattle.packet_pools.specs.StepBounds.{mark_steps}
+use Rattle.packet_pools.proofs.Few.{few-after, few-join}
 use Rattle.card_clean.proofs.roots.mark_root.Goals as goal
 
 pub read_root-word-requires-clause-may : goal.read_root-word-requires-clause-may
@@ -139,3 +141,14 @@ returns-then-word-ne0-clause-reads c =
     let m = c.mark_cell.ensures in
     let first : picked (roots_read sh) (events v w) ≡ (c.args.section * section_variables + c.args.v) ∷ [] = ap (picked (roots_read sh)) (events-after v w (ReadRoot c.args.section c.args.v) c.read_root-word.result e.0) in
     reads-join sh ((c.args.section * section_variables + c.args.v) ∷ []) [] v w x (traced-read_root v w c.read_root-word.result c.args.section c.args.v e.1 e.0) m.only first (scans-none sh (events w x) m.counts.scans)
+
+pub returns-else-word-ne0-clause-few : goal.returns-else-word-ne0-clause-few
+returns-else-word-ne0-clause-few c = let one = few-after (view_of c.args.seat.now) (view_of c.read_root-word.new.seat) (ReadRoot c.args.section c.args.v) _ c.read_root-word.ensures.view.0 in omega (arith, one)
+
+pub returns-then-word-ne0-clause-few : goal.returns-then-word-ne0-clause-few
+returns-then-word-ne0-clause-few c =
+    let v : View = view_of c.args.seat.now in
+    let w : View = view_of c.read_root-word.new.seat in
+    let e = c.read_root-word.ensures.view in
+    let m = c.mark_cell.ensures in
+    few-join 1 (mark_steps c.args.heap.now.shape) v w (view_of c.mark_cell.new.seat) (traced-read_root v w c.read_root-word.result c.args.section c.args.v e.1 e.0).ran m.only.ran (few-after v w _ _ e.0) m.few

@@ -22,6 +22,8 @@ use Rattle.gc_table.proofs.Running.{ran-only}
 use Rattle.card_clean.proofs.RootReads.{reads-join, scans-none}
 use Rattle.card_clean.proofs.RootSteps.{marks-see}
 use Rattle.packet_pools.specs.Fields.{picked}
+use Rattle.packet_pools.specs.StepBounds.{mark_steps}
+use Rattle.packet_pools.proofs.Few.{few-after, few-join}
 use Rattle.card_clean.proofs.roots.mark_slot.Goals as goal
 
 pub load_slot-word-requires-clause-may : goal.load_slot-word-requires-clause-may
@@ -139,3 +141,14 @@ returns-then-word-ne0-clause-reads c =
     let m = c.mark_cell.ensures in
     let first : picked (roots_read sh) (events v w) ≡ slot_index sh c.args.section c.args.k ∷ [] = ap (picked (roots_read sh)) (events-after v w (LoadSlot c.args.section c.args.k) c.load_slot-word.result e.0) in
     reads-join sh (slot_index sh c.args.section c.args.k ∷ []) [] v w x (traced-load_slot v w c.load_slot-word.result c.args.section c.args.k e.1 e.0) m.only first (scans-none sh (events w x) m.counts.scans)
+
+pub returns-else-word-ne0-clause-few : goal.returns-else-word-ne0-clause-few
+returns-else-word-ne0-clause-few c = let one = few-after (view_of c.args.seat.now) (view_of c.load_slot-word.new.seat) (LoadSlot c.args.section c.args.k) _ c.load_slot-word.ensures.view.0 in omega (arith, one)
+
+pub returns-then-word-ne0-clause-few : goal.returns-then-word-ne0-clause-few
+returns-then-word-ne0-clause-few c =
+    let v : View = view_of c.args.seat.now in
+    let w : View = view_of c.load_slot-word.new.seat in
+    let e = c.load_slot-word.ensures.view in
+    let m = c.mark_cell.ensures in
+    few-join 1 (mark_steps c.args.heap.now.shape) v w (view_of c.mark_cell.new.seat) (traced-load_slot v w c.load_slot-word.result c.args.section c.args.k e.1 e.0).ran m.only.ran (few-after v w _ _ e.0) m.few

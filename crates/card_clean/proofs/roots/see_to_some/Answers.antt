@@ -1,4 +1,4 @@
-use Rattle.std.proofs.Common.{◌≡◌, ◌-◌, arith, ap, ◌∙◌, true}
+use Rattle.std.proofs.Common.{◌≡◌, ◌-◌, arith, ap, ◌∙◌, true, ℕ, ◌+◌, ◌*◌, false}
 use Rattle.std.specs.List.{range_with_len}
 use Rattle.mark_core.specs.Held.{has_free_slot, drop_packet}
 use Rattle.mark_core.specs.declared.seat.SeatState.{SeatState}
@@ -18,6 +18,9 @@ use Rattle.gc_table.proofs.Running.{ran-only}
 use Rattle.card_clean.specs.Drained.{sees_roots}
 use Rattle.card_clean.proofs.RootReads.{reads-between}
 use Rattle.card_clean.proofs.RootSteps.{moves-see}
+use Rattle.mark_core.specs.declared.kinds.Shape.{Shape}
+use Rattle.packet_pools.specs.StepBounds.{any_steps, follow_steps, give_steps}
+use Rattle.packet_pools.proofs.Few.{few-join, few-steps, given-few}
 use Rattle.card_clean.proofs.roots.see_to_some.Goals as goal
 
 pub take_some-requires-clause-free : goal.take_some-requires-clause-free
@@ -103,3 +106,21 @@ returns-clause-steps c =
     let end = traced-join w x y b.only g.only in
     ran-only sees_roots v w y a.only.ran end.ran (moves-see (events v w) a.moves)
     (ran-only sees_roots w x y b.only.ran g.only.ran b.steps (moves-see (events x y) (given-moves output_pools k.packet (k.length == 0) (events x y) g.steps)))
+
+pub returns-in_default-clause-few : goal.returns-in_default-clause-few
+returns-in_default-clause-few c = let few = c.take_some.ensures.few in omega (arith, few)
+
+pub returns-clause-few : goal.returns-clause-few
+returns-clause-few c =
+    let sh : Shape = c.args.heap.now.shape in
+    let v : View = view_of c.args.seat.now in
+    let w : View = view_of c.take_some.new.seat in
+    let x : View = view_of c.mark_between.new.seat in
+    let y : View = view_of c.give.new.seat in
+    let k = c.mark_between.new.out in
+    let n : ℕ = (c.args.end - c.args.from) * follow_steps sh in
+    let a = c.take_some.ensures in
+    let b = c.mark_between.ensures in
+    let g = c.give.ensures in
+    let first = few-join (any_steps sh) n v w x a.only.ran b.only.ran a.few b.few in
+    few-join (any_steps sh + n) give_steps v x y (traced-join v w x a.only b.only).ran g.only.ran first (few-steps give_steps x y _ g.steps (given-few k.packet false (k.length == 0)))

@@ -1,4 +1,4 @@
-use Rattle.std.proofs.Common.{ℕ, ◌≡◌, ◌<◌, List, ap, ◌∙◌, refl, Bool, true, false, eqb, Option, Some, None}
+use Rattle.std.proofs.Common.{ℕ, ◌≡◌, ◌<◌, List, ap, ◌∙◌, refl, Bool, true, false, eqb, Option, Some, None, arith}
 use Rattle.std.specs.Prelude.{IfSome, IfNone, IsTrue, ◌||◌}
 use Rattle.std.proofs.lemmas.Bool.{false≢true, or_right}
 use Rattle.gc_table.specs.declared.view.Entry.{Entry}
@@ -14,6 +14,8 @@ use Rattle.gc_table.proofs.History.Log.{events-join}
 use Rattle.packet_pools.proofs.Searches.{moves-join, moves-more}
 use Rattle.packet_pools.specs.OnlyTraced.{OnlyTraced}
 use Rattle.card_clean.specs.Taking.{NoPacket}
+use Rattle.packet_pools.specs.StepBounds.{input_steps, output_steps}
+use Rattle.packet_pools.proofs.Few.{few-join}
 use Rattle.card_clean.proofs.taking.take_some.Goals as goal
 
 -- the pools of an input are among those of an output
@@ -49,3 +51,13 @@ returns-in-None-clause-moves c =
     let w : View = view_of c.take_output.new.seat in
     let x : View = view_of c.take_input.new.seat in
     ap (only_moves output_pools) (events-join v w x c.take_output.ensures.only.log c.take_input.ensures.only.log) ∙ moves-join output_pools (events v w) (events w x) c.in-None.ensures.none.2 (input-moves c.args.heap.now.shape c.take_input.result w x c.take_input.ensures.some c.take_input.ensures.none)
+
+pub returns-in-Some-clause-few : goal.returns-in-Some-clause-few
+returns-in-Some-clause-few c = let few = c.in-Some.ensures.few in omega (arith, few)
+
+pub returns-in-None-clause-few : goal.returns-in-None-clause-few
+returns-in-None-clause-few c =
+    let sh : Shape = c.args.heap.now.shape in
+    let e = c.take_output.ensures in
+    let f = c.take_input.ensures in
+    few-join (output_steps sh) (input_steps sh) (view_of c.args.seat.now) (view_of c.take_output.new.seat) (view_of c.take_input.new.seat) e.only.ran f.only.ran e.few f.few

@@ -1,0 +1,53 @@
+-- How many steps the calls that clean cards take.
+use Rattle.std.proofs.Common.{ℕ, ◌≡◌, ◌≤◌, ◌+◌, ◌-◌, ◌*◌, [], ◌∷◌, length, arith, Bool, true, false}
+use Rattle.std.specs.Prelude.{if◌then◌else◌, min}
+use Rattle.std.proofs.Math.Nat.{le-min, min-le_left, min-le_right}
+use Rattle.mark_core.specs.declared.kinds.Shape.{Shape}
+use Rattle.mark_core.specs.declared.kinds.Step.TheVariants.{DirtyCard}
+use Rattle.gc_table.specs.Log.{event, events}
+use Rattle.gc_table.specs.Running.{Ran}
+use Rattle.gc_table.specs.declared.view.View.{View}
+use Rattle.packet_pools.proofs.Few.{another, few-join}
+use Rattle.packet_pools.specs.StepBounds.{scan_steps}
+use Rattle.card_clean.specs.StepBounds.{clean_some_steps, pass_steps, rescan_steps}
+
+pub dirtied-few : (b : Bool) (card : ℕ) → length (if b then event (DirtyCard card) 1 ∷ [] else []) ≤ 1
+dirtied-few true card = omega arith
+dirtied-few false card = omega arith
+
+-- the cells that are scanned again are counted
+sum-cells : (m n each : ℕ) → (m + n) * each ≡ m * each + n * each
+sum-cells m n each = omega arith
+
+pub rescans-few : (m n : ℕ) (sh : Shape) (u v w : View) → Ran u v → Ran v w → length (events u v) ≤ rescan_steps m sh → length (events v w) ≤ rescan_steps n sh → length (events u w) ≤ rescan_steps (m + n) sh
+rescans-few m n sh u v w a b p q =
+    let all = few-join (rescan_steps m sh) (rescan_steps n sh) u v w a b p q in
+    let sum = sum-cells m n (scan_steps sh.fields sh) in
+    omega (arith, all, sum)
+
+-- another card of a pass
+pub pass-few : (first card m n : ℕ) (sh : Shape) (u v w : View) → first ≤ card → Ran u v → Ran v w → length (events u v) ≤ pass_steps (card - first) m sh → length (events v w) ≤ pass_steps 1 n sh → length (events u w) ≤ pass_steps (card + 1 - first) (m + n) sh
+pass-few first card m n sh u v w l a b p q =
+    let all = few-join (pass_steps (card - first) m sh) (pass_steps 1 n sh) u v w a b p q in
+    let sum = sum-cells m n (scan_steps sh.fields sh) in
+    omega (arith, all, sum, l)
+
+-- so many cards are left of a stretch
+pub stretch-few : (first cards n : ℕ) → min (first + n) cards - first ≤ min n cards
+stretch-few first cards n =
+    let a = min-le_left (first + n) cards in
+    let b = min-le_right (first + n) cards in
+    le-min (omega (arith, a)) (omega (arith, b))
+
+-- fewer cards
+pub some-fewer : (a b n : ℕ) (sh : Shape) (k : ℕ) → a ≤ b → k ≤ clean_some_steps a n sh → k ≤ clean_some_steps b n sh
+some-fewer a b n sh k l few = omega (arith, l, few)
+
+-- another stretch of a round
+pub round-few : (i m n cards : ℕ) (sh : Shape) (u v w : View) → Ran u v → Ran v w → length (events u v) ≤ i * clean_some_steps cards 0 sh + rescan_steps m sh → length (events v w) ≤ clean_some_steps cards n sh → length (events u w) ≤ (i + 1) * clean_some_steps cards 0 sh + rescan_steps (m + n) sh
+round-few i m n cards sh u v w a b p q =
+    let each : ℕ = clean_some_steps cards 0 sh in
+    let all = few-join (i * each + rescan_steps m sh) (clean_some_steps cards n sh) u v w a b p q in
+    let sum = sum-cells m n (scan_steps sh.fields sh) in
+    let grown = another i each in
+    omega (arith, all, sum, grown)
