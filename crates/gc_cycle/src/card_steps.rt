@@ -1,5 +1,5 @@
 //! A drain in pieces, once the roots are seen to: so many objects are traced, so many cards are looked at, and so many cleaned.
-ghost use Rattle.std.specs.Prelude.{◌≡◌, ◌≤◌, ◌+◌, ◌-◌, min, length, IsTrue, IsFalse, IfSome, IfNone};
+ghost use Rattle.std.specs.Prelude.{◌≡◌, ◌≤◌, ◌+◌, ◌-◌, min, length, IsTrue, IsFalse, IfSome, IfNone, ◌*◌};
 ghost use Rattle.std.specs.Bool.{OnFalse, OnTrue};
 ghost use Rattle.mark_core.specs.Layout.{card_count};
 ghost use Rattle.mark_core.specs.declared.kinds.Phase.TheVariants.{Drain};
@@ -14,6 +14,9 @@ ghost use Rattle.gc_cycle.specs.Sorts.{pops};
 ghost use Rattle.gc_cycle.specs.Statistics.{leaves_numbers};
 ghost use Rattle.gc_cycle.specs.Stepping.{BringsBack, Drains, HasMarkedAll, IsExactSince, Keeps, LacksPacket};
 ghost use Rattle.gc_cycle.specs.Turns.{DrainsFor};
+ghost use Rattle.mark_core.specs.Cards.{card_cells};
+ghost use Rattle.card_clean.specs.StepBounds.{clean_some_steps};
+ghost use Rattle.tracer.specs.StepBounds.{recycle_steps, trace_steps};
 
 use crate::lower::{recycle_deferred, sees_all_empty, trace};
 use crate::pieces::at_most;
@@ -43,6 +46,7 @@ pub fn trace_step(heap: &Heap, seat: &mut HeapSeat, most: u32) -> u32
     ensures exact { (u : View) → IsExactSince u (view_of seat.old) → IsExactSince u (view_of seat.new) }
     ensures numbers { Across (Only leaves_numbers) seat.old seat.new }
     ensures keeps { Across Keeps seat.old seat.new }
+    ensures few { length (did seat.old seat.new) ≤ recycle_steps heap.now.shape + trace_steps result heap.now.shape }
 {
     recycle_deferred(heap, seat);
     let traced = trace(heap, seat, most);
@@ -99,6 +103,7 @@ fn cleans_some(heap: &Heap, seat: &mut HeapSeat, first: u32, end: u32) -> bool
     ensures numbers { Across (Only leaves_numbers) seat.old seat.new }
     ensures cleaned { IsTrue result → Across (CleansCards first (end - first)) seat.old seat.new }
     ensures lacks { IsFalse result → Across LacksPacket seat.old seat.new }
+    ensures few { length (did seat.old seat.new) ≤ clean_some_steps (end - first) (card_cells * (end - first)) heap.now.shape + recycle_steps heap.now.shape }
 {
     match clean_some(heap, seat, first, end) {
         Some(_) => true,
@@ -125,6 +130,7 @@ pub fn clean_step(heap: &Heap, seat: &mut HeapSeat, from: u32, most: u32) -> Opt
     ensures exact { (u : View) → IsExactSince u (view_of seat.old) → IsExactSince u (view_of seat.new) }
     ensures numbers { Across (Only leaves_numbers) seat.old seat.new }
     ensures keeps { Across Keeps seat.old seat.new }
+    ensures few { length (did seat.old seat.new) ≤ clean_some_steps most (card_cells * most) heap.now.shape + recycle_steps heap.now.shape }
 {
     let number = at_most(most, from, heap.shape().cells / CARD_CELLS);
     if number == 0 {

@@ -1,5 +1,5 @@
 //! The calls of the crates below, told in the words of this one: what each asks of a seat at rest, and what it leaves of it.
-ghost use Rattle.std.specs.Prelude.{◌==◌, ◌≡◌, ◌<◌, ◌≤◌, ◌+◌, ◌&&◌, ◌⊎◌, Some, None, IsTrue, IsFalse, IfSome, IfNone, false};
+ghost use Rattle.std.specs.Prelude.{◌==◌, ◌≡◌, ◌<◌, ◌≤◌, ◌+◌, ◌&&◌, ◌⊎◌, Some, None, IsTrue, IsFalse, IfSome, IfNone, false, ◌*◌, length};
 ghost use Rattle.mark_core.specs.Cards.{card_cells};
 ghost use Rattle.mark_core.specs.Layout.{block_count, card_count};
 ghost use Rattle.mark_core.specs.Numbers.{empty_offset};
@@ -34,6 +34,9 @@ ghost use Rattle.gc_cycle.specs.Sorts.{sees_all_empty as says_all_empty, clears,
 ghost use Rattle.gc_cycle.specs.Standing.{is_at_rest};
 ghost use Rattle.gc_cycle.specs.Statistics.{leaves_numbers};
 ghost use Rattle.gc_cycle.specs.Stepping.{LacksPacket};
+ghost use Rattle.packet_pools.specs.StepBounds.{output_steps};
+ghost use Rattle.card_clean.specs.StepBounds.{clean_one_steps};
+ghost use Rattle.tracer.specs.StepBounds.{recycle_steps, section_steps, trace_steps};
 
 use crate::root_steps::sees_to_some;
 pub(crate) use alloc_cache::retire;
@@ -59,6 +62,7 @@ pub fn trace(heap: &Heap, seat: &mut HeapSeat, quota: u32) -> Traced
     ensures uncleaned { IsTrue (never draws_or_clears (did seat.old seat.new)) }
     ensures unrooted { IsTrue (never reads_root (did seat.old seat.new)) }
     ensures unread { IsTrue (never reads_pace (did seat.old seat.new)) }
+    ensures few { length (did seat.old seat.new) ≤ trace_steps result.done heap.now.shape }
 {
     tracer::trace(heap, seat, quota)
 }
@@ -75,6 +79,7 @@ pub fn recycle_deferred(heap: &Heap, seat: &mut HeapSeat) -> u32
     ensures unpopped { IsTrue (never pops (did seat.old seat.new)) }
     ensures unrooted { IsTrue (never reads_root (did seat.old seat.new)) }
     ensures unread { IsTrue (never reads_pace (did seat.old seat.new)) }
+    ensures few { length (did seat.old seat.new) ≤ recycle_steps heap.now.shape }
 {
     tracer::recycle_deferred(heap, seat)
 }
@@ -91,6 +96,7 @@ pub fn scan_roots(heap: &Heap, seat: &mut HeapSeat, section: u32) -> RootScan
     ensures unpopped { IsTrue (never pops (did seat.old seat.new)) }
     ensures unread { IsTrue (never reads_pace (did seat.old seat.new)) }
     ensures scans { Across (ScansRoots section result) seat.old seat.new }
+    ensures few { length (did seat.old seat.new) ≤ section_steps heap.now.shape }
 {
     tracer::scan_roots(heap, seat, section)
 }
@@ -215,6 +221,7 @@ pub fn next_card(heap: &Heap, seat: &mut HeapSeat) -> Option<u32>
     ensures unpopped { IsTrue (never pops (did seat.old seat.new)) }
     ensures unrooted { IsTrue (never reads_root (did seat.old seat.new)) }
     ensures unread { IsTrue (never reads_pace (did seat.old seat.new)) }
+    ensures few { length (did seat.old seat.new) ≤ 2 }
 {
     card_clean::next_card(heap, seat)
 }
@@ -235,6 +242,7 @@ pub fn clean(heap: &Heap, seat: &mut HeapSeat, card: u32) -> Option<u32>
     ensures unrooted { IsTrue (never reads_root (did seat.old seat.new)) }
     ensures undrawn { IsTrue (never draws (did seat.old seat.new)) }
     ensures unread { IsTrue (never reads_pace (did seat.old seat.new)) }
+    ensures few { IfSome result (λ n. length (did seat.old seat.new) ≤ clean_one_steps n heap.now.shape) × IfNone result (length (did seat.old seat.new) ≤ output_steps heap.now.shape) }
 {
     match card_clean::clean_one(heap, seat, card) {
         Some(cleaned) => Some(cleaned.rescanned),
@@ -283,6 +291,7 @@ pub(crate) fn sweep_next(heap: &Heap, seat: &mut HeapSeat) -> Option<u32>
     ensures some { IfSome result (λ n. (freed_in (view_of seat.old) (did seat.old seat.new) ≡ n) × (block_floor (view_of seat.old) < block_floor (view_of seat.new)) × (block_floor (view_of seat.old) < block_count heap.now.shape) × (count_of (draws_block (block_count heap.now.shape)) (did seat.old seat.new) ≡ 1)) }
     ensures none { IfNone result (IsTrue (some_event (sees_last_block (block_count heap.now.shape)) (did seat.old seat.new)) × (block_count heap.now.shape ≤ block_floor (view_of seat.new)) × (count_of (draws_block (block_count heap.now.shape)) (did seat.old seat.new) ≡ 0)) }
     ensures unfreed { IfNone result (freed_in (view_of seat.old) (did seat.old seat.new) ≡ 0) }
+    ensures few { length (did seat.old seat.new) ≤ 2 + 4 * heap.now.shape.stretch }
 {
     match sweeper::sweep_next(heap, seat) {
         Some(swept) => Some(swept.freed),

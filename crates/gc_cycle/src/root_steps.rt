@@ -1,5 +1,5 @@
 //! The roots are seen to in pieces of so many.
-ghost use Rattle.std.specs.Prelude.{ℕ, ◌≡◌, ◌≢◌, ◌≤◌, ◌+◌, ◌-◌, min, Some, IsTrue, IsFalse, IfSome, IfNone};
+ghost use Rattle.std.specs.Prelude.{ℕ, ◌≡◌, ◌≢◌, ◌≤◌, ◌+◌, ◌-◌, min, Some, IsTrue, IsFalse, IfSome, IfNone, length};
 ghost use Rattle.std.specs.List.{range_with_len};
 ghost use Rattle.mark_core.specs.Layout.{root_count};
 ghost use Rattle.mark_core.specs.Places.{the_next_block};
@@ -17,6 +17,8 @@ ghost use Rattle.gc_cycle.specs.Pieces.{SeesRootsFrom};
 ghost use Rattle.gc_cycle.specs.Sorts.{pops};
 ghost use Rattle.gc_cycle.specs.Statistics.{leaves_numbers};
 ghost use Rattle.gc_cycle.specs.Stepping.{Drains, IsExactSince, Keeps, LacksPacket};
+ghost use Rattle.card_clean.specs.StepBounds.{see_to_steps};
+ghost use Rattle.tracer.specs.StepBounds.{recycle_steps};
 
 use crate::pieces::at_most;
 use card_clean::count_roots;
@@ -39,6 +41,7 @@ pub(crate) fn sees_to_some(heap: &Heap, seat: &mut HeapSeat, from: u32, end: u32
     ensures only { IsTrue result → Across (Only sees_roots) seat.old seat.new }
     ensures reads { IsTrue result → picked (roots_read heap.now.shape) (did seat.old seat.new) ≡ range_with_len from (end - from) }
     ensures lacks { IsFalse result → Across LacksPacket seat.old seat.new }
+    ensures few { length (did seat.old seat.new) ≤ see_to_steps (end - from) heap.now.shape + recycle_steps heap.now.shape }
 {
     if card_clean::see_to_some(heap, seat, from, end) {
         return true;
@@ -65,6 +68,7 @@ pub fn root_piece(heap: &Heap, seat: &mut HeapSeat, from: u32, most: u32) -> Opt
     ensures exact { (u : View) → IsExactSince u (view_of seat.old) → IsExactSince u (view_of seat.new) }
     ensures numbers { Across (Only leaves_numbers) seat.old seat.new }
     ensures keeps { Across Keeps seat.old seat.new }
+    ensures few { length (did seat.old seat.new) ≤ see_to_steps most heap.now.shape + recycle_steps heap.now.shape }
 {
     let number = at_most(most, from, count_roots(heap, seat));
     if number == 0 {

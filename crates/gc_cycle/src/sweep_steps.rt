@@ -1,5 +1,5 @@
 //! The end of a collection in steps: the sweep, whole or in pieces of so many stretches of blocks, and the end of the cycle.
-ghost use Rattle.std.specs.Prelude.{◌≡◌, ◌≢◌, ◌≤◌, [], ◌∷◌, min, IsTrue};
+ghost use Rattle.std.specs.Prelude.{◌≡◌, ◌≢◌, ◌≤◌, [], ◌∷◌, min, IsTrue, ◌+◌, ◌*◌, length};
 ghost use Rattle.mark_core.specs.Layout.{block_count};
 ghost use Rattle.mark_core.specs.declared.kinds.Phase.TheVariants.{Drain, Idle, Sweep};
 ghost use Rattle.gc_table.specs.Log.{Only, events};
@@ -58,6 +58,7 @@ pub fn sweep_step(heap: &Heap, seat: &mut HeapSeat, most: u32) -> SweepStep
     ensures exact { (u : View) → IsExactSince u (view_of seat.old) → IsExactSince u (view_of seat.new) }
     ensures numbers { Across (Only leaves_numbers) seat.old seat.new }
     ensures keeps { Across Keeps seat.old seat.new }
+    ensures few { length (did seat.old seat.new) ≤ most * (2 + 4 * heap.now.shape.stretch) }
 {
     let mut freed: u32 = 0;
     for stretches in 0..most {

@@ -1,4 +1,4 @@
-use Rattle.std.proofs.Common.{◌≡◌, ◌-◌, ◌+◌, ℕ, arith, ap, subst}
+use Rattle.std.proofs.Common.{◌≡◌, ◌-◌, ◌+◌, ℕ, arith, ap, subst, ◌≤◌, ◌*◌, length}
 use Rattle.mark_core.specs.declared.kinds.Phase.TheVariants.{Drain}
 use Rattle.mark_core.specs.declared.kinds.Shape.{Shape}
 use Rattle.gc_table.specs.Seats.{view_of}
@@ -12,6 +12,10 @@ use Rattle.gc_cycle.proofs.CardPieces.{alone-of, cleans-none}
 use Rattle.gc_cycle.proofs.Ends.Exactly.{exact-part}
 use Rattle.gc_cycle.proofs.Parts.{part-none}
 use Rattle.gc_cycle.proofs.Stepped.{part-keeps}
+use Rattle.mark_core.specs.Cards.{card_cells}
+use Rattle.card_clean.specs.StepBounds.{clean_some_steps}
+use Rattle.tracer.specs.StepBounds.{recycle_steps}
+use Rattle.gc_cycle.proofs.Few.{cards-fewer}
 use Rattle.gc_cycle.proofs.card_steps.clean_step.Goals as goal
 
 pub returns-then-number-eq0-clause-part : goal.returns-then-number-eq0-clause-part
@@ -59,3 +63,26 @@ returns-clause-exact c u k = exact-part Drain u (view_of c.args.seat.now) (view_
 
 pub returns-clause-keeps : goal.returns-clause-keeps
 returns-clause-keeps c = part-keeps Drain (view_of c.args.seat.now) (view_of c.cleans_some.new.seat) c.cleans_some.ensures.part
+
+pub returns-then-number-eq0-clause-few : goal.returns-then-number-eq0-clause-few
+returns-then-number-eq0-clause-few c = let none = ap length (events-none (view_of c.args.seat.now)) in omega (arith, none)
+
+-- what was passed is at most what was to be
+piece-few : (from number most : ℕ) (sh : Shape) (k r : ℕ) → number ≤ most → k ≤ clean_some_steps (from + number - from) (card_cells * (from + number - from)) sh + r → k ≤ clean_some_steps most (card_cells * most) sh + r
+piece-few from number most sh k r l few =
+    let n : ℕ = from + number - from in
+    let same : n ≡ number = omega arith in
+    let all = cards-fewer n most (card_cells * n) (card_cells * most) sh (clean_some_steps n (card_cells * n) sh) (omega (arith, same, l)) (omega (arith, same, l)) (omega arith) in
+    omega (arith, few, all)
+
+pub returns-then-cleans_some-clause-few : goal.returns-then-cleans_some-clause-few
+returns-then-cleans_some-clause-few c =
+    let sh : Shape = c.args.heap.now.shape in
+    let many = c.at_most-number.ensures in
+    piece-few c.args.from c.at_most-number.result c.args.most sh _ (recycle_steps sh) (omega (arith, many)) c.cleans_some.ensures.few
+
+pub returns-clause-few : goal.returns-clause-few
+returns-clause-few c =
+    let sh : Shape = c.args.heap.now.shape in
+    let many = c.at_most-number.ensures in
+    piece-few c.args.from c.at_most-number.result c.args.most sh _ (recycle_steps sh) (omega (arith, many)) c.cleans_some.ensures.few

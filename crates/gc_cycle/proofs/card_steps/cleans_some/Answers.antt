@@ -1,4 +1,4 @@
-use Rattle.std.proofs.Common.{◌-◌, ap, ◌∙◌, sym, subst, refl}
+use Rattle.std.proofs.Common.{◌-◌, ap, ◌∙◌, sym, subst, refl, ℕ, ◌*◌, arith}
 use Rattle.mark_core.specs.Seats.{work_in_hand}
 use Rattle.mark_core.specs.declared.kinds.Shape.{Shape}
 use Rattle.gc_table.specs.Log.{events}
@@ -25,6 +25,10 @@ use Rattle.gc_cycle.proofs.Longer.{has-traced}
 use Rattle.gc_cycle.proofs.Traced.{alone-traces}
 use Rattle.gc_cycle.proofs.TracingSpares.{moved-untaken, moves-unpopped, scan-unpopped}
 use Rattle.gc_cycle.proofs.card_steps.cleans_some.Goals.{After-clean_some, After-recycle_deferred}
+use Rattle.mark_core.specs.Cards.{card_cells}
+use Rattle.packet_pools.specs.StepBounds.{any_steps}
+use Rattle.tracer.specs.StepBounds.{recycle_steps}
+use Rattle.gc_cycle.proofs.Few.{cards-fewer, few-join}
 use Rattle.gc_cycle.proofs.card_steps.cleans_some.Goals as goal
 
 traced : (c : After-clean_some) → HasTraced (view_of c.args.seat.now) (view_of c.clean_some.new.seat)
@@ -109,3 +113,18 @@ returns-in-None-clause-lacks c _ =
       count = c.recycle_deferred.result;
       brings = subst (λ (sh : Shape). Recycled sh c.recycle_deferred.result (events w x)) (sym c.requires.seat.1) r.recycled;
     }
+
+pub returns-in-Some-clause-few : goal.returns-in-Some-clause-few
+returns-in-Some-clause-few c =
+    let sh : Shape = c.args.heap.now.shape in
+    let cards : ℕ = c.args.end - c.args.first in
+    let e = c.in-Some.ensures in
+    let few = cards-fewer cards cards c.in-Some.field-0 (card_cells * cards) sh _ (omega arith) e.some.0 e.few.0 in
+    omega (arith, few)
+
+pub returns-in-None-clause-few : goal.returns-in-None-clause-few
+returns-in-None-clause-few c =
+    let sh : Shape = c.args.heap.now.shape in
+    let r = c.recycle_deferred.ensures in
+    let all = few-join (any_steps sh) (recycle_steps sh) (view_of c.args.seat.now) (view_of c.clean_some.new.seat) (view_of c.recycle_deferred.new.seat) c.clean_some.ensures.only.ran r.traced.ran c.in-None.ensures.few.1 r.few in
+    omega (arith, all)

@@ -19,6 +19,8 @@ use Rattle.gc_cycle.proofs.Stops.Admitted.{count-none, count-run}
 use Rattle.gc_cycle.proofs.Traced.{alone-traces}
 use Rattle.gc_cycle.proofs.Turns.{brings-back, traced-within}
 use Rattle.gc_cycle.proofs.card_steps.trace_step.Goals.{After-trace-traced}
+use Rattle.tracer.specs.StepBounds.{recycle_steps, trace_steps}
+use Rattle.gc_cycle.proofs.Few.{few-join}
 use Rattle.gc_cycle.proofs.card_steps.trace_step.Goals as goal
 
 pub recycle_deferred-requires-clause-seat : goal.recycle_deferred-requires-clause-seat
@@ -84,3 +86,10 @@ returns-clause-numbers c = only-more traces_or_cleans leaves_numbers traces-leav
 pub returns-clause-keeps : goal.returns-clause-keeps
 unfolding returns-clause-part
 returns-clause-keeps c = part-keeps Drain (view_of c.args.seat.now) (view_of c.trace-traced.new.seat) (returns-clause-part c)
+
+pub returns-clause-few : goal.returns-clause-few
+returns-clause-few c =
+    let sh : Shape = c.args.heap.now.shape in
+    let r = c.recycle_deferred.ensures in
+    let t = c.trace-traced.ensures in
+    few-join (recycle_steps sh) (trace_steps c.trace-traced.result.done sh) (view_of c.args.seat.now) (view_of c.recycle_deferred.new.seat) (view_of c.trace-traced.new.seat) r.traced.ran t.traced.ran r.few t.few

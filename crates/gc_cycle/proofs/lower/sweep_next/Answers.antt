@@ -1,4 +1,4 @@
-use Rattle.std.proofs.Common.{ℕ, arith, ◌≡◌, ◌≤◌, List, [], ◌∷◌, refl, sym, ap, ◌∙◌, subst, Bool, true, ⊎_elim}
+use Rattle.std.proofs.Common.{ℕ, arith, ◌≡◌, ◌≤◌, List, [], ◌∷◌, refl, sym, ap, ◌∙◌, subst, Bool, true, ⊎_elim, length}
 use Rattle.std.specs.Prelude.{if◌then◌else◌, ◌+◌, ◌<◌, ◌++◌}
 use Rattle.std.proofs.lemmas.Bool.{and_from, and_parts, le-leb, lt-ltb, or_left, or_right}
 use Rattle.mark_core.specs.Layout.{block_count}
@@ -19,6 +19,8 @@ use Rattle.gc_cycle.specs.Lower.{sweeps_next}
 use Rattle.gc_cycle.specs.Sorts.{draws_block, sees_last_block}
 use Rattle.gc_cycle.proofs.ClearedBlocks.{drawn-none}
 use Rattle.gc_cycle.proofs.Ends.Swept.{cleaning-done, floor-above, floor-low, floor-rises}
+use Rattle.gc_cycle.proofs.Few.{swept-few}
+use Rattle.gc_cycle.proofs.ClearedBlocks.{looks-few}
 use Rattle.gc_cycle.proofs.lower.sweep_next.Goals as goal
 
 same-state : (v w : View) (s : SeatState) → w.state ≡ s → s ≡ record v.state { below_block = s.below_block; cleaning = s.cleaning } → w.state ≡ record v.state { below_block = w.state.below_block; cleaning = w.state.cleaning }
@@ -112,3 +114,17 @@ returns-in-None-clause-unfreed c =
     (λ (x : events v w ≡ event (ReadStat block_counter) e.number ∷ []). ap (freed_in v) x)
     (λ (x : (seen : ℕ) × (events v w ≡ block_drawn seen e.number)). ap (freed_in v) x.1)
     e.events
+
+pub returns-in-Some-clause-few : goal.returns-in-Some-clause-few
+returns-in-Some-clause-few c =
+    let s = c.in-Some.ensures.some in
+    let all = ap length s.events in
+    let swept = swept-few c.in-Some.swept.block s.words in
+    let many = s.many in
+    let words = many.0 in
+    let end = many.1 in
+    let stretch = ap (λ (sh : Shape). sh.stretch) c.requires.seat.1 in
+    omega (arith, all, swept, words, end, stretch)
+
+pub returns-in-None-clause-few : goal.returns-in-None-clause-few
+returns-in-None-clause-few c = let few = looks-few (view_of c.args.seat.now) (view_of c.sweep_next.new.seat) c.in-None.ensures.none in omega (arith, few)

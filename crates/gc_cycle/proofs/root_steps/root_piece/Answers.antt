@@ -1,4 +1,4 @@
-use Rattle.std.proofs.Common.{◌≤◌, ◌-◌, ◌+◌, ◌≡◌, ℕ, arith, ap, subst, sym}
+use Rattle.std.proofs.Common.{◌≤◌, ◌-◌, ◌+◌, ◌≡◌, ℕ, arith, ap, subst, sym, length}
 use Rattle.std.specs.List.{range_with_len}
 use Rattle.mark_core.specs.Layout.{root_count}
 use Rattle.mark_core.specs.declared.kinds.Phase.TheVariants.{Drain}
@@ -17,6 +17,9 @@ use Rattle.gc_cycle.proofs.Ends.Exactly.{exact-part}
 use Rattle.gc_cycle.proofs.Parts.{part-none}
 use Rattle.gc_cycle.proofs.RootPieces.{all-rooted, sees-further, sees-still}
 use Rattle.gc_cycle.proofs.Stepped.{part-keeps}
+use Rattle.card_clean.specs.StepBounds.{see_to_steps}
+use Rattle.tracer.specs.StepBounds.{recycle_steps}
+use Rattle.gc_cycle.proofs.Few.{roots-fewer}
 use Rattle.gc_cycle.proofs.root_steps.root_piece.Goals as goal
 
 pub returns-then-number-eq0-clause-part : goal.returns-then-number-eq0-clause-part
@@ -96,3 +99,25 @@ returns-clause-exact c u k = exact-part Drain u (view_of c.args.seat.now) (view_
 
 pub returns-clause-keeps : goal.returns-clause-keeps
 returns-clause-keeps c = part-keeps Drain (view_of c.args.seat.now) (view_of c.sees_to_some.new.seat) c.sees_to_some.ensures.part
+
+pub returns-then-number-eq0-clause-few : goal.returns-then-number-eq0-clause-few
+returns-then-number-eq0-clause-few c = let none = ap length (events-none (view_of c.args.seat.now)) in omega (arith, none)
+
+-- what was seen to is at most what was to be
+piece-few : (from number most : ℕ) (sh : Shape) (k r : ℕ) → number ≤ most → k ≤ see_to_steps (from + number - from) sh + r → k ≤ see_to_steps most sh + r
+piece-few from number most sh k r l few =
+    let same : from + number - from ≡ number = omega arith in
+    let all = roots-fewer (from + number - from) most sh (see_to_steps (from + number - from) sh) (omega (arith, same, l)) (omega arith) in
+    omega (arith, few, all)
+
+pub returns-then-sees_to_some-clause-few : goal.returns-then-sees_to_some-clause-few
+returns-then-sees_to_some-clause-few c =
+    let sh : Shape = c.args.heap.now.shape in
+    let many = c.at_most-number.ensures in
+    piece-few c.args.from c.at_most-number.result c.args.most sh _ (recycle_steps sh) (omega (arith, many)) c.sees_to_some.ensures.few
+
+pub returns-clause-few : goal.returns-clause-few
+returns-clause-few c =
+    let sh : Shape = c.args.heap.now.shape in
+    let many = c.at_most-number.ensures in
+    piece-few c.args.from c.at_most-number.result c.args.most sh _ (recycle_steps sh) (omega (arith, many)) c.sees_to_some.ensures.few

@@ -1,4 +1,4 @@
-use Rattle.std.proofs.Common.{◌≡◌, sym, ap, ◌∙◌, subst, true, false}
+use Rattle.std.proofs.Common.{◌≡◌, sym, ap, ◌∙◌, subst, true, false, ◌-◌, arith}
 use Rattle.std.proofs.lemmas.Bool.{not-true}
 use Rattle.mark_core.specs.Seats.{work_in_hand}
 use Rattle.mark_core.specs.declared.kinds.Phase.TheVariants.{Drain}
@@ -30,6 +30,9 @@ use Rattle.gc_cycle.specs.Events.{never}
 use Rattle.gc_cycle.specs.Sorts.{pops}
 use Rattle.gc_cycle.proofs.Ends.Finishes.{never-both}
 use Rattle.gc_cycle.proofs.TracingSpares.{moved-untaken, moves-unpopped, sees-unpopped, untaken}
+use Rattle.card_clean.specs.StepBounds.{see_to_steps}
+use Rattle.tracer.specs.StepBounds.{recycle_steps}
+use Rattle.gc_cycle.proofs.Few.{few-join}
 use Rattle.gc_cycle.proofs.root_steps.sees_to_some.Goals as goal
 
 rest-of : (v : View) → IsAloneIn Drain v → is_at_rest v.shape v.state ≡ true
@@ -159,3 +162,13 @@ returns-clause-kept c i k =
     let r = c.recycle_deferred.ensures.only in
     root-stays w (view_of c.recycle_deferred.new.seat) r.ran r.only i (ap (λ (s : SeatState). s.alone) e.rest ∙ c.requires.alone.0.rest.alone)
     (root-stays v w e.ran e.only i c.requires.alone.0.rest.alone k)
+
+pub returns-then-see_to_some-clause-few : goal.returns-then-see_to_some-clause-few
+returns-then-see_to_some-clause-few c = let few = c.see_to_some.ensures.few in omega (arith, few)
+
+pub returns-clause-few : goal.returns-clause-few
+returns-clause-few c =
+    let sh : Shape = c.args.heap.now.shape in
+    let e = c.see_to_some.ensures in
+    let r = c.recycle_deferred.ensures in
+    few-join (see_to_steps (c.args.end - c.args.from) sh) (recycle_steps sh) (view_of c.args.seat.now) (view_of c.see_to_some.new.seat) (view_of c.recycle_deferred.new.seat) e.only.ran r.only.ran e.few r.few

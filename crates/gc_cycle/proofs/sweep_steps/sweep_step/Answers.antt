@@ -1,4 +1,4 @@
-use Rattle.std.proofs.Common.{ap, arith, inl, refl}
+use Rattle.std.proofs.Common.{ap, arith, inl, refl, ℕ, ◌≡◌, ◌≤◌, ◌+◌, ◌*◌, length, subst}
 use Rattle.mark_core.specs.Layout.{block_count}
 use Rattle.mark_core.specs.declared.kinds.Phase.TheVariants.{Sweep}
 use Rattle.packet_pools.specs.Counts.{count_of}
@@ -16,18 +16,23 @@ use Rattle.gc_cycle.proofs.Ends.Completing.{freed-run}
 use Rattle.gc_cycle.proofs.Ends.Exactly.{exact-part}
 use Rattle.gc_cycle.proofs.Parts.{part-join, part-none}
 use Rattle.gc_cycle.proofs.Stepped.{has-swept, may-sweep, next-alone, no-block, part-keeps, sweeps-on}
+use Rattle.gc_table.specs.Log.{events}
+use Rattle.gc_cycle.proofs.Few.{few-join}
+use Rattle.gc_cycle.proofs.ClearedBlocks.{more-stretches, within-stretches}
 use Rattle.gc_cycle.proofs.sweep_steps.sweep_step.Goals as goal
 
 pub loop-stretches-init : goal.loop-stretches-init
 loop-stretches-init c =
     let v : View = view_of c.args.seat.now in
     let none = ap (freed_in v) (events-none v) in
+    let steps = ap length (events-none v) in
     record {
       sits = c.requires.seat;
       part = part-none Sweep v c.requires.sweeps.alone;
       numbers = only-none leaves_numbers v;
       count = ap (count_of (draws_block (block_count c.args.heap.now.shape))) (events-none v);
       freed = omega (arith, none);
+      few = omega (arith, steps);
     }
 
 pub sweep_next-requires-clause-sweeps : goal.sweep_next-requires-clause-sweeps
@@ -51,12 +56,17 @@ loop-stretches-preserved c =
     let more = e.some.0 in
     let before = i.freed in
     let sum = c.saturating_add-freed.ensures in
+    let each : ℕ = 2 + 4 * c.args.heap.now.shape.stretch in
+    let k : ℕ = c.loop-stretches.stretches in
+    let long = few-join (k * each) each u v w i.part.ran e.ran i.few e.few in
+    let grown = more-stretches k each in
     record {
       sits = e.seat;
       part = part-join Sweep u v w i.part p;
       numbers = ran-only leaves_numbers u v w i.part.ran e.ran i.numbers (only-more sweeps_next leaves_numbers sweeps-leave v w e.only);
       count = omega (arith, counts, one, so_far);
       freed = omega (arith, total, more, before, sum);
+      few = omega (arith, long, grown);
     }
 
 pub returns-in_default : goal.returns-in_default
@@ -73,15 +83,20 @@ returns-in_default c =
     let total = freed-run u v w i.part.ran e.ran in
     let unfreed = e.unfreed in
     let before = i.freed in
-    let few = c.loop-stretches-test.true in
+    let below = c.loop-stretches-test.true in
+    let each : ℕ = 2 + 4 * c.args.heap.now.shape.stretch in
+    let k : ℕ = c.loop-stretches.stretches in
+    let long = few-join (k * each) each u v w i.part.ran e.ran i.few e.few in
+    let room = within-stretches k c.args.most each below in
     let s = sweeps-on u w c.requires.sweeps p in
     record {
       seat = e.seat;
       part = p;
       sweeps = s;
       swept = λ _. has-swept c.args.heap.now.shape w e.seat.1 s e.none.1;
-      stretches = (omega (arith, few), omega (arith, counts, none, so_far));
+      stretches = (omega (arith, below), omega (arith, counts, none, so_far));
       freed = omega (arith, total, unfreed, before);
+      few = omega (arith, long, room);
       exact = λ x k. exact-part Sweep x u w p k;
       numbers = ran-only leaves_numbers u v w i.part.ran e.ran i.numbers (only-more sweeps_next leaves_numbers sweeps-leave v w e.only);
       keeps = part-keeps Sweep u w p;
@@ -93,6 +108,8 @@ returns c =
     let v : View = view_of c.loop-stretches.seat in
     let i = c.loop-stretches.invariant in
     let far = c.loop-stretches-test.false in
+    let end = c.loop-stretches.auto.stretches-end in
+    let last : c.loop-stretches.stretches ≡ c.args.most = omega (arith, far, end) in
     let count = i.count in
     record {
       seat = i.sits;
@@ -101,6 +118,7 @@ returns c =
       swept = λ n. absurd (n refl);
       stretches = (omega arith, omega (arith, far, count));
       freed = i.freed;
+      few = subst (λ k. length (events u v) ≤ k * (2 + 4 * c.args.heap.now.shape.stretch)) last i.few;
       exact = λ x k. exact-part Sweep x u v i.part k;
       numbers = i.numbers;
       keeps = part-keeps Sweep u v i.part;

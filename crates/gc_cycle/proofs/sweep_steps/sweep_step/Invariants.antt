@@ -1,4 +1,4 @@
-use Rattle.std.proofs.Common.{◌≡◌}
+use Rattle.std.proofs.Common.{◌≡◌, ◌≤◌, ◌+◌, ◌*◌, length}
 use Rattle.std.specs.Prelude.{min}
 use Rattle.mark_core.specs.Layout.{block_count}
 use Rattle.mark_core.specs.declared.kinds.Phase.TheVariants.{Sweep}
@@ -18,4 +18,5 @@ invariant-loop-stretches l = record {
   numbers : Only leaves_numbers (view_of l.fn.seat) (view_of l.seat);
   count : count_of (draws_block (block_count l.heap.shape)) (events (view_of l.fn.seat) (view_of l.seat)) ≡ l.stretches;
   freed : l.freed ≡ min (freed_in (view_of l.fn.seat) (events (view_of l.fn.seat) (view_of l.seat))) 4294967295;
+  few : length (events (view_of l.fn.seat) (view_of l.seat)) ≤ l.stretches * (2 + 4 * l.heap.shape.stretch);
 }
