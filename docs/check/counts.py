@@ -19,7 +19,6 @@ def check_edits():
         ("README.md", r"in (\S+) crates `must-fail/`"),
         ("docs/STRENGTH.md", r"`must-fail/` of (\S+) crates"),
         ("docs/STRENGTH.md", r"so only (\S+) crates have edits"),
-        ("docs/STRENGTH.md", r"edits were kept in (\S+) crates alone"),
     ]:
         says("crates with edits", page, pattern, crates)
 
