@@ -1,6 +1,7 @@
 mod Rows
 pub mod Kicking
 pub mod Due
+pub mod Few
 pub mod Positions
 pub mod Causes
 pub mod Refills

@@ -3,3 +3,4 @@ pub mod Quota
 pub mod Pacing
 pub mod Paying
 pub mod Payment
+pub mod StepBounds

@@ -6,9 +6,10 @@
 //! the stop cleans it.
 //!
 //! A payment is short whatever the heap's size: it traces its quota at most, and looks at 1,024 cards at most ([`CARD_LOOKS`]). The cards that are left are
-//! those of the next payment, of tracers and of the stop.
-ghost use Rattle.std.specs.Prelude.{ℕ, ◌≡◌, ◌<◌, ◌≤◌, ◌+◌, Some, IfSome, IfNone};
-ghost use Rattle.mark_core.specs.Cards.{block_cells};
+//! those of the next payment, of tracers and of the stop. All steps of it are counted (`few`): a bound that is linear in the packets, the fields, the objects that
+//! were traced and the cards that were looked at.
+ghost use Rattle.std.specs.Prelude.{ℕ, ◌≡◌, ◌<◌, ◌≤◌, ◌+◌, Some, IfSome, IfNone, ◌-◌, ◌*◌, length};
+ghost use Rattle.mark_core.specs.Cards.{block_cells, card_cells};
 ghost use Rattle.mark_core.specs.Layout.{card_count};
 ghost use Rattle.mark_core.specs.declared.kinds.Phase.TheVariants.{Marking};
 ghost use Rattle.gc_table.specs.Log.{Only};
@@ -17,8 +18,12 @@ ghost use Rattle.gc_table.specs.Running.{Ran};
 ghost use Rattle.gc_table.specs.Seats.{Across, did, Sits, state_of, view_of};
 ghost use Rattle.gc_table.specs.declared.view.View.{View};
 ghost use Rattle.cache_refills.specs.Pace.Payment.{HasPaid, MarksAndTraces, TracesNone, TracesOn, reads_number, stop_of};
-ghost use Rattle.cache_refills.specs.Pace.Pacing.{looks_by, looks_seen, quota_seen};
+ghost use Rattle.cache_refills.specs.Pace.Pacing.{card_looks, looks_by, looks_seen, quota_seen};
 ghost use Rattle.gc_cycle.specs.Standing.{Mutates};
+ghost use Rattle.packet_pools.specs.StepBounds.{output_steps};
+ghost use Rattle.tracer.specs.StepBounds.{section_steps, trace_steps};
+ghost use Rattle.card_clean.specs.StepBounds.{clean_one_steps};
+ghost use Rattle.cache_refills.specs.Pace.StepBounds.{look_steps, payment_steps, quota_steps};
 
 use crate::pace::{is_late, read_statistic};
 use crate::quota::quota_of;
@@ -44,6 +49,7 @@ pub(crate) fn pay(heap: &Heap, seat: &mut HeapSeat, cells: u32) -> Paid
     ensures seat { Sits heap.now seat.new }
     ensures paid { Across (HasPaid cells result) seat.old seat.new }
     ensures own { (view_of seat.new).own ≡ (view_of seat.old).own }
+    ensures few { length (did seat.old seat.new) ≤ payment_steps result.done card_looks heap.now.shape }
 {
     let (quota, looks) = quota_now(heap, seat, cells);
     let paid = mark_and_trace(heap, seat, quota, looks);
@@ -69,6 +75,8 @@ fn quota_now(heap: &Heap, seat: &mut HeapSeat, cells: u32) -> (u32, u32)
     ensures quota { quota_seen cells (did seat.old seat.new) ≡ Some result.0 }
     ensures most { result.0 ≤ 1024 }
     ensures looks { looks_seen (did seat.old seat.new) ≡ result.1 }
+    ensures fewer { result.1 ≤ card_looks }
+    ensures few { length (did seat.old seat.new) ≤ 4 }
 {
     let last = read_statistic(heap, seat, LAST);
     let rescanned = read_statistic(heap, seat, RESCANNED);
@@ -86,6 +94,7 @@ fn mark_and_trace(heap: &Heap, seat: &mut HeapSeat, quota: u32, looks: u32) -> P
     requires marking { (state_of seat.old).phase_seen ≡ Some Marking }
     ensures seat { Sits heap.now seat.new }
     ensures pays { Across (MarksAndTraces (own_section (state_of seat.old)) quota looks result) seat.old seat.new }
+    ensures few { length (did seat.old seat.new) ≤ section_steps heap.now.shape + quota_steps result.done looks heap.now.shape }
 {
     let section = seat.state().section.unwrap_or(0);
     match scan_roots(heap, seat, section) {
@@ -115,6 +124,7 @@ fn pay_quota(heap: &Heap, seat: &mut HeapSeat, quota: u32, looks: u32) -> Paid
     requires marking { (state_of seat.old).phase_seen ≡ Some Marking }
     ensures seat { Sits heap.now seat.new }
     ensures traces { Across (TracesOn quota 0 looks result) seat.old seat.new }
+    ensures few { length (did seat.old seat.new) ≤ quota_steps result.done looks heap.now.shape }
 {
     let paid = trace_and_clean(heap, seat, quota, looks);
     if let Stopped::NoWork = paid.stopped {
@@ -129,6 +139,7 @@ fn trace_and_clean(heap: &Heap, seat: &mut HeapSeat, quota: u32, looks: u32) -> 
     requires marking { (state_of seat.old).phase_seen ≡ Some Marking }
     ensures seat { Sits heap.now seat.new }
     ensures traces { Across (TracesOn quota 0 looks result) seat.old seat.new }
+    ensures few { length (did seat.old seat.new) ≤ trace_steps result.done heap.now.shape + looks * look_steps heap.now.shape }
 {
     let first = trace(heap, seat, quota);
     let mut paid = Paid {
@@ -156,7 +167,9 @@ fn look_at_next(heap: &Heap, seat: &mut HeapSeat, before: Paid) -> Option<Paid>
     requires quota { before.done ≤ before.quota }
     ensures seat { Sits heap.now seat.new }
     ensures some { IfSome result (λ paid. (u : View) (looks : ℕ) → TracesOn before.quota 0 looks before u (view_of seat.old) → TracesOn before.quota 0 (looks + 1) paid u (view_of seat.new)) }
+    ensures ran { Across Ran seat.old seat.new }
     ensures none { IfNone result (Across (TracesNone 1) seat.old seat.new) }
+    ensures few { IfSome result (λ paid. (before.done ≤ paid.done) × (length (did seat.old seat.new) ≤ 3 + clean_one_steps card_cells heap.now.shape + trace_steps (paid.done - before.done) heap.now.shape)) × IfNone result (length (did seat.old seat.new) ≤ 3 + output_steps heap.now.shape) }
 {
     let card = next_card(heap, seat)?;
     if is_dirty(heap, seat, card) {
@@ -171,6 +184,7 @@ fn is_dirty(heap: &Heap, seat: &mut HeapSeat, card: u32) -> bool
     requires card { card < card_count heap.now.shape }
     ensures seat { Sits heap.now seat.new }
     ensures none { Across (TracesNone 0) seat.old seat.new }
+    ensures few { length (did seat.old seat.new) ≤ 1 }
 {
     heap.read_card(seat, card)
 }
@@ -184,6 +198,7 @@ fn clean_and_trace(heap: &Heap, seat: &mut HeapSeat, card: u32, before: Paid) ->
     ensures seat { Sits heap.now seat.new }
     ensures some { IfSome result (λ paid. Across (TracesOn before.quota before.done 0 paid) seat.old seat.new) }
     ensures none { IfNone result (Across (TracesNone 0) seat.old seat.new) }
+    ensures few { IfSome result (λ paid. (before.done ≤ paid.done) × (length (did seat.old seat.new) ≤ clean_one_steps card_cells heap.now.shape + trace_steps (paid.done - before.done) heap.now.shape)) × IfNone result (length (did seat.old seat.new) ≤ output_steps heap.now.shape) }
 {
     clean(heap, seat, card)?;
     let more = trace(heap, seat, before.quota - before.done);

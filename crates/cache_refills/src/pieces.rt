@@ -2,7 +2,7 @@
 //!
 //! The caller keeps the block from which to go on. Where no block has a free cell it takes several pieces to see that: each says which blocks it saw so, and
 //! `SeenBelow` puts together what those since block 0 saw. Once that is each block, a collection is called for (`may_collect`).
-ghost use Rattle.std.specs.Prelude.{◌≡◌, ◌≤◌, None, Some, IfNone, IfSome, IsTrue};
+ghost use Rattle.std.specs.Prelude.{◌≡◌, ◌≤◌, None, Some, IfNone, IfSome, IsTrue, ◌+◌, ◌*◌, length};
 ghost use Rattle.mark_core.specs.Layout.{block_count};
 ghost use Rattle.gc_table.specs.Log.{events};
 ghost use Rattle.gc_table.specs.Running.{Ran};
@@ -10,13 +10,14 @@ ghost use Rattle.gc_table.specs.Seats.{Across, did, Sits, state_of, view_of};
 ghost use Rattle.gc_table.specs.declared.view.View.{View};
 ghost use Rattle.cache_refills.specs.Getting.{RefillsTo};
 ghost use Rattle.gc_cycle.specs.Answering.{StoredAt, TellsFull};
-ghost use Rattle.cache_refills.specs.Pace.Pacing.{begins_where_due};
+ghost use Rattle.cache_refills.specs.Pace.Pacing.{begins_where_due, card_looks};
 ghost use Rattle.cache_refills.specs.Pieces.{ComesTo, IsShort, SeenBelow, SeesTo, refill_of};
 ghost use Rattle.cache_refills.specs.Refilling.{IsPaced};
 ghost use Rattle.gc_cycle.specs.Sparing.{SparesRefill};
 ghost use Rattle.gc_cycle.specs.Standing.{KeepsSeat, KeepsSection, Mutates};
 ghost use Rattle.gc_cycle.specs.Statistics.{RoundNumbers};
 ghost use Rattle.cache_refills.specs.Trying.{GoesWithout, PlaysOn};
+ghost use Rattle.cache_refills.specs.Pace.StepBounds.{payment_steps};
 
 use crate::refilling::pay_for;
 use crate::trying::begins_or_ends;
@@ -63,6 +64,7 @@ fn search_some(heap: &Heap, seat: &mut HeapSeat, done: u32, from: u32, most: u32
     ensures sees { Across (SeesTo from most result) seat.old seat.new }
     ensures calls { (u : View) → SeenBelow from u (view_of seat.old) → ComesTo result u (view_of seat.new) }
     ensures few { IsShort 0 most result (did seat.old seat.new) }
+    ensures longest { length (did seat.old seat.new) ≤ 3 * most + 1 + payment_steps 1024 card_looks heap.now.shape }
 {
     match claim_some(heap, seat, from, most) {
         Search::Claimed(cache) => piece_of(pay_for(heap, seat, cache, done)),
@@ -90,6 +92,7 @@ pub fn try_refill_some(heap: &Heap, seat: &mut HeapSeat, done: u32, from: u32, m
     ensures keeps { Across KeepsSeat seat.old seat.new × Across KeepsSection seat.old seat.new }
     ensures due { IsTrue (begins_where_due (did seat.old seat.new)) }
     ensures numbers { Across (RoundNumbers (refill_of result)) seat.old seat.new }
+    ensures longest { length (did seat.old seat.new) ≤ 3 * most + 6 + payment_steps 1024 card_looks heap.now.shape }
 {
     if ends_full(heap, seat, done) {
         return Piece::Full;

@@ -1,5 +1,5 @@
 //! A cache for a mutator, and its tracing increment.
-ghost use Rattle.std.specs.Prelude.{◌≡◌, ◌≤◌, [], length, None, Some, IfSome, IsTrue};
+ghost use Rattle.std.specs.Prelude.{◌≡◌, ◌≤◌, [], length, None, Some, IfSome, IsTrue, ◌+◌};
 ghost use Rattle.std.specs.Bool.{OnFalse, OnTrue};
 ghost use Rattle.mark_core.specs.Places.{the_phase};
 ghost use Rattle.mark_core.specs.Seats.{phase_number};
@@ -17,13 +17,14 @@ ghost use Rattle.gc_cycle.specs.Events.{each_after, never};
 ghost use Rattle.gc_cycle.specs.Sorts.{comes_in, raises_flag};
 ghost use Rattle.cache_refills.specs.InStops.{begins_none};
 ghost use Rattle.gc_cycle.specs.Mutating.{pops_in_stops, stays_calm};
-ghost use Rattle.cache_refills.specs.Pace.Pacing.{begins_where_due};
+ghost use Rattle.cache_refills.specs.Pace.Pacing.{begins_where_due, card_looks};
 ghost use Rattle.cache_refills.specs.Pace.Paying.{IsFree, pops_where_paid};
 ghost use Rattle.cache_refills.specs.Refilling.{HasClaimed, IsPaced, IsRound, SeesEnd, looks_for_end, prepares};
 ghost use Rattle.gc_cycle.specs.Sparing.{SparesRefill, fills_part};
 ghost use Rattle.gc_cycle.specs.Standing.{KeepsSeat, KeepsSection, Mutates};
 ghost use Rattle.gc_cycle.specs.Statistics.{ChangesBy, PaysNumbers, RefillsNumbers, RoundNumbers};
 ghost use Rattle.cache_refills.specs.Stops.{cycles_with_cause, stops_again_with_cause, stops_collect, stops_in_visit, stops_with_cause};
+ghost use Rattle.cache_refills.specs.Pace.StepBounds.{payment_steps};
 
 use crate::claiming::claim_in_stop;
 use crate::pace::kick_off;
@@ -235,6 +236,7 @@ pub(crate) fn pay_for(heap: &Heap, seat: &mut HeapSeat, cache: Cache, done: u32)
     ensures known { Across (SparesRefill result) seat.old seat.new }
     ensures few { result ≡ refills.Full → length (did seat.old seat.new) ≤ 5 }
     ensures refills { (u : View) → HasClaimed cache done u (view_of seat.old) → RefillsTo result done u (view_of seat.new) }
+    ensures longest { length (did seat.old seat.new) ≤ 1 + payment_steps 1024 card_looks heap.now.shape }
 {
     match heap.read_phase(seat) {
         Phase::Full => {

@@ -7,6 +7,7 @@ use Rattle.packet_pools.specs.Counts.{count_of}
 use Rattle.gc_cycle.specs.Events.{never}
 use Rattle.gc_cycle.specs.Sorts.{draws, pops, reads_pace, reads_root}
 use Rattle.gc_cycle.proofs.Stops.Looked.{has-looked}
+use Rattle.gc_cycle.proofs.Few.{few-after}
 use Rattle.cache_refills.proofs.paying.is_dirty.Goals as goal
 
 pub returns-clause-none : goal.returns-clause-none
@@ -23,3 +24,6 @@ returns-clause-none c =
       unread = ap (never reads_pace) one;
       unrooted = ap (never reads_root) one;
     }
+
+pub returns-clause-few : goal.returns-clause-few
+returns-clause-few c = few-after (view_of c.args.seat.now) (view_of c.read_card.new.seat) (ReadCard c.args.card) _ c.read_card.ensures.view.1

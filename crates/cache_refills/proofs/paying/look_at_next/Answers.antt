@@ -1,7 +1,19 @@
+use Rattle.std.proofs.Common.{arith, ◌≤◌, ◌+◌, ◌-◌, length, Option, subst, sym}
 use Rattle.gc_table.specs.Seats.{view_of}
 use Rattle.gc_table.specs.declared.view.View.{View}
 use Rattle.cache_refills.specs.Pace.Payment.{TracesNone}
 use Rattle.cache_refills.proofs.Refills.Payment.{cleaned-not, cleaned-on, none-join, traces-none}
+use Rattle.gc_table.proofs.Running.{ran-join}
+use Rattle.gc_cycle.proofs.Few.{few-join}
+use Rattle.cache_refills.proofs.Few.{cleaned-ran, looked-few}
+use Rattle.std.specs.Prelude.{IfNone, IfSome}
+use Rattle.mark_core.specs.declared.kinds.Shape.{Shape}
+use Rattle.gc_table.specs.Log.{events}
+use Rattle.mark_core.specs.Cards.{card_cells}
+use Rattle.gc_cycle.specs.declared.counts.Paid.{Paid}
+use Rattle.packet_pools.specs.StepBounds.{output_steps}
+use Rattle.tracer.specs.StepBounds.{trace_steps}
+use Rattle.card_clean.specs.StepBounds.{clean_one_steps}
 use Rattle.cache_refills.proofs.paying.look_at_next.Goals as goal
 
 pub returns-then-is_dirty-clause-some : goal.returns-then-is_dirty-clause-some
@@ -30,3 +42,42 @@ returns-clause-some c =
     let n = c.next_card.ensures in
     let one : TracesNone 1 v w = record { traced = n.traced; looked = n.once; unpopped = n.unpopped; unread = n.unread; unrooted = n.unrooted } in
     λ u looks t. traces-none c.args.before.quota 0 looks 1 c.args.before u v x t (none-join 1 0 v w x one c.is_dirty.ensures.none)
+
+pub returns-then-is_dirty-clause-few : goal.returns-then-is_dirty-clause-few
+returns-then-is_dirty-clause-few c =
+    let v : View = view_of c.args.seat.now in
+    let w : View = view_of c.next_card.new.seat in
+    let x : View = view_of c.is_dirty.new.seat in
+    let y : View = view_of c.clean_and_trace.new.seat in
+    let n = c.next_card.ensures in
+    let d = c.is_dirty.ensures in
+    let a = c.clean_and_trace.ensures in
+    looked-few c.clean_and_trace.result c.args.before.done c.args.heap.now.shape v w x y n.ran d.none.traced.ran (cleaned-ran c.clean_and_trace.result c.args.before x y a.some a.none) (ran-join v w x n.ran d.none.traced.ran) n.few d.few a.few
+
+pub returns-clause-few : goal.returns-clause-few
+returns-clause-few c =
+    let n = c.next_card.ensures in
+    let d = c.is_dirty.ensures in
+    let all = few-join 2 1 (view_of c.args.seat.now) (view_of c.next_card.new.seat) (view_of c.is_dirty.new.seat) n.ran d.none.traced.ran n.few d.few in
+    ((omega arith, omega (arith, all)), tt)
+
+pub returns-in_err-card-clause-few : goal.returns-in_err-card-clause-few
+returns-in_err-card-clause-few c =
+    let sh : Shape = c.args.heap.now.shape in
+    let v : View = view_of c.args.seat.now in
+    let w : View = view_of c.next_card.new.seat in
+    let few = c.in_err-card.ensures.few in
+    subst (λ (o : Option Paid). IfSome o (λ paid. (c.args.before.done ≤ paid.done) × (length (events v w) ≤ 3 + clean_one_steps card_cells sh + trace_steps (paid.done - c.args.before.done) sh)) × IfNone o (length (events v w) ≤ 3 + output_steps sh)) (sym c.from_residual.ensures)
+    (tt, omega (arith, few))
+
+pub returns-then-is_dirty-clause-ran : goal.returns-then-is_dirty-clause-ran
+returns-then-is_dirty-clause-ran c =
+    let v : View = view_of c.args.seat.now in
+    let w : View = view_of c.next_card.new.seat in
+    let x : View = view_of c.is_dirty.new.seat in
+    let y : View = view_of c.clean_and_trace.new.seat in
+    let a = c.clean_and_trace.ensures in
+    ran-join v x y (ran-join v w x c.next_card.ensures.ran c.is_dirty.ensures.none.traced.ran) (cleaned-ran c.clean_and_trace.result c.args.before x y a.some a.none)
+
+pub returns-clause-ran : goal.returns-clause-ran
+returns-clause-ran c = ran-join (view_of c.args.seat.now) (view_of c.next_card.new.seat) (view_of c.is_dirty.new.seat) c.next_card.ensures.ran c.is_dirty.ensures.none.traced.ran

@@ -1,4 +1,4 @@
-use Rattle.std.proofs.Common.{◌≡◌, ◌<◌, sym, ap, ◌∙◌, subst, true}
+use Rattle.std.proofs.Common.{◌≡◌, ◌<◌, sym, ap, ◌∙◌, subst, true, arith}
 use Rattle.mark_core.specs.declared.kinds.Shape.{Shape}
 use Rattle.mark_core.specs.declared.seat.SeatState.{SeatState}
 use Rattle.gc_table.specs.PlainSteps.{own_section}
@@ -8,6 +8,9 @@ use Rattle.gc_table.specs.declared.view.View.{View}
 use Rattle.cache_refills.specs.Pace.Payment.{MarksAndTraces}
 use Rattle.gc_cycle.specs.Roots.{roots_scanned}
 use Rattle.cache_refills.proofs.Refills.Payment.{marks-none, marks-traces, section-below}
+use Rattle.tracer.specs.StepBounds.{section_steps}
+use Rattle.cache_refills.specs.Pace.StepBounds.{quota_steps}
+use Rattle.gc_cycle.proofs.Few.{few-join}
 use Rattle.cache_refills.proofs.paying.mark_and_trace.Goals as goal
 
 pub scan_roots-requires-clause-section : goal.scan_roots-requires-clause-section
@@ -32,3 +35,13 @@ returns-in-Done-clause-pays c =
     let e = c.in-Done.ensures in
     marks-traces (own_section u.state) c.args.quota c.args.looks c.pay_quota.result u v w e.traced e.unpopped e.unread e.uncleaned
     (subst (λ n. roots_scanned n (events u v) ≡ true) (c.unwrap_or-section.ensures ∙ ap (λ (s : SeatState). own_section s) c.state.ensures) e.scans) c.pay_quota.ensures.traces
+
+pub returns-in-NoPacket-clause-few : goal.returns-in-NoPacket-clause-few
+returns-in-NoPacket-clause-few c = let few = c.in-NoPacket.ensures.few in omega (arith, few)
+
+pub returns-in-Done-clause-few : goal.returns-in-Done-clause-few
+returns-in-Done-clause-few c =
+    let sh : Shape = c.args.heap.now.shape in
+    let e = c.in-Done.ensures in
+    let p = c.pay_quota.ensures in
+    few-join (section_steps sh) (quota_steps c.pay_quota.result.done c.args.looks sh) (view_of c.args.seat.now) (view_of c.scan_roots.new.seat) (view_of c.pay_quota.new.seat) e.traced.ran p.traces.traced.ran e.few p.few

@@ -4,6 +4,7 @@ use Rattle.gc_table.specs.Seats.{view_of}
 use Rattle.gc_table.specs.declared.view.View.{View}
 use Rattle.cache_refills.specs.Pace.Payment.{TracesOn}
 use Rattle.cache_refills.proofs.Refills.Payment.{mutates-on, traces-none, traces-on, traces-within}
+use Rattle.cache_refills.proofs.Few.{look-last, look-more, looks-fewer}
 use Rattle.cache_refills.proofs.paying.trace_and_clean.Goals as goal
 
 pub loop-look-init : goal.loop-look-init
@@ -16,13 +17,18 @@ loop-look-init c =
       traces =
           subst (λ n. TracesOn c.args.quota 0 0 (record { quota = c.args.quota; done = n; stopped = c.trace-first.result.stopped }) v w) (zero-add c.trace-first.result.done)
           (traces-on c.args.quota c.args.quota 0 c.trace-first.result v w t.traced t.ends t.most (zero-add c.args.quota) t.unread t.unrooted t.uncleaned);
+      few = let few = t.few in omega (arith, few);
     }
 
 pub returns-in_default : goal.returns-in_default
 returns-in_default c =
     let i = c.loop-look.invariant in
     let t = c.loop-look-test.true in
-    record { seat = i.sits; traces = traces-within c.args.quota 0 c.loop-look._look c.args.looks c.loop-look.paid (view_of c.args.seat.now) (view_of c.loop-look.seat) (omega (arith, t)) i.traces }
+    record {
+      seat = i.sits;
+      traces = traces-within c.args.quota 0 c.loop-look._look c.args.looks c.loop-look.paid (view_of c.args.seat.now) (view_of c.loop-look.seat) (omega (arith, t)) i.traces;
+      few = looks-fewer c.loop-look.paid.done c.loop-look._look c.args.looks c.args.heap.now.shape _ (omega (arith, t)) i.few;
+    }
 
 pub look_at_next-requires-clause-seat : goal.look_at_next-requires-clause-seat
 look_at_next-requires-clause-seat c = let i = c.loop-look.invariant in (i.sits, mutates-on (view_of c.args.seat.now) (view_of c.loop-look.seat) i.traces.traced c.requires.seat.1)
@@ -56,6 +62,7 @@ loop-look-preserved c =
     record {
       sits = e.seat;
       traces = subst (λ n. TracesOn n 0 (c.loop-look._look + 1) c.in-Some.more u w) q (e.some u c.loop-look._look (subst (λ n. TracesOn n 0 c.loop-look._look c.loop-look.paid u v) (sym q) i.traces));
+      few = look-more c.loop-look.paid.done c.in-Some.more.done c.loop-look._look c.args.heap.now.shape u v w i.traces.traced.ran e.ran e.few.0.0 i.few e.few.0.1;
     }
 
 pub returns-clause-seat : goal.returns-clause-seat
@@ -66,3 +73,16 @@ returns-clause-traces c =
     let i = c.loop-look.invariant in
     let end = c.loop-look.auto in
     traces-within c.args.quota 0 c.loop-look._look c.args.looks c.loop-look.paid (view_of c.args.seat.now) (view_of c.loop-look.seat) (omega (arith, end)) i.traces
+
+pub returns-in_default-look_at_next-clause-few : goal.returns-in_default-look_at_next-clause-few
+returns-in_default-look_at_next-clause-few c =
+    let i = c.loop-look.invariant in
+    let e = c.in_default-look_at_next.ensures in
+    let t = c.loop-look-test.true in
+    looks-fewer c.loop-look.paid.done (c.loop-look._look + 1) c.args.looks c.args.heap.now.shape _ (omega (arith, t))
+    (look-last c.loop-look.paid.done c.loop-look._look c.args.heap.now.shape (view_of c.args.seat.now) (view_of c.loop-look.seat) (view_of c.look_at_next.new.seat) i.traces.traced.ran e.ran i.few e.few.1)
+
+pub returns-clause-few : goal.returns-clause-few
+returns-clause-few c =
+    let end = c.loop-look.auto in
+    looks-fewer c.loop-look.paid.done c.loop-look._look c.args.looks c.args.heap.now.shape _ (omega (arith, end)) c.loop-look.invariant.few

@@ -1,4 +1,4 @@
-use Rattle.std.proofs.Common.{[], Option, sym, subst}
+use Rattle.std.proofs.Common.{[], Option, sym, subst, ◌+◌, ◌*◌, arith}
 use Rattle.gc_table.specs.Log.{events}
 use Rattle.gc_table.specs.Seats.{view_of}
 use Rattle.gc_table.specs.declared.view.View.{View}
@@ -18,6 +18,9 @@ use Rattle.cache_refills.proofs.Refills.Pieced.{answered-comes, ended-collects, 
 use Rattle.cache_refills.proofs.Refills.RoundNumbers.{claims-refill}
 use Rattle.cache_refills.proofs.Refills.Rounds.{leads-prepared, spares-refill}
 use Rattle.cache_refills.proofs.Stops.InStops.{unbegun-claims, unbegun-seeks}
+use Rattle.cache_refills.specs.Pace.Pacing.{card_looks}
+use Rattle.cache_refills.specs.Pace.StepBounds.{payment_steps}
+use Rattle.gc_cycle.proofs.Few.{few-join}
 use Rattle.cache_refills.proofs.pieces.search_some.Goals as goal
 
 pub pay_for-requires-clause-cache : goal.pay_for-requires-clause-cache
@@ -154,3 +157,29 @@ returns-in-Ended-clause-calls c = λ u a.
     let x : View = view_of c.claim_some.new.seat in
     let k = c.in-Ended.ensures in
     ended-collects c.args.from u v x k.ran a (misses-blocks c.args.from _ v x k.ran k.searches.1)
+
+pub returns-in-Claimed-clause-longest : goal.returns-in-Claimed-clause-longest
+returns-in-Claimed-clause-longest c =
+    let p = c.pay_for.ensures in
+    let k = c.in-Claimed.ensures in
+    let s = k.searches in
+    let few = s.few in
+    let within = s.within in
+    let low = within.0 in
+    let high = within.1 in
+    let all = few-join (3 * c.args.most) (1 + payment_steps 1024 card_looks c.args.heap.now.shape) (view_of c.args.seat.now) (view_of c.claim_some.new.seat) (view_of c.pay_for.new.seat) k.ran p.ran (omega (arith, few, low, high)) p.longest in
+    omega (arith, all)
+
+pub returns-in-Next-clause-longest : goal.returns-in-Next-clause-longest
+returns-in-Next-clause-longest c =
+    let s = c.in-Next.ensures.searches in
+    let next = s.0 in
+    let few = s.2.few in
+    omega (arith, few, next)
+
+pub returns-in-Ended-clause-longest : goal.returns-in-Ended-clause-longest
+returns-in-Ended-clause-longest c =
+    let s = c.in-Ended.ensures.searches in
+    let end = s.0 in
+    let few = s.1.few in
+    omega (arith, few, end)

@@ -1,4 +1,4 @@
-use Rattle.std.proofs.Common.{◌≡◌, arith, [], ap, length, ◌∙◌, subst, sym, true}
+use Rattle.std.proofs.Common.{◌≡◌, arith, [], ap, length, ◌∙◌, subst, sym, true, ◌+◌, ◌*◌}
 use Rattle.mark_core.specs.declared.kinds.Shape.{Shape}
 use Rattle.mark_core.specs.declared.kinds.Step.TheVariants.{ReadPhase}
 use Rattle.gc_table.specs.Log.{events}
@@ -20,6 +20,8 @@ use Rattle.cache_refills.proofs.Refills.Passed.{both-some, plays-calm, plays-joi
 use Rattle.cache_refills.proofs.Refills.Pieced.{calm-leaves, done-collects, leaves-join, looked-leaves, marked-done, none-without, sees-later, seen-keeps, short-later}
 use Rattle.cache_refills.proofs.Refills.RoundNumbers.{leaves-first, leaves-full}
 use Rattle.cache_refills.proofs.Refills.Rounds.{later-some, leads-join, leads-looked, leads-prepared, looked-seen, marking-known, paced-after, spares-refill}
+use Rattle.cache_refills.specs.Pace.Pacing.{card_looks}
+use Rattle.cache_refills.specs.Pace.StepBounds.{payment_steps}
 use Rattle.cache_refills.proofs.pieces.try_refill_some.Goals as goal
 
 pub returns-then-ends_full : goal.returns-then-ends_full
@@ -40,6 +42,7 @@ returns-then-ends_full c =
       sees = omega (arith, none);
       calls = λ u a. tt;
       few = omega (arith, few);
+      longest = omega (arith, few);
       keeps = plays-keeps v w p;
       due = due-calm v w calm;
       numbers = leaves-full v w e.numbers;
@@ -64,6 +67,7 @@ returns-then-begins_or_ends c =
     let l = leads-join v w x (leads-looked v w k) (leads-prepared w x s.ran s.only) in
     let p = plays-leads v x l in
     let marked : marking_done c.args.heap.now.shape (events v x) ≡ true = marked-done c.args.heap.now.shape v w x k.looked (looked-seen v w k.looked c.requires.seat.1 d.0) s.ran d.1 in
+    let five = few-join 1 4 v w x e.ran s.ran (few-after v w ReadPhase k.looked.0 k.looked.1.0) s.few in
     record {
       seat = s.seat.0;
       plays = p;
@@ -76,7 +80,8 @@ returns-then-begins_or_ends c =
           };
       sees = (leaves-join v w x e.ran s.ran (looked-leaves v w k.looked) s.leaves).untried;
       calls = λ u a. done-collects x.shape u v x a.ran l.ran (subst (λ (sh : Shape). marking_done sh (events v x) ≡ true) (sym (ran-shape v x l.ran ∙ c.requires.seat.0.1)) marked);
-      few = few-join 1 4 v w x e.ran s.ran (few-after v w ReadPhase k.looked.0 k.looked.1.0) s.few;
+      few = five;
+      longest = omega (arith, five);
       keeps = plays-keeps v x p;
       due = due-join v w x e.ran s.ran (due-calm v w (only-more answers stays_calm answers-calm v w e.only)) s.due;
       numbers = numbers-one [] v x (by-join [] [] v w x e.numbers s.numbers);
@@ -99,6 +104,8 @@ returns c =
     let unseen = unseen-join v w x e.ran s.ran (k.going v (ran-refl v) (tells-none v)).going (unseen-full w x s.only) in
     let all = ran-join v v x (ran-refl v) l.ran in
     let still = leaves-join v w x e.ran s.ran (looked-leaves v w k.looked) s.leaves in
+    let five = few-join 1 4 v w x e.ran s.ran (few-after v w ReadPhase k.looked.0 k.looked.1.0) s.few in
+    let long = few-join 5 (3 * c.args.most + 1 + payment_steps 1024 card_looks c.args.heap.now.shape) v x y l.ran t.plays.ran five t.longest in
     record {
       seat = t.seat;
       plays = p;
@@ -109,7 +116,8 @@ returns c =
       none = none-without o v x y l.ran t.plays.ran unseen t.none;
       sees = sees-later c.args.from c.args.most c.search_some.result v x y l.ran t.plays.ran l.within still t.sees;
       calls = λ u b. t.calls u (seen-keeps c.args.from u v x l.ran l.within still.without b);
-      few = short-later 5 c.args.most c.search_some.result v x y l.ran t.plays.ran (few-join 1 4 v w x e.ran s.ran (few-after v w ReadPhase k.looked.0 k.looked.1.0) s.few) t.few;
+      few = short-later 5 c.args.most c.search_some.result v x y l.ran t.plays.ran five t.few;
+      longest = omega (arith, long);
       keeps = plays-keeps v y p;
       due = due-join v w y e.ran (ran-join w x y s.ran t.plays.ran) (due-calm v w (only-more answers stays_calm answers-calm v w e.only)) (due-join w x y s.ran t.plays.ran s.due t.due);
       numbers = leaves-first o v x y (by-join [] [] v w x e.numbers s.numbers) t.numbers;

@@ -1,4 +1,4 @@
-use Rattle.std.proofs.Common.{ℕ, ◌≡◌, ◌∙◌, [], ◌∷◌, ◌++◌, ap, inl, inr, not, refl, subst, sym, true, false, Some}
+use Rattle.std.proofs.Common.{ℕ, ◌≡◌, ◌∙◌, [], ◌∷◌, ◌++◌, ap, inl, inr, not, refl, subst, sym, true, false, Some, arith}
 use Rattle.std.proofs.lemmas.Bool.{false≢true}
 use Rattle.gc_table.specs.Seats.{view_of}
 use Rattle.gc_table.specs.declared.view.View.{View}
@@ -32,6 +32,10 @@ use Rattle.gc_cycle.proofs.Changes.{by-join, changes-after}
 use Rattle.gc_cycle.proofs.Numbers.{retire-by}
 use Rattle.gc_cycle.specs.Statistics.{gives_back}
 use Rattle.mark_core.specs.Steps.MutatorSteps.{used_bits}
+use Rattle.mark_core.specs.declared.kinds.Shape.{Shape}
+use Rattle.cache_refills.specs.Pace.Pacing.{card_looks}
+use Rattle.cache_refills.specs.Pace.StepBounds.{payment_steps}
+use Rattle.cache_refills.proofs.Few.{payment-fewer}
 use Rattle.cache_refills.proofs.refilling.pay_for.Goals as goal
 
 pub retire-requires-clause-owes : goal.retire-requires-clause-owes
@@ -63,6 +67,10 @@ returns-in-Full c =
     let t = c.read_phase.ensures.view in
     let e = c.retire.ensures in
     let g = gives-up v (view_of c.read_phase.new.seat) (view_of c.retire.new.seat) y c.args.cache c.args.done t.0 c.requires.seat.1 (t.1, t.2) (sym t.3 ∙ c.in-Full.is) e.ran e.state e.steps c.store_position.ensures.view in
+    let five =
+    few-join 1 4 v w y (ran-found v w ReadPhase t.0 refl (t.1, t.2)) (ran-join w x y e.ran (ran-stored x y (StorePosition c.args.done) refl c.store_position.ensures.view)) (few-after v w ReadPhase t.0 t.1)
+    (few-join 3 1 w x y e.ran (ran-stored x y (StorePosition c.args.done) refl c.store_position.ensures.view)
+    (few-steps 3 w x _ e.steps (giving-few (Some c.args.cache) (used_bits w.state.cache))) (few-after x y (StorePosition c.args.done) c.args.done c.store_position.ensures.view)) in
     record {
       seat = c.store_position.ensures.seat;
       ran = g.0;
@@ -73,16 +81,14 @@ returns-in-Full c =
           (by-join (gives_back c.args.cache ∷ []) [] w x y (retire-by c.args.cache (used_bits w.state.cache) w x e.ran e.steps)
           (changes-after x y (StorePosition c.args.done) c.args.done refl (ran-stored x y (StorePosition c.args.done) refl c.store_position.ensures.view) c.store_position.ensures.view));
       known = g.3;
-      few =
-          λ same.
-          few-join 1 4 v w y (ran-found v w ReadPhase t.0 refl (t.1, t.2)) (ran-join w x y e.ran (ran-stored x y (StorePosition c.args.done) refl c.store_position.ensures.view)) (few-after v w ReadPhase t.0 t.1)
-          (few-join 3 1 w x y e.ran (ran-stored x y (StorePosition c.args.done) refl c.store_position.ensures.view)
-          (few-steps 3 w x _ e.steps (giving-few (Some c.args.cache) (used_bits w.state.cache))) (few-after x y (StorePosition c.args.done) c.args.done c.store_position.ensures.view));
+      few = λ same. five;
+      longest = omega (arith, five);
       refills = λ u k. full-later c.args.done u v y k.ran g.0 g.2;
     }
 
 pub returns-in-Marking : goal.returns-in-Marking
 returns-in-Marking c =
+    let sh : Shape = c.args.heap.now.shape in
     let v : View = view_of c.args.seat.now in
     let w : View = view_of c.read_phase.new.seat in
     let x : View = view_of c.pay-paid.new.seat in
@@ -97,6 +103,9 @@ returns-in-Marking c =
       inside = looked-in v w x t.0 (t.1, t.2) q.ran q.only;
       known = only-more stays_calm spares_part calm-spares v x calm;
       few = λ same. absurd (unlike same);
+      longest =
+          few-join 1 (payment_steps 1024 card_looks sh) v w x (ran-found v w ReadPhase t.0 refl (t.1, t.2)) q.ran (few-after v w ReadPhase t.0 t.1)
+          (payment-fewer c.pay-paid.result.done 1024 card_looks sh _ (let most = q.most in let short = q.short in omega (arith, most, short)) c.pay-paid.ensures.few);
       refills = λ u k. gets-paid c.args.cache c.args.done u v w x t.0 k (t.1, t.2) q.ran q.only c.pay-paid.result c.requires.seat.1 c.requires.cache q (sym t.3 ∙ c.in-Marking.is);
     }
 
@@ -116,5 +125,6 @@ returns-in_default c =
       inside = looked-in v w w t.0 (t.1, t.2) (ran-refl w) (only-none pays_cells w);
       known = only-more stays_calm spares_part calm-spares v w calm;
       few = λ same. absurd (unlike same);
+      longest = let one = few-after v w ReadPhase t.0 t.1 in omega (arith, one);
       refills = λ u k. gets-free c.args.cache c.args.done u v w w t.0 k (t.1, t.2) (ran-refl w) (only-none pays_cells w) c.nothing_paid.result m c.requires.cache c.nothing_paid.ensures idle (events-none w) (mutates-still v w t.0 (t.1, t.2) m) refl refl;
     }

@@ -1,0 +1,18 @@
+-- How many steps a payment takes at most.
+use Rattle.std.specs.Prelude.{ℕ, ◌+◌, ◌*◌}
+use Rattle.mark_core.specs.Cards.{card_cells}
+use Rattle.mark_core.specs.declared.kinds.Shape.{Shape}
+use Rattle.tracer.specs.StepBounds.{recycle_steps, section_steps, trace_steps}
+use Rattle.card_clean.specs.StepBounds.{clean_one_steps}
+
+-- a card is drawn, looked at and cleaned, and tracing goes on
+abbrev pub look_steps : Shape → ℕ
+look_steps sh = 3 + clean_one_steps card_cells sh + trace_steps 0 sh
+
+-- a quota is traced, so many objects of it, and so many cards are looked at; what was deferred is brought back
+abbrev pub quota_steps : ℕ → ℕ → Shape → ℕ
+quota_steps done looks sh = trace_steps done sh + looks * look_steps sh + recycle_steps sh
+
+-- the numbers are read, the roots of the section scanned, a quota traced, and the number of traced objects raised
+abbrev pub payment_steps : ℕ → ℕ → Shape → ℕ
+payment_steps done looks sh = section_steps sh + quota_steps done looks sh + 5
