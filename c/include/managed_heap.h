@@ -240,7 +240,8 @@ static inline mh_status mh_value(mh_mutator *m, uint32_t v, uint32_t *out) { ret
 static inline mh_status mh_is_nil(mh_mutator *m, uint32_t v, uint32_t *out) { return MH_BY(m, mhl_is_nil(m, v, out)); }
 /* 1 where v and w refer to one object, or both to nothing, else 0. */
 static inline mh_status mh_same(mh_mutator *m, uint32_t v, uint32_t w, uint32_t *out) { return MH_BY(m, mhl_same(m, v, w, out)); }
-/* The next step of a collection of the mutator's own: at most so many roots, objects, cards of 16 cells or blocks of 64 are done in it. */
+/* The next step of a collection of the mutator's own: at most so many roots, objects, cards of 16 cells or blocks of 64 are done in it. Blocks are cleared and
+   swept in stretches (of 1 to 128, by the heap's size), and one at least. */
 static inline mh_status mh_collect_step(mh_mutator *m, uint32_t most) { return MH_BY(m, mhl_collect_step(m, most)); }
 /* 1 where its collection waits for the mutators that are inside, so that a rest is due before its next step, else 0. */
 static inline mh_status mh_is_stopping(mh_mutator *m, uint32_t *out) { return MH_BY(m, mhl_is_stopping(m, out)); }

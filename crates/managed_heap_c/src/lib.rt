@@ -204,7 +204,7 @@ pub extern "C" fn mhl_value(h: &mut MutatorHandle, v: u32, out: &mut u32) -> u32
     answer
 }
 
-/// The next step of a collection of the mutator's own, of at most so many objects or blocks.
+/// The next step of a collection of the mutator's own, of at most so many roots, objects, cards or blocks (or those of one stretch).
 #[unsafe(no_mangle)]
 pub extern "C" fn mhl_collect_step(h: &mut MutatorHandle, most: u32) -> u32
     ensures answers { AnswersOnce (CollectsAtMost most) result h.old.hand h.new.hand }

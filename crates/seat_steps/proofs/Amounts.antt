@@ -127,7 +127,7 @@ apart_steps : (blocks : ℕ) (step : Step) (n : ℕ) → length (phase_stored st
 apart_steps blocks (StorePhase to) n = omega arith
 apart_steps blocks (Reset which) n = omega arith
 apart_steps blocks (AddStat which by down) n = omega arith
-apart_steps blocks NextBlock n = one (draws_block blocks NextBlock n)
+apart_steps blocks NextBlock n = let drawn = one (draws_block blocks NextBlock n) in omega (arith, drawn)
   where
     one : (b : Bool) → bit b ≤ 1
     one true = omega arith

@@ -2,7 +2,7 @@
 use Rattle.std.proofs.Common.{ℕ, ◌≡◌, ◌≤◌, ◌<◌, ◌+◌, arith, refl, Option, Some, None}
 use Rattle.std.specs.Prelude.{IfNone, IfSome, min}
 use Rattle.std.proofs.Math.Nat.{mul-le-mul_left}
-use Rattle.mark_core.specs.Layout.{root_count}
+use Rattle.mark_core.specs.Layout.{block_count, card_count, root_count}
 use Rattle.mark_core.specs.Shapes.{IsShape}
 use Rattle.mark_core.specs.declared.kinds.Phase.TheVariants.{Drain}
 use Rattle.mark_core.specs.declared.kinds.Shape.{Shape}
@@ -22,9 +22,9 @@ use Rattle.seat_steps.specs.Collecting.{LooksStand}
 use Rattle.seat_steps.proofs.Undrawn.{alone-apart, part-draws-none}
 
 -- what holds of an answer that there is, and what holds where there is none
-pub some-both : {X : Type 0} (r : Option X) {P Q : X → Type 0} → IfSome r P → IfSome r Q → IfSome r (λ x. P x × Q x)
-some-both None p q = tt
-some-both (Some x) p q = (p, q)
+pub some-both : {X : Type 0} (r : Option X) (P Q : X → Type 0) → IfSome r P → IfSome r Q → IfSome r (λ x. P x × Q x)
+some-both None P Q p q = tt
+some-both (Some x) P Q p q = (p, q)
 
 pub none-then : {X : Type 0} (r : Option X) {P Q : Type 0} → IfNone r P → (P → Q) → IfNone r Q
 none-then None p f = f p
@@ -50,12 +50,23 @@ roots-small sh s =
     let slots = mul-le-mul_left sh.sections s.slots in
     omega (arith, sections, slots)
 
+-- nor has that of a card or a block more
+pub cards-small : (sh : Shape) → IsShape sh → card_count sh ≤ 1048576
+cards-small sh s = let cells = s.cells.1 in omega (arith, cells)
+
+pub blocks-small : (sh : Shape) → IsShape sh → block_count sh ≤ 262144
+blocks-small sh s = let cells = s.cells.1 in omega (arith, cells)
+
 -- a piece that did as many as it was to, or all that were left
 pub as-many : (n most left : ℕ) → n ≡ min most left → n ≡ most → most ≤ left
 as-many n most left e is = omega (arith, e, is)
 
 pub all-left : (n most left : ℕ) → n ≡ min most left → (n ≡ most → ⊥) → (left < most) × (n ≡ left)
 all-left n most left e other = (omega (arith, e, other), omega (arith, e, other))
+
+-- a piece that took fewer stretches than it was to
+pub fewer-of : (drawn n most draws : ℕ) → drawn ≡ n → n ≤ most → (n ≡ most → ⊥) → most ≡ draws → drawn < draws
+fewer-of drawn n most draws a b other d = omega (arith, a, b, other, d)
 
 pub few-of : (n most left : ℕ) → n ≡ min most left → n ≤ most
 few-of n most left e = omega (arith, e)

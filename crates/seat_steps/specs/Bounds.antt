@@ -8,12 +8,16 @@ use Rattle.gc_table.specs.declared.view.View.{View}
 use Rattle.mutator_ops.specs.Few.{AtMost}
 use Rattle.seat_steps.specs.Amounts.{DrawsNone, PopsNone}
 use Rattle.seat_steps.specs.Passes.{CleansFewCards, SeesFewRoots}
-use Rattle.seat_steps.specs.Steps.{StepsCollection, blocks_drawn, objects_popped}
+use Rattle.seat_steps.specs.Steps.{StepsCollection, draws_for, objects_popped, shape_of, stretches_drawn}
 use Rattle.seat_steps.specs.declared.stepper.Came.{Came}
 use Rattle.seat_steps.specs.declared.stepper.Came.TheVariants as cames
 use Rattle.seat_steps.specs.declared.stepper.Stage.{Stage}
 use Rattle.seat_steps.specs.declared.stepper.Stage.TheVariants as stages
 use Rattle.seat_steps.specs.declared.stepper.Stepper.{Stepper}
+
+-- how many steps clearing the marks of so many stretches takes at most: two for each, and one for each block
+abbrev pub clearing_steps : ℕ → Stepper → ℕ
+clearing_steps draws x = draws * (2 + (shape_of x).stretch)
 
 -- neither a cell was popped nor a block drawn
 abbrev pub DoesNeither : View → View → Type 0
@@ -55,10 +59,10 @@ IsBounded stages.Looking stages.Clearing most x y = Across (DoesFew (most + 2)) 
 IsBounded stages.Looking stages.Sweeping most x y = Across (DoesFew (most + 2)) x.seat y.seat
 IsBounded stages.Cleaning stages.Cleaning most x y = Across (CleansFewCards x.next most) x.seat y.seat × Across DoesNeither x.seat y.seat
 IsBounded stages.Cleaning stages.Draining most x y = Across (CleansFewCards x.next most) x.seat y.seat × Across DoesNeither x.seat y.seat
-IsBounded stages.Clearing stages.Clearing most x y = (blocks_drawn x y ≤ most) × Across (PassesFew (3 * most)) x.seat y.seat
-IsBounded stages.Clearing stages.Rooting most x y = (blocks_drawn x y ≤ most) × Across (PassesFew (3 * most + 3)) x.seat y.seat
-IsBounded stages.Sweeping stages.Sweeping most x y = (blocks_drawn x y ≤ most) × Across PopsNone x.seat y.seat
-IsBounded stages.Sweeping stages.Counting most x y = (blocks_drawn x y ≤ most) × Across PopsNone x.seat y.seat
+IsBounded stages.Clearing stages.Clearing most x y = (stretches_drawn x y ≤ draws_for most x) × Across (PassesFew (clearing_steps (draws_for most x) x)) x.seat y.seat
+IsBounded stages.Clearing stages.Rooting most x y = (stretches_drawn x y ≤ draws_for most x) × Across (PassesFew (clearing_steps (draws_for most x) x + 3)) x.seat y.seat
+IsBounded stages.Sweeping stages.Sweeping most x y = (stretches_drawn x y ≤ draws_for most x) × Across PopsNone x.seat y.seat
+IsBounded stages.Sweeping stages.Counting most x y = (stretches_drawn x y ≤ draws_for most x) × Across PopsNone x.seat y.seat
 IsBounded stages.Counting stages.Counting most x y = Across (DoesFew most) x.seat y.seat
 IsBounded stages.Counting stages.Ending most x y = Across (DoesFew most) x.seat y.seat
 IsBounded stages.Ending stages.Inside most x y = Across EndsInFew x.seat y.seat

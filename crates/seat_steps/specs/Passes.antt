@@ -52,11 +52,11 @@ pub record BeginsSweep (from : ℕ) (v w : View) : Type 0 where
   pub looks : LooksToEnd from (empty_offset + v.shape.packets) v drained
   pub moved : IsMove Drain Sweep drained w
 
--- the marks of fewer blocks than so many were cleared, which were all that were left, and then the drain began once more
+-- the marks of fewer stretches of blocks than so many were cleared, which were all that were left, and then the drain began once more
 pub record BeginsAgain (most : ℕ) (v w : View) : Type 0 where
   pub cleared : View
   pub part : IsPart Clear v cleared
-  pub blocks : count_of (draws_block (block_count v.shape)) (events v cleared) < most
+  pub stretches : count_of (draws_block (block_count v.shape)) (events v cleared) < most
   pub course : TakesCourse (Drain ∷ []) (Reset card_counter ∷ Reset block_counter ∷ []) cleared w
 
 -- the last blocks were swept, and then the cycle ended

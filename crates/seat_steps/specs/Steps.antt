@@ -10,7 +10,7 @@ use Rattle.gc_table.specs.Seats.{Across, did, view_of}
 use Rattle.packet_pools.specs.Counts.{count_of}
 use Rattle.sweeper.specs.Freeing.{freed_in}
 use Rattle.gc_cycle.specs.Finishing.{IsPart, most as greatest}
-use Rattle.gc_cycle.specs.Pieces.{CleansCards, LooksAt}
+use Rattle.gc_cycle.specs.Pieces.{CleansCards, LooksAt, stretches_in}
 use Rattle.gc_cycle.specs.Settling.{alloc_reads}
 use Rattle.gc_cycle.specs.Sorts.{draws_block, pops}
 use Rattle.gc_cycle.specs.Stepping.{FindsRunning, LacksPacket}
@@ -43,9 +43,13 @@ blocks_left x = block_count (shape_of x) - x.next
 abbrev pub objects_popped : Stepper → Stepper → ℕ
 objects_popped x y = count_of pops (did x.seat y.seat)
 
--- how many blocks came in hand
-abbrev pub blocks_drawn : Stepper → Stepper → ℕ
-blocks_drawn x y = count_of (draws_block (block_count (shape_of x))) (did x.seat y.seat)
+-- how many stretches of blocks came in hand
+abbrev pub stretches_drawn : Stepper → Stepper → ℕ
+stretches_drawn x y = count_of (draws_block (block_count (shape_of x))) (did x.seat y.seat)
+
+-- how many stretches a step takes that is to clear or sweep at most so many blocks: as many as have no more between them, but at least one
+abbrev pub draws_for : ℕ → Stepper → ℕ
+draws_for most x = stretches_in (shape_of x) most
 
 -- the cells that the step freed were added to those freed before
 abbrev pub CountsFreed : Stepper → Stepper → Type 0
@@ -75,10 +79,10 @@ StepsOn stages.Looking stages.Clearing most x y = (cards_left x < most) × Acros
 StepsOn stages.Looking stages.Sweeping most x y = (cards_left x < most) × Across (BeginsSweep x.next) x.seat y.seat × IsFalse x.again × (y.freed ≡ 0)
 StepsOn stages.Cleaning stages.Cleaning most x y = CleansSome most x y × (y.again ≡ x.again)
 StepsOn stages.Cleaning stages.Draining most x y = (cards_left x < most) × Across (CleansCards x.next (cards_left x)) x.seat y.seat × (y.again ≡ x.again)
-StepsOn stages.Clearing stages.Clearing most x y = (blocks_drawn x y ≡ most) × Across (IsPart Clear) x.seat y.seat
-StepsOn stages.Clearing stages.Rooting most x y = Across (BeginsAgain most) x.seat y.seat × (y.next ≡ 0) × IsFalse y.again
-StepsOn stages.Sweeping stages.Sweeping most x y = (blocks_drawn x y ≡ most) × CountsFreed x y
-StepsOn stages.Sweeping stages.Counting most x y = (blocks_drawn x y < most) × CountsFreed x y × Across EndsSweep x.seat y.seat × (y.next ≡ 0) × (y.counted ≡ 0)
+StepsOn stages.Clearing stages.Clearing most x y = (stretches_drawn x y ≡ draws_for most x) × Across (IsPart Clear) x.seat y.seat
+StepsOn stages.Clearing stages.Rooting most x y = Across (BeginsAgain (draws_for most x)) x.seat y.seat × (y.next ≡ 0) × IsFalse y.again
+StepsOn stages.Sweeping stages.Sweeping most x y = (stretches_drawn x y ≡ draws_for most x) × CountsFreed x y
+StepsOn stages.Sweeping stages.Counting most x y = (stretches_drawn x y < draws_for most x) × CountsFreed x y × Across EndsSweep x.seat y.seat × (y.next ≡ 0) × (y.counted ≡ 0)
 StepsOn stages.Counting stages.Counting most x y = (most ≤ blocks_left x) × (steps_of (did x.seat y.seat) ≡ alloc_reads x.next most) × (y.next ≡ x.next + most) × (y.freed ≡ x.freed)
 StepsOn stages.Counting stages.Ending most x y = (blocks_left x < most) × (steps_of (did x.seat y.seat) ≡ alloc_reads x.next (blocks_left x)) × (y.freed ≡ x.freed)
 StepsOn s t most x y = ⊥

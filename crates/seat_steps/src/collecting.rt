@@ -99,14 +99,14 @@ pub fn begins_sweep(heap: &Heap, seat: &mut HeapSeat)
     start_sweep(heap, seat);
 }
 
-/// Sweeps at most so many blocks: fewer come exactly where none is left.
+/// Sweeps at most so many stretches of blocks: fewer come exactly where no block is left.
 pub fn sweeps(heap: &Heap, seat: &mut HeapSeat, most: u32) -> SweepStep
     requires sweeping { SitsAtSweep heap.now seat.old }
     requires sweeps { SweepsSinceAsked (view_of seat.old) }
     ensures sweeping { SitsAtSweep heap.now seat.new }
-    ensures swept { result.blocks ≢ most → SitsSweptAll heap.now seat.new }
+    ensures swept { result.stretches ≢ most → SitsSweptAll heap.now seat.new }
     ensures part { Across (IsPart Sweep) seat.old seat.new }
-    ensures blocks { (result.blocks ≤ most) × (count_of (draws_block (block_count heap.now.shape)) (did seat.old seat.new) ≡ result.blocks) }
+    ensures stretches { (result.stretches ≤ most) × (count_of (draws_block (block_count heap.now.shape)) (did seat.old seat.new) ≡ result.stretches) }
     ensures unpopped { Across PopsNone seat.old seat.new }
     ensures freed { result.freed ≡ min (freed_in (view_of seat.old) (did seat.old seat.new)) greatest }
     ensures same { plain_of seat.new ≡ plain_of seat.old }

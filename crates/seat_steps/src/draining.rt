@@ -1,5 +1,5 @@
 //! The drain of a collection that a mutator makes, in pieces. No call waits.
-ghost use Rattle.std.specs.Prelude.{◌≡◌, ◌≢◌, ◌≤◌, ◌+◌, ◌-◌, ◌*◌, [], ◌∷◌, min, Bool, IfNone, IfSome};
+ghost use Rattle.std.specs.Prelude.{◌≡◌, ◌≢◌, ◌≤◌, ◌+◌, ◌-◌, ◌*◌, [], ◌∷◌, min, Bool, false, IfNone, IfSome};
 ghost use Rattle.std.specs.Bool.{OnFalse, OnTrue};
 ghost use Rattle.mark_core.specs.Layout.{block_count, card_count, root_count};
 ghost use Rattle.mark_core.specs.Numbers.{block_counter, card_counter};
@@ -22,8 +22,8 @@ ghost use Rattle.seat_steps.specs.Collecting.{LooksStand, SitsAtClear, SitsAtDra
 ghost use Rattle.seat_steps.specs.Passes.{SeesRoots, TracesFor};
 
 use gc_cycle::{
-    Look, clean_step, clear_step, finds_all_marked, finish_clear, look_step, root_piece, start_clear,
-    trace_step,
+    Look, clean_step, clear_step, finds_all_marked, finish_clear, look_step, root_piece,
+    start_clear, trace_step,
 };
 use gc_table::{Heap, HeapSeat};
 
@@ -113,15 +113,15 @@ pub fn begins_clear(heap: &Heap, seat: &mut HeapSeat)
     start_clear(heap, seat);
 }
 
-/// Clears the marks of at most so many blocks: fewer come exactly where none is left.
+/// Clears the marks of at most so many stretches of blocks: fewer come exactly where no block is left. How many stretches it took.
 pub fn clears(heap: &Heap, seat: &mut HeapSeat, most: u32) -> u32
     requires clearing { SitsAtClear heap.now seat.old }
     requires waits { WaitsSinceAsked (view_of seat.old) }
     ensures clearing { SitsAtClear heap.now seat.new }
     ensures cleared { result ≢ most → SitsCleared heap.now seat.new }
     ensures part { Across (IsPart Clear) seat.old seat.new }
-    ensures blocks { (result ≤ most) × (count_of (draws_block (block_count heap.now.shape)) (did seat.old seat.new) ≡ result) }
-    ensures few { Across (PassesFew (3 * most)) seat.old seat.new }
+    ensures stretches { (result ≤ most) × (count_of (draws_block (block_count heap.now.shape)) (did seat.old seat.new) ≡ result) }
+    ensures few { Across (PassesFew (most * (2 + heap.now.shape.stretch))) seat.old seat.new }
     ensures same { plain_of seat.new ≡ plain_of seat.old }
     ensures leaves { Across LeavesHeap seat.old seat.new }
     ensures waits { WaitsSinceAsked (view_of seat.new) }

@@ -20,11 +20,11 @@ use crate::draining::{
 use crate::leaving::gives_own_up;
 use crate::stepper::{Came, Stage, Stepper};
 use crate::tries::arrive;
-use gc_cycle::Look;
+use gc_cycle::{Look, stretches_of};
 use gc_table::{Heap, HeapSeat};
 use mutator_turns::leave;
 
-/// How many roots, objects, cards or blocks a step does at most, where its caller says nothing of it.
+/// How many roots, objects, cards or blocks a step does at most (or those of one stretch of blocks), where its caller says nothing of it.
 const STEP: u32 = 4_096;
 
 /// Sets the numbers for the next cycle, lets the world go on, and comes to its turn.
@@ -51,7 +51,8 @@ impl Stepper {
     }
 
     /// The next step of a collection, with a bound: it sees to at most so many roots, traces at most so many objects, looks at or cleans at most so many cards, or
-    /// clears, sweeps or counts at most so many blocks. It is at least 1: 0 is out of range.
+    /// clears, sweeps or counts at most so many blocks. Blocks are cleared and swept in stretches (of 1 to 128, by the heap's size): one at least. `most` is at
+    /// least 1: 0 is out of range.
     pub fn collect_at_most(&mut self, most: u32) -> Came
         ensures collects { CollectsAtMost most result self.old self.new }
     {
@@ -197,13 +198,14 @@ impl Stepper {
         Came::NotYet
     }
 
-    /// Clears marks on. Where no cell is marked it begins to mark once more.
+    /// Clears the marks of so many stretches as have at most so many blocks between them, or of one. Where no cell is marked it begins to mark once more.
     fn clear(&mut self, most: u32) -> Came
         requires clearing { self.old.stage ≡ stages.Clearing }
         ensures collects { StepsCollection most result self.old self.new }
         ensures bounded { IsBoundedStep most self.old self.new }
     {
-        if clears(&self.heap, &mut self.seat, most) == most {
+        let draws = stretches_of(&self.heap, most);
+        if clears(&self.heap, &mut self.seat, draws) == draws {
             return Came::NotYet;
         }
         begins_again(&self.heap, &mut self.seat);
@@ -213,15 +215,16 @@ impl Stepper {
         Came::NotYet
     }
 
-    /// Sweeps on. After the last block the cycle ends.
+    /// Sweeps so many stretches as have at most so many blocks between them, or one. After the last block the cycle ends.
     fn sweep(&mut self, most: u32) -> Came
         requires sweeping { self.old.stage ≡ stages.Sweeping }
         ensures collects { StepsCollection most result self.old self.new }
         ensures bounded { IsBoundedStep most self.old self.new }
     {
-        let step = sweeps(&self.heap, &mut self.seat, most);
+        let draws = stretches_of(&self.heap, most);
+        let step = sweeps(&self.heap, &mut self.seat, draws);
         self.freed = self.freed.saturating_add(step.freed);
-        if step.blocks == most {
+        if step.stretches == draws {
             return Came::NotYet;
         }
         ends_sweep(&self.heap, &mut self.seat);

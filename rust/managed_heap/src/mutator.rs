@@ -10,7 +10,7 @@ use std::sync::Arc;
 /// How many variables a mutator has.
 pub const VARIABLES: u32 = 32;
 
-/// How many objects it marks, or blocks it sweeps, between two looks at what it waits for.
+/// How many roots, objects, cards or blocks it does between two looks at what it waits for.
 const STEP: u32 = 4096;
 
 /// How many references an object has at most.

@@ -29,7 +29,7 @@ pub returns-clause-sees : goal.returns-clause-sees
 returns-clause-sees c =
     let e = c.root_piece.ensures in
     let es = did c.args.seat.now c.root_piece.new.seat in
-    IfSome_then c.root_piece.result (some-both c.root_piece.result e.only e.reads)
+    IfSome_then c.root_piece.result (some-both c.root_piece.result _ _ e.only e.reads)
     (λ n q. record { part = e.part; only = q.0; reads = subst (λ (sh : Shape). picked (roots_read sh) es ≡ range_with_len c.args.from n) (sym c.requires.rooting.sits.1) q.1 })
 
 pub returns-clause-none : goal.returns-clause-none

@@ -1,4 +1,4 @@
-use Rattle.std.proofs.Common.{ℕ, ◌≡◌, ◌≤◌, ◌+◌, ◌-◌, ap, inl, inr, refl, subst}
+use Rattle.std.proofs.Common.{ℕ, ◌≡◌, ◌≤◌, ◌+◌, ◌-◌, ap, arith, inl, inr, refl, subst}
 use Rattle.std.specs.Prelude.{min}
 use Rattle.mark_core.specs.Layout.{card_count}
 use Rattle.gc_table.specs.Seats.{Across}
@@ -6,7 +6,7 @@ use Rattle.gc_table.specs.declared.seat.Heap.{Heap}
 use Rattle.gc_cycle.specs.Pieces.{CleansCards}
 use Rattle.seat_steps.specs.Steps.{cards_left}
 use Rattle.seat_steps.specs.declared.stepper.Stage.TheVariants as stages
-use Rattle.seat_steps.proofs.Passes.{all-left, as-many, few-of}
+use Rattle.seat_steps.proofs.Passes.{all-left, as-many, cards-small, few-of}
 use Rattle.seat_steps.proofs.Stages.{bounded-on, step-on}
 use Rattle.seat_steps.proofs.stepper.Stepper.clean.Goals as goal
 
@@ -51,3 +51,9 @@ returns-clause-bounded c =
     let x = c.args.self.now in
     let e = c.in-Some.ensures in
     bounded-on c.args.most x _ stages.Cleaning stages.Draining c.requires.cleaning refl (inl (c.in-Some.number, few-of c.in-Some.number c.args.most _ e.some, e.cleans), e.neither)
+
+pub overflow_add-self : goal.overflow_add-self
+overflow_add-self c =
+    let small = cards-small c.deref.result.now.shape c.deref.result.now.shaped in
+    let count = c.in-Some.ensures.some in
+    omega (arith, small, count)

@@ -1,4 +1,4 @@
-use Rattle.std.proofs.Common.{ℕ, ◌≡◌, ◌≤◌, ◌+◌, ◌-◌, ap, refl, subst}
+use Rattle.std.proofs.Common.{ℕ, ◌≡◌, ◌≤◌, ◌+◌, ◌-◌, ap, arith, refl, subst}
 use Rattle.std.specs.Prelude.{min}
 use Rattle.mark_core.specs.Layout.{block_count}
 use Rattle.gc_table.specs.Log.{steps_of}
@@ -7,7 +7,7 @@ use Rattle.gc_table.specs.declared.seat.Heap.{Heap}
 use Rattle.gc_cycle.specs.Settling.{alloc_reads}
 use Rattle.seat_steps.specs.Steps.{blocks_left}
 use Rattle.seat_steps.specs.declared.stepper.Stage.TheVariants as stages
-use Rattle.seat_steps.proofs.Passes.{all-left, as-many}
+use Rattle.seat_steps.proofs.Passes.{all-left, as-many, blocks-small}
 use Rattle.seat_steps.proofs.Stages.{bounded-on, step-on}
 use Rattle.seat_steps.proofs.stepper.Stepper.count.Goals as goal
 
@@ -39,3 +39,9 @@ returns-clause-collects c =
 
 pub returns-clause-bounded : goal.returns-clause-bounded
 returns-clause-bounded c = bounded-on c.args.most c.args.self.now _ stages.Counting stages.Ending c.requires.counting refl c.counts-step.ensures.few
+
+pub overflow_add-self : goal.overflow_add-self
+overflow_add-self c =
+    let small = blocks-small c.deref.result.now.shape c.deref.result.now.shaped in
+    let count = c.counts-step.ensures.blocks in
+    omega (arith, small, count)

@@ -1,4 +1,4 @@
-use Rattle.std.proofs.Common.{◌≡◌, ◌<◌, ◌≤◌, ◌+◌, ℕ, ◌∙◌, ap, arith, refl, subst}
+use Rattle.std.proofs.Common.{◌≡◌, ◌<◌, ◌≤◌, ◌+◌, ℕ, ◌∙◌, arith, refl, subst}
 use Rattle.std.specs.Prelude.{min}
 use Rattle.mark_core.specs.Layout.{block_count}
 use Rattle.mark_core.specs.declared.kinds.Phase.TheVariants.{Idle, Sweep}
@@ -8,31 +8,38 @@ use Rattle.packet_pools.specs.Counts.{count_of}
 use Rattle.sweeper.specs.Freeing.{freed_in}
 use Rattle.mutator_turns.proofs.Leaving.{leaves-join}
 use Rattle.gc_cycle.specs.Finishing.{most as greatest}
+use Rattle.gc_cycle.specs.Pieces.{stretches_in}
 use Rattle.gc_cycle.specs.Sorts.{draws_block}
 use Rattle.gc_cycle.proofs.Ends.Completing.{freed-move, freed-run}
 use Rattle.gc_cycle.proofs.Stops.Admitted.{count-run}
+use Rattle.seat_steps.specs.Steps.{draws_for, shape_of}
 use Rattle.seat_steps.specs.declared.stepper.Stage.TheVariants as stages
 use Rattle.seat_steps.proofs.Amounts.{move-few, pops-join}
+use Rattle.seat_steps.proofs.Passes.{fewer-of}
 use Rattle.seat_steps.proofs.Stages.{bounded-on, step-on}
 use Rattle.seat_steps.proofs.stepper.Stepper.sweep.Goals as goal
 
-pub returns-then-step-most-clause-collects : goal.returns-then-step-most-clause-collects
-returns-then-step-most-clause-collects c =
+pub returns-then-step-draws-clause-collects : goal.returns-then-step-draws-clause-collects
+returns-then-step-draws-clause-collects c =
     let x = c.args.self.now in
     let e = c.sweeps-step.ensures in
-    let count = subst (λ (h : Heap). count_of (draws_block (block_count h.shape)) (did x.seat c.sweeps-step.new.seat) ≡ c.sweeps-step.result.blocks) c.deref.ensures e.blocks.1 in
+    let n : ℕ = c.sweeps-step.result.stretches in
+    let draws : c.stretches_of-draws.result ≡ draws_for c.args.most x = subst (λ (h : Heap). c.stretches_of-draws.result ≡ stretches_in h.shape c.args.most) c.deref.ensures c.stretches_of-draws.ensures in
+    let count = subst (λ (h : Heap). count_of (draws_block (block_count h.shape)) (did x.seat c.sweeps-step.new.seat) ≡ n) c.deref-2.ensures e.stretches.1 in
     let sum = c.saturating_add-self.ensures in
     let more = e.freed in
     let freed : c.saturating_add-self.result ≡ min (x.freed + freed_in (view_of x.seat) (did x.seat c.sweeps-step.new.seat)) greatest = omega (arith, sum, more) in
-    step-on c.args.most x _ stages.Sweeping stages.Sweeping c.requires.sweeping c.requires.sweeping (count ∙ c.if-step-most.true, freed) (record { heap = e.same; leaves = e.leaves; world = refl; name_is = refl })
+    step-on c.args.most x _ stages.Sweeping stages.Sweeping c.requires.sweeping c.requires.sweeping (count ∙ (c.if-step-draws.true ∙ draws), freed) (record { heap = e.same; leaves = e.leaves; world = refl; name_is = refl })
 
-pub returns-then-step-most-clause-bounded : goal.returns-then-step-most-clause-bounded
-returns-then-step-most-clause-bounded c =
+pub returns-then-step-draws-clause-bounded : goal.returns-then-step-draws-clause-bounded
+returns-then-step-draws-clause-bounded c =
     let x = c.args.self.now in
     let e = c.sweeps-step.ensures in
-    let count = subst (λ (h : Heap). count_of (draws_block (block_count h.shape)) (did x.seat c.sweeps-step.new.seat) ≡ c.sweeps-step.result.blocks) c.deref.ensures e.blocks.1 in
-    let bound = e.blocks.0 in
-    bounded-on c.args.most x _ stages.Sweeping stages.Sweeping c.requires.sweeping c.requires.sweeping (omega (arith, count, bound), e.unpopped)
+    let n : ℕ = c.sweeps-step.result.stretches in
+    let draws : c.stretches_of-draws.result ≡ draws_for c.args.most x = subst (λ (h : Heap). c.stretches_of-draws.result ≡ stretches_in h.shape c.args.most) c.deref.ensures c.stretches_of-draws.ensures in
+    let count = subst (λ (h : Heap). count_of (draws_block (block_count h.shape)) (did x.seat c.sweeps-step.new.seat) ≡ n) c.deref-2.ensures e.stretches.1 in
+    let bound = e.stretches.0 in
+    bounded-on c.args.most x _ stages.Sweeping stages.Sweeping c.requires.sweeping c.requires.sweeping (omega (arith, count, bound, draws), e.unpopped)
 
 pub returns-clause-collects : goal.returns-clause-collects
 returns-clause-collects c =
@@ -42,20 +49,20 @@ returns-clause-collects c =
     let w = view_of c.ends_sweep.new.seat in
     let e = c.sweeps-step.ensures in
     let m = c.ends_sweep.ensures in
-    let count = subst (λ (h : Heap). count_of (draws_block (block_count h.shape)) (did x.seat c.sweeps-step.new.seat) ≡ c.sweeps-step.result.blocks) c.deref.ensures e.blocks.1 in
-    let bound = e.blocks.0 in
-    let other = c.if-step-most.false in
-    let blocks = count-run (draws_block (block_count c.deref.result.now.shape)) u v w e.part.ran m.moved.ran in
-    let none = (move-few Sweep Idle v w m.moved).0.1 (block_count c.deref.result.now.shape) in
-    let drawn = e.blocks.1 in
-    let fewer : count_of (draws_block (block_count c.deref.result.now.shape)) (did x.seat c.ends_sweep.new.seat) < c.args.most = omega (arith, blocks, none, drawn, bound, other) in
+    let n : ℕ = c.sweeps-step.result.stretches in
+    let draws : c.stretches_of-draws.result ≡ draws_for c.args.most x = subst (λ (h : Heap). c.stretches_of-draws.result ≡ stretches_in h.shape c.args.most) c.deref.ensures c.stretches_of-draws.ensures in
+    let count = subst (λ (h : Heap). count_of (draws_block (block_count h.shape)) (did x.seat c.sweeps-step.new.seat) ≡ n) c.deref-2.ensures e.stretches.1 in
+    let fewer = fewer-of _ n c.stretches_of-draws.result (draws_for c.args.most x) count e.stretches.0 c.if-step-draws.false draws in
+    let all = count-run (draws_block (block_count (shape_of x))) u v w e.part.ran m.moved.ran in
+    let none = (move-few Sweep Idle v w m.moved).0.1 (block_count (shape_of x)) in
+    let drawn : count_of (draws_block (block_count (shape_of x))) (did x.seat c.ends_sweep.new.seat) < draws_for c.args.most x = omega (arith, all, none, fewer) in
     let sum = c.saturating_add-self.ensures in
     let more = e.freed in
     let total = freed-run u v w e.part.ran m.moved.ran in
     let unfreed = freed-move Sweep Idle v w m.moved in
     let freed : c.saturating_add-self.result ≡ min (x.freed + freed_in u (did x.seat c.ends_sweep.new.seat)) greatest = omega (arith, sum, more, total, unfreed) in
     step-on c.args.most x _ stages.Sweeping stages.Counting c.requires.sweeping refl
-    (subst (λ (h : Heap). count_of (draws_block (block_count h.shape)) (did x.seat c.ends_sweep.new.seat) < c.args.most) c.deref.ensures fewer, freed, record { swept = v; part = e.part; moved = m.moved }, refl, refl)
+    (drawn, freed, record { swept = v; part = e.part; moved = m.moved }, refl, refl)
     (record { heap = m.same ∙ e.same; leaves = leaves-join u v w e.leaves m.leaves; world = refl; name_is = refl })
 
 pub returns-clause-bounded : goal.returns-clause-bounded
@@ -66,10 +73,12 @@ returns-clause-bounded c =
     let w = view_of c.ends_sweep.new.seat in
     let e = c.sweeps-step.ensures in
     let m = c.ends_sweep.ensures in
-    let bound = e.blocks.0 in
-    let blocks = count-run (draws_block (block_count c.deref.result.now.shape)) u v w e.part.ran m.moved.ran in
+    let n : ℕ = c.sweeps-step.result.stretches in
+    let draws : c.stretches_of-draws.result ≡ draws_for c.args.most x = subst (λ (h : Heap). c.stretches_of-draws.result ≡ stretches_in h.shape c.args.most) c.deref.ensures c.stretches_of-draws.ensures in
+    let count = subst (λ (h : Heap). count_of (draws_block (block_count h.shape)) (did x.seat c.sweeps-step.new.seat) ≡ n) c.deref-2.ensures e.stretches.1 in
+    let bound = e.stretches.0 in
+    let all = count-run (draws_block (block_count (shape_of x))) u v w e.part.ran m.moved.ran in
     let move = move-few Sweep Idle v w m.moved in
-    let none = move.0.1 (block_count c.deref.result.now.shape) in
-    let drawn = e.blocks.1 in
+    let none = move.0.1 (block_count (shape_of x)) in
     bounded-on c.args.most x _ stages.Sweeping stages.Counting c.requires.sweeping refl
-    (subst (λ (h : Heap). count_of (draws_block (block_count h.shape)) (did x.seat c.ends_sweep.new.seat) ≤ c.args.most) c.deref.ensures (omega (arith, blocks, none, drawn, bound)), pops-join u v w e.part.ran m.moved.ran e.unpopped move.0.0)
+    (omega (arith, all, none, count, bound, draws), pops-join u v w e.part.ran m.moved.ran e.unpopped move.0.0)

@@ -23,8 +23,8 @@ returns-then-popped-most-clause-bounded c =
     let count = e.popped.1 in
     bounded-on c.args.most c.args.self.now _ stages.Draining stages.Looking c.requires.draining refl (omega (arith, bound, count), e.undrawn)
 
-pub returns-clause-collects : goal.returns-clause-collects
-returns-clause-collects c =
+pub returns-else-popped-most-clause-collects : goal.returns-else-popped-most-clause-collects
+returns-else-popped-most-clause-collects c =
     let x = c.args.self.now in
     let e = c.traces-popped.ensures in
     let count = e.popped.1 in
@@ -32,8 +32,8 @@ returns-clause-collects c =
     let popped : count_of pops (did x.seat c.traces-popped.new.seat) ≡ c.args.most = omega (arith, count, all) in
     step-on c.args.most x _ stages.Draining stages.Draining c.requires.draining c.requires.draining (popped, e.traces, refl) (record { heap = e.same; leaves = e.leaves; world = refl; name_is = refl })
 
-pub returns-clause-bounded : goal.returns-clause-bounded
-returns-clause-bounded c =
+pub returns-else-popped-most-clause-bounded : goal.returns-else-popped-most-clause-bounded
+returns-else-popped-most-clause-bounded c =
     let e = c.traces-popped.ensures in
     let bound = e.popped.0 in
     let count = e.popped.1 in
