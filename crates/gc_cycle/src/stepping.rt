@@ -26,7 +26,7 @@
 //!
 //! A collection that began in Idle, or that drained again, is precise: the cells in use at its end are exactly the reachable ones. `IsExactSince` is handed
 //! from step to step, and [`end_collection`](crate::end_collection) says of all of them together what [`precise`](crate::precise) says of itself.
-ghost use Rattle.std.specs.Prelude.{◌≡◌, ◌≢◌, [], ◌∷◌, None, Some, ◌≤◌, length, IsTrue};
+ghost use Rattle.std.specs.Prelude.{◌≡◌, ◌≢◌, [], ◌∷◌, None, Some, ◌≤◌, length, if◌then◌else◌, IsTrue};
 ghost use Rattle.std.specs.Bool.{OnFalse, OnTrue};
 ghost use Rattle.mark_core.specs.declared.kinds.Phase.TheVariants.{Clear, Drain, Full, Idle};
 ghost use Rattle.mark_core.specs.declared.kinds.Step.TheVariants.{Reset};
@@ -120,6 +120,7 @@ pub fn begin_collection(heap: &Heap, seat: &mut HeapSeat) -> bool
     ensures full { OnFalse result (RunsAgain (view_of seat.new) × KnowsFull (view_of seat.new)) }
     ensures course { OnTrue result (Across (TakesCourse (Drain ∷ []) (Reset card_counter ∷ Reset block_counter ∷ [])) seat.old seat.new) }
     ensures over { OnFalse result (Across (TakesCourse [] []) seat.old seat.new) }
+    ensures few { length (did seat.old seat.new) ≤ (if result then 3 else 1) }
     ensures keeps { Across Keeps seat.old seat.new }
 {
     if has_seen_full(seat) {

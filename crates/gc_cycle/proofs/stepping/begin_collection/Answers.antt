@@ -1,9 +1,9 @@
-use Rattle.std.proofs.Common.{◌≡◌, ◌∷◌, [], ap, ◌∙◌, ◌⊎◌, ⊎_elim}
+use Rattle.std.proofs.Common.{◌≡◌, ◌≤◌, ◌∷◌, [], ap, arith, length, ◌∙◌, ◌⊎◌, ⊎_elim}
 use Rattle.mark_core.specs.Numbers.{block_counter, card_counter}
 use Rattle.mark_core.specs.Seats.{phase_number}
 use Rattle.mark_core.specs.declared.kinds.Phase.{Phase}
 use Rattle.mark_core.specs.declared.kinds.Phase.TheVariants.{Drain, Idle, Marking}
-use Rattle.mark_core.specs.declared.kinds.Step.TheVariants.{Reset, StorePhase}
+use Rattle.mark_core.specs.declared.kinds.Step.TheVariants.{DropStep, Reset, StorePhase}
 use Rattle.packet_pools.specs.Seeking.{some_event}
 use Rattle.packet_pools.proofs.Searches.{some-left}
 use Rattle.gc_table.specs.Log.{all_steps, event, events, Only}
@@ -20,6 +20,7 @@ use Rattle.gc_cycle.proofs.Stepped.{full-resumed, holds-idle, keeps-join, part-k
 use Rattle.gc_table.specs.Running.{Ran}
 use Rattle.gc_cycle.specs.Courses.{TakesCourse}
 use Rattle.gc_cycle.proofs.Courses.{course-begun, course-drop, course-join}
+use Rattle.gc_cycle.proofs.Few.{few-after, few-events, few-join}
 use Rattle.gc_cycle.proofs.stepping.begin_collection.Goals as goal
 
 pub returns-then-has_seen_full-clause-full : goal.returns-then-has_seen_full-clause-full
@@ -72,3 +73,18 @@ returns-clause-course c =
 
 pub returns-then-has_seen_full-clause-over : goal.returns-then-has_seen_full-clause-over
 returns-then-has_seen_full-clause-over c = course-drop (view_of c.args.seat.now) (view_of c.resume.new.seat) c.resume.ensures.ran c.resume.ensures.step
+
+pub returns-then-has_seen_full-clause-few : goal.returns-then-has_seen_full-clause-few
+returns-then-has_seen_full-clause-few c = few-after (view_of c.args.seat.now) (view_of c.resume.new.seat) DropStep c.resume.ensures.step.0 c.resume.ensures.step.1.0
+
+begun-few : (v w : View) → IsAloneIn Idle v ⊎ IsAloneIn Marking v → ((p : Phase) → IsAloneIn p v → events v w ≡ event (StorePhase Drain) (phase_number p) ∷ event (Reset card_counter) 0 ∷ []) → length (events v w) ≤ 2
+begun-few v w h e = ⊎_elim (λ a. few-events 2 v w _ (e Idle a) (omega arith)) (λ a. few-events 2 v w _ (e Marking a) (omega arith)) h
+
+pub returns-clause-few : goal.returns-clause-few
+returns-clause-few c =
+    let v : View = view_of c.args.seat.now in
+    let w : View = view_of c.begin_drain.new.seat in
+    let x : View = view_of c.reset_blocks.new.seat in
+    let b = c.begin_drain.ensures in
+    let a = (holds-phase v c.requires.stopped c.if-has_seen_full.ensures.other).0 in
+    few-join 2 1 v w x b.ran c.reset_blocks.ensures.part.ran (begun-few v w a b.events) c.reset_blocks.ensures.few
