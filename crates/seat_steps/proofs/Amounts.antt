@@ -85,11 +85,11 @@ asks-few done yours u v w r g few q a = (
 pub looks-once : (v w : View) → FindsRunning v w → DoesFew 1 v w
 looks-once v w f = ((ap (count_of pops) f.all, λ blocks. ap (count_of (draws_block blocks)) f.all), at-most-events 1 v w _ f.all (omega arith))
 
-pub stopped-neither : (v w : View) → FindsStopped v w → DoesNeither v w
-stopped-neither v w f = (ap (count_of pops) f.all, λ blocks. ap (count_of (draws_block blocks)) f.all)
+pub stopped-few : (v w : View) → FindsStopped v w → DoesFew 2 v w
+stopped-few v w f = ((ap (count_of pops) f.all, λ blocks. ap (count_of (draws_block blocks)) f.all), at-most-events 2 v w _ f.all (omega arith))
 
-pub out-neither : (v w : View) → StepsOut v w → DoesNeither v w
-out-neither v w s = (ap (count_of pops) s.1, λ blocks. ap (count_of (draws_block blocks)) s.1)
+pub out-few : (v w : View) → StepsOut v w → DoesFew 2 v w
+out-few v w s = ((ap (count_of pops) s.1, λ blocks. ap (count_of (draws_block blocks)) s.1), at-most-events 2 v w _ s.1 (omega arith))
 
 -- so few steps
 pub few-join : (j k : ℕ) (u v w : View) → Ran u v → Ran v w → DoesFew j u v → DoesFew k v w → DoesFew (j + k) u w

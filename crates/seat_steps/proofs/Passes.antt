@@ -1,7 +1,7 @@
 -- Where a mutator's seat stands after a piece of its collection, and how far a pass comes.
 use Rattle.std.proofs.Common.{ℕ, ◌≡◌, ◌≤◌, ◌<◌, ◌+◌, arith, refl, Option, Some, None}
 use Rattle.std.specs.Prelude.{IfNone, IfSome, min}
-use Rattle.std.proofs.Math.Nat.{mul-le-mul_left}
+use Rattle.std.proofs.Math.Nat.{mul-le-mul_left, mul-le-mul_right}
 use Rattle.mark_core.specs.Layout.{block_count, card_count, root_count}
 use Rattle.mark_core.specs.Shapes.{IsShape}
 use Rattle.mark_core.specs.declared.kinds.Phase.TheVariants.{Drain}
@@ -10,6 +10,7 @@ use Rattle.gc_table.specs.Seats.{Sits, view_of}
 use Rattle.gc_table.specs.declared.seat.Heap.{Heap}
 use Rattle.gc_table.specs.declared.seat.HeapSeat.{HeapSeat}
 use Rattle.gc_table.specs.declared.view.View.{View}
+use Rattle.tracer.specs.StepBounds.{object_steps, recycle_steps, trace_steps, turn_steps}
 use Rattle.gc_cycle.specs.Finishing.{IsPart}
 use Rattle.gc_cycle.specs.Pieces.{SeesRootsFrom, StandsAfter}
 use Rattle.gc_cycle.specs.Stepping.{IsAtRoots, IsOwner}
@@ -56,6 +57,10 @@ cards-small sh s = let cells = s.cells.1 in omega (arith, cells)
 
 pub blocks-small : (sh : Shape) → IsShape sh → block_count sh ≤ 262144
 blocks-small sh s = let cells = s.cells.1 in omega (arith, cells)
+
+-- fewer objects take fewer steps
+pub traced-more : (n most : ℕ) (sh : Shape) → n ≤ most → recycle_steps sh + trace_steps n sh ≤ recycle_steps sh + trace_steps most sh
+traced-more n most sh le = let all = mul-le-mul_right (turn_steps sh + object_steps sh) le in omega (arith, all)
 
 -- a piece that did as many as it was to, or all that were left
 pub as-many : (n most left : ℕ) → n ≡ min most left → n ≡ most → most ≤ left

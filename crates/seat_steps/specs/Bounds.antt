@@ -1,10 +1,14 @@
--- How much a step of a collection does at most, by the stage that it was in and the one that it is in: how many steps it takes where that is so many at most,
--- or else how many roots it sees to, how many cells it pops, how many cards it cleans, or how many blocks it sweeps. Cells are popped while it traces alone, and
--- blocks are drawn while it clears or sweeps alone. No bound depends on the size of the heap.
+-- How much a step of a collection does at most, by the stage that it was in and the one that it is in: how many atomic steps it takes, and how many roots it sees
+-- to, how many cells it pops, how many cards it cleans, or how many stretches of blocks it clears or sweeps. Cells are popped while it traces alone, and stretches
+-- are drawn while it clears or sweeps alone. A bound depends on how many packets the heap has, how many references an object, and how many blocks a stretch, and
+-- not on the number of cells, cards or roots.
 use Rattle.std.specs.Prelude.{ℕ, ◌≡◌, ◌≤◌, ◌+◌, ◌*◌}
 use Rattle.gc_table.specs.Running.{Ran}
 use Rattle.gc_table.specs.Seats.{Across}
 use Rattle.gc_table.specs.declared.view.View.{View}
+use Rattle.mark_core.specs.Cards.{card_cells}
+use Rattle.tracer.specs.StepBounds.{recycle_steps, trace_steps}
+use Rattle.card_clean.specs.StepBounds.{clean_some_steps, see_to_steps}
 use Rattle.mutator_ops.specs.Few.{AtMost}
 use Rattle.seat_steps.specs.Amounts.{DrawsNone, PopsNone}
 use Rattle.seat_steps.specs.Passes.{CleansFewCards, SeesFewRoots}
@@ -15,9 +19,25 @@ use Rattle.seat_steps.specs.declared.stepper.Stage.{Stage}
 use Rattle.seat_steps.specs.declared.stepper.Stage.TheVariants as stages
 use Rattle.seat_steps.specs.declared.stepper.Stepper.{Stepper}
 
--- how many steps clearing the marks of so many stretches takes at most: two for each, and one for each block
+-- how many steps it takes at most to see to so many roots, with a packet that is looked for, or to move the deferred packets where none is found
+abbrev pub rooting_steps : ℕ → Stepper → ℕ
+rooting_steps most x = see_to_steps most (shape_of x) + recycle_steps (shape_of x)
+
+-- to move the deferred packets, and to trace so many objects
+abbrev pub tracing_steps : ℕ → Stepper → ℕ
+tracing_steps most x = recycle_steps (shape_of x) + trace_steps most (shape_of x)
+
+-- to clean so many cards and scan all their objects again, with a packet that is looked for, or to move the deferred packets where none is found
+abbrev pub cleaning_steps : ℕ → Stepper → ℕ
+cleaning_steps most x = clean_some_steps most (card_cells * most) (shape_of x) + recycle_steps (shape_of x)
+
+-- to clear the marks of so many stretches: two for each, and one for each block
 abbrev pub clearing_steps : ℕ → Stepper → ℕ
 clearing_steps draws x = draws * (2 + (shape_of x).stretch)
+
+-- to sweep them: two for each, and four for each block
+abbrev pub sweeping_steps : ℕ → Stepper → ℕ
+sweeping_steps draws x = draws * (2 + 4 * (shape_of x).stretch)
 
 -- neither a cell was popped nor a block drawn
 abbrev pub DoesNeither : View → View → Type 0
@@ -40,29 +60,29 @@ pub record EndsInFew (v w : View) : Type 0 where
   pub last : Ran ended w
   pub few : AtMost 8 ended w
 
--- how much is done at most from one stage to another: so many roots, objects, cards or blocks
+-- how much is done at most from one stage to another
 abbrev pub IsBounded : Stage → Stage → ℕ → Stepper → Stepper → Type 0
 IsBounded stages.Outside stages.Outside most x y = Across (AtMost 0) x.seat y.seat
 IsBounded stages.Inside stages.Stopping most x y = Across (DoesFew 6) x.seat y.seat
 IsBounded stages.Inside stages.Outside most x y = Across (DoesFew 6) x.seat y.seat
 IsBounded stages.Stopping stages.Stopping most x y = Across (DoesFew 1) x.seat y.seat
-IsBounded stages.Stopping stages.Rooting most x y = Across DoesNeither x.seat y.seat
-IsBounded stages.Stopping stages.Outside most x y = Across DoesNeither x.seat y.seat
-IsBounded stages.Rooting stages.Rooting most x y = Across (SeesFewRoots x.next most) x.seat y.seat × Across DoesNeither x.seat y.seat
-IsBounded stages.Rooting stages.Draining most x y = Across (SeesFewRoots x.next most) x.seat y.seat × Across DoesNeither x.seat y.seat
-IsBounded stages.Draining stages.Draining most x y = (objects_popped x y ≤ most) × Across DrawsNone x.seat y.seat
-IsBounded stages.Draining stages.Looking most x y = (objects_popped x y ≤ most) × Across DrawsNone x.seat y.seat
+IsBounded stages.Stopping stages.Rooting most x y = Across (DoesFew 5) x.seat y.seat
+IsBounded stages.Stopping stages.Outside most x y = Across (DoesFew 5) x.seat y.seat
+IsBounded stages.Rooting stages.Rooting most x y = Across (SeesFewRoots x.next most) x.seat y.seat × Across (DoesFew (rooting_steps most x)) x.seat y.seat
+IsBounded stages.Rooting stages.Draining most x y = Across (SeesFewRoots x.next most) x.seat y.seat × Across (DoesFew (rooting_steps most x)) x.seat y.seat
+IsBounded stages.Draining stages.Draining most x y = (objects_popped x y ≤ most) × Across DrawsNone x.seat y.seat × Across (AtMost (tracing_steps most x)) x.seat y.seat
+IsBounded stages.Draining stages.Looking most x y = (objects_popped x y ≤ most) × Across DrawsNone x.seat y.seat × Across (AtMost (tracing_steps most x)) x.seat y.seat
 IsBounded stages.Looking stages.Looking most x y = Across (DoesFew most) x.seat y.seat
 IsBounded stages.Looking stages.Cleaning most x y = Across (DoesFew most) x.seat y.seat
 IsBounded stages.Looking stages.Draining most x y = Across (DoesFew (most + 1)) x.seat y.seat
 IsBounded stages.Looking stages.Clearing most x y = Across (DoesFew (most + 2)) x.seat y.seat
 IsBounded stages.Looking stages.Sweeping most x y = Across (DoesFew (most + 2)) x.seat y.seat
-IsBounded stages.Cleaning stages.Cleaning most x y = Across (CleansFewCards x.next most) x.seat y.seat × Across DoesNeither x.seat y.seat
-IsBounded stages.Cleaning stages.Draining most x y = Across (CleansFewCards x.next most) x.seat y.seat × Across DoesNeither x.seat y.seat
+IsBounded stages.Cleaning stages.Cleaning most x y = Across (CleansFewCards x.next most) x.seat y.seat × Across (DoesFew (cleaning_steps most x)) x.seat y.seat
+IsBounded stages.Cleaning stages.Draining most x y = Across (CleansFewCards x.next most) x.seat y.seat × Across (DoesFew (cleaning_steps most x)) x.seat y.seat
 IsBounded stages.Clearing stages.Clearing most x y = (stretches_drawn x y ≤ draws_for most x) × Across (PassesFew (clearing_steps (draws_for most x) x)) x.seat y.seat
 IsBounded stages.Clearing stages.Rooting most x y = (stretches_drawn x y ≤ draws_for most x) × Across (PassesFew (clearing_steps (draws_for most x) x + 3)) x.seat y.seat
-IsBounded stages.Sweeping stages.Sweeping most x y = (stretches_drawn x y ≤ draws_for most x) × Across PopsNone x.seat y.seat
-IsBounded stages.Sweeping stages.Counting most x y = (stretches_drawn x y ≤ draws_for most x) × Across PopsNone x.seat y.seat
+IsBounded stages.Sweeping stages.Sweeping most x y = (stretches_drawn x y ≤ draws_for most x) × Across (PassesFew (sweeping_steps (draws_for most x) x)) x.seat y.seat
+IsBounded stages.Sweeping stages.Counting most x y = (stretches_drawn x y ≤ draws_for most x) × Across (PassesFew (sweeping_steps (draws_for most x) x + 1)) x.seat y.seat
 IsBounded stages.Counting stages.Counting most x y = Across (DoesFew most) x.seat y.seat
 IsBounded stages.Counting stages.Ending most x y = Across (DoesFew most) x.seat y.seat
 IsBounded stages.Ending stages.Inside most x y = Across EndsInFew x.seat y.seat

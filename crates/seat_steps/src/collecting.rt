@@ -1,5 +1,5 @@
 //! How a collection begins and ends that a mutator makes step by step. No call waits.
-ghost use Rattle.std.specs.Prelude.{◌≡◌, ◌≢◌, ◌≤◌, ◌+◌, ◌-◌, [], ◌∷◌, min, false};
+ghost use Rattle.std.specs.Prelude.{◌≡◌, ◌≢◌, ◌≤◌, ◌+◌, ◌-◌, ◌*◌, [], ◌∷◌, if◌then◌else◌, min, false};
 ghost use Rattle.std.specs.Bool.{OnFalse, OnTrue};
 ghost use Rattle.mark_core.specs.Layout.{block_count};
 ghost use Rattle.mark_core.specs.Numbers.{block_counter, card_counter};
@@ -16,9 +16,8 @@ ghost use Rattle.gc_cycle.specs.Finishing.{IsMove, IsPart, most as greatest};
 ghost use Rattle.gc_cycle.specs.Settling.{alloc_reads};
 ghost use Rattle.gc_cycle.specs.Sorts.{draws_block};
 ghost use Rattle.gc_cycle.specs.Stepping.{AsksOnce, EndsCollection, FindsRunning, FindsStopped};
-ghost use Rattle.seat_steps.specs.Amounts.{DrawsNone, PopsNone};
 ghost use Rattle.seat_steps.specs.Asked.{CountsSinceAsked, MarksSinceAsked, SweepsSinceAsked, WaitsSinceAsked};
-ghost use Rattle.seat_steps.specs.Bounds.{DoesFew};
+ghost use Rattle.seat_steps.specs.Bounds.{DoesFew, PassesFew};
 ghost use Rattle.seat_steps.specs.Collecting.{AsksStop, HoldsStop, SitsAtCount, SitsAtRoots, SitsAtSweep, SitsCounted, SitsMarkedAll, SitsSweptAll};
 ghost use Rattle.seat_steps.specs.Course.{CollectsSinceAsked};
 ghost use Rattle.mutator_turns.specs.Sharing.{LeavesHeap};
@@ -80,8 +79,7 @@ pub fn begins(heap: &Heap, seat: &mut HeapSeat) -> bool
     ensures leaves { Across LeavesHeap seat.old seat.new }
     ensures course { OnTrue result (Across (TakesCourse (Drain ∷ []) (Reset card_counter ∷ Reset block_counter ∷ [])) seat.old seat.new) }
     ensures over { OnFalse result (Across (TakesCourse [] []) seat.old seat.new) }
-    ensures unpopped { Across PopsNone seat.old seat.new }
-    ensures undrawn { Across DrawsNone seat.old seat.new }
+    ensures few { Across (DoesFew (if result then 3 else 1)) seat.old seat.new }
     ensures marks { OnTrue result (MarksSinceAsked (saw (state_of seat.old).phase_seen Marking) (view_of seat.new)) }
 {
     begin_collection(heap, seat)
@@ -107,7 +105,7 @@ pub fn sweeps(heap: &Heap, seat: &mut HeapSeat, most: u32) -> SweepStep
     ensures swept { result.stretches ≢ most → SitsSweptAll heap.now seat.new }
     ensures part { Across (IsPart Sweep) seat.old seat.new }
     ensures stretches { (result.stretches ≤ most) × (count_of (draws_block (block_count heap.now.shape)) (did seat.old seat.new) ≡ result.stretches) }
-    ensures unpopped { Across PopsNone seat.old seat.new }
+    ensures few { Across (PassesFew (most * (2 + 4 * heap.now.shape.stretch))) seat.old seat.new }
     ensures freed { result.freed ≡ min (freed_in (view_of seat.old) (did seat.old seat.new)) greatest }
     ensures same { plain_of seat.new ≡ plain_of seat.old }
     ensures leaves { Across LeavesHeap seat.old seat.new }

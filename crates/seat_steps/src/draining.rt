@@ -1,12 +1,15 @@
 //! The drain of a collection that a mutator makes, in pieces. No call waits.
 ghost use Rattle.std.specs.Prelude.{◌≡◌, ◌≢◌, ◌≤◌, ◌+◌, ◌-◌, ◌*◌, [], ◌∷◌, min, Bool, false, IfNone, IfSome};
 ghost use Rattle.std.specs.Bool.{OnFalse, OnTrue};
+ghost use Rattle.mark_core.specs.Cards.{card_cells};
 ghost use Rattle.mark_core.specs.Layout.{block_count, card_count, root_count};
 ghost use Rattle.mark_core.specs.Numbers.{block_counter, card_counter};
 ghost use Rattle.mark_core.specs.declared.kinds.Phase.TheVariants.{Clear, Drain};
 ghost use Rattle.mark_core.specs.declared.kinds.Step.TheVariants.{Reset};
 ghost use Rattle.gc_table.specs.Seats.{Across, did, view_of};
 ghost use Rattle.packet_pools.specs.Counts.{count_of};
+ghost use Rattle.tracer.specs.StepBounds.{recycle_steps, trace_steps};
+ghost use Rattle.card_clean.specs.StepBounds.{clean_some_steps, see_to_steps};
 ghost use Rattle.mutator_ops.specs.Few.{AtMost};
 ghost use Rattle.gc_cycle.specs.Courses.{TakesCourse};
 ghost use Rattle.gc_cycle.specs.Finishing.{IsMove, IsPart};
@@ -17,7 +20,7 @@ ghost use Rattle.mutator_turns.specs.Sharing.{LeavesHeap};
 ghost use Rattle.mutator_turns.specs.Standing.{plain_of};
 ghost use Rattle.seat_steps.specs.Amounts.{DrawsNone, PopsNone};
 ghost use Rattle.seat_steps.specs.Asked.{MarksSinceAsked, WaitsSinceAsked};
-ghost use Rattle.seat_steps.specs.Bounds.{DoesFew, DoesNeither, PassesFew};
+ghost use Rattle.seat_steps.specs.Bounds.{DoesFew, PassesFew};
 ghost use Rattle.seat_steps.specs.Collecting.{LooksStand, SitsAtClear, SitsAtDrain, SitsAtLook, SitsAtRoots, SitsCleared, SitsLooked, SitsMarkedAll};
 ghost use Rattle.seat_steps.specs.Passes.{SeesRoots, TracesFor};
 
@@ -37,7 +40,7 @@ pub fn roots(heap: &Heap, seat: &mut HeapSeat, from: u32, most: u32) -> Option<u
     ensures lacks { IfNone result (Across LacksPacket seat.old seat.new) }
     ensures same { plain_of seat.new ≡ plain_of seat.old }
     ensures leaves { Across LeavesHeap seat.old seat.new }
-    ensures neither { Across DoesNeither seat.old seat.new }
+    ensures few { Across (DoesFew (see_to_steps most heap.now.shape + recycle_steps heap.now.shape)) seat.old seat.new }
     ensures marks { (again : Bool) → MarksSinceAsked again (view_of seat.old) → MarksSinceAsked again (view_of seat.new) }
 {
     root_piece(heap, seat, from, most)
@@ -53,6 +56,7 @@ pub fn traces(heap: &Heap, seat: &mut HeapSeat, most: u32) -> u32
     ensures same { plain_of seat.new ≡ plain_of seat.old }
     ensures leaves { Across LeavesHeap seat.old seat.new }
     ensures undrawn { Across DrawsNone seat.old seat.new }
+    ensures few { Across (AtMost (recycle_steps heap.now.shape + trace_steps most heap.now.shape)) seat.old seat.new }
     ensures marks { (again : Bool) → MarksSinceAsked again (view_of seat.old) → MarksSinceAsked again (view_of seat.new) }
 {
     trace_step(heap, seat, most)
@@ -95,7 +99,7 @@ pub fn cleans(heap: &Heap, seat: &mut HeapSeat, from: u32, most: u32) -> Option<
     ensures lacks { IfNone result (Across LacksPacket seat.old seat.new) }
     ensures same { plain_of seat.new ≡ plain_of seat.old }
     ensures leaves { Across LeavesHeap seat.old seat.new }
-    ensures neither { Across DoesNeither seat.old seat.new }
+    ensures few { Across (DoesFew (clean_some_steps most (card_cells * most) heap.now.shape + recycle_steps heap.now.shape)) seat.old seat.new }
     ensures marks { (again : Bool) → MarksSinceAsked again (view_of seat.old) → MarksSinceAsked again (view_of seat.new) }
 {
     clean_step(heap, seat, from, most)

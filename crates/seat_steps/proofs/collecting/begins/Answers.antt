@@ -32,17 +32,12 @@ returns-clause-leaves c =
     let e = c.begin_collection.ensures in
     begins-leaves c.begin_collection.result (view_of c.args.seat.now) (view_of c.begin_collection.new.seat) e.ran (OnTrue_from c.begin_collection.result _ (λ is. (OnTrue_at is e.course).only)) (OnFalse_from c.begin_collection.result _ (λ is. (OnFalse_at is e.over).only)) e.keeps.0
 
-pub returns-clause-unpopped : goal.returns-clause-unpopped
-returns-clause-unpopped c =
-    let e = c.begin_collection.ensures in
-    let v = view_of c.args.seat.now in
-    let w = view_of c.begin_collection.new.seat in
-    either-way c.begin_collection.result (λ is. unpopped v w (OnTrue_at is e.course).unpopped) (λ is. unpopped v w (OnFalse_at is e.over).unpopped)
-
-pub returns-clause-undrawn : goal.returns-clause-undrawn
-returns-clause-undrawn c =
+pub returns-clause-few : goal.returns-clause-few
+returns-clause-few c =
     let e = c.begin_collection.ensures in
     let v = view_of c.args.seat.now in
     let w = view_of c.begin_collection.new.seat in
     let apart = holds-apart v c.requires.stopped.holds in
-    either-way c.begin_collection.result (λ is. course-draws-none _ _ v w refl (OnTrue_at is e.course) apart) (λ is. course-draws-none _ _ v w refl (OnFalse_at is e.over) apart)
+    let unpopped_all = either-way c.begin_collection.result (λ is. unpopped v w (OnTrue_at is e.course).unpopped) (λ is. unpopped v w (OnFalse_at is e.over).unpopped) in
+    let undrawn_all = either-way c.begin_collection.result (λ is. course-draws-none _ _ v w refl (OnTrue_at is e.course) apart) (λ is. course-draws-none _ _ v w refl (OnFalse_at is e.over) apart) in
+    ((unpopped_all, undrawn_all), e.few)

@@ -26,5 +26,5 @@ returns-clause-sweeps c =
 pub returns-clause-leaves : goal.returns-clause-leaves
 returns-clause-leaves c = let e = c.sweep_step.ensures in part-leaves Sweep (view_of c.args.seat.now) (view_of c.sweep_step.new.seat) e.part e.keeps.0
 
-pub returns-clause-unpopped : goal.returns-clause-unpopped
-returns-clause-unpopped c = unpopped (view_of c.args.seat.now) (view_of c.sweep_step.new.seat) (part-unpopped Sweep refl (view_of c.args.seat.now) (view_of c.sweep_step.new.seat) c.sweep_step.ensures.part)
+pub returns-clause-few : goal.returns-clause-few
+returns-clause-few c = (unpopped (view_of c.args.seat.now) (view_of c.sweep_step.new.seat) (part-unpopped Sweep refl (view_of c.args.seat.now) (view_of c.sweep_step.new.seat) c.sweep_step.ensures.part), c.sweep_step.ensures.few)

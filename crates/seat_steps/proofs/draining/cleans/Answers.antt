@@ -22,12 +22,12 @@ returns-clause-cleans c = IfSome_then c.clean_step.result c.clean_step.ensures.c
 pub returns-clause-leaves : goal.returns-clause-leaves
 returns-clause-leaves c = let e = c.clean_step.ensures in part-leaves Drain (view_of c.args.seat.now) (view_of c.clean_step.new.seat) e.part e.keeps.0
 
-pub returns-clause-neither : goal.returns-clause-neither
-returns-clause-neither c =
+pub returns-clause-few : goal.returns-clause-few
+returns-clause-few c =
     let v = view_of c.args.seat.now in
     let w = view_of c.clean_step.new.seat in
     let r = c.requires.draining.drains in
-    (unpopped v w c.clean_step.ensures.unpopped, drain-draws-none v w c.clean_step.ensures.part r.owner r.drain)
+    ((unpopped v w c.clean_step.ensures.unpopped, drain-draws-none v w c.clean_step.ensures.part r.owner r.drain), c.clean_step.ensures.few)
 
 pub returns-clause-marks : goal.returns-clause-marks
 returns-clause-marks c = λ again m.

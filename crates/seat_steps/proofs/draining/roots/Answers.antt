@@ -44,12 +44,12 @@ returns-clause-lacks c = none-then c.root_piece.result c.root_piece.ensures.not_
 pub returns-clause-leaves : goal.returns-clause-leaves
 returns-clause-leaves c = let e = c.root_piece.ensures in part-leaves Drain (view_of c.args.seat.now) (view_of c.root_piece.new.seat) e.part e.keeps.0
 
-pub returns-clause-neither : goal.returns-clause-neither
-returns-clause-neither c =
+pub returns-clause-few : goal.returns-clause-few
+returns-clause-few c =
     let v = view_of c.args.seat.now in
     let w = view_of c.root_piece.new.seat in
     let r = c.requires.rooting.roots.roots in
-    (unpopped v w c.root_piece.ensures.unpopped, drain-draws-none v w c.root_piece.ensures.part r.owner r.alone.alone)
+    ((unpopped v w c.root_piece.ensures.unpopped, drain-draws-none v w c.root_piece.ensures.part r.owner r.alone.alone), c.root_piece.ensures.few)
 
 pub returns-clause-marks : goal.returns-clause-marks
 returns-clause-marks c = λ again m.

@@ -2,7 +2,8 @@ use Rattle.mark_core.specs.declared.kinds.Phase.TheVariants.{Drain}
 use Rattle.std.proofs.Common.{arith}
 use Rattle.gc_table.specs.Seats.{view_of}
 use Rattle.mutator_turns.proofs.Seats.{mutator-kept}
-use Rattle.seat_steps.proofs.Passes.{drain-draws-none}
+use Rattle.mutator_ops.proofs.Few.{at-most-more}
+use Rattle.seat_steps.proofs.Passes.{drain-draws-none, traced-more}
 use Rattle.seat_steps.proofs.SinceAsked.{marks-on, part-calm}
 use Rattle.seat_steps.proofs.Sparing.{part-leaves}
 use Rattle.seat_steps.proofs.draining.traces.Goals as goal
@@ -39,3 +40,9 @@ returns-clause-marks c = λ again m.
     let v = view_of c.args.seat.now in
     let w = view_of c.trace_step.new.seat in
     marks-on again v w e.part.ran (part-calm Drain v w e.part) e.exact m
+
+pub returns-clause-few : goal.returns-clause-few
+returns-clause-few c =
+    let e = c.trace_step.ensures in
+    let more = traced-more c.trace_step.result c.args.most c.args.heap.now.shape e.popped.0 in
+    at-most-more _ _ (view_of c.args.seat.now) (view_of c.trace_step.new.seat) more e.few

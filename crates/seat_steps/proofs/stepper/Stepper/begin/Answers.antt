@@ -1,10 +1,12 @@
 use Rattle.std.proofs.Common.{◌∙◌, Bool, inl, refl, subst, sym}
+use Rattle.std.specs.Prelude.{if◌then◌else◌}
 use Rattle.gc_table.specs.Seats.{view_of}
 use Rattle.gc_table.proofs.Running.{ran-join}
 use Rattle.mutator_turns.proofs.Leaving.{leaves-join}
 use Rattle.seat_steps.specs.Asked.{MarksSinceAsked}
 use Rattle.seat_steps.specs.declared.stepper.Stage.TheVariants as stages
-use Rattle.seat_steps.proofs.Amounts.{looks-once, neither-join, out-neither, stopped-neither}
+use Rattle.seat_steps.specs.Bounds.{DoesFew}
+use Rattle.seat_steps.proofs.Amounts.{few-join, looks-once, out-few, stopped-few}
 use Rattle.seat_steps.proofs.ReadFull.{begins-full}
 use Rattle.seat_steps.proofs.Stages.{bounded-on, step-on}
 use Rattle.seat_steps.proofs.stepper.Stepper.begin.Goals as goal
@@ -33,7 +35,7 @@ returns-then-begins c =
           (record { heap = b.same ∙ s.same; leaves = leaves-join u v w s.leaves b.leaves; world = refl; name_is = refl });
       bounded = λ most.
           bounded-on most x _ stages.Stopping stages.Rooting c.requires.stopping refl
-          (neither-join u v w s.leaves.ran b.leaves.ran (stopped-neither u v c.if-not-stops.ensures.found) (b.unpopped, b.undrawn));
+          (few-join 2 3 u v w s.leaves.ran b.leaves.ran (stopped-few u v c.if-not-stops.ensures.found) (subst (λ (is : Bool). DoesFew (if is then 3 else 1) v w) c.if-begins.true b.few));
     }
 
 pub returns : goal.returns
@@ -58,7 +60,8 @@ returns c =
       );
       bounded = λ most.
           bounded-on most x _ stages.Stopping stages.Outside c.requires.stopping refl
-          (neither-join t u w s.leaves.ran (ran-join u v w b.leaves.ran l.ran) (stopped-neither t u found) (neither-join u v w b.leaves.ran l.ran (b.unpopped, b.undrawn) (out-neither v w l.out)));
+          (few-join 2 3 t u w s.leaves.ran (ran-join u v w b.leaves.ran l.ran) (stopped-few t u found)
+          (few-join 1 2 u v w b.leaves.ran l.ran (subst (λ (is : Bool). DoesFew (if is then 3 else 1) u v) c.if-begins.false b.few) (out-few v w l.out)));
     }
 
 pub invariant_of-self-then-begins-clause-marks_roots : goal.invariant_of-self-then-begins-clause-marks_roots

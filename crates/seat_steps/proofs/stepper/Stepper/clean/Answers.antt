@@ -1,9 +1,13 @@
-use Rattle.std.proofs.Common.{ℕ, ◌≡◌, ◌≤◌, ◌+◌, ◌-◌, ap, arith, inl, inr, refl, subst}
+use Rattle.std.proofs.Common.{ℕ, ◌≡◌, ◌≤◌, ◌+◌, ◌-◌, ◌*◌, ap, arith, inl, inr, refl, subst}
 use Rattle.std.specs.Prelude.{min}
 use Rattle.mark_core.specs.Layout.{card_count}
-use Rattle.gc_table.specs.Seats.{Across}
+use Rattle.mark_core.specs.Cards.{card_cells}
+use Rattle.gc_table.specs.Seats.{Across, view_of}
 use Rattle.gc_table.specs.declared.seat.Heap.{Heap}
 use Rattle.gc_cycle.specs.Pieces.{CleansCards}
+use Rattle.tracer.specs.StepBounds.{recycle_steps}
+use Rattle.card_clean.specs.StepBounds.{clean_some_steps}
+use Rattle.seat_steps.specs.Bounds.{DoesFew}
 use Rattle.seat_steps.specs.Steps.{cards_left}
 use Rattle.seat_steps.specs.declared.stepper.Stage.TheVariants as stages
 use Rattle.seat_steps.proofs.Passes.{all-left, as-many, cards-small, few-of}
@@ -16,7 +20,7 @@ returns-in_default c =
     let e = c.in_default.ensures in
     record {
       collects = step-on c.args.most x _ stages.Cleaning stages.Cleaning c.requires.cleaning c.requires.cleaning (inr (refl, e.lacks), refl) (record { heap = e.same; leaves = e.leaves; world = refl; name_is = refl });
-      bounded = bounded-on c.args.most x _ stages.Cleaning stages.Cleaning c.requires.cleaning c.requires.cleaning (inr e.lacks, e.neither);
+      bounded = bounded-on c.args.most x _ stages.Cleaning stages.Cleaning c.requires.cleaning c.requires.cleaning (inr e.lacks, subst (λ (h : Heap). DoesFew (clean_some_steps c.args.most (card_cells * c.args.most) h.shape + recycle_steps h.shape) (view_of x.seat) (view_of c.cleans.new.seat)) c.deref.ensures e.few);
     }
 
 pub returns-then-number-most-clause-collects : goal.returns-then-number-most-clause-collects
@@ -34,7 +38,7 @@ pub returns-then-number-most-clause-bounded : goal.returns-then-number-most-clau
 returns-then-number-most-clause-bounded c =
     let x = c.args.self.now in
     let e = c.in-Some.ensures in
-    bounded-on c.args.most x _ stages.Cleaning stages.Cleaning c.requires.cleaning c.requires.cleaning (inl (c.in-Some.number, few-of c.in-Some.number c.args.most _ e.some, e.cleans), e.neither)
+    bounded-on c.args.most x _ stages.Cleaning stages.Cleaning c.requires.cleaning c.requires.cleaning (inl (c.in-Some.number, few-of c.in-Some.number c.args.most _ e.some, e.cleans), subst (λ (h : Heap). DoesFew (clean_some_steps c.args.most (card_cells * c.args.most) h.shape + recycle_steps h.shape) (view_of x.seat) (view_of c.cleans.new.seat)) c.deref.ensures e.few)
 
 pub returns-clause-collects : goal.returns-clause-collects
 returns-clause-collects c =
@@ -50,7 +54,7 @@ pub returns-clause-bounded : goal.returns-clause-bounded
 returns-clause-bounded c =
     let x = c.args.self.now in
     let e = c.in-Some.ensures in
-    bounded-on c.args.most x _ stages.Cleaning stages.Draining c.requires.cleaning refl (inl (c.in-Some.number, few-of c.in-Some.number c.args.most _ e.some, e.cleans), e.neither)
+    bounded-on c.args.most x _ stages.Cleaning stages.Draining c.requires.cleaning refl (inl (c.in-Some.number, few-of c.in-Some.number c.args.most _ e.some, e.cleans), subst (λ (h : Heap). DoesFew (clean_some_steps c.args.most (card_cells * c.args.most) h.shape + recycle_steps h.shape) (view_of x.seat) (view_of c.cleans.new.seat)) c.deref.ensures e.few)
 
 pub overflow_add-self : goal.overflow_add-self
 overflow_add-self c =

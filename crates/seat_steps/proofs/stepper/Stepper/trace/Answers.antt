@@ -1,6 +1,9 @@
-use Rattle.std.proofs.Common.{ℕ, ◌≡◌, ◌≤◌, ◌<◌, arith, refl, sym, subst}
-use Rattle.gc_table.specs.Seats.{did}
+use Rattle.std.proofs.Common.{ℕ, ◌≡◌, ◌≤◌, ◌<◌, ◌+◌, arith, refl, sym, subst}
+use Rattle.gc_table.specs.Seats.{did, view_of}
+use Rattle.gc_table.specs.declared.seat.Heap.{Heap}
 use Rattle.packet_pools.specs.Counts.{count_of}
+use Rattle.tracer.specs.StepBounds.{recycle_steps, trace_steps}
+use Rattle.mutator_ops.specs.Few.{AtMost}
 use Rattle.gc_cycle.specs.Sorts.{pops}
 use Rattle.seat_steps.specs.declared.stepper.Stage.TheVariants as stages
 use Rattle.seat_steps.proofs.Stages.{bounded-on, step-on}
@@ -21,7 +24,7 @@ returns-then-popped-most-clause-bounded c =
     let e = c.traces-popped.ensures in
     let bound = e.popped.0 in
     let count = e.popped.1 in
-    bounded-on c.args.most c.args.self.now _ stages.Draining stages.Looking c.requires.draining refl (omega (arith, bound, count), e.undrawn)
+    bounded-on c.args.most c.args.self.now _ stages.Draining stages.Looking c.requires.draining refl (omega (arith, bound, count), e.undrawn, subst (λ (h : Heap). AtMost (recycle_steps h.shape + trace_steps c.args.most h.shape) (view_of c.args.self.now.seat) (view_of c.traces-popped.new.seat)) c.deref.ensures e.few)
 
 pub returns-else-popped-most-clause-collects : goal.returns-else-popped-most-clause-collects
 returns-else-popped-most-clause-collects c =
@@ -37,4 +40,4 @@ returns-else-popped-most-clause-bounded c =
     let e = c.traces-popped.ensures in
     let bound = e.popped.0 in
     let count = e.popped.1 in
-    bounded-on c.args.most c.args.self.now _ stages.Draining stages.Draining c.requires.draining c.requires.draining (omega (arith, bound, count), e.undrawn)
+    bounded-on c.args.most c.args.self.now _ stages.Draining stages.Draining c.requires.draining c.requires.draining (omega (arith, bound, count), e.undrawn, subst (λ (h : Heap). AtMost (recycle_steps h.shape + trace_steps c.args.most h.shape) (view_of c.args.self.now.seat) (view_of c.traces-popped.new.seat)) c.deref.ensures e.few)
