@@ -1,19 +1,14 @@
 -- How many steps the calls that clean cards take.
-use Rattle.std.proofs.Common.{ℕ, ◌≡◌, ◌≤◌, ◌+◌, ◌-◌, ◌*◌, [], ◌∷◌, length, arith, Bool, true, false}
-use Rattle.std.specs.Prelude.{if◌then◌else◌, min}
+use Rattle.std.proofs.Common.{ℕ, ◌≡◌, ◌≤◌, ◌+◌, ◌-◌, ◌*◌, length, arith}
+use Rattle.std.specs.Prelude.{min}
 use Rattle.std.proofs.Math.Nat.{le-min, min-le_left, min-le_right}
 use Rattle.mark_core.specs.declared.kinds.Shape.{Shape}
-use Rattle.mark_core.specs.declared.kinds.Step.TheVariants.{DirtyCard}
-use Rattle.gc_table.specs.Log.{event, events}
+use Rattle.gc_table.specs.Log.{events}
 use Rattle.gc_table.specs.Running.{Ran}
 use Rattle.gc_table.specs.declared.view.View.{View}
 use Rattle.packet_pools.proofs.Few.{another, few-join}
 use Rattle.packet_pools.specs.StepBounds.{scan_steps}
 use Rattle.card_clean.specs.StepBounds.{clean_some_steps, pass_steps, rescan_steps}
-
-pub dirtied-few : (b : Bool) (card : ℕ) → length (if b then event (DirtyCard card) 1 ∷ [] else []) ≤ 1
-dirtied-few true card = omega arith
-dirtied-few false card = omega arith
 
 -- the cells that are scanned again are counted
 sum-cells : (m n each : ℕ) → (m + n) * each ≡ m * each + n * each
