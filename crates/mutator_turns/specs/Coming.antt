@@ -30,7 +30,7 @@ use Rattle.cache_refills.specs.Pace.Paying.{pops_where_paid}
 use Rattle.cache_refills.specs.Stops.{cycles_with_cause, stops_again_with_cause, stops_collect, stops_in_visit, stops_with_cause}
 use Rattle.mutator_ops.specs.Listing.{creating_steps}
 use Rattle.mutator_turns.specs.Standing.{LacksFree}
-use Rattle.mutator_turns.specs.Sharing.{LeavesHeap}
+use Rattle.mutator_turns.specs.Sharing.{LeavesHeap, MakesShared}
 use Rattle.mutator_turns.specs.declared.refused.Refused.{Refused}
 use Rattle.mutator_turns.specs.declared.refused.Refused.TheVariants as refusals
 
@@ -204,6 +204,14 @@ pub record MakesAtTurn (in_stops : Bool) (sh : Shape) (u n : ℕ) (v w : View) :
   pub cell : ℕ
   pub ran : Ran came w
   pub makes : steps_of (events came w) ≡ creating_steps sh.fields came.state u n cell
+
+-- the same where objects are shared: the seat came to a free cell, and made an object with value n in it, to which variable u refers
+pub record MakesSharedAtTurn (sh : Shape) (u n : ℕ) (v w : View) : Type 0 where
+  pub free : Cache
+  pub came : View
+  pub comes : WithOwn (λ handed. ComesTo false sh handed (Some free)) v came
+  pub leaves : LeavesHeap v came
+  pub makes : MakesShared u n came w
 
 -- where no object was made the seat left if the heap is full, and did nothing more if not
 abbrev pub LeavesNone : Refused → View → View → Type 0

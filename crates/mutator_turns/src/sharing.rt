@@ -1,5 +1,5 @@
 //! One operation of a mutator at its turn, in a heap whose objects are shared.
-ghost use Rattle.std.specs.Prelude.{◌≡◌, ◌<◌, ◌+◌, ◌-◌, [], ◌∷◌, IfErr, IfNone, IfOk, IfSome, IsTrue, slice_index};
+ghost use Rattle.std.specs.Prelude.{◌≡◌, ◌<◌, ◌+◌, ◌-◌, [], ◌∷◌, IfErr, IfNone, IfOk, IfSome, IsTrue, false, slice_index};
 ghost use Rattle.std.specs.Int.Count.{ones};
 ghost use Rattle.mark_core.specs.Numbers.{section_variables};
 ghost use Rattle.mark_core.specs.Steps.MutatorSteps.{seat_variable as word_in};
@@ -8,6 +8,7 @@ ghost use Rattle.gc_table.specs.Seats.{Across, Found, state_of, view_of};
 ghost use Rattle.alloc_cache.specs.Caching.{IsCached};
 ghost use Rattle.mutator_ops.specs.Few.{AtMost};
 ghost use Rattle.mutator_ops.specs.Sharing.{LendsFound, SetsVariable, TakesSteps, putting_steps, setting_steps};
+ghost use Rattle.mutator_turns.specs.Coming.{MakesNoneAtTurn, MakesSharedAtTurn};
 ghost use Rattle.mutator_turns.specs.Halting.{MadeNone};
 ghost use Rattle.mutator_turns.specs.Sharing.{FollowsField, LeavesHeap, MakesShared, MakesSharedAfter};
 ghost use Rattle.mutator_turns.specs.Standing.{IsAtTurn, Plays, plain_of};
@@ -155,6 +156,8 @@ pub fn make_shared<R: Wait, W: Watch>(
     ensures ok { IfOk result (λ _. IsAtTurn heap.now seat.new × Across (MakesSharedAfter v value) seat.old seat.new) }
     ensures err { IfErr result (λ e. MadeNone e heap.now seat.new) }
     ensures leaves { IfErr result (λ _. Across LeavesHeap seat.old seat.new) }
+    ensures made { IfOk result (λ _. Across (MakesSharedAtTurn heap.now.shape v value) seat.old seat.new) }
+    ensures none { IfErr result (λ e. Across (MakesNoneAtTurn e false heap.now.shape) seat.old seat.new) }
 {
     let cache = cache_of(seat);
     match come_to(rt, heap, seat, cache, false, watch) {
