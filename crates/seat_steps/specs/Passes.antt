@@ -6,7 +6,6 @@ use Rattle.mark_core.specs.Numbers.{block_counter, card_counter, empty_offset}
 use Rattle.mark_core.specs.declared.kinds.Phase.TheVariants.{Clear, Drain, Idle, Sweep}
 use Rattle.mark_core.specs.declared.kinds.Step.TheVariants.{ReadCount, Reset}
 use Rattle.gc_table.specs.Log.{Only, event, events}
-use Rattle.gc_table.specs.Running.{Ran}
 use Rattle.gc_table.specs.declared.view.View.{View}
 use Rattle.packet_pools.specs.Counts.{count_of}
 use Rattle.packet_pools.specs.Fields.{picked}

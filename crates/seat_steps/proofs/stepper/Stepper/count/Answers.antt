@@ -1,4 +1,4 @@
-use Rattle.std.proofs.Common.{ℕ, ◌≡◌, ◌≤◌, ◌+◌, ◌-◌, ap, arith, refl, subst}
+use Rattle.std.proofs.Common.{ℕ, ◌≡◌, ◌+◌, ◌-◌, ap, arith, refl, subst}
 use Rattle.std.specs.Prelude.{min}
 use Rattle.mark_core.specs.Layout.{block_count}
 use Rattle.gc_table.specs.Log.{steps_of}

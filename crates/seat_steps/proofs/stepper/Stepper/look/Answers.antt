@@ -1,4 +1,4 @@
-use Rattle.std.proofs.Common.{ℕ, ◌≡◌, ◌<◌, ◌+◌, ◌-◌, ◌∙◌, ap, arith, Bool, refl, subst, sym}
+use Rattle.std.proofs.Common.{◌≡◌, ◌<◌, ◌+◌, ◌-◌, ◌∙◌, ap, arith, Bool, refl, subst, sym}
 use Rattle.mark_core.specs.Layout.{card_count}
 use Rattle.gc_table.specs.Seats.{did, view_of}
 use Rattle.gc_table.specs.declared.seat.Heap.{Heap}

@@ -1,4 +1,4 @@
-use Rattle.std.proofs.Common.{◌≡◌, ◌<◌, ◌≤◌, ◌+◌, ◌*◌, ℕ, ◌∙◌, arith, refl, subst}
+use Rattle.std.proofs.Common.{◌≡◌, ◌<◌, ◌+◌, ◌*◌, ℕ, ◌∙◌, arith, refl, subst}
 use Rattle.std.specs.Prelude.{min}
 use Rattle.mark_core.specs.Layout.{block_count}
 use Rattle.mark_core.specs.declared.kinds.Phase.TheVariants.{Idle, Sweep}
@@ -41,8 +41,11 @@ returns-then-step-draws-clause-bounded c =
     let draws : c.stretches_of-draws.result ≡ draws_for c.args.most x = subst (λ (h : Heap). c.stretches_of-draws.result ≡ stretches_in h.shape c.args.most) c.deref.ensures c.stretches_of-draws.ensures in
     let count = subst (λ (h : Heap). count_of (draws_block (block_count h.shape)) (did x.seat c.sweeps-step.new.seat) ≡ n) c.deref-2.ensures e.stretches.1 in
     let bound = e.stretches.0 in
-    bounded-on c.args.most x _ stages.Sweeping stages.Sweeping c.requires.sweeping c.requires.sweeping (omega (arith, count, bound, draws), subst (λ (k : ℕ). PassesFew (k * (2 + 4 * (shape_of x).stretch)) (view_of x.seat) (view_of c.sweeps-step.new.seat)) draws
-    (subst (λ (h : Heap). PassesFew (c.stretches_of-draws.result * (2 + 4 * h.shape.stretch)) (view_of x.seat) (view_of c.sweeps-step.new.seat)) c.deref-2.ensures e.few))
+    bounded-on c.args.most x _ stages.Sweeping stages.Sweeping c.requires.sweeping c.requires.sweeping (
+      omega (arith, count, bound, draws),
+      subst (λ (k : ℕ). PassesFew (k * (2 + 4 * (shape_of x).stretch)) (view_of x.seat) (view_of c.sweeps-step.new.seat)) draws
+          (subst (λ (h : Heap). PassesFew (c.stretches_of-draws.result * (2 + 4 * h.shape.stretch)) (view_of x.seat) (view_of c.sweeps-step.new.seat)) c.deref-2.ensures e.few),
+    )
 
 pub returns-clause-collects : goal.returns-clause-collects
 returns-clause-collects c =
@@ -83,8 +86,9 @@ returns-clause-bounded c =
     let all = count-run (draws_block (block_count (shape_of x))) u v w e.part.ran m.moved.ran in
     let move = move-few Sweep Idle v w m.moved in
     let short = subst (λ (k : ℕ). PassesFew (k * (2 + 4 * (shape_of x).stretch)) (view_of x.seat) (view_of c.sweeps-step.new.seat)) draws
-        (subst (λ (h : Heap). PassesFew (c.stretches_of-draws.result * (2 + 4 * h.shape.stretch)) (view_of x.seat) (view_of c.sweeps-step.new.seat)) c.deref-2.ensures e.few) in
+    (subst (λ (h : Heap). PassesFew (c.stretches_of-draws.result * (2 + 4 * h.shape.stretch)) (view_of x.seat) (view_of c.sweeps-step.new.seat)) c.deref-2.ensures e.few) in
     let none = move.0.1 (block_count (shape_of x)) in
-    bounded-on c.args.most x _ stages.Sweeping stages.Counting c.requires.sweeping refl
-    (omega (arith, all, none, count, bound, draws),
-    (pops-join u v w e.part.ran m.moved.ran short.0 move.0.0, at-most-join (sweeping_steps (draws_for c.args.most x) x) 1 u v w e.part.ran m.moved.ran short.1 move.1))
+    bounded-on c.args.most x _ stages.Sweeping stages.Counting c.requires.sweeping refl (
+      omega (arith, all, none, count, bound, draws),
+      (pops-join u v w e.part.ran m.moved.ran short.0 move.0.0, at-most-join (sweeping_steps (draws_for c.args.most x) x) 1 u v w e.part.ran m.moved.ran short.1 move.1),
+    )

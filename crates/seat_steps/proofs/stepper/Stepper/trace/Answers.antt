@@ -1,4 +1,4 @@
-use Rattle.std.proofs.Common.{ℕ, ◌≡◌, ◌≤◌, ◌<◌, ◌+◌, arith, refl, sym, subst}
+use Rattle.std.proofs.Common.{◌≡◌, ◌<◌, ◌+◌, arith, refl, subst}
 use Rattle.gc_table.specs.Seats.{did, view_of}
 use Rattle.gc_table.specs.declared.seat.Heap.{Heap}
 use Rattle.packet_pools.specs.Counts.{count_of}
