@@ -1,5 +1,5 @@
 //! The calls of the crates below, told in the words of this one: what each asks of a seat at rest, and what it leaves of it.
-ghost use Rattle.std.specs.Prelude.{◌==◌, ◌≡◌, ◌<◌, ◌≤◌, ◌+◌, ◌&&◌, ◌⊎◌, Some, None, IsTrue, IsFalse, IfSome, IfNone, false, ◌*◌, length};
+ghost use Rattle.std.specs.Prelude.{◌==◌, ◌≡◌, ◌<◌, ◌≤◌, ◌+◌, ◌&&◌, ◌⊎◌, Some, None, IsTrue, IsFalse, IfSome, IfNone, false, ◌*◌, ◌-◌, length};
 ghost use Rattle.mark_core.specs.Cards.{card_cells};
 ghost use Rattle.mark_core.specs.Layout.{block_count, card_count};
 ghost use Rattle.mark_core.specs.Numbers.{empty_offset};
@@ -25,6 +25,7 @@ ghost use Rattle.card_clean.specs.Passing.{card_floor};
 ghost use Rattle.sweeper.specs.Freeing.{freed_in, block_floor};
 ghost use Rattle.card_clean.specs.Leaving.{rescanned_in};
 ghost use Rattle.sweeper.specs.Sweepers.{is_sweeping};
+ghost use Rattle.gc_cycle.specs.CardLooks.{PassesCards, looks_at_card};
 ghost use Rattle.gc_cycle.specs.Drained.{DrainedAlone, RootedAlone};
 ghost use Rattle.gc_cycle.specs.Events.{never};
 ghost use Rattle.gc_cycle.specs.Finishing.{IsAloneIn, IsPart};
@@ -35,7 +36,7 @@ ghost use Rattle.gc_cycle.specs.Standing.{is_at_rest};
 ghost use Rattle.gc_cycle.specs.Statistics.{leaves_numbers};
 ghost use Rattle.gc_cycle.specs.Stepping.{LacksPacket};
 ghost use Rattle.packet_pools.specs.StepBounds.{output_steps};
-ghost use Rattle.card_clean.specs.StepBounds.{clean_one_steps};
+ghost use Rattle.card_clean.specs.StepBounds.{clean_one_steps, clean_some_steps};
 ghost use Rattle.tracer.specs.StepBounds.{recycle_steps, section_steps, trace_steps};
 
 use crate::root_steps::sees_to_some;
@@ -62,6 +63,7 @@ pub fn trace(heap: &Heap, seat: &mut HeapSeat, quota: u32) -> Traced
     ensures uncleaned { IsTrue (never draws_or_clears (did seat.old seat.new)) }
     ensures unrooted { IsTrue (never reads_root (did seat.old seat.new)) }
     ensures unread { IsTrue (never reads_pace (did seat.old seat.new)) }
+    ensures unlooked { IsTrue (never looks_at_card (did seat.old seat.new)) }
     ensures few { length (did seat.old seat.new) ≤ trace_steps result.done heap.now.shape }
 {
     tracer::trace(heap, seat, quota)
@@ -79,6 +81,7 @@ pub fn recycle_deferred(heap: &Heap, seat: &mut HeapSeat) -> u32
     ensures unpopped { IsTrue (never pops (did seat.old seat.new)) }
     ensures unrooted { IsTrue (never reads_root (did seat.old seat.new)) }
     ensures unread { IsTrue (never reads_pace (did seat.old seat.new)) }
+    ensures unlooked { IsTrue (never looks_at_card (did seat.old seat.new)) }
     ensures few { length (did seat.old seat.new) ≤ recycle_steps heap.now.shape }
 {
     tracer::recycle_deferred(heap, seat)
@@ -95,6 +98,7 @@ pub fn scan_roots(heap: &Heap, seat: &mut HeapSeat, section: u32) -> RootScan
     ensures uncleaned { IsTrue (never draws_or_clears (did seat.old seat.new)) }
     ensures unpopped { IsTrue (never pops (did seat.old seat.new)) }
     ensures unread { IsTrue (never reads_pace (did seat.old seat.new)) }
+    ensures unlooked { IsTrue (never looks_at_card (did seat.old seat.new)) }
     ensures scans { Across (ScansRoots section result) seat.old seat.new }
     ensures few { length (did seat.old seat.new) ≤ section_steps heap.now.shape }
 {
@@ -221,6 +225,7 @@ pub fn next_card(heap: &Heap, seat: &mut HeapSeat) -> Option<u32>
     ensures unpopped { IsTrue (never pops (did seat.old seat.new)) }
     ensures unrooted { IsTrue (never reads_root (did seat.old seat.new)) }
     ensures unread { IsTrue (never reads_pace (did seat.old seat.new)) }
+    ensures unlooked { IsTrue (never looks_at_card (did seat.old seat.new)) }
     ensures few { length (did seat.old seat.new) ≤ 2 }
 {
     card_clean::next_card(heap, seat)
@@ -242,12 +247,31 @@ pub fn clean(heap: &Heap, seat: &mut HeapSeat, card: u32) -> Option<u32>
     ensures unrooted { IsTrue (never reads_root (did seat.old seat.new)) }
     ensures undrawn { IsTrue (never draws (did seat.old seat.new)) }
     ensures unread { IsTrue (never reads_pace (did seat.old seat.new)) }
+    ensures unlooked { IsTrue (never looks_at_card (did seat.old seat.new)) }
     ensures few { IfSome result (λ n. length (did seat.old seat.new) ≤ clean_one_steps n heap.now.shape) × IfNone result (length (did seat.old seat.new) ≤ output_steps heap.now.shape) }
 {
     match card_clean::clean_one(heap, seat, card) {
         Some(cleaned) => Some(cleaned.rescanned),
         None => None,
     }
+}
+
+/// Looks at each of these cards, and cleans those that are dirty, beside others, with a packet that it takes for it: how many objects were scanned again. None
+/// comes only where no packet could be had, and then no card was looked at.
+pub fn clean_between(heap: &Heap, seat: &mut HeapSeat, first: u32, end: u32) -> Option<u32>
+    requires seat { Sits heap.now seat.old × IsTrue (traces (view_of seat.old)) }
+    requires rest { IsTrue (is_at_rest heap.now.shape (state_of seat.old)) }
+    requires cards { (first ≤ end) × (end ≤ card_count heap.now.shape) }
+    ensures seat { Sits heap.now seat.new }
+    ensures traced { Across HasTraced seat.old seat.new }
+    ensures passes { PassesCards heap.now.shape first end (did seat.old seat.new) }
+    ensures undrawn { IsTrue (never draws (did seat.old seat.new)) }
+    ensures unpopped { IsTrue (never pops (did seat.old seat.new)) }
+    ensures unrooted { IsTrue (never reads_root (did seat.old seat.new)) }
+    ensures unread { IsTrue (never reads_pace (did seat.old seat.new)) }
+    ensures few { length (did seat.old seat.new) ≤ clean_some_steps (end - first) (card_cells * (end - first)) heap.now.shape }
+{
+    card_clean::clean_some(heap, seat, first, end)
 }
 
 /// Clears the marks of every block.

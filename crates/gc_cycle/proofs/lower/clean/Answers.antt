@@ -28,6 +28,8 @@ use Rattle.gc_cycle.proofs.Idling.{idle-of, rest-parts, traced-held, traces-of}
 use Rattle.gc_cycle.proofs.Ends.Rooted.{rest-room}
 use Rattle.gc_cycle.proofs.Sequences.{this-moment}
 use Rattle.gc_cycle.proofs.TracingSpares.{moved-untaken, moves-unpopped, moves-unrooted, scan-steps, scan-unpopped, scan-unrooted, Spares, untaken, unread-of}
+use Rattle.gc_cycle.specs.CardLooks.{looks_at_card}
+use Rattle.gc_cycle.proofs.CardLooks.{moves-unlooked, scan-unlooked}
 use Rattle.gc_cycle.proofs.lower.clean.Goals as goal
 use Rattle.mark_core.specs.Cards.{block_of_card}
 
@@ -159,3 +161,10 @@ returns-in-None-clause-unread c = unread-of (view_of c.args.seat.now) (view_of c
 
 pub returns-in-Some-clause-cleans : goal.returns-in-Some-clause-cleans
 returns-in-Some-clause-cleans c = (c.in-Some.cleaned, refl, c.in-Some.ensures.some.0)
+
+pub returns-in-Some-clause-unlooked : goal.returns-in-Some-clause-unlooked
+returns-in-Some-clause-unlooked c =
+    none-one looks_at_card (moves-unlooked output_pools) scan-unlooked (λ k n. refl) (λ k n. refl) (λ k n. refl) (λ k n. refl) c.args.heap.now.shape c.args.card c.in-Some.cleaned (events (view_of c.args.seat.now) (view_of c.clean_one.new.seat)) c.in-Some.ensures.some.0
+
+pub returns-in-None-clause-unlooked : goal.returns-in-None-clause-unlooked
+returns-in-None-clause-unlooked c = moved-untaken output_pools looks_at_card (moves-unlooked output_pools) (events (view_of c.args.seat.now) (view_of c.clean_one.new.seat)) c.in-None.ensures.none.2

@@ -25,6 +25,8 @@ use Rattle.gc_cycle.specs.Standing.{is_at_rest}
 use Rattle.gc_cycle.proofs.Idling.{traces-of}
 use Rattle.gc_cycle.proofs.Sequences.{total-none}
 use Rattle.gc_cycle.proofs.TracingSpares.{Spares, untaken}
+use Rattle.gc_cycle.specs.CardLooks.{looks_at_card}
+use Rattle.gc_cycle.proofs.CardLooks.{draws-unlooked}
 use Rattle.gc_cycle.proofs.lower.next_card.Goals as goal
 
 -- a draw reads the counter of cards alone
@@ -137,3 +139,6 @@ once-drawn r v w (inr gives) = let one = ap {B = ℕ} (count_of draws) gives.1.e
 
 pub returns-clause-once : goal.returns-clause-once
 returns-clause-once c = once-drawn c.next_card.result (view_of c.args.seat.now) (view_of c.next_card.new.seat) c.next_card.ensures.draws
+
+pub returns-clause-unlooked : goal.returns-clause-unlooked
+returns-clause-unlooked c = untaken draws_card looks_at_card draws-unlooked (events (view_of c.args.seat.now) (view_of c.next_card.new.seat)) c.next_card.ensures.only

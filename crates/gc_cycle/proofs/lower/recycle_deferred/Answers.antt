@@ -8,6 +8,8 @@ use Rattle.gc_cycle.specs.Sorts.{draws_or_clears, pops, reads_root}
 use Rattle.gc_cycle.specs.Standing.{is_at_rest}
 use Rattle.gc_cycle.proofs.Idling.{idle-of, moves-quiet, traced-of, traces-of}
 use Rattle.gc_cycle.proofs.TracingSpares.{moved-untaken, moves-uncleaned, moves-unpopped, moves-unrooted, unread-of}
+use Rattle.gc_cycle.specs.CardLooks.{looks_at_card}
+use Rattle.gc_cycle.proofs.CardLooks.{moves-unlooked}
 use Rattle.gc_cycle.proofs.lower.recycle_deferred.Goals as goal
 
 pub recycle_deferred-requires-clause-seat : goal.recycle_deferred-requires-clause-seat
@@ -42,3 +44,6 @@ returns-clause-unrooted c = moved-untaken deferred_pools reads_root (moves-unroo
 
 pub returns-clause-unread : goal.returns-clause-unread
 returns-clause-unread c = unread-of (view_of c.args.seat.now) (view_of c.recycle_deferred.new.seat) c.recycle_deferred.ensures.only
+
+pub returns-clause-unlooked : goal.returns-clause-unlooked
+returns-clause-unlooked c = moved-untaken deferred_pools looks_at_card (moves-unlooked deferred_pools) (events (view_of c.args.seat.now) (view_of c.recycle_deferred.new.seat)) c.recycle_deferred.ensures.recycled.moves

@@ -19,6 +19,8 @@ use Rattle.gc_cycle.specs.Standing.{is_at_rest}
 use Rattle.gc_cycle.proofs.Ends.NoRescans.{calm, roots-begin_none}
 use Rattle.gc_cycle.proofs.Idling.{idle-of, moves-quiet, rest-again, rest-parts, traced-of, traces-of}
 use Rattle.gc_cycle.proofs.TracingSpares.{moved-untaken, moves-uncleaned, moves-unpopped, root-steps, roots-uncleaned, roots-unpopped, Spares, untaken, unread-of, moves-unrooted}
+use Rattle.gc_cycle.specs.CardLooks.{looks_at_card}
+use Rattle.gc_cycle.proofs.CardLooks.{moves-unlooked, roots-unlooked}
 use Rattle.gc_cycle.proofs.lower.scan_roots.Goals as goal
 
 pub scan_roots-requires-clause-seat : goal.scan_roots-requires-clause-seat
@@ -67,3 +69,7 @@ scans-of section NoPacket v w seen s = (s.none, moved-untaken output_pools reads
 
 pub returns-clause-scans : goal.returns-clause-scans
 returns-clause-scans c = scans-of c.args.section c.scan_roots.result (view_of c.args.seat.now) (view_of c.scan_roots.new.seat) c.scan_roots.ensures.seen c.scan_roots.ensures.scanned
+
+pub returns-clause-unlooked : goal.returns-clause-unlooked
+returns-clause-unlooked c =
+    never-in looks_at_card roots-unlooked (moves-unlooked output_pools) c.args.section c.scan_roots.result (view_of c.args.seat.now) (view_of c.scan_roots.new.seat) c.scan_roots.ensures.scanned

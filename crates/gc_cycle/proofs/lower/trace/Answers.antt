@@ -17,6 +17,8 @@ use Rattle.gc_cycle.specs.Standing.{is_at_rest}
 use Rattle.gc_cycle.proofs.Ends.NoRescans.{calm, traces-begin_none}
 use Rattle.gc_cycle.proofs.Idling.{idle-of, rest-again, rest-parts, traced-of, traces-of}
 use Rattle.gc_cycle.proofs.TracingSpares.{trace-steps, trace-uncleaned, trace-unrooted, untaken, unread-of}
+use Rattle.gc_cycle.specs.CardLooks.{looks_at_card}
+use Rattle.gc_cycle.proofs.CardLooks.{trace-unlooked}
 use Rattle.gc_cycle.proofs.lower.trace.Goals as goal
 
 abbrev is_quota : Stopped → Bool
@@ -87,3 +89,8 @@ returns-clause-most c = ⊎_elim (λ a. let k = a.1 in omega (arith, k)) (λ b. 
 
 pub returns-clause-unread : goal.returns-clause-unread
 returns-clause-unread c = unread-of (view_of c.args.seat.now) (view_of c.trace.new.seat) c.trace.ensures.only
+
+pub returns-clause-unlooked : goal.returns-clause-unlooked
+returns-clause-unlooked c =
+    let es = events (view_of c.args.seat.now) (view_of c.trace.new.seat) in
+    untaken is_trace_step looks_at_card trace-unlooked es (sym (trace-steps es) ∙ c.trace.ensures.tally.steps)
