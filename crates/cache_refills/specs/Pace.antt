@@ -1,6 +1,7 @@
 -- When a cycle is due, what a mutator owes, and what it pays.
 pub mod Quota
 pub mod Pacing
+pub mod Early
 pub mod Paying
 pub mod Payment
 pub mod StepBounds

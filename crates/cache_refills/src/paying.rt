@@ -1,14 +1,14 @@
 //! What a mutator pays for its cache while a cycle is marking.
 //!
 //! It marks the roots of its own section and traces a quota of objects, which is larger the fewer cells are free. So marking keeps pace with allocation:
-//! Barabash and others, *A parallel, incremental, mostly concurrent garbage collector for servers*, 2005. Where it finds no packet to trace from, and the cycle
-//! is far on, it cleans cards, which fills packets again; and at last it brings back what was deferred. A card that is cleaned early is dirtied again, and then
-//! the stop cleans it.
+//! Barabash and others, *A parallel, incremental, mostly concurrent garbage collector for servers*, 2005. Before it traces, it passes the cards that are next
+//! early in a cycle (`early`). Where it finds no packet to trace from, and the cycle is far on, it cleans cards, which fills packets again; and at last it brings
+//! back what was deferred. A card that was cleaned may be dirtied again, and then it is left to late payments and the stop.
 //!
-//! A payment is short whatever the heap's size: it traces its quota at most, and looks at 1,024 cards at most ([`CARD_LOOKS`]). The cards that are left are
-//! those of the next payment, of tracers and of the stop. All steps of it are counted (`few`): a bound that is linear in the packets, the fields, the objects that
-//! were traced and the cards that were looked at.
-ghost use Rattle.std.specs.Prelude.{ℕ, ◌≡◌, ◌<◌, ◌≤◌, ◌+◌, Some, IfSome, IfNone, ◌-◌, ◌*◌, length};
+//! A payment is short whatever the heap's size: it traces its quota at most, and looks at 1,024 cards at most, early in a cycle or late ([`CARD_LOOKS`]). The
+//! cards that are left are those of the next payment, of tracers and of the stop. All steps of it are counted (`few`): a bound that is linear in the packets, the
+//! fields, the objects that were traced and the cards that were looked at.
+ghost use Rattle.std.specs.Prelude.{ℕ, ◌≡◌, ◌<◌, ◌≤◌, ◌+◌, Some, IfSome, IfNone, IsTrue, ◌-◌, ◌*◌, length};
 ghost use Rattle.mark_core.specs.Cards.{block_cells, card_cells};
 ghost use Rattle.mark_core.specs.Layout.{card_count};
 ghost use Rattle.mark_core.specs.declared.kinds.Phase.TheVariants.{Marking};
@@ -17,14 +17,19 @@ ghost use Rattle.gc_table.specs.PlainSteps.{own_section};
 ghost use Rattle.gc_table.specs.Running.{Ran};
 ghost use Rattle.gc_table.specs.Seats.{Across, did, Sits, state_of, view_of};
 ghost use Rattle.gc_table.specs.declared.view.View.{View};
+ghost use Rattle.packet_pools.specs.Counts.{count_of};
+ghost use Rattle.cache_refills.specs.Pace.Early.{HasPassed, PassesNext, early_seen};
 ghost use Rattle.cache_refills.specs.Pace.Payment.{HasPaid, MarksAndTraces, TracesNone, TracesOn, reads_number, stop_of};
 ghost use Rattle.cache_refills.specs.Pace.Pacing.{card_looks, looks_by, looks_seen, quota_seen};
+ghost use Rattle.gc_cycle.specs.CardLooks.{looks_at_card};
+ghost use Rattle.gc_cycle.specs.Events.{never};
 ghost use Rattle.gc_cycle.specs.Standing.{Mutates};
 ghost use Rattle.packet_pools.specs.StepBounds.{output_steps};
 ghost use Rattle.tracer.specs.StepBounds.{section_steps, trace_steps};
 ghost use Rattle.card_clean.specs.StepBounds.{clean_one_steps};
-ghost use Rattle.cache_refills.specs.Pace.StepBounds.{look_steps, payment_steps, quota_steps};
+ghost use Rattle.cache_refills.specs.Pace.StepBounds.{early_steps, look_steps, payment_steps, quota_steps};
 
+use crate::early::{early_end, pass_early};
 use crate::pace::{is_late, read_statistic};
 use crate::quota::quota_of;
 use gc_cycle::{Paid, clean, next_card, recycle_deferred, scan_roots, trace};
@@ -36,8 +41,22 @@ use tracer::{RootScan, Stopped};
 /// a whole quota. They pass over 16,384 cells, where the cache has 64; so the payments for a 256th of a heap's cells pass over all cards.
 const CARD_LOOKS: u32 = 1_024;
 
+/// What a payment is to do.
+#[derive(Clone, Copy)]
+struct Owed {
+    /// How many objects it traces.
+    quota: u32,
+    /// How many cards it looks at, at most, where it finds nothing to trace.
+    looks: u32,
+    /// The first of the cards that it passes before it traces.
+    from: u32,
+    /// The end of these cards.
+    end: u32,
+}
+
 /// What the mutator pays for a cache of `cells` free cells, at most 64, where it has read last that a cycle is marking: it marks its roots and traces its quota
-/// of objects, as [`quota_of`] has it of the numbers read now. How many it traced is told to the others once.
+/// of objects, as [`quota_of`] has it of the numbers read now. Before it traces, it passes the cards that are next by these numbers, early in a cycle. How many
+/// objects it traced is told to the others once.
 ///
 /// In the answer, `stopped` is Quota exactly where it traced its quota. NoWork comes only where, after its roots were read, no packet to read from was found
 /// while nothing was left in hand, and NoPacket only where none with room was found. Where no packet could be taken at all, neither roots nor objects were
@@ -48,11 +67,12 @@ pub(crate) fn pay(heap: &Heap, seat: &mut HeapSeat, cells: u32) -> Paid
     requires cells { cells ≤ block_cells }
     ensures seat { Sits heap.now seat.new }
     ensures paid { Across (HasPaid cells result) seat.old seat.new }
+    ensures passes { Across (PassesNext heap.now.shape cells) seat.old seat.new }
     ensures own { (view_of seat.new).own ≡ (view_of seat.old).own }
     ensures few { length (did seat.old seat.new) ≤ payment_steps result.done card_looks heap.now.shape }
 {
-    let (quota, looks) = quota_now(heap, seat, cells);
-    let paid = mark_and_trace(heap, seat, quota, looks);
+    let owed = owed_now(heap, seat, cells);
+    let paid = mark_and_trace(heap, seat, owed);
     heap.add_stat(seat, TRACED, paid.done, false);
     paid
 }
@@ -64,46 +84,57 @@ fn looks_of(late: bool) -> u32
     if late { CARD_LOOKS } else { 0 }
 }
 
-/// The quota for a cache of `cells` free cells, and how many cards are worth a look, by the numbers as they are now.
-fn quota_now(heap: &Heap, seat: &mut HeapSeat, cells: u32) -> (u32, u32)
+/// What is owed for a cache of `cells` free cells, by the numbers as they are now.
+fn owed_now(heap: &Heap, seat: &mut HeapSeat, cells: u32) -> Owed
     requires seat { Sits heap.now seat.old }
     requires cells { cells ≤ block_cells }
     ensures seat { Sits heap.now seat.new }
     ensures ran { Across Ran seat.old seat.new }
     ensures only { Across (Only reads_number) seat.old seat.new }
     ensures state { state_of seat.new ≡ state_of seat.old }
-    ensures quota { quota_seen cells (did seat.old seat.new) ≡ Some result.0 }
-    ensures most { result.0 ≤ 1024 }
-    ensures looks { looks_seen (did seat.old seat.new) ≡ result.1 }
-    ensures fewer { result.1 ≤ card_looks }
+    ensures quota { quota_seen cells (did seat.old seat.new) ≡ Some result.quota }
+    ensures most { result.quota ≤ 1024 }
+    ensures looks { looks_seen (did seat.old seat.new) ≡ result.looks }
+    ensures fewer { result.looks ≤ card_looks }
+    ensures end { early_seen (did seat.old seat.new) ≡ result.end }
+    ensures from { result.from ≡ result.end - 16 * cells }
     ensures few { length (did seat.old seat.new) ≤ 4 }
 {
     let last = read_statistic(heap, seat, LAST);
     let rescanned = read_statistic(heap, seat, RESCANNED);
     let traced = read_statistic(heap, seat, TRACED);
     let free = read_statistic(heap, seat, FREE);
-    (
-        quota_of(cells, last, rescanned, traced, free),
-        looks_of(is_late(last, traced, free)),
-    )
+    let late = is_late(last, traced, free);
+    let end = early_end(late, last, rescanned, free);
+    Owed {
+        quota: quota_of(cells, last, rescanned, traced, free),
+        looks: looks_of(late),
+        from: end.saturating_sub(16 * cells),
+        end,
+    }
 }
 
-/// Marks the roots of the seat's section, and traces a quota. Where no packet can be taken, nothing is done.
-fn mark_and_trace(heap: &Heap, seat: &mut HeapSeat, quota: u32, looks: u32) -> Paid
+/// Marks the roots of the seat's section, passes the cards that are next early in a cycle, and traces a quota. Where no packet can be taken, nothing is done.
+fn mark_and_trace(heap: &Heap, seat: &mut HeapSeat, owed: Owed) -> Paid
     requires seat { Sits heap.now seat.old × Mutates (view_of seat.old) }
     requires marking { (state_of seat.old).phase_seen ≡ Some Marking }
+    requires most { owed.end ≤ owed.from + card_looks }
     ensures seat { Sits heap.now seat.new }
-    ensures pays { Across (MarksAndTraces (own_section (state_of seat.old)) quota looks result) seat.old seat.new }
-    ensures few { length (did seat.old seat.new) ≤ section_steps heap.now.shape + quota_steps result.done looks heap.now.shape }
+    ensures pays { Across (MarksAndTraces (own_section (state_of seat.old)) owed.quota owed.looks result) seat.old seat.new }
+    ensures passes { Across (HasPassed heap.now.shape owed.from owed.end owed.looks) seat.old seat.new }
+    ensures few { length (did seat.old seat.new) ≤ section_steps heap.now.shape + early_steps heap.now.shape + quota_steps result.done owed.looks heap.now.shape }
 {
     let section = seat.state().section.unwrap_or(0);
     match scan_roots(heap, seat, section) {
         RootScan::NoPacket => Paid {
-            quota,
+            quota: owed.quota,
             done: 0,
-            stopped: stopped_at(quota),
+            stopped: stopped_at(owed.quota),
         },
-        RootScan::Done { marked: _ } => pay_quota(heap, seat, quota, looks),
+        RootScan::Done { marked: _ } => {
+            pass_early(heap, seat, owed.from, owed.end);
+            pay_quota(heap, seat, owed.quota, owed.looks)
+        }
     }
 }
 
@@ -124,6 +155,7 @@ fn pay_quota(heap: &Heap, seat: &mut HeapSeat, quota: u32, looks: u32) -> Paid
     requires marking { (state_of seat.old).phase_seen ≡ Some Marking }
     ensures seat { Sits heap.now seat.new }
     ensures traces { Across (TracesOn quota 0 looks result) seat.old seat.new }
+    ensures late { count_of looks_at_card (did seat.old seat.new) ≤ looks }
     ensures few { length (did seat.old seat.new) ≤ quota_steps result.done looks heap.now.shape }
 {
     let paid = trace_and_clean(heap, seat, quota, looks);
@@ -139,6 +171,7 @@ fn trace_and_clean(heap: &Heap, seat: &mut HeapSeat, quota: u32, looks: u32) -> 
     requires marking { (state_of seat.old).phase_seen ≡ Some Marking }
     ensures seat { Sits heap.now seat.new }
     ensures traces { Across (TracesOn quota 0 looks result) seat.old seat.new }
+    ensures late { count_of looks_at_card (did seat.old seat.new) ≤ looks }
     ensures few { length (did seat.old seat.new) ≤ trace_steps result.done heap.now.shape + looks * look_steps heap.now.shape }
 {
     let first = trace(heap, seat, quota);
@@ -169,6 +202,7 @@ fn look_at_next(heap: &Heap, seat: &mut HeapSeat, before: Paid) -> Option<Paid>
     ensures some { IfSome result (λ paid. (u : View) (looks : ℕ) → TracesOn before.quota 0 looks before u (view_of seat.old) → TracesOn before.quota 0 (looks + 1) paid u (view_of seat.new)) }
     ensures ran { Across Ran seat.old seat.new }
     ensures none { IfNone result (Across (TracesNone 1) seat.old seat.new) }
+    ensures once { count_of looks_at_card (did seat.old seat.new) ≤ 1 }
     ensures few { IfSome result (λ paid. (before.done ≤ paid.done) × (length (did seat.old seat.new) ≤ 3 + clean_one_steps card_cells heap.now.shape + trace_steps (paid.done - before.done) heap.now.shape)) × IfNone result (length (did seat.old seat.new) ≤ 3 + output_steps heap.now.shape) }
 {
     let card = next_card(heap, seat)?;
@@ -184,6 +218,7 @@ fn is_dirty(heap: &Heap, seat: &mut HeapSeat, card: u32) -> bool
     requires card { card < card_count heap.now.shape }
     ensures seat { Sits heap.now seat.new }
     ensures none { Across (TracesNone 0) seat.old seat.new }
+    ensures once { count_of looks_at_card (did seat.old seat.new) ≤ 1 }
     ensures few { length (did seat.old seat.new) ≤ 1 }
 {
     heap.read_card(seat, card)
@@ -198,6 +233,8 @@ fn clean_and_trace(heap: &Heap, seat: &mut HeapSeat, card: u32, before: Paid) ->
     ensures seat { Sits heap.now seat.new }
     ensures some { IfSome result (λ paid. Across (TracesOn before.quota before.done 0 paid) seat.old seat.new) }
     ensures none { IfNone result (Across (TracesNone 0) seat.old seat.new) }
+    ensures ran { Across Ran seat.old seat.new }
+    ensures unlooked { IsTrue (never looks_at_card (did seat.old seat.new)) }
     ensures few { IfSome result (λ paid. (before.done ≤ paid.done) × (length (did seat.old seat.new) ≤ clean_one_steps card_cells heap.now.shape + trace_steps (paid.done - before.done) heap.now.shape)) × IfNone result (length (did seat.old seat.new) ≤ output_steps heap.now.shape) }
 {
     clean(heap, seat, card)?;

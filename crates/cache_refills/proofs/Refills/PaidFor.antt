@@ -91,13 +91,13 @@ unread-one : (which : ℕ) (step : Step) (n : ℕ) → last_count ≤ which → 
 unread-one which (ReadStat w) n high e = ap (λ (b : Bool). if b then Some (statistic n) else None) (apart w which e high)
 unread-one which step n high e = refl
 
-none-read : (which : ℕ) (es : List Entry) → last_count ≤ which → never reads_pace es ≡ true → last_read which es ≡ None
+pub none-read : (which : ℕ) (es : List Entry) → last_count ≤ which → never reads_pace es ≡ true → last_read which es ≡ None
 none-read which [] high h = refl
 none-read which (e ∷ es) high h =
     let p = or_parts (reads_pace e.step e.found) (some_event reads_pace es) (not-true _ h) in
     λ i. or_else (none-read which es high (ap not p.1) i) (unread-one which e.step e.found high p.0 i)
 
-read-before : (which : ℕ) (xs ys : List Entry) → last_read which ys ≡ None → last_read which (xs ++ ys) ≡ last_read which xs
+pub read-before : (which : ℕ) (xs ys : List Entry) → last_read which ys ≡ None → last_read which (xs ++ ys) ≡ last_read which xs
 read-before which [] ys h = h
 read-before which (x ∷ xs) ys h = ap (λ (o : Option ℕ). or_else o (read_of which x.step x.found)) (read-before which xs ys h)
 
@@ -105,7 +105,7 @@ quota-before : (cells : ℕ) (xs ys : List Entry) → never reads_pace ys ≡ tr
 quota-before cells xs ys h =
     λ i. quota_by cells (read-before last_count xs ys (none-read last_count ys (omega arith) h) i) (read-before rescanned_count xs ys (none-read rescanned_count ys (omega arith) h) i) (read-before traced_count xs ys (none-read traced_count ys (omega arith) h) i) (read-before free_count xs ys (none-read free_count ys (omega arith) h) i)
 
-late-before : (xs ys : List Entry) → never reads_pace ys ≡ true → late_seen (xs ++ ys) ≡ late_seen xs
+pub late-before : (xs ys : List Entry) → never reads_pace ys ≡ true → late_seen (xs ++ ys) ≡ late_seen xs
 late-before xs ys h =
     λ i. late_by (read-before last_count xs ys (none-read last_count ys (omega arith) h) i) (read-before traced_count xs ys (none-read traced_count ys (omega arith) h) i) (read-before free_count xs ys (none-read free_count ys (omega arith) h) i)
 

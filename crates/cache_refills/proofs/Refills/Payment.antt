@@ -120,7 +120,7 @@ mutates-on v w t m =
       rest = t.rest;
     }
 
-never-run : (f : Sort) (u v w : View) → Ran u v → Ran v w → never f (events u v) ≡ true → never f (events v w) ≡ true → never f (events u w) ≡ true
+pub never-run : (f : Sort) (u v w : View) → Ran u v → Ran v w → never f (events u v) ≡ true → never f (events v w) ≡ true → never f (events u w) ≡ true
 never-run f u v w r q a b = ap (never f) (ran-events u v w r q) ∙ never-join f (events u v) (events v w) a b
 
 -- no card was drawn

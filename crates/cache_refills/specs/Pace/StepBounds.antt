@@ -3,7 +3,8 @@ use Rattle.std.specs.Prelude.{ℕ, ◌+◌, ◌*◌}
 use Rattle.mark_core.specs.Cards.{card_cells}
 use Rattle.mark_core.specs.declared.kinds.Shape.{Shape}
 use Rattle.tracer.specs.StepBounds.{recycle_steps, section_steps, trace_steps}
-use Rattle.card_clean.specs.StepBounds.{clean_one_steps}
+use Rattle.card_clean.specs.StepBounds.{clean_one_steps, clean_some_steps}
+use Rattle.cache_refills.specs.Pace.Pacing.{card_looks}
 
 -- a card is drawn, looked at and cleaned, and tracing goes on
 abbrev pub look_steps : Shape → ℕ
@@ -13,6 +14,10 @@ look_steps sh = 3 + clean_one_steps card_cells sh + trace_steps 0 sh
 abbrev pub quota_steps : ℕ → ℕ → Shape → ℕ
 quota_steps done looks sh = trace_steps done sh + looks * look_steps sh + recycle_steps sh
 
--- the numbers are read, the roots of the section scanned, a quota traced, and the number of traced objects raised
+-- cards are passed early in a cycle
+abbrev pub early_steps : Shape → ℕ
+early_steps sh = clean_some_steps card_looks (card_cells * card_looks) sh
+
+-- the numbers are read, the roots of the section scanned, cards passed early, a quota traced, and the number of traced objects raised
 abbrev pub payment_steps : ℕ → ℕ → Shape → ℕ
-payment_steps done looks sh = section_steps sh + quota_steps done looks sh + 5
+payment_steps done looks sh = section_steps sh + early_steps sh + quota_steps done looks sh + 5

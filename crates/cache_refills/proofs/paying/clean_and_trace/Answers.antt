@@ -14,6 +14,9 @@ use Rattle.tracer.specs.StepBounds.{trace_steps}
 use Rattle.card_clean.specs.StepBounds.{clean_one_steps}
 use Rattle.gc_cycle.proofs.Few.{few-join}
 use Rattle.cache_refills.proofs.Few.{cells-fewer}
+use Rattle.gc_cycle.specs.CardLooks.{looks_at_card}
+use Rattle.gc_table.proofs.Running.{ran-join}
+use Rattle.cache_refills.proofs.Refills.Payment.{never-run}
 use Rattle.cache_refills.proofs.paying.clean_and_trace.Goals as goal
 
 pub returns-in_err-clean-clause-none : goal.returns-in_err-clean-clause-none
@@ -55,3 +58,12 @@ returns-clause-few c =
     let same : done ≡ c.args.before.done + done - c.args.before.done = omega arith in
     let all = few-join (clean_one_steps card_cells sh) (trace_steps done sh) v w x e.traced.ran t.traced.ran (cells-fewer _ card_cells sh _ e.most e.few.0) t.few in
     ((omega arith, subst (λ k. length (events v x) ≤ clean_one_steps card_cells sh + trace_steps k sh) same all), tt)
+
+pub returns-clause-ran : goal.returns-clause-ran
+returns-clause-ran c = ran-join (view_of c.args.seat.now) (view_of c.clean.new.seat) (view_of c.trace-more.new.seat) c.in_ok-clean.ensures.traced.ran c.trace-more.ensures.traced.ran
+
+pub returns-clause-unlooked : goal.returns-clause-unlooked
+returns-clause-unlooked c =
+    let e = c.in_ok-clean.ensures in
+    let t = c.trace-more.ensures in
+    never-run looks_at_card (view_of c.args.seat.now) (view_of c.clean.new.seat) (view_of c.trace-more.new.seat) e.traced.ran t.traced.ran e.unlooked t.unlooked

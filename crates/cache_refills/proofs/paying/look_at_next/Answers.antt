@@ -14,6 +14,7 @@ use Rattle.gc_cycle.specs.declared.counts.Paid.{Paid}
 use Rattle.packet_pools.specs.StepBounds.{output_steps}
 use Rattle.tracer.specs.StepBounds.{trace_steps}
 use Rattle.card_clean.specs.StepBounds.{clean_one_steps}
+use Rattle.cache_refills.proofs.Refills.Early.{looks-join, unlooked-few}
 use Rattle.cache_refills.proofs.paying.look_at_next.Goals as goal
 
 pub returns-then-is_dirty-clause-some : goal.returns-then-is_dirty-clause-some
@@ -81,3 +82,26 @@ returns-then-is_dirty-clause-ran c =
 
 pub returns-clause-ran : goal.returns-clause-ran
 returns-clause-ran c = ran-join (view_of c.args.seat.now) (view_of c.next_card.new.seat) (view_of c.is_dirty.new.seat) c.next_card.ensures.ran c.is_dirty.ensures.none.traced.ran
+
+pub returns-in_err-card-clause-once : goal.returns-in_err-card-clause-once
+returns-in_err-card-clause-once c =
+    let none = unlooked-few (events (view_of c.args.seat.now) (view_of c.next_card.new.seat)) c.in_err-card.ensures.unlooked in omega (arith, none)
+
+pub returns-then-is_dirty-clause-once : goal.returns-then-is_dirty-clause-once
+returns-then-is_dirty-clause-once c =
+    let v : View = view_of c.args.seat.now in
+    let w : View = view_of c.next_card.new.seat in
+    let x : View = view_of c.is_dirty.new.seat in
+    let y : View = view_of c.clean_and_trace.new.seat in
+    let n = c.next_card.ensures in
+    let d = c.is_dirty.ensures in
+    let a = c.clean_and_trace.ensures in
+    looks-join 1 0 v x y (ran-join v w x n.ran d.none.traced.ran) a.ran (looks-join 0 1 v w x n.ran d.none.traced.ran (unlooked-few (events v w) n.unlooked) d.once) (unlooked-few (events x y) a.unlooked)
+
+pub returns-clause-once : goal.returns-clause-once
+returns-clause-once c =
+    let v : View = view_of c.args.seat.now in
+    let w : View = view_of c.next_card.new.seat in
+    let n = c.next_card.ensures in
+    let d = c.is_dirty.ensures in
+    looks-join 0 1 v w (view_of c.is_dirty.new.seat) n.ran d.none.traced.ran (unlooked-few (events v w) n.unlooked) d.once

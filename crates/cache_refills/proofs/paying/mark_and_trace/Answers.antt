@@ -1,4 +1,4 @@
-use Rattle.std.proofs.Common.{◌≡◌, ◌<◌, sym, ap, ◌∙◌, subst, true, arith}
+use Rattle.std.proofs.Common.{◌≡◌, ◌<◌, ◌+◌, ◌++◌, inl, inr, sym, ap, ◌∙◌, subst, true, arith}
 use Rattle.mark_core.specs.declared.kinds.Shape.{Shape}
 use Rattle.mark_core.specs.declared.seat.SeatState.{SeatState}
 use Rattle.gc_table.specs.PlainSteps.{own_section}
@@ -7,10 +7,13 @@ use Rattle.gc_table.specs.Seats.{view_of}
 use Rattle.gc_table.specs.declared.view.View.{View}
 use Rattle.cache_refills.specs.Pace.Payment.{MarksAndTraces}
 use Rattle.gc_cycle.specs.Roots.{roots_scanned}
-use Rattle.cache_refills.proofs.Refills.Payment.{marks-none, marks-traces, section-below}
+use Rattle.cache_refills.proofs.Refills.Payment.{marks-none, marks-traces, none-traces, section-below, traces-within}
 use Rattle.tracer.specs.StepBounds.{section_steps}
-use Rattle.cache_refills.specs.Pace.StepBounds.{quota_steps}
+use Rattle.cache_refills.specs.Pace.StepBounds.{early_steps, quota_steps}
 use Rattle.gc_cycle.proofs.Few.{few-join}
+use Rattle.gc_cycle.proofs.Sequences.{this-moment}
+use Rattle.gc_cycle.specs.Moments.{begins, finds_no_packet}
+use Rattle.gc_table.proofs.Running.{ran-events, ran-join}
 use Rattle.cache_refills.proofs.paying.mark_and_trace.Goals as goal
 
 pub scan_roots-requires-clause-section : goal.scan_roots-requires-clause-section
@@ -24,17 +27,21 @@ returns-in-NoPacket-clause-pays c =
     let u : View = view_of c.args.seat.now in
     let v : View = view_of c.scan_roots.new.seat in
     let e = c.in-NoPacket.ensures in
-    subst (λ s. MarksAndTraces (own_section u.state) c.args.quota c.args.looks (record { quota = c.args.quota; done = 0; stopped = s }) u v) (sym c.stopped_at.ensures)
-    (marks-none (own_section u.state) c.args.quota c.args.looks u v e.traced e.unpopped e.unread e.uncleaned e.scans.0 e.scans.1)
+    subst (λ s. MarksAndTraces (own_section u.state) c.args.owed.quota c.args.owed.looks (record { quota = c.args.owed.quota; done = 0; stopped = s }) u v) (sym c.stopped_at.ensures)
+    (marks-none (own_section u.state) c.args.owed.quota c.args.owed.looks u v e.traced e.unpopped e.unread e.uncleaned e.scans.0 e.scans.1)
 
 pub returns-in-Done-clause-pays : goal.returns-in-Done-clause-pays
 returns-in-Done-clause-pays c =
     let u : View = view_of c.args.seat.now in
     let v : View = view_of c.scan_roots.new.seat in
+    let x : View = view_of c.pass_early.new.seat in
     let w : View = view_of c.pay_quota.new.seat in
     let e = c.in-Done.ensures in
-    marks-traces (own_section u.state) c.args.quota c.args.looks c.pay_quota.result u v w e.traced e.unpopped e.unread e.uncleaned
-    (subst (λ n. roots_scanned n (events u v) ≡ true) (c.unwrap_or-section.ensures ∙ ap (λ (s : SeatState). own_section s) c.state.ensures) e.scans) c.pay_quota.ensures.traces
+    let quota = c.args.owed.quota in
+    let looks = c.args.owed.looks in
+    marks-traces (own_section u.state) c.args.owed.quota c.args.owed.looks c.pay_quota.result u v w e.traced e.unpopped e.unread e.uncleaned
+    (subst (λ n. roots_scanned n (events u v) ≡ true) (c.unwrap_or-section.ensures ∙ ap (λ (s : SeatState). own_section s) c.state.ensures) e.scans)
+    (traces-within quota 0 (0 + looks) looks c.pay_quota.result v w (omega arith) (none-traces quota 0 0 looks c.pay_quota.result v x w c.pass_early.ensures.none c.pay_quota.ensures.traces))
 
 pub returns-in-NoPacket-clause-few : goal.returns-in-NoPacket-clause-few
 returns-in-NoPacket-clause-few c = let few = c.in-NoPacket.ensures.few in omega (arith, few)
@@ -43,5 +50,39 @@ pub returns-in-Done-clause-few : goal.returns-in-Done-clause-few
 returns-in-Done-clause-few c =
     let sh : Shape = c.args.heap.now.shape in
     let e = c.in-Done.ensures in
-    let p = c.pay_quota.ensures in
-    few-join (section_steps sh) (quota_steps c.pay_quota.result.done c.args.looks sh) (view_of c.args.seat.now) (view_of c.scan_roots.new.seat) (view_of c.pay_quota.new.seat) e.traced.ran p.traces.traced.ran e.few p.few
+    let u : View = view_of c.args.seat.now in
+    let v : View = view_of c.scan_roots.new.seat in
+    let x : View = view_of c.pass_early.new.seat in
+    let w : View = view_of c.pay_quota.new.seat in
+    let p = c.pass_early.ensures in
+    let q = c.pay_quota.ensures in
+    let quota = quota_steps c.pay_quota.result.done c.args.owed.looks sh in
+    let last = few-join (early_steps sh) quota v x w p.none.traced.ran q.traces.traced.ran p.few q.few in
+    let all = few-join (section_steps sh) (early_steps sh + quota) u v w e.traced.ran (ran-join v x w p.none.traced.ran q.traces.traced.ran) e.few last in
+    omega (arith, all)
+
+pub returns-in-NoPacket-clause-passes : goal.returns-in-NoPacket-clause-passes
+returns-in-NoPacket-clause-passes c =
+    let u : View = view_of c.args.seat.now in
+    let e = c.in-NoPacket.ensures in
+    inl (e.unlooked, this-moment u.shape (finds_no_packet u.shape) (events u (view_of c.scan_roots.new.seat)) (begins u) e.scans.0)
+
+pub returns-in-Done-clause-passes : goal.returns-in-Done-clause-passes
+returns-in-Done-clause-passes c =
+    let u : View = view_of c.args.seat.now in
+    let v : View = view_of c.scan_roots.new.seat in
+    let x : View = view_of c.pass_early.new.seat in
+    let w : View = view_of c.pay_quota.new.seat in
+    let e = c.in-Done.ensures in
+    let p = c.pass_early.ensures in
+    let q = c.pay_quota.ensures in
+    inr
+    (record {
+      first = events u v;
+      passing = events v x;
+      rest = events x w;
+      events_are = ran-events u v w e.traced.ran (ran-join v x w p.none.traced.ran q.traces.traced.ran) ∙ ap (λ es. events u v ++ es) (ran-events v x w p.none.traced.ran q.traces.traced.ran);
+      unlooked = e.unlooked;
+      passes = p.passes;
+      late = q.late;
+    })

@@ -1,10 +1,13 @@
-use Rattle.std.proofs.Common.{◌+◌, ◌*◌}
+use Rattle.std.proofs.Common.{◌+◌, ◌*◌, arith}
 use Rattle.gc_table.specs.Seats.{view_of}
+use Rattle.gc_table.specs.declared.view.View.{View}
 use Rattle.cache_refills.proofs.Refills.Payment.{traces-quiet, undrawn-few}
 use Rattle.mark_core.specs.declared.kinds.Shape.{Shape}
 use Rattle.tracer.specs.StepBounds.{recycle_steps, trace_steps}
 use Rattle.cache_refills.specs.Pace.StepBounds.{look_steps}
 use Rattle.gc_cycle.proofs.Few.{few-join}
+use Rattle.gc_table.specs.Log.{events}
+use Rattle.cache_refills.proofs.Refills.Early.{looks-join, unlooked-few}
 use Rattle.cache_refills.proofs.paying.pay_quota.Goals as goal
 
 pub returns-in-NoWork-clause-traces : goal.returns-in-NoWork-clause-traces
@@ -19,3 +22,12 @@ returns-in-NoWork-clause-few c =
     let a = c.trace_and_clean-paid.ensures in
     let e = c.recycle_deferred.ensures in
     few-join (trace_steps c.trace_and_clean-paid.result.done sh + c.args.looks * look_steps sh) (recycle_steps sh) (view_of c.args.seat.now) (view_of c.trace_and_clean-paid.new.seat) (view_of c.recycle_deferred.new.seat) a.traces.traced.ran e.traced.ran a.few e.few
+
+pub returns-in-NoWork-clause-late : goal.returns-in-NoWork-clause-late
+returns-in-NoWork-clause-late c =
+    let v : View = view_of c.trace_and_clean-paid.new.seat in
+    let w : View = view_of c.recycle_deferred.new.seat in
+    let a = c.trace_and_clean-paid.ensures in
+    let e = c.recycle_deferred.ensures in
+    let all = looks-join c.args.looks 0 (view_of c.args.seat.now) v w a.traces.traced.ran e.traced.ran a.late (unlooked-few (events v w) e.unlooked) in
+    omega (arith, all)

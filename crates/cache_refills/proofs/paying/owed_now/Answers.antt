@@ -4,7 +4,7 @@ use Rattle.gc_table.specs.declared.view.View.{View}
 use Rattle.gc_table.proofs.Running.{ran-join}
 use Rattle.gc_cycle.proofs.Few.{few-after, few-join}
 use Rattle.cache_refills.proofs.Few.{looks-most}
-use Rattle.cache_refills.proofs.paying.quota_now.Goals as goal
+use Rattle.cache_refills.proofs.paying.owed_now.Goals as goal
 
 pub returns-clause-ran : goal.returns-clause-ran
 returns-clause-ran c =
@@ -31,4 +31,4 @@ returns-clause-few c =
     few-join 1 3 u v y p.ran (ran-join v w y q.ran (ran-join w x y r.ran s.ran)) (few-after u v _ _ p.read.1) more
 
 pub returns-clause-fewer : goal.returns-clause-fewer
-returns-clause-fewer c = let many = c.looks_of.ensures in let most = looks-most c.is_late.result in omega (arith, many, most)
+returns-clause-fewer c = let many = c.looks_of.ensures in let most = looks-most c.is_late-late.result in omega (arith, many, most)
