@@ -1,26 +1,31 @@
 /*
  * Texts that lie beside the heap, each at the place of its object, in memory of the program. Threads make objects with texts, hand them over in the root's fields, and
- * look at the texts of what they find there. Three rules make it right:
+ * look at the texts of what they find there. Four rules make it right:
  *
  * 1. Who made an object lays its text at its place before others can find it, and frees what lay there, which was of an object that is gone.
  * 2. Whoever looks at a text has a variable that refers to its object until it has looked.
  * 3. Who frees or reads a text got its address from the place anew.
+ * 4. Who knows that an object is gone, and frees its text before the place is taken again, frees it only where it is that object's still: the text is labelled by
+ *    the object's number, which no other object ever has, and whoever takes the label away by an exchange frees the text.
  *
- * With a fourth argument the second rule is broken: a place is used after its object was forgotten, and then another object's text is there. The program says so,
- * and ends with status 1. Arguments: threads, objects of each thread, cells, 1 to break the rule.
+ * A fourth argument breaks a rule. 1: a place is used after its object was forgotten, and then another object's text is there; the program says so, and ends with
+ * status 1. 2: an address is kept, and read when the text is freed. 3: a text is freed by its place alone, and is another object's. The sanitizers see both.
+ * Arguments: threads, objects of each thread, cells, 0 to 3.
  */
 #include "team.h"
 #include <string.h>
 
 enum { ROOT, NEW, FOUND, FIELDS = 8, LONG = 24 };
 
-static uint32_t threads, many, cells, breaks_rule;
+enum broken { NONE, PLACE_KEPT, ADDRESS_KEPT, LABEL_IGNORED };
+static uint32_t threads, many, cells, broken;
 
-/* The texts, by place. How often each place was looked at tells a sanitizer, which doesn't see into the library, that who looked did so before the object died. */
+/* The texts and their labels, by place: a label is 0 where no text lies. How often each place was looked at tells a sanitizer, which doesn't see into the library, that who looked did so before the object died. */
 static char **text_at;
+static uint64_t *label_at;
 static uint32_t *looks;
 
-static uint64_t texts_made, texts_read;
+static uint64_t texts_made, texts_read, texts_dropped;
 
 static void write_text(char *text, uint32_t value) { snprintf(text, LONG, "object %u", value); }
 
@@ -31,6 +36,13 @@ static uint32_t place_of(mh_mutator *m, uint32_t v) {
     return place;
 }
 
+/* What no other object has: the number of the mutator that made this one, and how many it had made before. */
+static uint64_t label_of(mh_mutator *m, uint32_t v) {
+    uint32_t section = 0, number = 0;
+    MUST(mh_number(m, v, &section, &number));
+    return (uint64_t)section << 32 | number;
+}
+
 /* NEW's object gets a text. */
 static void lay_text(mh_mutator *m) {
     uint32_t place = place_of(m, NEW);
@@ -38,8 +50,28 @@ static void lay_text(mh_mutator *m) {
     if (!text) exit(2);
     write_text(text, value_of(m, NEW));
     __atomic_load_n(&looks[place], __ATOMIC_ACQUIRE);
-    free(__atomic_exchange_n(&text_at[place], text, __ATOMIC_ACQ_REL));
+    if (__atomic_exchange_n(&label_at[place], 0, __ATOMIC_ACQ_REL)) free(__atomic_load_n(&text_at[place], __ATOMIC_ACQUIRE));
+    __atomic_store_n(&text_at[place], text, __ATOMIC_RELEASE);
+    __atomic_store_n(&label_at[place], label_of(m, NEW), __ATOMIC_RELEASE);
     __atomic_fetch_add(&texts_made, 1, __ATOMIC_RELAXED);
+}
+
+/* The text is freed that lay here, of an object that is gone, where nobody has freed it yet. It is read before the label is taken: as long as the label stands the
+   text is that object's, and once it is gone it never comes back. */
+static void drop_text(uint32_t place, uint64_t label) {
+    char *text = __atomic_load_n(&text_at[place], __ATOMIC_ACQUIRE);
+    if (broken == LABEL_IGNORED) free(text);
+    else if (__atomic_compare_exchange_n(&label_at[place], &label, 0, 0, __ATOMIC_ACQ_REL, __ATOMIC_RELAXED)) free(text);
+    __atomic_fetch_add(&texts_dropped, 1, __ATOMIC_RELAXED);
+}
+
+/* NEW's object, which no other thread has found, is let go of, with its text. */
+static void drop(mh_mutator *m) {
+    uint32_t place = place_of(m, NEW);
+    uint64_t label = label_of(m, NEW);
+    MUST(mh_forget(m, NEW));
+    MUST(mh_safe_point(m));
+    drop_text(place, label);
 }
 
 /* The text at this place is that of the object with this value. */
@@ -55,24 +87,32 @@ static void look(uint32_t place, uint32_t value) {
     __atomic_fetch_add(&texts_read, 1, __ATOMIC_RELAXED);
 }
 
-/* A place that is used after its object was forgotten, while objects are made. */
+/* A place that is used after its object was forgotten, while objects are made until one lies there, which FOUND keeps. */
 static void break_rule(mh_mutator *m) {
+    const char *text;
+    uint64_t label;
     uint32_t place, k;
     make(m, NEW, 0);
     lay_text(m);
     place = place_of(m, NEW);
+    label = label_of(m, NEW);
+    text = text_at[place];
     MUST(mh_forget(m, NEW));
-    for (k = 1; k <= 4 * cells; k++) {
+    for (k = 1; k <= 4 * cells && (is_nil(m, FOUND) || place_of(m, FOUND) != place); k++) {
         make(m, NEW, k);
         lay_text(m);
+        MUST(mh_copy(m, FOUND, NEW));
         MUST(mh_forget(m, NEW));
     }
-    look(place, 0);
+    if (broken == PLACE_KEPT) look(place, 0);
+    if (broken == ADDRESS_KEPT && strcmp(text, "object 0")) { printf("a text that is freed: %s\n", text); exit(1); }
+    drop_text(place, label);
+    look(place, value_of(m, FOUND));
 }
 
 static void begin(mh_mutator *m, uint32_t number) {
     (void)number;
-    if (breaks_rule) break_rule(m);
+    if (broken) break_rule(m);
 }
 
 static void work(mh_mutator *m, uint32_t number) {
@@ -82,6 +122,7 @@ static void work(mh_mutator *m, uint32_t number) {
     for (k = 0; k < many; k++) {
         make(m, NEW, number * many + k);
         lay_text(m);
+        if (!random_below(&seed, 8)) { drop(m); continue; }
         i = random_below(&seed, FIELDS);
         MUST(mh_set(m, ROOT, i, NEW));
         i = random_below(&seed, FIELDS);
@@ -109,17 +150,20 @@ int main(int count_of, char **words) {
     threads = number(count_of, words, 1, 4);
     many = number(count_of, words, 2, 50000);
     cells = number(count_of, words, 3, 320);
-    breaks_rule = number(count_of, words, 4, 0);
+    broken = number(count_of, words, 4, NONE);
     if (threads < 1 || threads > THREADS) return 2;
     text_at = calloc(cells, sizeof *text_at);
+    label_at = calloc(cells, sizeof *label_at);
     looks = calloc(cells, sizeof *looks);
-    if (!text_at || !looks) return 2;
+    if (!text_at || !label_at || !looks) return 2;
     act_together(cells, FIELDS, 0, threads, 0, begin, work, end);
     wrong("texts made", texts_made, (uint64_t)threads * many);
-    if (texts_read < many) wrong("texts read", texts_read, many);
-    for (k = 0; k < cells; k++) free(text_at[k]);
+    if (texts_read < many / 2) wrong("texts read", texts_read, many / 2);
+    for (k = 0; k < cells; k++) if (label_at[k]) free(text_at[k]);
     free(text_at);
+    free(label_at);
     free(looks);
-    printf("%-13s %-12s threads %u: %u texts beside the heap, by place, in %u cells: each was its object's\n", "places", COLLECTOR, threads, threads * many, cells);
+    printf("%-13s %-12s threads %u: %u texts beside the heap, by place, in %u cells: each was its object's, and %llu were freed early\n", "places", COLLECTOR, threads,
+           threads * many, cells, (unsigned long long)texts_dropped);
     return 0;
 }

@@ -129,6 +129,9 @@ for kind in address,undefined thread; do
         run 600 counter.checked 4 500 1
         run 600 torture.checked 4 1000 512 1 4
         run 600 places.checked 4 1500 320
+        for rule in 2 3; do
+            if timeout 300 "$work/places.checked" 1 1 320 $rule >"$work/log" 2>&1; then fail "what is freed is used, and -fsanitize=$kind doesn't notice"; fi
+        done
     else
         echo "== no -fsanitize=$kind here"
     fi
