@@ -16,7 +16,7 @@ fail() {
 }
 
 printf '#include "managed_heap.h"\nint main(void) { mh_world w = {0}; return mh_close(&w) == MH_GIVEN_BACK ? 0 : 1; }\n' >"$work/alone.c"
-cp "$work/alone.c" "$work/alone.cpp"
+sed 's/{0}/{}/' "$work/alone.c" >"$work/alone.cpp"
 compile() {
     command -v "$1" >/dev/null || { echo "no $1 here"; return; }
     for checked in "" -DMH_CHECKED; do

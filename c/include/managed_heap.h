@@ -27,7 +27,7 @@ extern "C" {
 #endif
 
 /* The version of these calls. The first number rises where a program has to be changed or compiled again. */
-#define MH_VERSION "2.1"
+#define MH_VERSION "3.0"
 
 /* What a call came to. Where it isn't MH_OK, objects and variables are as before, but for what a line here says. */
 typedef enum mh_status {
@@ -90,14 +90,17 @@ static inline const char *mh_status_text(mh_status s) {
  * Where MH_CHECKED is defined, for all files of a program, each call exchanges a word of the handle, and a second one is always MH_IN_USE. That is for tests: it
  * adds some 7 nanoseconds to a call.
  */
-typedef struct mh_world { void *at; } mh_world;
+typedef struct mh_world { void *at; struct mh_book *book; } mh_world;
 #ifdef MH_CHECKED
-typedef struct mh_mutator { void *at; uint32_t used; } mh_mutator;
+typedef struct mh_mutator { void *at; struct mh_book *book; uint32_t used; } mh_mutator;
 typedef struct mh_tracer { void *at; uint32_t used; } mh_tracer;
 #else
-typedef struct mh_mutator { void *at; } mh_mutator;
+typedef struct mh_mutator { void *at; struct mh_book *book; } mh_mutator;
 typedef struct mh_tracer { void *at; } mh_tracer;
 #endif
+
+/* How many variables a mutator has. */
+enum { MH_VARIABLES = 32 };
 
 /* Names from this one on are those that mh_open gives. */
 #define MH_NAMES 0x80000000u
@@ -168,6 +171,9 @@ static inline mh_status mh_was_used(uint32_t *used, mh_status s) {
 #define MH_BY(h, call) ((h)->at ? (call) : MH_GIVEN_BACK)
 #endif
 
+/* What the header itself keeps of a world: how many slots a mutator has. */
+typedef struct mh_book { uint32_t slots; } mh_book;
+
 /* The world: for one thread at a time. */
 
 /* How many worlds got their names here. Each file that includes this has the variable, and the linker keeps one. */
@@ -177,20 +183,36 @@ __attribute__((weak)) uint32_t mh_names_given = 0;
 /* Opens a world. */
 static inline mh_status mh_open(const mh_sizes *sizes, mh_world *w) {
     mh_sizes named = *sizes;
+    mh_book *book;
+    mh_status s;
     if (w->at) return MH_TAKEN;
     if (named.name >= MH_NAMES) return MH_OUT_OF_RANGE;
     if (!named.name) named.name = MH_NAMES + __atomic_fetch_add(&mh_names_given, 1u, __ATOMIC_RELAXED) % (MH_NAMES / 2u);
-    return mhl_open(&named, w);
+    book = (mh_book *)calloc(1, sizeof *book);
+    if (!book) return MH_OUT_OF_MEMORY;
+    book->slots = named.slots;
+    s = mhl_open(&named, w);
+    if (s == MH_OK) w->book = book;
+    else free(book);
+    return s;
 }
 /* Takes one of its mutators: it is outside, with the variables as who had it last left them, or all nil. */
-static inline mh_status mh_take_mutator(mh_world *w, mh_mutator *m) { return !w->at ? MH_GIVEN_BACK : m->at ? MH_TAKEN : mhl_take_mutator(w, m); }
+static inline mh_status mh_take_mutator(mh_world *w, mh_mutator *m) {
+    mh_status s = !w->at ? MH_GIVEN_BACK : m->at ? MH_TAKEN : mhl_take_mutator(w, m);
+    if (s == MH_OK) m->book = w->book;
+    return s;
+}
 /* What lay behind a handle that was given back is the program's to free. */
 static inline mh_status mh_emptied(void **at, mh_status s) {
     if (s == MH_OK) { free(*at); *at = 0; }
     return s;
 }
 /* Gives a mutator back, which leaves first. Its handle is all zero afterwards. What its variables refer to is kept, for whoever takes it next. */
-static inline mh_status mh_give_back(mh_world *w, mh_mutator *m) { return MH_BY(m, w->at ? mh_emptied(&m->at, mhl_give_back(w, m)) : MH_GIVEN_BACK); }
+static inline mh_status mh_give_back(mh_world *w, mh_mutator *m) {
+    mh_status s = MH_BY(m, w->at ? mh_emptied(&m->at, mhl_give_back(w, m)) : MH_GIVEN_BACK);
+    if (s == MH_OK) m->book = 0;
+    return s;
+}
 static inline mh_status mh_statistics(mh_world *w, mh_numbers *numbers) { return w->at ? mhl_statistics(w, numbers) : MH_GIVEN_BACK; }
 /* Takes one of its tracers. */
 static inline mh_status mh_take_tracer(mh_world *w, mh_tracer *t) { return !w->at ? MH_GIVEN_BACK : t->at ? MH_TAKEN : mhl_take_tracer(w, t); }
@@ -201,7 +223,11 @@ static inline mh_status mh_give_back_tracer(mh_world *w, mh_tracer *t) {
 /* Tells the tracers that they are dismissed, for good; MH_STOPPED where a stop is under way, and nothing is told. */
 static inline mh_status mh_dismiss_step(mh_world *w) { return w->at ? mhl_dismiss_step(w) : MH_GIVEN_BACK; }
 /* Frees the heap; MH_STILL_LENT where a mutator or a tracer isn't back. The handle is all zero afterwards. */
-static inline mh_status mh_close(mh_world *w) { return w->at ? mh_emptied(&w->at, mhl_close(w)) : MH_GIVEN_BACK; }
+static inline mh_status mh_close(mh_world *w) {
+    mh_status s = w->at ? mh_emptied(&w->at, mhl_close(w)) : MH_GIVEN_BACK;
+    if (s == MH_OK) { free(w->book); w->book = 0; }
+    return s;
+}
 
 /* A mutator: for one thread at a time. */
 
@@ -265,6 +291,13 @@ static inline mh_status mh_spill(mh_mutator *m, uint32_t v, uint32_t k) { return
 static inline mh_status mh_fill(mh_mutator *m, uint32_t v, uint32_t k) { return MH_BY(m, mhl_fill(m, v, k)); }
 /* The slots from `from` on and below `to` become nil. */
 static inline mh_status mh_forget_slots(mh_mutator *m, uint32_t from, uint32_t to) { return MH_BY(m, mhl_forget_slots(m, from, to)); }
+/* All variables become nil, and all slots. */
+static inline mh_status mh_forget_all(mh_mutator *m) {
+    mh_status s = MH_OK;
+    uint32_t v;
+    for (v = 0; s == MH_OK && v < MH_VARIABLES; v++) s = mh_forget(m, v);
+    return s == MH_OK && m->book->slots ? mh_forget_slots(m, 0, m->book->slots) : s;
+}
 /* The place of v's object, a number below the world's number of cells. The object stays there as long as it is reachable, and meanwhile no other is there.
    MH_NIL where v is nil. */
 static inline mh_status mh_place(mh_mutator *m, uint32_t v, uint32_t *place) { return MH_BY(m, mhl_place(m, v, place)); }
@@ -283,8 +316,14 @@ static inline mh_status mh_trace_turn(mh_tracer *t) { return MH_BY(t, mhl_trace_
 /* How often a thread that waits yields, and how long it sleeps from then on, at first and at most, in microseconds. */
 enum { MH_YIELDS = 16, MH_SHORTEST = 50, MH_LONGEST = 1000 };
 
+/* What a waiting thread sleeps by, where the program sets it: it is handed how long, in microseconds. No call of the library is under way then, so a program may
+   leave by longjmp from there, or let in a signal that is blocked elsewhere. Each file that includes this has the variable, and the linker keeps one. */
+extern void (*mh_sleeps_by)(uint32_t microseconds);
+__attribute__((weak)) void (*mh_sleeps_by)(uint32_t microseconds) = 0;
+
 static inline void mh_sleep(uint32_t microseconds) {
     struct timeval t;
+    if (mh_sleeps_by) { mh_sleeps_by(microseconds); return; }
     t.tv_sec = 0;
     t.tv_usec = (suseconds_t)microseconds;
     select(0, 0, 0, 0, &t);
@@ -351,6 +390,34 @@ static inline mh_status mh_make_with(mh_mutator *m, uint32_t v, uint32_t value, 
     int tries = 0;
     mh_status s;
     while ((s = mh_make_with_step(m, v, value, fields, count)) != MH_OK && (s = mh_make_room(m, s, &tries)) == MH_OK) {}
+    return s;
+}
+
+/* One step of mh_abandon, which doesn't wait: MH_NOT_YET where a step more is to be made, MH_STOPPED where another's collection is under way. A step of a collection
+   that was begun does at most so many roots, objects, cards or blocks. */
+static inline mh_status mh_abandon_step(mh_world *w, mh_mutator *m, int keeps, uint32_t most) {
+    mh_status s;
+    if (!w->at) return MH_GIVEN_BACK;
+    if (m->at && m->book != w->book) return MH_REFUSED;
+    s = mh_leave(m);
+    if (s == MH_COLLECTING) {
+        s = mh_collect_step(m, most);
+        return s == MH_OK || s == MH_STOPPED || s == MH_FULL ? MH_NOT_YET : s;
+    }
+    if (s == MH_OK && !keeps) s = mh_enter_step(m);
+    if (s == MH_OK && !keeps) s = mh_forget_all(m);
+    return s == MH_OK || s == MH_FULL ? mh_give_back(w, m) : s;
+}
+
+/* Gives up a handle that no thread uses any more, as the caller says: its thread has ended, or has jumped away over the calls of this header. A collection that it
+   had begun is made to its end; its variables and slots stay as they are for who takes the mutator next, or become nil where `keeps` is 0; it leaves, and goes
+   back. The handle is all zero afterwards. MH_IN_USE: the thread was in a call of the library itself, and nothing was done; what that call did isn't known, and
+   there is no way out. MH_REFUSED: the mutator is another world's. The caller is outside by its own handle, since it may wait here. */
+static inline mh_status mh_abandon(mh_world *w, mh_mutator *m, int keeps) {
+    uint32_t rests = 0, stopping;
+    mh_status s;
+    while ((s = mh_abandon_step(w, m, keeps, MH_STEP)) == MH_NOT_YET || s == MH_STOPPED)
+        if (s == MH_STOPPED || (mh_is_stopping(m, &stopping) == MH_OK && stopping)) mh_rest(&rests);
     return s;
 }
 

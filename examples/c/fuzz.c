@@ -4,6 +4,7 @@
  * that can be reached is compared with its shadow, so that none is lost or changed. In a shared world all threads have the root, which they look at; one thread
  * alone changes it too. Arguments: calls in all, threads, seed, 1 for a shared world.
  */
+#include "giving_up.h"
 #include "shared_calls.h"
 
 static void come_in(struct job *j) {
@@ -171,6 +172,8 @@ static void use_gone(struct job *j, uint32_t which) {
     case 21: SAYS(MH_GIVEN_BACK, mh_place(g, v, &out)); break;
     case 22: SAYS(MH_GIVEN_BACK, mh_number(g, v, &out, &out)); break;
     case 23: SAYS(MH_GIVEN_BACK, mh_make_with_step(g, v, 1, &w, 1)); break;
+    case 24: SAYS(MH_GIVEN_BACK, mh_forget_all(g)); break;
+    case 25: SAYS(MH_GIVEN_BACK, mh_abandon_step(&world, g, 0, 1)); break;
     default: SAYS(MH_GIVEN_BACK, mh_forget(g, v));
     }
     wrong("what a call by a handle that was given back wrote", out, 77);
@@ -233,9 +236,11 @@ static void *work(void *p) {
         else if (which < 82) move(j, which % 2 + (random_below(j, 8) ? 0 : 3));
         else if (which < 92) move(j, 2);
         else if (which < 96) move(j, j->place == INSIDE ? 2 : which % 4 + (which % 4 == 3));
-        else if (which < 99) use_gone(j, random_below(j, 25));
+        else if (which < 99) use_gone(j, random_below(j, 27));
         else if (!random_below(j, 20)) lend(j);
         else if (!random_below(j, 20)) lend_tracer(j);
+        else if (!random_below(j, 20)) forget_all(j);
+        else if (!random_below(j, 20)) abandon(j);
         if (j->calls >= next) {
             come_in(j);
             compare(j);
@@ -261,6 +266,7 @@ int main(int count_of, char **words) {
     sizes.shared = is_shared;
     sizes.slots = is_shared ? SLOTS : 0;
     MUST(mh_open(&sizes, &world));
+    MUST(mh_open(&sizes, &elsewhere));
     for (k = 0; k < n; k++) {
         jobs[k].seed = seed * 0x9e3779b97f4a7c15u + k + 1;
         jobs[k].calls = calls / n;
@@ -280,6 +286,7 @@ int main(int count_of, char **words) {
         for (s = 0; s < STATUSES; s++) answers[s] += jobs[k].answers[s];
     }
     MUST(mh_close(&world));
+    MUST(mh_close(&elsewhere));
     printf("%-13s %-12s threads %u seed %llu%s: %llu calls, %llu objects compared in %llu walks, %llu collections; answers", "fuzz", COLLECTOR, n,
            (unsigned long long)seed, is_shared ? " shared" : "", (unsigned long long)made, (unsigned long long)walked, (unsigned long long)walks, (unsigned long long)collections);
     for (s = 0; s < STATUSES; s++) if (answers[s]) printf(" %u:%llu", s, (unsigned long long)answers[s]);

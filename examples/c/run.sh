@@ -36,9 +36,9 @@ run() {
     timeout "$seconds" "$work/$program" "$@" || fail "$program $* ended with status $?"
 }
 
-programs="binary_trees gcbench rewriter fuzz fills_up edges billion speed queue map counter torture places misuse"
+programs="binary_trees gcbench rewriter fuzz fills_up edges billion speed queue map counter torture places misuse abandon"
 for name in $programs; do build "$name" "$name"; done
-for name in misuse fuzz speed; do build "$name" "$name.guarded" -DMH_CHECKED; done
+for name in misuse fuzz speed abandon; do build "$name" "$name.guarded" -DMH_CHECKED; done
 
 echo "== trees on 1, 2, 4 threads beside 0, 1, 2 tracers, and terms"
 for threads in 1 2 4; do
@@ -62,6 +62,11 @@ echo "== one handle used by two, and calls that exchange its word"
 run 60 misuse
 run 60 misuse.guarded 500000 4
 run 300 fuzz.guarded 300000 4 3 1
+
+echo "== handles that are left in the midst"
+run 120 abandon 120
+run 120 abandon 120 1
+run 120 abandon.guarded 60 1
 
 echo "== threads that share objects"
 for tracers in 0 2; do
@@ -114,7 +119,7 @@ fi
 for kind in address,undefined thread; do
     if echo 'int main(void) { return 0; }' | cc -fsanitize=$kind -o "$work/there" -x c - 2>"$work/log" && "$work/there"; then
         echo "== under -fsanitize=$kind"
-        for name in binary_trees gcbench rewriter fuzz fills_up edges queue map counter torture places; do build "$name" "$name.checked" -g -fsanitize=$kind -fno-sanitize-recover=all; done
+        for name in binary_trees gcbench rewriter fuzz fills_up edges queue map counter torture places abandon; do build "$name" "$name.checked" -g -fsanitize=$kind -fno-sanitize-recover=all; done
         run 600 binary_trees.checked 10 2 1 16384
         run 600 gcbench.checked 10
         run 600 rewriter.checked 5 5
@@ -132,6 +137,8 @@ for kind in address,undefined thread; do
         for rule in 2 3; do
             if timeout 300 "$work/places.checked" 1 1 320 $rule >"$work/log" 2>&1; then fail "what is freed is used, and -fsanitize=$kind doesn't notice"; fi
         done
+        run 300 abandon.checked 36
+        run 300 abandon.checked 36 1
     else
         echo "== no -fsanitize=$kind here"
     fi

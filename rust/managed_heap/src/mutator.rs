@@ -178,6 +178,15 @@ impl Mutator {
         self.handle.number(v)
     }
 
+    /// All variables refer to nothing any more, and all slots.
+    pub fn forget_all(&mut self) -> Result<(), Error> {
+        (0..VARIABLES).try_for_each(|v| self.forget(v))?;
+        match self.shared.slots {
+            0 => Ok(()),
+            slots => self.forget_slots(0..slots),
+        }
+    }
+
     /// A collection, after which exactly the objects that can be reached are kept; or another's, where that comes first.
     pub fn collect(&mut self) -> Result<(), Error> {
         let mut rests = Rests::default();
@@ -196,10 +205,7 @@ impl Drop for Mutator {
     /// Its variables and slots are forgotten, and it is the world's again.
     fn drop(&mut self) {
         if self.enter().is_ok() {
-            for v in 0..VARIABLES {
-                self.handle.forget(v);
-            }
-            self.handle.forget_slots(0, self.shared.slots);
+            let _ = self.forget_all();
         }
         self.handle.leave();
         let mut world = self.shared.lock();

@@ -58,6 +58,21 @@ fn each_call_does_what_it_says() {
 }
 
 #[test]
+fn all_variables_are_forgotten() {
+    let world = World::open(Sizes::of_cells(64)).unwrap();
+    let mut m = inside(&world);
+    for v in 0..VARIABLES {
+        m.make(v, v).unwrap();
+    }
+    m.forget_all().unwrap();
+    for v in 0..VARIABLES {
+        assert_eq!(m.is_nil(v), Ok(true));
+    }
+    m.leave().unwrap();
+    assert_eq!(m.forget_all(), Err(Error::Outside));
+}
+
+#[test]
 fn an_object_is_made_with_its_references() {
     let world = World::open(Sizes::of_cells(64).fields(3)).unwrap();
     let mut m = inside(&world);
