@@ -5,8 +5,9 @@
 //! is told by an answer of its own ([`Came::NotShared`]).
 //!
 //! `stepper` and `background` are the types. A stepper's calls are in `stepping` and `asking`, those of a world that shares its objects in `acting`, `spilling`
-//! and `knowing`; `operations` has one operation of either kind of heap. Its collection is in `steps`, over `tries`, `leaving`, `collecting` and `draining`. `resting` and `handing`
-//! say how a stepper is made of a seat and comes apart again. `marking` is a tracer's turn, `try_turns` one that doesn't wait, and `dismissing` ends them.
+//! and `knowing`; `operations` has one operation of either kind of heap. Its collection is in `steps`, over `tries`, `leaving`, `collecting` and `draining`, and
+//! `telling` says how far it is. `resting` and `handing` say how a stepper is made of a seat and comes apart again. `marking` is a tracer's turn, `try_turns`
+//! one that doesn't wait, and `dismissing` ends them.
 #![tactic(auto)]
 
 mod acting;
@@ -25,6 +26,7 @@ mod spilling;
 mod stepper;
 mod stepping;
 mod steps;
+mod telling;
 mod tries;
 mod try_turns;
 

@@ -1,0 +1,45 @@
+//! How far a stepper's collection is.
+ghost use Rattle.std.specs.Prelude.{◌≡◌};
+ghost use Rattle.mark_core.specs.Seats.{saw};
+ghost use Rattle.mark_core.specs.declared.kinds.Phase.TheVariants.{Marking};
+ghost use Rattle.gc_table.specs.Seats.{state_of};
+ghost use Rattle.seat_steps.specs.Steps.{counts_of};
+
+use crate::collecting::saw_marking;
+use crate::stepper::{Stage, Stepper};
+use gc_cycle::Counts;
+
+impl Stepper {
+    /// Where it stands.
+    pub fn stage(&self) -> Stage
+        ensures stage { result ≡ self.now.stage }
+    {
+        self.stage
+    }
+
+    /// What its collection has counted: how many cells it freed, from the sweep on, and how many are in use, once it is at [`Stage::Ending`]. There its next step
+    /// ends the cycle by these counts. No object is counted as scanned again.
+    pub fn counts(&self) -> Counts
+        ensures counts { result ≡ counts_of self.now }
+    {
+        Counts {
+            marked: self.counted,
+            freed: self.freed,
+            rescanned: 0,
+        }
+    }
+
+    /// Whether its collection is to mark once more. As it begins to mark that says whether a cycle was marking beside the program when the world stopped.
+    pub fn is_to_mark_again(&self) -> bool
+        ensures again { result ≡ self.now.again }
+    {
+        self.again
+    }
+
+    /// Whether it read last that a cycle is marking.
+    pub fn saw_marking(&self) -> bool
+        ensures marking { result ≡ saw (state_of self.now.seat).phase_seen Marking }
+    {
+        saw_marking(&self.seat)
+    }
+}
