@@ -5,6 +5,7 @@ pub mod Made
 pub mod Numbered
 pub mod Stored
 pub mod Tested
+pub mod Told
 pub mod Turned
 pub mod Used
 pub mod Values

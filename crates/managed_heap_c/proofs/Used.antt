@@ -11,7 +11,7 @@ use Rattle.managed_heap_c.specs.declared.hands.Hand.{Hand}
 abbrev pub Begun : Hand → Hand → Type 0
 Begun m b = IsFalse m.busy × (b ≡ record m { busy = true })
 
-has : {x m b : Hand} → m ≡ x → Begun m b → b.stepper ≡ x.stepper
+pub has : {x m b : Hand} → m ≡ x → Begun m b → b.stepper ≡ x.stepper
 has lent begun = ap (λ (h : Hand). h.stepper) begun.1 ∙ ap (λ (h : Hand). h.stepper) lent
 
 -- the handle has what the call had, before and after

@@ -12,4 +12,5 @@ pub mod Sharing
 pub mod Sizing
 pub mod Storing
 pub mod Taking
+pub mod Telling
 pub mod Tracers

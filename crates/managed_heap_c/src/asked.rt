@@ -10,7 +10,7 @@ use crate::statuses::{GIVEN_BACK, OK, status};
 use seat_steps::Came;
 
 /// An answer as C has it.
-fn number_of(told: bool) -> u32
+pub fn number_of(told: bool) -> u32
     ensures number { result ≡ number_of_answer told }
 {
     if told { 1 } else { 0 }

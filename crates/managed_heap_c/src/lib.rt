@@ -11,6 +11,7 @@ mod asked;
 mod asking;
 mod bytes;
 mod calls;
+mod course;
 mod handles;
 mod hands;
 mod kinds;
