@@ -21,6 +21,8 @@
 #include <stdint.h>
 #include <stdlib.h>
 #include <sys/select.h>
+#include <sys/time.h>
+#include <time.h>
 
 #ifdef __cplusplus
 extern "C" {
@@ -92,11 +94,11 @@ static inline const char *mh_status_text(mh_status s) {
  */
 typedef struct mh_world { void *at; struct mh_book *book; } mh_world;
 #ifdef MH_CHECKED
-typedef struct mh_mutator { void *at; struct mh_book *book; uint32_t used; } mh_mutator;
-typedef struct mh_tracer { void *at; uint32_t used; } mh_tracer;
+typedef struct mh_mutator { void *at; struct mh_book *book; uint32_t made, used; } mh_mutator;
+typedef struct mh_tracer { void *at; struct mh_book *book; uint64_t told; uint32_t used; } mh_tracer;
 #else
-typedef struct mh_mutator { void *at; struct mh_book *book; } mh_mutator;
-typedef struct mh_tracer { void *at; } mh_tracer;
+typedef struct mh_mutator { void *at; struct mh_book *book; uint32_t made; } mh_mutator;
+typedef struct mh_tracer { void *at; struct mh_book *book; uint64_t told; } mh_tracer;
 #endif
 
 /* How many variables a mutator has. */
@@ -124,6 +126,39 @@ typedef struct mh_numbers {
     uint64_t free;   /* cells free in blocks that no mutator has claimed */
     uint64_t marked; /* cells that the last cycle marked */
 } mh_numbers;
+
+/* A cycle that has ended. Times are in nanoseconds. */
+typedef struct mh_cycle {
+    uint64_t number;  /* how many cycles had ended in this world, with this one */
+    uint64_t why;     /* MH_ASKED or MH_LACKED */
+    uint64_t beside;  /* 1 where a cycle was marking beside the program as the world stopped, else 0. What it had marked was finished, and marked anew */
+    uint64_t marked;  /* how long one was seen to mark beside the program, before the stop was asked for; 0 where none was seen */
+    uint64_t tracers; /* how many objects tracers traced beside the program since the cycle before */
+    uint64_t waited;  /* how long the world took to stop */
+    uint64_t stopped; /* how long it stood still, */
+    uint64_t swept;   /* and how long of that it was swept, and the cells in use were counted */
+    uint64_t freed;   /* how many cells were freed, */
+    uint64_t kept;    /* and how many are in use */
+} mh_cycle;
+
+/* Why a cycle ended: a collection was asked for, or no cell was free for an object. */
+enum { MH_ASKED = 0, MH_LACKED = 1 };
+
+/* How far the collection of a mutator is: where it stands; 1 where it is to mark once more, and 1 where it read last that a cycle is marking, else 0; how many cells
+   its sweep has freed, and how many in use it has counted. At MH_AT_END its next step ends the cycle by these two. */
+typedef struct mh_course {
+    uint32_t stage;
+    uint32_t again;
+    uint32_t marking;
+    uint32_t freed;
+    uint32_t kept;
+} mh_course;
+
+/* Where a mutator stands: outside, inside, or between two steps of its collection. */
+enum {
+    MH_AT_OUTSIDE = 0, MH_AT_INSIDE = 1, MH_AT_STOP = 2, MH_AT_ROOTS = 3, MH_AT_DRAIN = 4, MH_AT_LOOK = 5, MH_AT_CLEAN = 6, MH_AT_CLEAR = 7, MH_AT_SWEEP = 8,
+    MH_AT_COUNT = 9, MH_AT_END = 10
+};
 
 /* What the library exports. Each takes a handle that isn't all zero: call the functions below. */
 mh_status mhl_open(const mh_sizes *sizes, mh_world *world);
@@ -158,6 +193,8 @@ mh_status mhl_take_tracer(mh_world *world, mh_tracer *t);
 mh_status mhl_give_back_tracer(mh_world *world, mh_tracer *t);
 mh_status mhl_trace_turn(mh_tracer *t);
 mh_status mhl_dismiss_step(mh_world *world);
+mh_status mhl_course(mh_mutator *m, mh_course *course);
+mh_status mhl_traced(mh_tracer *t, uint64_t *traced);
 
 /* A call by the handle of a mutator or of a tracer. */
 #ifdef MH_CHECKED
@@ -171,8 +208,76 @@ static inline mh_status mh_was_used(uint32_t *used, mh_status s) {
 #define MH_BY(h, call) ((h)->at ? (call) : MH_GIVEN_BACK)
 #endif
 
-/* What the header itself keeps of a world: how many slots a mutator has. */
-typedef struct mh_book { uint32_t slots; } mh_book;
+/* What the header itself keeps of a world, by atomic words: how many slots a mutator has, and the cycles. */
+
+enum { MH_CYCLE_NUMBERS = 10 };
+
+typedef struct mh_book {
+    uint64_t (*watch)(void);
+    uint32_t slots;
+    uint32_t turns;                  /* is raised before and after the last cycle is written */
+    uint64_t last[MH_CYCLE_NUMBERS]; /* that cycle */
+    uint64_t stage, why, beside;     /* of the collection under way */
+    uint64_t began, asked, stopped, swept; /* when marking was first seen, and when it got so far */
+    uint64_t traced, traced_before;  /* what all tracers have told, and had as the last cycle ended */
+} mh_book;
+
+static inline uint64_t mh_noted(const uint64_t *number) { return __atomic_load_n(number, __ATOMIC_ACQUIRE); }
+static inline void mh_note(uint64_t *number, uint64_t n) { __atomic_store_n(number, n, __ATOMIC_RELEASE); }
+
+/* The time, in nanoseconds: by a clock that nobody sets where <time.h> has it, as under -std=gnu11 or with _POSIX_C_SOURCE. */
+static inline uint64_t mh_now(void) {
+#ifdef CLOCK_MONOTONIC
+    struct timespec t;
+    clock_gettime(CLOCK_MONOTONIC, &t);
+    return (uint64_t)t.tv_sec * 1000000000u + (uint64_t)t.tv_nsec;
+#else
+    struct timeval t;
+    gettimeofday(&t, 0);
+    return (uint64_t)t.tv_sec * 1000000000u + (uint64_t)t.tv_usec * 1000u;
+#endif
+}
+
+/* The cycle that the mutator is about to end is written. Nobody else writes one meanwhile, since the world stands still. */
+static inline void mh_write_cycle(mh_book *book, const mh_course *course) {
+    uint64_t now = book->watch(), began = mh_noted(&book->began), asked = mh_noted(&book->asked), stopped = mh_noted(&book->stopped);
+    uint64_t traced = mh_noted(&book->traced), number = mh_noted(&book->last[0]) + 1;
+    __atomic_store_n(&book->turns, __atomic_load_n(&book->turns, __ATOMIC_RELAXED) + 1u, __ATOMIC_RELAXED);
+    mh_note(&book->last[0], number);
+    mh_note(&book->last[1], mh_noted(&book->why));
+    mh_note(&book->last[2], mh_noted(&book->beside));
+    mh_note(&book->last[3], began && began < asked ? asked - began : 0);
+    mh_note(&book->last[4], traced - mh_noted(&book->traced_before));
+    mh_note(&book->last[5], stopped - asked);
+    mh_note(&book->last[6], now - stopped);
+    mh_note(&book->last[7], now - mh_noted(&book->swept));
+    mh_note(&book->last[8], course->freed);
+    mh_note(&book->last[9], course->kept);
+    __atomic_store_n(&book->turns, __atomic_load_n(&book->turns, __ATOMIC_RELAXED) + 1u, __ATOMIC_RELEASE);
+    mh_note(&book->traced_before, traced);
+    mh_note(&book->began, 0);
+}
+
+/* What is noted of a collection after a step of it, by the mutator that has the stop. */
+static inline void mh_note_course(mh_book *book, const mh_course *course, uint64_t why) {
+    uint64_t before = mh_noted(&book->stage);
+    if (course->stage == before) return;
+    mh_note(&book->stage, course->stage);
+    switch (course->stage) {
+    case MH_AT_STOP:
+        mh_note(&book->asked, book->watch());
+        mh_note(&book->why, why);
+        return;
+    case MH_AT_ROOTS:
+        if (before != MH_AT_STOP) return;
+        mh_note(&book->stopped, book->watch());
+        mh_note(&book->beside, course->again);
+        return;
+    case MH_AT_SWEEP: mh_note(&book->swept, book->watch()); return;
+    case MH_AT_END: mh_write_cycle(book, course); return;
+    default: return;
+    }
+}
 
 /* The world: for one thread at a time. */
 
@@ -190,6 +295,7 @@ static inline mh_status mh_open(const mh_sizes *sizes, mh_world *w) {
     if (!named.name) named.name = MH_NAMES + __atomic_fetch_add(&mh_names_given, 1u, __ATOMIC_RELAXED) % (MH_NAMES / 2u);
     book = (mh_book *)calloc(1, sizeof *book);
     if (!book) return MH_OUT_OF_MEMORY;
+    book->watch = mh_now;
     book->slots = named.slots;
     s = mhl_open(&named, w);
     if (s == MH_OK) w->book = book;
@@ -199,7 +305,7 @@ static inline mh_status mh_open(const mh_sizes *sizes, mh_world *w) {
 /* Takes one of its mutators: it is outside, with the variables as who had it last left them, or all nil. */
 static inline mh_status mh_take_mutator(mh_world *w, mh_mutator *m) {
     mh_status s = !w->at ? MH_GIVEN_BACK : m->at ? MH_TAKEN : mhl_take_mutator(w, m);
-    if (s == MH_OK) m->book = w->book;
+    if (s == MH_OK) { m->book = w->book; m->made = 0; }
     return s;
 }
 /* What lay behind a handle that was given back is the program's to free. */
@@ -215,10 +321,16 @@ static inline mh_status mh_give_back(mh_world *w, mh_mutator *m) {
 }
 static inline mh_status mh_statistics(mh_world *w, mh_numbers *numbers) { return w->at ? mhl_statistics(w, numbers) : MH_GIVEN_BACK; }
 /* Takes one of its tracers. */
-static inline mh_status mh_take_tracer(mh_world *w, mh_tracer *t) { return !w->at ? MH_GIVEN_BACK : t->at ? MH_TAKEN : mhl_take_tracer(w, t); }
+static inline mh_status mh_take_tracer(mh_world *w, mh_tracer *t) {
+    mh_status s = !w->at ? MH_GIVEN_BACK : t->at ? MH_TAKEN : mhl_take_tracer(w, t);
+    if (s == MH_OK) { t->book = w->book; mhl_traced(t, &t->told); }
+    return s;
+}
 /* Gives a tracer back. Its handle is all zero afterwards. */
 static inline mh_status mh_give_back_tracer(mh_world *w, mh_tracer *t) {
-    return MH_BY(t, w->at ? mh_emptied(&t->at, mhl_give_back_tracer(w, t)) : MH_GIVEN_BACK);
+    mh_status s = MH_BY(t, w->at ? mh_emptied(&t->at, mhl_give_back_tracer(w, t)) : MH_GIVEN_BACK);
+    if (s == MH_OK) { t->book = 0; t->told = 0; }
+    return s;
 }
 /* Tells the tracers that they are dismissed, for good; MH_STOPPED where a stop is under way, and nothing is told. */
 static inline mh_status mh_dismiss_step(mh_world *w) { return w->at ? mhl_dismiss_step(w) : MH_GIVEN_BACK; }
@@ -227,6 +339,29 @@ static inline mh_status mh_close(mh_world *w) {
     mh_status s = w->at ? mh_emptied(&w->at, mhl_close(w)) : MH_GIVEN_BACK;
     if (s == MH_OK) { free(w->book); w->book = 0; }
     return s;
+}
+/* The last cycle that has ended; MH_NOT_YET where none has, and nothing is written. Any thread may ask, while the world is open. */
+static inline mh_status mh_last_cycle(const mh_world *w, mh_cycle *cycle) {
+    const mh_book *book = w->book;
+    uint64_t n[MH_CYCLE_NUMBERS];
+    uint32_t before, k;
+    if (!book) return MH_GIVEN_BACK;
+    do {
+        before = __atomic_load_n(&book->turns, __ATOMIC_ACQUIRE);
+        for (k = 0; k < MH_CYCLE_NUMBERS; k++) n[k] = mh_noted(&book->last[k]);
+    } while (before % 2u || before != __atomic_load_n(&book->turns, __ATOMIC_RELAXED));
+    if (!n[0]) return MH_NOT_YET;
+    cycle->number = n[0];
+    cycle->why = n[1];
+    cycle->beside = n[2];
+    cycle->marked = n[3];
+    cycle->tracers = n[4];
+    cycle->waited = n[5];
+    cycle->stopped = n[6];
+    cycle->swept = n[7];
+    cycle->freed = n[8];
+    cycle->kept = n[9];
+    return MH_OK;
 }
 
 /* A mutator: for one thread at a time. */
@@ -237,8 +372,21 @@ static inline mh_status mh_enter_step(mh_mutator *m) { return MH_BY(m, mhl_enter
 static inline mh_status mh_leave(mh_mutator *m) { return MH_BY(m, mhl_leave(m)); }
 /* A safe point: MH_STOPPED where the mutator left, as a stop is under way. */
 static inline mh_status mh_safe_point_step(mh_mutator *m) { return MH_BY(m, mhl_pass(m)); }
+
+/* Notes when a cycle is seen to mark first. Each 64th object of a mutator is looked at: it gets cells for as many at most at a time, and reads the phase then. */
+static inline void mh_see_marking(mh_mutator *m) {
+    mh_course course;
+    uint64_t none = 0;
+    if (mh_noted(&m->book->began) || MH_BY(m, mhl_course(m, &course)) != MH_OK || !course.marking) return;
+    __atomic_compare_exchange_n(&m->book->began, &none, m->book->watch(), 0, __ATOMIC_RELEASE, __ATOMIC_RELAXED);
+}
+static inline mh_status mh_counted(mh_mutator *m, mh_status s) {
+    if (s == MH_OK && !(++m->made % 64u)) mh_see_marking(m);
+    return s;
+}
+
 /* v refers to a new object, whose fields are nil; MH_NO_CELL where no cell is free. It is a safe point too. */
-static inline mh_status mh_make_step(mh_mutator *m, uint32_t v, uint32_t value) { return MH_BY(m, mhl_make(m, v, value)); }
+static inline mh_status mh_make_step(mh_mutator *m, uint32_t v, uint32_t value) { return mh_counted(m, MH_BY(m, mhl_make(m, v, value))); }
 
 /* Stands for no variable among the fields of mh_make_with: that field stays nil. */
 #define MH_NOTHING 0xffffffffu
@@ -248,7 +396,7 @@ static inline mh_status mh_make_step(mh_mutator *m, uint32_t v, uint32_t value) 
    fields; else as mh_make_step. */
 static inline mh_status mh_make_with_step(mh_mutator *m, uint32_t v, uint32_t value, const uint32_t *fields, uint32_t count) {
     uint32_t none = MH_NOTHING;
-    return MH_BY(m, mhl_make_with(m, v, value, count ? fields : &none, count));
+    return mh_counted(m, MH_BY(m, mhl_make_with(m, v, value, count ? fields : &none, count)));
 }
 /* Field i of v's object becomes w; MH_NIL where v is nil. */
 static inline mh_status mh_set(mh_mutator *m, uint32_t v, uint32_t i, uint32_t w) { return MH_BY(m, mhl_set(m, v, i, w)); }
@@ -266,9 +414,15 @@ static inline mh_status mh_value(mh_mutator *m, uint32_t v, uint32_t *out) { ret
 static inline mh_status mh_is_nil(mh_mutator *m, uint32_t v, uint32_t *out) { return MH_BY(m, mhl_is_nil(m, v, out)); }
 /* 1 where v and w refer to one object, or both to nothing, else 0. */
 static inline mh_status mh_same(mh_mutator *m, uint32_t v, uint32_t w, uint32_t *out) { return MH_BY(m, mhl_same(m, v, w, out)); }
+static inline mh_status mh_collect_step_for(mh_mutator *m, uint32_t most, uint64_t why) {
+    mh_status s = MH_BY(m, mhl_collect_step(m, most));
+    mh_course course;
+    if (s == MH_NOT_YET && MH_BY(m, mhl_course(m, &course)) == MH_OK) mh_note_course(m->book, &course, why);
+    return s;
+}
 /* The next step of a collection of the mutator's own: at most so many roots, objects, cards of 16 cells or blocks of 64 are done in it. Blocks are cleared and
    swept in stretches (of 1 to 128, by the heap's size), and one at least. */
-static inline mh_status mh_collect_step(mh_mutator *m, uint32_t most) { return MH_BY(m, mhl_collect_step(m, most)); }
+static inline mh_status mh_collect_step(mh_mutator *m, uint32_t most) { return mh_collect_step_for(m, most, MH_ASKED); }
 /* 1 where its collection waits for the mutators that are inside, so that a rest is due before its next step, else 0. */
 static inline mh_status mh_is_stopping(mh_mutator *m, uint32_t *out) { return MH_BY(m, mhl_is_stopping(m, out)); }
 
@@ -309,7 +463,15 @@ static inline mh_status mh_number(mh_mutator *m, uint32_t v, uint32_t *section, 
 
 /* One turn, which marks at most 64 objects and passes at most 1,024 cards: MH_OK where a cycle is marking, MH_IDLE where none is, MH_STOPPED where a stop is
    under way, MH_DISMISSED and MH_FULL where no turn is to follow. */
-static inline mh_status mh_trace_turn(mh_tracer *t) { return MH_BY(t, mhl_trace_turn(t)); }
+static inline mh_status mh_trace_turn(mh_tracer *t) {
+    mh_status s = MH_BY(t, mhl_trace_turn(t));
+    uint64_t traced;
+    if (s == MH_OK && MH_BY(t, mhl_traced(t, &traced)) == MH_OK) {
+        __atomic_fetch_add(&t->book->traced, traced - t->told, __ATOMIC_RELAXED);
+        t->told = traced;
+    }
+    return s;
+}
 
 /* The calls that wait. Each goes on until it is done, and so rests on the other threads' safe points. */
 
@@ -357,14 +519,21 @@ static inline mh_status mh_safe_point(mh_mutator *m) {
 /* How many roots, objects, cards or blocks a step of mh_collect does. */
 enum { MH_STEP = 4096 };
 
-/* A collection of the mutator's own; MH_OK too where another's came first. */
-static inline mh_status mh_collect(mh_mutator *m) {
+/* The steps of a collection, with rests while others are inside. */
+static inline mh_status mh_collect_steps(mh_mutator *m, uint64_t why) {
     uint32_t rests = 0, stopping;
     mh_status s;
-    while ((s = mh_collect_step(m, MH_STEP)) == MH_NOT_YET)
+    while ((s = mh_collect_step_for(m, MH_STEP, why)) == MH_NOT_YET)
         if (mh_is_stopping(m, &stopping) == MH_OK && stopping) mh_rest(&rests);
+    return s;
+}
+static inline mh_status mh_collect_for(mh_mutator *m, uint64_t why) {
+    mh_status s = mh_collect_steps(m, why);
     return s == MH_STOPPED ? mh_enter(m) : s;
 }
+
+/* A collection of the mutator's own; MH_OK too where another's came first. */
+static inline mh_status mh_collect(mh_mutator *m) { return mh_collect_for(m, MH_ASKED); }
 
 /* How many collections of its own mh_make makes for one object, before it answers MH_NO_CELL. */
 enum { MH_TRIES = 3 };
@@ -372,7 +541,7 @@ enum { MH_TRIES = 3 };
 /* What a call does that makes an object, where a step came to s and made none: MH_OK where it is to take the next step. */
 static inline mh_status mh_make_room(mh_mutator *m, mh_status s, int *tries) {
     if (s == MH_STOPPED) return mh_enter(m);
-    return s != MH_NO_CELL || (*tries)++ == MH_TRIES ? s : mh_collect(m);
+    return s != MH_NO_CELL || (*tries)++ == MH_TRIES ? s : mh_collect_for(m, MH_LACKED);
 }
 
 /* v refers to a new object, whose fields are nil, with a collection where no cell is free. MH_NO_CELL: the collections left none for this mutator; others have

@@ -241,6 +241,7 @@ static void *work(void *p) {
         else if (!random_below(j, 20)) lend_tracer(j);
         else if (!random_below(j, 20)) forget_all(j);
         else if (!random_below(j, 20)) abandon(j);
+        else look_at_cycle(j);
         if (j->calls >= next) {
             come_in(j);
             compare(j);

@@ -1,4 +1,4 @@
-/* The calls at random of fuzz.c by which all roots are let go of, and handles are given up. */
+/* The calls at random of fuzz.c by which all roots are let go of, and handles are given up, and what is known of the cycles meanwhile. */
 #ifndef GIVING_UP_H
 #define GIVING_UP_H
 
@@ -41,6 +41,19 @@ static void abandon(struct job *j) {
     }
     j->place = OUTSIDE;
     if (!keeps) forget_roots(j);
+}
+
+/* The last cycle has no smaller number than one that was told before, and no more cells than there are. */
+static void look_at_cycle(struct job *j) {
+    mh_cycle cycle = {0, 77, 77, 0, 0, 0, 0, 0, 0, 0};
+    mh_status s = told(j, mh_last_cycle(&world, &cycle));
+    if (s == MH_NOT_YET) { wrong("a cycle that is written where none has ended", cycle.why, 77); wrong("how many were told", j->cycles, 0); return; }
+    must(s, MH_OK, "mh_last_cycle", __FILE__, __LINE__);
+    if (cycle.number < j->cycles) wrong("the number of the last cycle", cycle.number, j->cycles);
+    if (cycle.why > MH_LACKED || cycle.beside > 1) wrong("why it ended", cycle.why, MH_LACKED);
+    if (cycle.freed + cycle.kept > cells) wrong("the cells that it freed and kept", cycle.freed + cycle.kept, cells);
+    if (cycle.swept > cycle.stopped) wrong("how long it was swept", cycle.swept, cycle.stopped);
+    j->cycles = cycle.number;
 }
 
 #endif

@@ -36,7 +36,7 @@ run() {
     timeout "$seconds" "$work/$program" "$@" || fail "$program $* ended with status $?"
 }
 
-programs="binary_trees gcbench rewriter fuzz fills_up edges billion speed queue map counter torture places misuse abandon"
+programs="binary_trees gcbench rewriter fuzz fills_up edges billion speed queue map counter torture places misuse abandon cycles"
 for name in $programs; do build "$name" "$name"; done
 for name in misuse fuzz speed abandon; do build "$name" "$name.guarded" -DMH_CHECKED; done
 
@@ -63,10 +63,12 @@ run 60 misuse
 run 60 misuse.guarded 500000 4
 run 300 fuzz.guarded 300000 4 3 1
 
-echo "== handles that are left in the midst"
+echo "== handles that are left in the midst, and what is told of cycles"
 run 120 abandon 120
 run 120 abandon 120 1
 run 120 abandon.guarded 60 1
+run 120 cycles 4 300000 16384 1
+run 120 cycles 2 300000 16384 0
 
 echo "== threads that share objects"
 for tracers in 0 2; do
@@ -119,7 +121,7 @@ fi
 for kind in address,undefined thread; do
     if echo 'int main(void) { return 0; }' | cc -fsanitize=$kind -o "$work/there" -x c - 2>"$work/log" && "$work/there"; then
         echo "== under -fsanitize=$kind"
-        for name in binary_trees gcbench rewriter fuzz fills_up edges queue map counter torture places abandon; do build "$name" "$name.checked" -g -fsanitize=$kind -fno-sanitize-recover=all; done
+        for name in binary_trees gcbench rewriter fuzz fills_up edges queue map counter torture places abandon cycles; do build "$name" "$name.checked" -g -fsanitize=$kind -fno-sanitize-recover=all; done
         run 600 binary_trees.checked 10 2 1 16384
         run 600 gcbench.checked 10
         run 600 rewriter.checked 5 5
@@ -139,6 +141,7 @@ for kind in address,undefined thread; do
         done
         run 300 abandon.checked 36
         run 300 abandon.checked 36 1
+        run 300 cycles.checked 4 30000 16384 1
     else
         echo "== no -fsanitize=$kind here"
     fi

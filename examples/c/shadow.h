@@ -26,7 +26,7 @@ struct job {
     mh_tracer t, none;
     struct shadow of[OBJECTS + 1];
     int32_t variable[VARIABLES], slot[SLOTS], waiting[OBJECTS + 1];
-    uint64_t seed, calls, answers[STATUSES], walked, walks, collections;
+    uint64_t seed, calls, answers[STATUSES], walked, walks, collections, cycles;
     uint32_t round, maker, made;
     enum place place;
 };

@@ -88,6 +88,7 @@
 //! ```
 #![warn(missing_docs)]
 
+mod cycles;
 mod error;
 mod library;
 mod mutator;
@@ -95,6 +96,7 @@ mod resting;
 mod tracer;
 mod world;
 
+pub use cycles::{Cycle, Why};
 pub use error::Error;
 pub use mutator::{Mutator, VARIABLES};
 pub use tracer::{Tracer, Turn};

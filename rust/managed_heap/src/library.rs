@@ -25,6 +25,17 @@ pub(crate) struct RawNumbers {
     pub marked: u64,
 }
 
+/// How far the collection of a mutator is, as the library writes it.
+#[repr(C)]
+#[derive(Default)]
+pub(crate) struct RawCourse {
+    pub stage: u32,
+    pub again: u32,
+    pub marking: u32,
+    pub freed: u32,
+    pub kept: u32,
+}
+
 /// A handle: the address of what the library keeps behind it.
 #[repr(C)]
 pub(crate) struct Handle {
@@ -67,7 +78,9 @@ extern "C" {
     fn mhl_forget_slots(m: *mut Handle, from: u32, to: u32) -> u32;
     fn mhl_place(m: *mut Handle, v: u32, place: *mut u32) -> u32;
     fn mhl_number(m: *mut Handle, v: u32, section: *mut u32, number: *mut u32) -> u32;
+    fn mhl_course(m: *mut Handle, out: *mut RawCourse) -> u32;
     fn mhl_trace_turn(t: *mut Handle) -> u32;
+    fn mhl_traced(t: *mut Handle, out: *mut u64) -> u32;
     fn free(at: *mut c_void);
 }
 
@@ -221,7 +234,19 @@ impl Handle {
         Handle::written(|number| unsafe { mhl_number(self, v, &mut maker, number) }).map(|number| (maker, number))
     }
 
+    pub fn course(&mut self) -> RawCourse {
+        let mut course = RawCourse::default();
+        unsafe { mhl_course(self, &mut course) };
+        course
+    }
+
     pub fn trace_turn(&mut self) -> u32 {
         unsafe { mhl_trace_turn(self) }
+    }
+
+    pub fn traced(&mut self) -> u64 {
+        let mut traced = 0;
+        unsafe { mhl_traced(self, &mut traced) };
+        traced
     }
 }

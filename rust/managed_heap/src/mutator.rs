@@ -1,5 +1,6 @@
 //! Mutators.
 
+use crate::cycles::Why;
 use crate::error::{Error, NOT_YET, NO_CELL, STOPPED};
 use crate::library::Handle;
 use crate::resting::Rests;
@@ -19,6 +20,9 @@ const FIELDS: usize = 16;
 /// What stands for no variable where one may be given.
 const NOTHING: u32 = u32::MAX;
 
+/// With each of so many objects it looks whether a cycle is marking: it gets cells for as many at most at a time, and reads the phase then.
+const LOOK: u64 = 64;
+
 /// How many collections it makes for one object.
 const TRIES: u32 = 3;
 
@@ -32,11 +36,13 @@ const TRIES: u32 = 3;
 pub struct Mutator {
     handle: Handle,
     shared: Arc<Shared>,
+    /// How many objects it has made.
+    made: u64,
 }
 
 impl Mutator {
     pub(crate) fn new(handle: Handle, shared: Arc<Shared>) -> Mutator {
-        Mutator { handle, shared }
+        Mutator { handle, shared, made: 0 }
     }
 
     /// Enters the world, as soon as no collection is under way.
@@ -71,9 +77,16 @@ impl Mutator {
                 STOPPED => self.enter()?,
                 NO_CELL if tries < TRIES => {
                     tries += 1;
-                    self.collect()?;
+                    self.collect_for(Why::Lacked)?;
                 }
-                other => return Error::of(other),
+                other => {
+                    Error::of(other)?;
+                    self.made += 1;
+                    if self.made % LOOK == 0 && !self.shared.cycles.saw_marking() && self.handle.course().marking == 1 {
+                        self.shared.cycles.see_marking();
+                    }
+                    return Ok(());
+                }
             }
         }
     }
@@ -189,11 +202,19 @@ impl Mutator {
 
     /// A collection, after which exactly the objects that can be reached are kept; or another's, where that comes first.
     pub fn collect(&mut self) -> Result<(), Error> {
+        self.collect_for(Why::Asked)
+    }
+
+    fn collect_for(&mut self, why: Why) -> Result<(), Error> {
         let mut rests = Rests::default();
         loop {
             match self.handle.collect_step(STEP) {
-                NOT_YET if self.handle.is_stopping() => rests.rest(),
-                NOT_YET => (),
+                NOT_YET => {
+                    self.shared.cycles.note(&self.handle.course(), why);
+                    if self.handle.is_stopping() {
+                        rests.rest();
+                    }
+                }
                 STOPPED => return self.enter(),
                 other => return Error::of(other),
             }

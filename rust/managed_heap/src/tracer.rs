@@ -30,11 +30,14 @@ pub enum Turn {
 pub struct Tracer {
     handle: Handle,
     shared: Arc<Shared>,
+    /// How many objects it has told as traced.
+    told: u64,
 }
 
 impl Tracer {
-    pub(crate) fn new(handle: Handle, shared: Arc<Shared>) -> Tracer {
-        Tracer { handle, shared }
+    pub(crate) fn new(mut handle: Handle, shared: Arc<Shared>) -> Tracer {
+        let told = handle.traced();
+        Tracer { handle, shared, told }
     }
 
     /// One turn, which waits for nobody and marks at most 64 objects.
@@ -43,7 +46,13 @@ impl Tracer {
             STOPPED => Ok(Turn::Stopped),
             IDLE => Ok(Turn::Idle),
             DISMISSED => Ok(Turn::Dismissed),
-            other => Error::of(other).map(|()| Turn::Marked),
+            other => {
+                Error::of(other)?;
+                let traced = self.handle.traced();
+                self.shared.cycles.trace(traced - self.told);
+                self.told = traced;
+                Ok(Turn::Marked)
+            }
         }
     }
 

@@ -1,5 +1,6 @@
 //! Worlds.
 
+use crate::cycles::{Cycle, Cycles};
 use crate::error::{Error, STOPPED};
 use crate::library::{Handle, RawSizes};
 use crate::mutator::Mutator;
@@ -74,6 +75,8 @@ pub(crate) struct Shared {
     handle: Mutex<Handle>,
     /// How many slots each mutator has.
     pub slots: u32,
+    /// What is known of its cycles.
+    pub cycles: Cycles,
 }
 
 impl Shared {
@@ -99,7 +102,7 @@ impl World {
         let Sizes { cells, fields, mutators, tracers, shared, slots } = sizes;
         let name = NAMES | (OPENED.fetch_add(1, Ordering::Relaxed) & !NAMES);
         let handle = Handle::open(&RawSizes { cells, fields, mutators, name, tracers, shared: shared.into(), slots })?;
-        Ok(World { shared: Arc::new(Shared { handle: Mutex::new(handle), slots }) })
+        Ok(World { shared: Arc::new(Shared { handle: Mutex::new(handle), slots, cycles: Cycles::new() }) })
     }
 
     /// One of its mutators, outside the world, whose variables and slots all refer to nothing. [`Error::NoneLeft`] where all are taken. One that is dropped is the
@@ -131,5 +134,10 @@ impl World {
     pub fn statistics(&self) -> Result<Statistics, Error> {
         let numbers = self.shared.lock().statistics()?;
         Ok(Statistics { cells: numbers.cells, free: numbers.free, marked: numbers.marked })
+    }
+
+    /// The last cycle that has ended; `None` where none has.
+    pub fn last_cycle(&self) -> Option<Cycle> {
+        self.shared.cycles.last()
     }
 }

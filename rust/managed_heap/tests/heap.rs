@@ -1,6 +1,6 @@
 //! The crate over the library: each call once, each refusal, and what dropping gives back.
 
-use managed_heap::{Error, Mutator, Sizes, Tracer, Turn, World, VARIABLES};
+use managed_heap::{Error, Mutator, Sizes, Tracer, Turn, Why, World, VARIABLES};
 use std::thread;
 
 fn inside(world: &World) -> Mutator {
@@ -70,6 +70,27 @@ fn all_variables_are_forgotten() {
     }
     m.leave().unwrap();
     assert_eq!(m.forget_all(), Err(Error::Outside));
+}
+
+#[test]
+fn the_last_cycle_is_told() {
+    let world = World::open(Sizes::of_cells(1024)).unwrap();
+    assert_eq!(world.last_cycle(), None);
+    let mut m = inside(&world);
+    for value in 0..10 {
+        m.make(0, value).unwrap();
+    }
+    m.collect().unwrap();
+    let first = world.last_cycle().unwrap();
+    assert_eq!((first.number, first.why, first.beside), (1, Why::Asked, false));
+    assert_eq!((first.freed, first.kept, first.tracers), (9, 1, 0));
+    assert!(first.swept <= first.stopped);
+    for value in 0..4096 {
+        m.make(0, value).unwrap();
+    }
+    let last = world.last_cycle().unwrap();
+    assert_eq!((last.why, last.kept), (Why::Lacked, 1));
+    assert!(last.number > 1);
 }
 
 #[test]

@@ -1,0 +1,111 @@
+/*
+ * What is told of the last cycle: threads make objects that soon are garbage, beside a list that is kept, and tracers mark; another thread asks meanwhile, and writes
+ * a line for some of the cycles that it finds. At the end one mutator collects alone, and what is told then is compared with what is known.
+ * Arguments: threads, objects of each, cells, tracers.
+ */
+#include "heap.h"
+
+enum { LIST, NEW, LENGTH = 2000, LINES = 4 };
+
+static mh_world world;
+static uint32_t threads, many, cells, tracers, working;
+
+static void *work(void *p) {
+    mh_mutator *m = p;
+    uint32_t k;
+    MUST(mh_enter(m));
+    for (k = 0; k < many; k++) {
+        MUST(mh_make(m, NEW, k));
+        if (k >= LENGTH) continue;
+        MUST(mh_set(m, NEW, 0, LIST));
+        MUST(mh_copy(m, LIST, NEW));
+    }
+    MUST(mh_leave(m));
+    __atomic_fetch_sub(&working, 1, __ATOMIC_RELEASE);
+    return 0;
+}
+
+static void *mark_beside(void *p) {
+    MUST_BE(MH_DISMISSED, mh_trace((mh_tracer *)p));
+    return 0;
+}
+
+static double ms(uint64_t nanoseconds) { return (double)nanoseconds * 1e-6; }
+
+static void tell(const mh_cycle *c) {
+    printf("cycle %llu, as %s: %.2f ms marking beside%s, %llu traced by tracers, %.2f ms waited, %.2f ms stopped, of it %.2f sweeping; %llu freed, %llu kept\n",
+           (unsigned long long)c->number, c->why == MH_ASKED ? "asked" : "no cell was free", ms(c->marked), c->beside ? "" : " (none)", (unsigned long long)c->tracers,
+           ms(c->waited), ms(c->stopped), ms(c->swept), (unsigned long long)c->freed, (unsigned long long)c->kept);
+}
+
+/* Asks until nobody works any more: each answer is a whole cycle, with a number that never falls. How many cycles were found. */
+static uint64_t watch(void) {
+    mh_cycle c = {0, 0, 0, 0, 0, 0, 0, 0, 0, 0};
+    uint64_t last = 0, found = 0;
+    while (__atomic_load_n(&working, __ATOMIC_ACQUIRE)) {
+        mh_status s = mh_last_cycle(&world, &c);
+        if (s != MH_NOT_YET) must(s, MH_OK, "mh_last_cycle", __FILE__, __LINE__);
+        if (c.number < last) wrong("the number of a cycle", c.number, last);
+        if (c.swept > c.stopped) wrong("how long it was swept", c.swept, c.stopped);
+        if (c.freed + c.kept > cells) wrong("how many cells it freed and kept", c.freed + c.kept, cells);
+        if (c.number > last && ++found <= LINES) tell(&c);
+        last = c.number;
+        mh_sleep(200);
+    }
+    return last;
+}
+
+/* One collection by a mutator that is alone: what is told of it. */
+static void end_alone(mh_mutator *m, uint64_t before) {
+    mh_cycle c;
+    mh_numbers n;
+    double from, took;
+    MUST(mh_enter(m));
+    MUST(mh_last_cycle(&world, &c));
+    if (c.number < before) wrong("the number of a cycle", c.number, before);
+    before = c.number;
+    from = now();
+    MUST(mh_collect(m));
+    took = (now() - from) * 1e9;
+    MUST(mh_last_cycle(&world, &c));
+    MUST(mh_statistics(&world, &n));
+    wrong("the number of the next cycle", c.number, before + 1);
+    wrong("why it ended", c.why, MH_ASKED);
+    wrong("the cells that it kept", c.kept, n.marked);
+    if (c.kept < threads * LENGTH || c.kept > threads * (LENGTH + 1)) wrong("the cells that it kept", c.kept, threads * LENGTH);
+    if ((double)(c.waited + c.stopped) > took) wrong("how long it took", c.waited + c.stopped, (uint64_t)took);
+    tell(&c);
+    MUST(mh_leave(m));
+}
+
+int main(int count_of, char **words) {
+    static mh_mutator m[THREADS];
+    static mh_tracer t[8];
+    pthread_t acting[THREADS], marking[8];
+    mh_cycle none = {0, 77, 0, 0, 0, 0, 0, 0, 0, 0};
+    mh_sizes sizes = {0, 1, 0, 0, 0, 0, 0};
+    uint64_t found;
+    uint32_t k;
+    threads = sizes.mutators = working = number(count_of, words, 1, 4);
+    many = number(count_of, words, 2, 300000);
+    cells = sizes.cells = number(count_of, words, 3, 16384);
+    tracers = sizes.tracers = number(count_of, words, 4, 1);
+    MUST_BE(MH_GIVEN_BACK, mh_last_cycle(&world, &none));
+    MUST(mh_open(&sizes, &world));
+    MUST_BE(MH_NOT_YET, mh_last_cycle(&world, &none));
+    wrong("what is written of no cycle", none.why, 77);
+    for (k = 0; k < threads; k++) MUST(mh_take_mutator(&world, &m[k]));
+    for (k = 0; k < tracers; k++) MUST(mh_take_tracer(&world, &t[k]));
+    for (k = 0; k < tracers; k++) if (pthread_create(&marking[k], 0, mark_beside, &t[k])) return 2;
+    for (k = 0; k < threads; k++) if (pthread_create(&acting[k], 0, work, &m[k])) return 2;
+    found = watch();
+    for (k = 0; k < threads; k++) pthread_join(acting[k], 0);
+    MUST(mh_dismiss(&world));
+    for (k = 0; k < tracers; k++) pthread_join(marking[k], 0);
+    end_alone(&m[0], found);
+    for (k = 0; k < tracers; k++) MUST(mh_give_back_tracer(&world, &t[k]));
+    for (k = 0; k < threads; k++) MUST(mh_give_back(&world, &m[k]));
+    MUST(mh_close(&world));
+    printf("%-13s %-12s threads %u tracers %u: %llu cycles and more, each told whole\n", "cycles", COLLECTOR, threads, tracers, (unsigned long long)found);
+    return 0;
+}

@@ -1,0 +1,146 @@
+//! What is told of the cycles of a world.
+
+use crate::library::RawCourse;
+use std::sync::atomic::{AtomicBool, AtomicU64, Ordering};
+use std::sync::{Mutex, PoisonError};
+use std::time::{Duration, Instant};
+
+/// Why a cycle ended.
+#[derive(Clone, Copy, Debug, PartialEq, Eq)]
+pub enum Why {
+    /// A collection was asked for.
+    Asked,
+    /// No cell was free for an object.
+    Lacked,
+}
+
+/// A cycle that has ended. Times are between two steps of the collecting thread, and end before the step that lets the world go on.
+#[derive(Clone, Copy, Debug, PartialEq, Eq)]
+#[non_exhaustive]
+pub struct Cycle {
+    /// How many cycles had ended in this world, with this one.
+    pub number: u64,
+    /// Why it ended.
+    pub why: Why,
+    /// Whether a cycle was marking beside the program as the world stopped. What it had marked was finished, and marked anew.
+    pub beside: bool,
+    /// How long a cycle was seen to mark beside the program, until the stop was asked for. A mutator looks with each 64th object that it makes.
+    pub marked: Duration,
+    /// How many objects tracers traced beside the program since the cycle before.
+    pub tracers: u64,
+    /// From the moment that the stop was asked for until the world stood still.
+    pub waited: Duration,
+    /// How long the world stood still.
+    pub stopped: Duration,
+    /// How long of that it was swept, and the cells in use were counted.
+    pub swept: Duration,
+    /// How many cells were freed.
+    pub freed: u32,
+    /// How many cells are in use.
+    pub kept: u32,
+}
+
+const STOP: u32 = 2;
+const ROOTS: u32 = 3;
+const SWEEP: u32 = 8;
+const END: u32 = 10;
+
+/// The collection under way, and the last cycle.
+struct Course {
+    stage: u32,
+    why: Why,
+    beside: bool,
+    began: Option<Instant>,
+    asked: Instant,
+    stopped: Instant,
+    swept: Instant,
+    traced_before: u64,
+    last: Option<Cycle>,
+}
+
+/// What a world knows of its cycles.
+pub(crate) struct Cycles {
+    course: Mutex<Course>,
+    /// Whether a cycle was seen to mark since the last one ended.
+    seen: AtomicBool,
+    /// How many objects all tracers have told as traced.
+    traced: AtomicU64,
+}
+
+impl Cycles {
+    pub fn new() -> Cycles {
+        let now = Instant::now();
+        let course =
+            Course { stage: 0, why: Why::Asked, beside: false, began: None, asked: now, stopped: now, swept: now, traced_before: 0, last: None };
+        Cycles { course: Mutex::new(course), seen: AtomicBool::new(false), traced: AtomicU64::new(0) }
+    }
+
+    /// The last cycle that has ended.
+    pub fn last(&self) -> Option<Cycle> {
+        self.course.lock().unwrap_or_else(PoisonError::into_inner).last
+    }
+
+    /// A tracer has traced so many objects more.
+    pub fn trace(&self, more: u64) {
+        self.traced.fetch_add(more, Ordering::Relaxed);
+    }
+
+    /// Whether a cycle was seen to mark.
+    pub fn saw_marking(&self) -> bool {
+        self.seen.load(Ordering::Relaxed)
+    }
+
+    /// A cycle is seen to mark.
+    pub fn see_marking(&self) {
+        if !self.seen.swap(true, Ordering::Relaxed) {
+            self.course.lock().unwrap_or_else(PoisonError::into_inner).began = Some(Instant::now());
+        }
+    }
+
+    /// What is noted after a step of a collection, by the mutator that has the stop.
+    pub fn note(&self, now: &RawCourse, why: Why) {
+        let mut course = self.course.lock().unwrap_or_else(PoisonError::into_inner);
+        let before = course.stage;
+        if now.stage == before {
+            return;
+        }
+        course.stage = now.stage;
+        match now.stage {
+            STOP => {
+                course.asked = Instant::now();
+                course.why = why;
+            }
+            ROOTS if before == STOP => {
+                course.stopped = Instant::now();
+                course.beside = now.again == 1;
+            }
+            SWEEP => course.swept = Instant::now(),
+            END => {
+                course.end(now, self.traced.load(Ordering::Relaxed));
+                self.seen.store(false, Ordering::Relaxed);
+            }
+            _ => (),
+        }
+    }
+}
+
+impl Course {
+    /// The cycle is about to end by these counts.
+    fn end(&mut self, counts: &RawCourse, traced: u64) {
+        let now = Instant::now();
+        self.last = Some(Cycle {
+            number: self.last.map_or(0, |cycle| cycle.number) + 1,
+            why: self.why,
+            beside: self.beside,
+            marked: self.began.map_or(Duration::ZERO, |began| self.asked.saturating_duration_since(began)),
+            tracers: traced - self.traced_before,
+            waited: self.stopped - self.asked,
+            stopped: now - self.stopped,
+            swept: now - self.swept,
+            freed: counts.freed,
+            kept: counts.kept,
+        });
+        self.traced_before = traced;
+        self.began = None;
+    }
+}
