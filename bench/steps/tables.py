@@ -1,0 +1,162 @@
+"""Prints tables of what bench/longest.sh measured: how many steps the longest call of each kind took, beside the number that is proved, and how long the longest was.
+
+    python3 bench/steps/tables.py CALLS [BEFORE]
+
+Steps are the most of all runs, times medians of each run's longest: of a mutator alone, and behind it of four. BEFORE are the calls of another library.
+"""
+import collections
+import statistics
+import sys
+
+FIELDS, SLOTS, BLOCK, PACKETS = 2, 16, 64, 64
+SIZES = [2**16, 2**20, 2**24]
+USUAL = 1024
+
+
+def stretch(cells):
+    """How many blocks a sweeper takes at a time."""
+    return max(1, min(cells // (BLOCK * 16), 128))
+
+
+def stretches(cells, most):
+    return max(most // stretch(cells), 1)
+
+
+def clearing(cells, most):
+    return stretches(cells, most) * (2 + stretch(cells)) + 3
+
+
+def sweeping(cells, most):
+    return stretches(cells, most) * (2 + 4 * stretch(cells)) + 1
+
+
+# A search for a packet to read from, one for a packet with room, a root or a field that is followed, an object that is scanned, and one that is popped: StepBounds.antt
+# of packet_pools and tracer.
+POOL = 1 + PACKETS
+INPUT, OUTPUT = 2 * POOL + 1, 2 * POOL + 1 + 4 * PACKETS + 3
+FOLLOW = OUTPUT + 6
+SCAN, TURN = FIELDS * FOLLOW, 2 + OUTPUT + INPUT + 4
+RECYCLE = 1 + 6 * PACKETS
+
+
+def tracing(objects):
+    return objects * (TURN + 1 + SCAN) + TURN + INPUT + 9
+
+
+def seeing(cells, most):
+    return OUTPUT + INPUT + most * FOLLOW + 3 + RECYCLE
+
+
+def cleaning(cells, most):
+    return OUTPUT + INPUT + 5 * most + 16 * most * SCAN + 3 + RECYCLE
+
+
+# What is proved of a call: a number of steps, by the cells and by what a step does at most, or what it does.
+PROVED = {
+    "set": 3, "get": 2, "put": 2, "copy": 1, "forget": 1, "value": 1, "is_nil": 0, "same": 0, "root": 2, "exchange": 2, "exchange_value": 1, "spill": 1, "fill": 2,
+    "forget_slots": SLOTS, "place": 0, "number": 1, "enter": 5, "enter: stopped": 10, "leave": 5, "safe_point": 2, "safe_point: stopped": 8, "make": 5 + FIELDS,
+    "collect: asks": 6, "collect: waits": 1, "collect: begins": 5, "collect: roots": seeing, "collect: traces": lambda cells, most: RECYCLE + tracing(most),
+    "collect: looks": lambda cells, most: most + 2, "collect: cleans": cleaning, "collect: clears": clearing, "collect: sweeps": sweeping,
+    "collect: counts": lambda cells, most: most, "collect: ends": 17, "trace_turn": "64 objects, 1,024 cards",
+}
+
+
+def read(path):
+    """Of each run's words, cells, shared, mutators, tracers and what a step does, and of each kind of call: its steps and its times."""
+    steps, nanos = collections.defaultdict(int), collections.defaultdict(list)
+    for line in open(path, encoding="utf-8"):
+        words, call, _, _, took, time, *_ = line.split(";")
+        key = (*map(int, words.split()), call)
+        steps[key] = max(steps[key], int(took))
+        nanos[key].append(int(time))
+    return steps, {key: statistics.median(it) / 1000 for key, it in nanos.items()}
+
+
+def proved(call, cells, most):
+    it = PROVED.get(call, "")
+    return f"{it(cells, most):,}" if callable(it) else f"{it:,}" if isinstance(it, int) else it.format(most=f"{most:,}")
+
+
+def most_steps(steps, call, cells, most):
+    found = [it for key, it in steps.items() if key[0] == cells and key[4:] == (most, call)]
+    return f"{max(found):,}" if found else ""
+
+
+def micros(it):
+    return f"{it:,.0f}" if it >= 10 else f"{it:.1f}"
+
+
+def times(nanos, call, cells, most):
+    """The longest of one mutator, and of four."""
+    found = [nanos.get((cells, 0, count, 1, most, call)) for count in (1, 4)]
+    return " / ".join(micros(it) for it in found if it is not None)
+
+
+def row(*cells):
+    print("| " + " | ".join(cells) + " |")
+
+
+def header(*cells):
+    print()
+    row(*cells)
+    print("|" + "---|" * len(cells))
+
+
+def kinds(steps):
+    return [it for it in dict.fromkeys(key[5] for key in steps) if it not in ("collections", "nothing")]
+
+
+def constant(steps):
+    """The calls whose bound is a number, whatever the cells."""
+    header("Call", "Steps at most, proved", "measured")
+    for call in kinds(steps):
+        if isinstance(PROVED.get(call), int):
+            row(f"`{call}`", str(PROVED[call]), str(max(it for key, it in steps.items() if key[5] == call)))
+
+
+def growing(steps, nanos):
+    """The other calls, by the cells."""
+    header("Call", "Steps at most, proved", *(f"measured, {it:,} cells" for it in SIZES), *(f"µs, {it:,} cells" for it in SIZES))
+    for call in kinds(steps):
+        if not isinstance(PROVED.get(call), int):
+            bounds = list(dict.fromkeys(proved(call, it, USUAL) for it in SIZES))
+            row(f"`{call}`", "; ".join(bounds), *(most_steps(steps, call, it, USUAL) for it in SIZES), *(times(nanos, call, it, USUAL) for it in SIZES))
+    row("nothing", "0", *["0"] * len(SIZES), *(times(nanos, "nothing", it, USUAL) for it in SIZES))
+
+
+def by_most(steps, nanos):
+    """What steps take in the largest heap by what each does at most."""
+    cells = SIZES[-1]
+    amounts = sorted({key[4] for key in steps if key[0] == cells})
+    header("Call", *(f"{it:,}: {what}" for it in amounts for what in ("proved", "measured", "µs")))
+    for call in kinds(steps):
+        if callable(PROVED.get(call)):
+            row(f"`{call}`", *(cell for it in amounts for cell in (proved(call, cells, it), most_steps(steps, call, cells, it), times(nanos, call, cells, it))))
+
+
+def longest(found, cells):
+    """The call with the most steps, its steps, and the longest time of all calls and of nothing."""
+    steps, nanos = found
+    usual = USUAL if any(key[0] == cells and key[4] == USUAL for key in steps) else max(key[4] for key in steps if key[0] == cells)
+    most = {key[5]: it for key, it in sorted(steps.items(), key=lambda it: it[1]) if key[0] == cells and key[4] == usual}
+    call = max(most, key=most.get)
+    spans = [[it for key, it in nanos.items() if key[:5] == (cells, 0, count, 1, usual) and key[5] not in ("collections", "nothing")] for count in (1, 4)]
+    return f"`{call}`", f"{most[call]:,}", " / ".join(micros(max(it)) for it in spans if it), times(nanos, "nothing", cells, usual)
+
+
+def before_and_after(now, before):
+    header("Cells", *(f"{it}{when}" for when in (", before", "") for it in ("Call", "Steps", "µs", "Nothing, µs")))
+    for cells in SIZES:
+        row(f"{cells:,}", *longest(before, cells), *longest(now, cells))
+
+
+def main():
+    now = read(sys.argv[1])
+    constant(now[0])
+    growing(*now)
+    by_most(*now)
+    if len(sys.argv) > 2:
+        before_and_after(now, read(sys.argv[2]))
+
+
+main()
