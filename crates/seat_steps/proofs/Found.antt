@@ -176,7 +176,7 @@ pub comes-free : (v w : View) → is_some v.state.season_seen ≡ true → GoesF
 comes-free v w k g = record { free = g.free; few = λ _. g.known k; besides = inl (g.known k) }
 
 -- where the cache of the record has a free cell, so does the one in hand
-lacking_none : (o kept : Option Cache) (v : View) → IfSome o (λ h. IsCached h v) → IfNone o (v.state.cache ≡ None) → kept ≡ o → LacksFree kept → HasFree v.state.cache → ⊥
+pub lacking_none : (o kept : Option Cache) (v : View) → IfSome o (λ h. IsCached h v) → IfNone o (v.state.cache ≡ None) → kept ≡ o → LacksFree kept → HasFree v.state.cache → ⊥
 lacking_none None kept v some bare e l f = subst HasFree bare f
 lacking_none (Some h) kept v some bare e l f = not-lacking kept h e (subst HasFree some f) l
 

@@ -9,7 +9,9 @@ mod Made
 mod Passes
 pub mod Places
 mod ReadFull
+mod Refilled
 mod SinceAsked
+mod Sought
 mod Sparing
 mod Stages
 mod Tallying

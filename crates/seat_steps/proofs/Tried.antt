@@ -52,7 +52,7 @@ tries-enter passes.Full h x y k sits out p =
 tries-enter passes.Out h x y k sits out p = record { sits = sits; out = p.1; mutator = mutator-kept (view_of x) (view_of y) k.mutator out.ran out.seat out.section }
 
 -- a cache that was asked for
-fills : (r : Refill) (done : ℕ) (h : Heap) (x y : HeapSeat) → Works h x → Sits h y → Ran (view_of x) (view_of y) → KeepsSeat (view_of x) (view_of y) → KeepsSection (view_of x) (view_of y) → RefillsTo r done (view_of x) (view_of y) → SparesRefill r (view_of x) (view_of y) → Refills r h y
+pub fills : (r : Refill) (done : ℕ) (h : Heap) (x y : HeapSeat) → Works h x → Sits h y → Ran (view_of x) (view_of y) → KeepsSeat (view_of x) (view_of y) → KeepsSection (view_of x) (view_of y) → RefillsTo r done (view_of x) (view_of y) → SparesRefill r (view_of x) (view_of y) → Refills r h y
 fills (refills.Cache free paid) done h x y k sits ran seat section p q = (kept-works h x y k sits p.goes_on.mutates ran seat section, p.cached, p.free)
 fills refills.Full done h x y k sits ran seat section p q = (record { works = kept-works h x y k sits p.mutates ran seat section; cache = p.cache }, q)
 

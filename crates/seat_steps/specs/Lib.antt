@@ -10,6 +10,8 @@ pub mod Doing
 pub mod Filling
 pub mod Handing
 pub mod Passes
+pub mod Refilling
+pub mod Seeking
 pub mod Stepping
 pub mod Steps
 pub mod Tallying

@@ -22,6 +22,8 @@ impl Stepper {
             freed: 0,
             next: 0,
             counted: 0,
+            block: 0,
+            seen: 0,
         }
     }
 

@@ -1,6 +1,7 @@
 //! A mutator in the hand of one thread that doesn't wait.
 ghost use Rattle.std.specs.Arc.{arc_value};
-ghost use Rattle.std.specs.Prelude.{◌≡◌};
+ghost use Rattle.std.specs.Prelude.{◌≡◌, ◌≤◌};
+ghost use Rattle.mark_core.specs.Layout.{block_count};
 ghost use Rattle.gc_table.specs.Seats.{view_of};
 ghost use Rattle.seat_steps.specs.Asked.{CountsSinceAsked, MarksSinceAsked, SweepsSinceAsked, WaitsSinceAsked};
 ghost use Rattle.seat_steps.specs.Collecting.{AsksStop, SitsAtClear, SitsAtCount, SitsAtDrain, SitsAtLook, SitsAtRoots, SitsAtSweep, SitsCounted};
@@ -49,6 +50,8 @@ pub enum Came {
     Stopped,
     /// No cell is free, or marking is done: a collection is called for.
     NoCell,
+    /// No cell of the mutator's cache is free: it is to be refilled.
+    NoCache,
     /// The stepper is outside the world: it is to enter first.
     Outside,
     /// The stepper is between two steps of a collection.
@@ -88,6 +91,11 @@ pub struct Stepper {
     pub(crate) next: u32,
     /// How many cells in use it has counted.
     pub(crate) counted: u32,
+    /// From which block on its search for a free cell is to go on.
+    pub(crate) block: u32,
+    /// How many blocks it has seen without a free cell in that search, one after another.
+    pub(crate) seen: u32,
+    ghost within: { block ≤ block_count (arc_value heap).shape },
     ghost outside: { stage ≡ stages.Outside → IsMutatorOutside (arc_value heap) seat },
     ghost inside: { stage ≡ stages.Inside → IsAtTurn (arc_value heap) seat },
     ghost stopping: { stage ≡ stages.Stopping → AsksStop (arc_value heap) seat },

@@ -98,7 +98,7 @@ fn leave_with(heap: &Heap, seat: &mut HeapSeat, cache: Option<Cache>)
 }
 
 /// Comes to its turn with this cache. Where a stop is under way or the heap is full it leaves.
-fn point(heap: &Heap, seat: &mut HeapSeat, cache: Option<Cache>) -> Result<Option<Cache>, Came>
+pub fn point(heap: &Heap, seat: &mut HeapSeat, cache: Option<Cache>) -> Result<Option<Cache>, Came>
     requires works { Works heap.now seat.old }
     requires cache { HasCache cache (view_of seat.old) }
     ensures ok { IfOk result (λ kept. Plays heap.now seat.new × HasCache kept (view_of seat.new)) }
@@ -215,12 +215,13 @@ fn lacks_cell(heap: &Heap, seat: &mut HeapSeat) -> Came
 }
 
 /// Comes to its turn with a cache that was got, and with a free cell of it.
-fn point_with(heap: &Heap, seat: &mut HeapSeat, cache: Cache) -> Result<Cache, Came>
+pub fn point_with(heap: &Heap, seat: &mut HeapSeat, cache: Cache) -> Result<Cache, Came>
     requires works { Works heap.now seat.old }
     requires cache { IsCached cache (view_of seat.old) }
     requires free { 0 < ones cache.cells }
     ensures ok { IfOk result (λ free. Plays heap.now seat.new × IsCached free (view_of seat.new)) }
     ensures free { IfOk result (λ free. 0 < ones free.cells) }
+    ensures turn { IfOk result (λ _. IsAtTurn heap.now seat.new) }
     ensures err { IfErr result (λ came. LeavesWorld came heap.now seat.new) }
     ensures same { plain_of seat.new ≡ plain_of seat.old }
     ensures leaves { Across LeavesHeap seat.old seat.new }

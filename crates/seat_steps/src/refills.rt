@@ -1,0 +1,132 @@
+//! A stepper makes an object where its cache has a free cell, and comes to a cache with one in pieces.
+ghost use Rattle.std.specs.Prelude.{◌≡◌, ◌≤◌, ◌<◌, ◌+◌, IfNone, IfSome};
+ghost use Rattle.std.specs.Arc.{arc_value};
+ghost use Rattle.mark_core.specs.Layout.{block_count};
+ghost use Rattle.mark_core.specs.Numbers.{section_variables};
+ghost use Rattle.plain_heap.specs.declared.operation.Op.TheVariants as ops;
+ghost use Rattle.seat_steps.specs.Refilling.{BeginsSearch, MakesCached, NotesSeen, StepperRefills};
+ghost use Rattle.seat_steps.specs.declared.stepper.Stage.TheVariants as stages;
+
+use crate::seeking::{Sought, make_here, refill_once};
+use crate::stepper::{Came, Stage, Stepper};
+use mark_core::{BLOCK_CELLS, VARIABLES};
+
+/// How many blocks were seen, with so many more; None where these are all blocks.
+fn seen_after(seen: u32, number: u32, blocks: u32) -> Option<u32>
+    ensures some { IfSome result (λ n. (n ≡ seen + number) × (n < blocks)) }
+    ensures none { IfNone result (blocks ≤ seen + number) }
+{
+    let all = seen.saturating_add(number);
+    if all < blocks {
+        return Some(all);
+    }
+    None
+}
+
+impl Stepper {
+    /// Makes an object as `make` does, where a cell of the mutator's cache is free. Where none is, it looks for none and answers `NoCache`: then `refill_step` is
+    /// to be called until it is `Done`.
+    pub fn make_cached(&mut self, v: u8, value: u32) -> Came
+        ensures makes { MakesCached result (ops.New v value) self.old self.new }
+    {
+        if v >= VARIABLES {
+            return Came::OutOfRange;
+        }
+        match self.stage {
+            Stage::Outside => Came::Outside,
+            Stage::Inside => self.make_inside_cached(v, value),
+            _ => Came::Collecting,
+        }
+    }
+
+    /// Makes an object, inside the world: a safe point, and a cell of the cache.
+    fn make_inside_cached(&mut self, v: u8, value: u32) -> Came
+        requires inside { self.old.stage ≡ stages.Inside }
+        requires range { v < section_variables }
+        ensures makes { MakesCached result (ops.New v value) self.old self.new }
+    {
+        if self.seat.state().made >= self.heap.shape().objects {
+            return Came::Spent;
+        }
+        match make_here(&self.heap, &mut self.seat, v, value) {
+            Came::Done => Came::Done,
+            Came::NoCache => Came::NoCache,
+            other => {
+                self.stage = Stage::Outside;
+                other
+            }
+        }
+    }
+
+    /// The next step on the way to a cache with a free cell: `Done` where the mutator has one, and `NotYet` where it is to go on. It looks at no more than so
+    /// many blocks, which are at least 1: 0 is out of range. For a cache that it gets it pays, while a cycle is marking. `NoCell` comes where its steps looked at
+    /// as many blocks as there are, one after another, and none had a free cell, or where marking is done: a collection is called for. It is a safe point too.
+    pub fn refill_step(&mut self, most: u32) -> Came
+        ensures refills { StepperRefills most result self.old self.new }
+    {
+        if most == 0 {
+            return Came::OutOfRange;
+        }
+        match self.stage {
+            Stage::Outside => Came::Outside,
+            Stage::Inside => self.refill_inside(most),
+            _ => Came::Collecting,
+        }
+    }
+
+    /// The next step of a refill, inside the world.
+    fn refill_inside(&mut self, most: u32) -> Came
+        requires inside { self.old.stage ≡ stages.Inside }
+        ensures refills { StepperRefills most result self.old self.new }
+    {
+        let blocks = self.blocks();
+        let most = most.min(blocks.saturating_sub(self.seen));
+        match refill_once(&self.heap, &mut self.seat, self.block, most) {
+            Ok(Sought::Free) => {
+                self.begin_search();
+                Came::Done
+            }
+            Ok(Sought::Next(next)) => self.note_seen(most, next),
+            Ok(Sought::Ended) => self.note_seen(blocks - self.block, 0),
+            Ok(Sought::MarkingDone) => Came::NoCell,
+            Err(came) => {
+                self.stage = Stage::Outside;
+                came
+            }
+        }
+    }
+
+    /// How many blocks its world has.
+    fn blocks(&self) -> u32
+        ensures { result ≡ block_count (arc_value self.now.heap).shape }
+    {
+        self.heap.shape().cells / BLOCK_CELLS
+    }
+
+    /// The next search goes on behind the block that the mutator got.
+    fn begin_search(&mut self)
+        ensures begins { BeginsSearch self.old self.new }
+    {
+        self.block = self.seat.hint().min(self.blocks());
+        self.seen = 0;
+    }
+
+    /// Notes that so many blocks more were seen without a free cell, and from which one on the search goes on.
+    fn note_seen(&mut self, number: u32, next: u32) -> Came
+        requires next { next ≤ block_count (arc_value self.old.heap).shape }
+        ensures notes { NotesSeen number next result self.old self.new }
+    {
+        let blocks = self.blocks();
+        self.block = next;
+        match seen_after(self.seen, number, blocks) {
+            Some(seen) => {
+                self.seen = seen;
+                Came::NotYet
+            }
+            None => {
+                self.seen = 0;
+                Came::NoCell
+            }
+        }
+    }
+}
