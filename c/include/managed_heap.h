@@ -55,7 +55,8 @@ typedef enum mh_status {
     MH_DISMISSED = 16,    /* of a tracer: the world has dismissed its tracers */
     MH_STILL_LENT = 17,   /* of mh_close: not all mutators and tracers are given back */
     MH_TAKEN = 18,        /* the handle that is to be filled is filled already */
-    MH_NOT_SHARED = 19    /* the world isn't shared, and the call is for a shared one */
+    MH_NOT_SHARED = 19,   /* the world isn't shared, and the call is for a shared one */
+    MH_NO_CACHE = 20      /* of mh_make_cached: no cell of the mutator's cache is free: mh_refill_step first */
 } mh_status;
 
 /* A status in words. */
@@ -81,6 +82,7 @@ static inline const char *mh_status_text(mh_status s) {
     case MH_STILL_LENT: return "not all mutators and tracers are given back";
     case MH_TAKEN: return "the handle is filled already";
     case MH_NOT_SHARED: return "the world isn't shared";
+    case MH_NO_CACHE: return "no cell of the mutator's cache is free";
     }
     return "no status of managed_heap";
 }
@@ -170,6 +172,8 @@ mh_status mhl_enter_step(mh_mutator *m);
 mh_status mhl_leave(mh_mutator *m);
 mh_status mhl_pass(mh_mutator *m);
 mh_status mhl_make(mh_mutator *m, uint32_t v, uint32_t value);
+mh_status mhl_make_cached(mh_mutator *m, uint32_t v, uint32_t value);
+mh_status mhl_refill_step(mh_mutator *m, uint32_t most);
 mh_status mhl_make_with(mh_mutator *m, uint32_t v, uint32_t value, const uint32_t *fields, size_t count);
 mh_status mhl_set(mh_mutator *m, uint32_t v, uint32_t i, uint32_t w);
 mh_status mhl_get(mh_mutator *m, uint32_t w, uint32_t v, uint32_t i);
@@ -387,6 +391,12 @@ static inline mh_status mh_counted(mh_mutator *m, mh_status s) {
 
 /* v refers to a new object, whose fields are nil; MH_NO_CELL where no cell is free. It is a safe point too. */
 static inline mh_status mh_make_step(mh_mutator *m, uint32_t v, uint32_t value) { return mh_counted(m, MH_BY(m, mhl_make(m, v, value))); }
+/* As mh_make_step, but it looks for no cell: MH_NO_CACHE where no cell of the mutator's cache is free. So it takes few steps, whatever the heap's size. */
+static inline mh_status mh_make_cached(mh_mutator *m, uint32_t v, uint32_t value) { return mh_counted(m, MH_BY(m, mhl_make_cached(m, v, value))); }
+/* The next step on the way to a cache with a free cell: MH_OK where the mutator has one, and MH_NOT_YET where there are more blocks to look at. It looks at no
+   more than so many blocks of 64 cells. MH_NO_CELL where its steps looked at all blocks and found none, or where a cycle is done with marking: collect. It is a
+   safe point too. */
+static inline mh_status mh_refill_step(mh_mutator *m, uint32_t most) { return MH_BY(m, mhl_refill_step(m, most)); }
 
 /* Stands for no variable among the fields of mh_make_with: that field stays nil. */
 #define MH_NOTHING 0xffffffffu

@@ -60,6 +60,7 @@ static void makes_with(uint32_t v) {
 static void variable(uint32_t v) {
     uint32_t out = 77;
     MUST_BE(MH_OUT_OF_RANGE, mh_make_step(&m, v, 5));
+    MUST_BE(MH_OUT_OF_RANGE, mh_make_cached(&m, v, 5));
     MUST_BE(MH_OUT_OF_RANGE, mh_make(&m, v, 5));
     if (v != MH_NOTHING) makes_with(v);
     MUST_BE(MH_OUT_OF_RANGE, mh_set(&m, v, 0, 1));

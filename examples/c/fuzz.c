@@ -32,9 +32,22 @@ static int choose(struct job *j, uint32_t *fields, uint32_t count) {
     return fit;
 }
 
-/* Makes an object, every other time with references. */
+/* Makes an object, every other time with references, and else now and then of the mutator's cache alone. */
 static mh_status make_step(struct job *j, uint32_t v, uint32_t value, const uint32_t *fields, uint32_t count) {
-    return told(j, count ? mh_make_with_step(&j->m, v, value, fields, count) : mh_make_step(&j->m, v, value));
+    if (count) return told(j, mh_make_with_step(&j->m, v, value, fields, count));
+    return told(j, random_below(j, 2) ? mh_make_cached(&j->m, v, value) : mh_make_step(&j->m, v, value));
+}
+
+/* Steps of a refill, of a block or of many. Now and then the mutator does something else before the next. */
+static void refill(struct job *j) {
+    mh_status s;
+    do s = told(j, mh_refill_step(&j->m, 1 + random_below(j, random_below(j, 2) ? 3 : 10000)));
+    while (s == MH_NOT_YET && random_below(j, 10));
+    if (j->place != INSIDE) must(s, expected(j, 1), "mh_refill_step", __FILE__, __LINE__);
+    else if (s == MH_STOPPED) j->place = OUTSIDE;
+    else if (s != MH_NOT_YET && s != MH_NO_CELL) must(s, MH_OK, "mh_refill_step", __FILE__, __LINE__);
+    if (s != MH_OK || j->place != INSIDE) return;
+    SAYS(MH_OK, mh_refill_step(&j->m, 1));
 }
 
 static void make(struct job *j) {
@@ -50,7 +63,8 @@ static void make(struct job *j) {
     }
     s = make_step(j, v, value, fields, count);
     if (s == MH_STOPPED) { j->place = OUTSIDE; return; }
-    if (s == MH_NO_CELL) return;
+    if (s == MH_NO_CACHE) refill(j);
+    if (s == MH_NO_CELL || s == MH_NO_CACHE) return;
     must(s, MH_OK, "an object that is made", __FILE__, __LINE__);
     begin_shadow(j, o, value, j->made++);
     j->variable[v] = o;
@@ -132,6 +146,8 @@ static void move(struct job *j, uint32_t which) {
         return;
     case 3:
         SAYS(MH_OUT_OF_RANGE, mh_collect_step(&j->m, 0));
+        SAYS(MH_OUT_OF_RANGE, mh_refill_step(&j->m, 0));
+        refill(j);
         return;
     default:
         s = told(j, mh_collect_step(&j->m, 1 + random_below(j, random_below(j, 2) ? 10 : 10000)));
@@ -174,6 +190,8 @@ static void use_gone(struct job *j, uint32_t which) {
     case 23: SAYS(MH_GIVEN_BACK, mh_make_with_step(g, v, 1, &w, 1)); break;
     case 24: SAYS(MH_GIVEN_BACK, mh_forget_all(g)); break;
     case 25: SAYS(MH_GIVEN_BACK, mh_abandon_step(&world, g, 0, 1)); break;
+    case 26: SAYS(MH_GIVEN_BACK, mh_make_cached(g, v, 1)); break;
+    case 27: SAYS(MH_GIVEN_BACK, mh_refill_step(g, 1)); break;
     default: SAYS(MH_GIVEN_BACK, mh_forget(g, v));
     }
     wrong("what a call by a handle that was given back wrote", out, 77);
@@ -236,7 +254,7 @@ static void *work(void *p) {
         else if (which < 82) move(j, which % 2 + (random_below(j, 8) ? 0 : 3));
         else if (which < 92) move(j, 2);
         else if (which < 96) move(j, j->place == INSIDE ? 2 : which % 4 + (which % 4 == 3));
-        else if (which < 99) use_gone(j, random_below(j, 27));
+        else if (which < 99) use_gone(j, random_below(j, 29));
         else if (!random_below(j, 20)) lend(j);
         else if (!random_below(j, 20)) lend_tracer(j);
         else if (!random_below(j, 20)) forget_all(j);

@@ -11,7 +11,7 @@
 
 typedef enum mh_status {
     MH_OK, MH_NOT_YET, MH_STOPPED, MH_NO_CELL, MH_OUTSIDE, MH_COLLECTING, MH_OUT_OF_RANGE, MH_NIL, MH_FULL, MH_SPENT, MH_OUT_OF_MEMORY, MH_GIVEN_BACK,
-    MH_IN_USE, MH_NONE_LEFT, MH_REFUSED, MH_IDLE, MH_DISMISSED, MH_STILL_LENT, MH_TAKEN, MH_NOT_SHARED
+    MH_IN_USE, MH_NONE_LEFT, MH_REFUSED, MH_IDLE, MH_DISMISSED, MH_STILL_LENT, MH_TAKEN, MH_NOT_SHARED, MH_NO_CACHE
 } mh_status;
 
 typedef struct mh_sizes { uint32_t cells, fields, mutators, name, tracers, shared, slots; } mh_sizes;

@@ -4,6 +4,7 @@ use Rattle.std.specs.Arc.{arc_value}
 use Rattle.plain_heap.specs.PlainStep.{IsInRange}
 use Rattle.plain_heap.specs.declared.operation.Op.{Op}
 use Rattle.plain_heap.specs.declared.operation.Op.TheVariants as ops
+use Rattle.seat_steps.specs.Refilling.{MakesCached}
 use Rattle.seat_steps.specs.Stepping.{Operates, StepperDoes, StepperMakes, TakesFew, fields_in}
 use Rattle.seat_steps.specs.declared.stepper.Came.{Came}
 use Rattle.seat_steps.specs.declared.stepper.Came.TheVariants as cames
@@ -62,6 +63,11 @@ pub makes-by : (came : Came) (by op : Op) (x y : Stepper) → AreSame x by op �
 makes-by cames.Done by op x y one d = (subst (λ o. StepperDoes o x y) (one.0 d.0.range) d.0, d.1)
 makes-by cames.OutOfRange by op x y one d = (λ r. d.0 (subst (λ o. IsInRange (fields_in x) o) (sym (one.1 r)) r), d.1)
 makes-by came by op x y one d = d
+
+pub caches-by : (came : Came) (by op : Op) (x y : Stepper) → AreSame x by op → MakesCached came by x y → MakesCached came op x y
+caches-by cames.Done by op x y one d = (subst (λ o. StepperDoes o x y) (one.0 d.0.range) d.0, d.1)
+caches-by cames.OutOfRange by op x y one d = (λ r. d.0 (subst (λ o. IsInRange (fields_in x) o) (sym (one.1 r)) r), d.1)
+caches-by came by op x y one d = d
 
 pub stores-by : (came : Came) (v b : ℕ) (by op : Op) (x y : Stepper) → AreSame x by op → (IsInRange (fields_in x) by → b ≡ v) → Stores b by came x y → Stores v op came x y
 stores-by cames.Done v b by op x y one same d =

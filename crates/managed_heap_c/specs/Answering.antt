@@ -22,6 +22,7 @@ status_of_came cames.Nil = 7
 status_of_came cames.Full = 8
 status_of_came cames.Spent = 9
 status_of_came cames.NotShared = 19
+status_of_came cames.NoCache = 20
 
 -- another call uses the handle, and nothing changed
 abbrev pub IsInUse : ℕ → Hand → Hand → Type 0

@@ -1,6 +1,7 @@
 //! What a call does with the mutator behind a handle.
 ghost use Rattle.plain_heap.specs.declared.operation.Op.TheVariants as ops;
 ghost use Rattle.seat_steps.specs.Bounds.{CollectsAtMost};
+ghost use Rattle.seat_steps.specs.Refilling.{MakesCached, StepperRefills};
 ghost use Rattle.seat_steps.specs.Stepping.{Entered, Left, StepperMakes, Operates, Passed};
 ghost use Rattle.managed_heap_c.specs.Answering.{Answers, ReadsTo, SparesGone};
 ghost use Rattle.managed_heap_c.specs.Making.{MakesWith};
@@ -63,6 +64,29 @@ pub fn make_by(hand: &mut Hand, v: u32, value: u32) -> u32
             let v = byte_of(v);
             status(stepper.make(v, value))
         }
+    }
+}
+
+/// Makes an object of this value in variable v, if a cell of the mutator's cache is free: the status of the mutator's call. `GIVEN_BACK` where the handle is empty.
+pub fn make_cached_by(hand: &mut Hand, v: u32, value: u32) -> u32
+    ensures answers { Answers (λ came. MakesCached came (ops.New v value)) result hand.old.stepper hand.new.stepper }
+{
+    match &mut hand.stepper {
+        None => GIVEN_BACK,
+        Some(stepper) => {
+            let v = byte_of(v);
+            status(stepper.make_cached(v, value))
+        }
+    }
+}
+
+/// One step of a refill, which looks at no more than `most` blocks: the status of the mutator's call, as not yet done. `GIVEN_BACK` where the handle is empty.
+pub fn refill_by(hand: &mut Hand, most: u32) -> u32
+    ensures answers { Answers (StepperRefills most) result hand.old.stepper hand.new.stepper }
+{
+    match &mut hand.stepper {
+        None => GIVEN_BACK,
+        Some(stepper) => status(stepper.refill_step(most)),
     }
 }
 

@@ -31,6 +31,7 @@ mod worlds;
 
 ghost use Rattle.plain_heap.specs.declared.operation.Op.TheVariants as ops;
 ghost use Rattle.seat_steps.specs.Bounds.{CollectsAtMost};
+ghost use Rattle.seat_steps.specs.Refilling.{MakesCached, StepperRefills};
 ghost use Rattle.seat_steps.specs.Stepping.{Entered, Left, StepperMakes, Operates, Passed};
 ghost use Rattle.managed_heap_c.specs.Answering.{AnswersOnce, ClosesWorld, CountsWorld, GivesOnce, ReadsTo, SparesUnused};
 ghost use Rattle.managed_heap_c.specs.Making.{MakesWith};
@@ -38,8 +39,8 @@ ghost use Rattle.managed_heap_c.specs.Storing.{Stores};
 ghost use Rattle.managed_heap_c.specs.Taking.{OpensWorld, TakesMutator};
 
 use calls::{
-    collect_by, copy_by, enter_by, forget_by, get_by, leave_by, make_by, make_with_by, pass_by,
-    put_by, set_by, value_by,
+    collect_by, copy_by, enter_by, forget_by, get_by, leave_by, make_by, make_cached_by,
+    make_with_by, pass_by, put_by, refill_by, set_by, value_by,
 };
 use handles::{MutatorHandle, WorldHandle};
 use lending::{lend_hand, lend_whole};
@@ -102,6 +103,34 @@ pub extern "C" fn mhl_make(h: &mut MutatorHandle, v: u32, value: u32) -> u32
         return IN_USE;
     }
     let answer = make_by(hand, v, value);
+    ends(hand);
+    answer
+}
+
+/// Makes an object in variable v, where a cell of the mutator's cache is free.
+#[unsafe(no_mangle)]
+pub extern "C" fn mhl_make_cached(h: &mut MutatorHandle, v: u32, value: u32) -> u32
+    ensures answers { AnswersOnce (λ came. MakesCached came (ops.New v value)) result h.old.hand h.new.hand }
+{
+    let hand = lend_hand(h);
+    if !begins(hand) {
+        return IN_USE;
+    }
+    let answer = make_cached_by(hand, v, value);
+    ends(hand);
+    answer
+}
+
+/// The next step on the way to a cache with a free cell, of at most so many blocks.
+#[unsafe(no_mangle)]
+pub extern "C" fn mhl_refill_step(h: &mut MutatorHandle, most: u32) -> u32
+    ensures answers { AnswersOnce (StepperRefills most) result h.old.hand h.new.hand }
+{
+    let hand = lend_hand(h);
+    if !begins(hand) {
+        return IN_USE;
+    }
+    let answer = refill_by(hand, most);
     ends(hand);
     answer
 }

@@ -35,7 +35,7 @@ pub const REFUSED: u32 = 14;
 /// Not all mutators and tracers are back.
 pub const STILL_LENT: u32 = 17;
 
-/// The number of what a mutator's call came to, 0 to 9 and 19, as the header has them.
+/// The number of what a mutator's call came to, 0 to 9, 19 and 20, as the header has them.
 pub fn status(came: Came) -> u32
     ensures number { result ≡ status_of_came came }
 {
@@ -51,6 +51,7 @@ pub fn status(came: Came) -> u32
         Came::Full => 8,
         Came::Spent => 9,
         Came::NotShared => 19,
+        Came::NoCache => 20,
     }
 }
 

@@ -20,7 +20,7 @@ use Rattle.mutator_ops.specs.Few.{AtMost}
 use Rattle.mutator_ops.proofs.Few.{at-most-join, at-most-none}
 use Rattle.mutator_turns.specs.Sharing.{LeavesHeap}
 use Rattle.mutator_turns.specs.Standing.{plain_of}
-use Rattle.seat_steps.specs.Refilling.{BeginsSearch, FindsMarked, LooksOn, NotesSeen, SeenTo, StepperRefills, blocks_of, looked, reach, refill_steps}
+use Rattle.seat_steps.specs.Refilling.{BeginsSearch, LooksOn, NotesSeen, SeenTo, StepperRefills, blocks_of, looked, reach, refill_steps}
 use Rattle.seat_steps.specs.Seeking.{FailsBy, RefillsBy, SeeksOnce}
 use Rattle.seat_steps.specs.declared.seeking.Sought.{Sought}
 use Rattle.seat_steps.specs.declared.seeking.Sought.TheVariants as soughts
@@ -82,10 +82,6 @@ looks-ended most x y shape within t at =
       few = let all = in_all 3 3 x.block (reach most x) (5 + 3 * reach most x) pieces.Ended (view_of x.seat) (view_of y.seat) t t.tries.short in omega (arith, all);
       next = inr (at, far.1);
     }
-
-pub finds-marked : (most : ℕ) (x y : Stepper) → SeeksOnce 3 3 x.block (reach most x) pieces.MarkingDone (view_of x.seat) (view_of y.seat) → FindsMarked most x y
-finds-marked most x y t =
-    record { seeks = t; few = let all = in_all 3 3 x.block (reach most x) 5 pieces.MarkingDone (view_of x.seat) (view_of y.seat) t t.tries.short in omega (arith, all) }
 
 -- what it noted of its search
 seen-to : (c : Came) (number most : ℕ) (x m y : Stepper) → number ≡ looked most x → m.seen ≡ x.seen → blocks_of m ≡ blocks_of x → SeenTo c number m y → SeenTo c (looked most x) x y
