@@ -132,6 +132,7 @@ def told_in(page, columns):
         for owner, cell in zip(columns.values(), cells):
             cell = re.sub(r"^(\d+), and 1 for each reference of an object$", r"fields + \1", cell)
             cell = re.sub(r"^1 for each slot$", "to - from", cell)
+            cell = re.sub(r"^`refill_steps`, below$", "refill_steps most x", cell)
             found.update({(owner, name): cell for name in re.findall(r"`([a-z]\w*)`", names) if cell})
     return found
 
