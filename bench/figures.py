@@ -5,6 +5,7 @@ From the top of the repository: python3 bench/figures.py writes the pictures, an
 says whether those that are there are the ones that it would write. It needs Python's own library alone.
 """
 import html
+import math
 import pathlib
 import re
 import sys
@@ -61,17 +62,29 @@ def top_of(most):
     return most, most / 5
 
 
-def frame(title, unit, most):
-    """The title, the lines with their numbers, and where a value stands."""
-    top, step = top_of(most)
-    height = HEIGHT - HEAD - FOOT
-    place = lambda value: HEAD + height * (1 - value / top)
-    parts = [text(WIDTH / 2, 22, title, size=15), text(16, HEAD + height / 2, unit, turn=f' transform="rotate(-90 16 {HEAD + height / 2:.1f})"')]
-    for k in range(int(round(top / step)) + 1):
-        y = place(k * step)
+def ruled(title, unit, place, marks, told="{:g}".format):
+    """The title, and a line with its number at each of these."""
+    middle = HEAD + (HEIGHT - HEAD - FOOT) / 2
+    parts = [text(WIDTH / 2, 22, title, size=15), text(16, middle, unit, turn=f' transform="rotate(-90 16 {middle:.1f})"')]
+    for mark in marks:
+        y = place(mark)
         parts.append(f'<line x1="{LEFT}" y1="{y:.1f}" x2="{WIDTH - RIGHT}" y2="{y:.1f}" stroke="#dddddd"/>')
-        parts.append(text(LEFT - 6, y + 4, f"{k * step:g}", "end"))
+        parts.append(text(LEFT - 6, y + 4, told(mark), "end"))
     return parts, place
+
+
+def frame(title, unit, values):
+    """The lines of a scale from 0, and where a value stands."""
+    top, step = top_of(max(values))
+    return ruled(title, unit, lambda value: HEAD + (HEIGHT - HEAD - FOOT) * (1 - value / top), [k * step for k in range(int(round(top / step)) + 1)])
+
+
+def powers(title, unit, values):
+    """The same by powers of ten."""
+    low, high = math.floor(math.log10(min(values))), math.ceil(math.log10(max(values)))
+    place = lambda value: HEAD + (HEIGHT - HEAD - FOOT) * (high - math.log10(value)) / (high - low)
+    told = lambda value: f"{value // 10**6} M" if value >= 10**6 else f"{value:,}"
+    return ruled(title, unit, place, [10**k for k in range(low, high + 1)], told)
 
 
 def legend(names):
@@ -90,7 +103,7 @@ def slots(count):
 
 
 def bars(title, unit, labels, lines):
-    parts, place = frame(title, unit, max(v for _, values in lines for v in values))
+    parts, place = frame(title, unit, [v for _, values in lines for v in values])
     middles, wide = slots(len(labels))
     bar = wide * 0.7 / len(lines)
     for k, (_, values) in enumerate(lines):
@@ -101,8 +114,8 @@ def bars(title, unit, labels, lines):
     return finish(parts, middles, labels, [name for name, _ in lines])
 
 
-def curves(title, unit, labels, lines):
-    parts, place = frame(title, unit, max(v for _, values in lines for v in values))
+def curves(title, unit, labels, lines, scale=frame):
+    parts, place = scale(title, unit, [v for _, values in lines for v in values])
     middles, _ = slots(len(labels))
     for k, (_, values) in enumerate(lines):
         points = [(x, place(v)) for x, v in zip(middles, values)]
@@ -165,7 +178,14 @@ def pauses_rate():
     return bars("Orders, by cells / workers", "thousands a second", labels, [(names[it], [round(v / 1000) for v in rates[it]]) for it in names])
 
 
-FIGURES = {"to_floor": to_floor, "speed_up": speed_up, "pauses": pauses, "pauses_rate": pauses_rate}
+def longest_call():
+    """The steps and the microseconds of the longest call, by the cells of the heap."""
+    names = ["Steps, before", "Steps", "µs, before", "µs"]
+    labels, lines = series("bench/README.md", "Cells", names)
+    return curves("The longest call by cells, before and since collections go on in pieces", "steps; microseconds", labels, lines, powers)
+
+
+FIGURES = {"longest_call": longest_call, "to_floor": to_floor, "speed_up": speed_up, "pauses": pauses, "pauses_rate": pauses_rate}
 
 
 def main():
