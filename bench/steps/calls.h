@@ -11,14 +11,15 @@ extern _Thread_local uint64_t mh_steps_taken[64];
 
 enum call {
     NOTHING, SETS, GETS, PUTS, COPIES, FORGETS, ASKS_VALUE, ASKS_NIL, ASKS_SAME, ROOTS, EXCHANGES, EXCHANGES_VALUE, SPILLS, FILLS, FORGETS_SLOTS, PLACES, NUMBERS,
-    ENTERS, ENTERS_NOT, LEAVES, PASSES, PASSES_NOT, MAKES, MAKES_SEARCHING, MAKES_NOT, TRACES_TURN,
+    ENTERS, ENTERS_NOT, LEAVES, PASSES, PASSES_NOT, MAKES, MAKES_SEARCHING, MAKES_NOT, MAKES_CACHED, LACKS_CACHE, CACHED_NOT, REFILLS,
+    REFILLS_NOT, TRACES_TURN,
     COLLECTS, ASKS, WAITS, BEGINS, SEES_ROOTS, TRACES, LOOKS, CLEANS, CLEARS, SWEEPS, COUNTS, ENDS, CALLS
 };
 static const char *const call_names[CALLS] = {
     "nothing", "set", "get", "put", "copy", "forget", "value", "is_nil", "same", "root", "exchange", "exchange_value", "spill", "fill", "forget_slots", "place",
-    "number", "enter", "enter: stopped", "leave", "safe_point", "safe_point: stopped", "make", "make: searched", "make: none", "trace_turn", "collect",
-    "collect: asks", "collect: waits", "collect: begins", "collect: roots", "collect: traces", "collect: looks", "collect: cleans", "collect: clears",
-    "collect: sweeps", "collect: counts", "collect: ends"
+    "number", "enter", "enter: stopped", "leave", "safe_point", "safe_point: stopped", "make", "make: searched", "make: none", "make_cached",
+    "make_cached: no cache", "make_cached: stopped", "refill", "refill: not yet", "trace_turn", "collect", "collect: asks", "collect: waits", "collect: begins",
+    "collect: roots", "collect: traces", "collect: looks", "collect: cleans", "collect: clears", "collect: sweeps", "collect: counts", "collect: ends"
 };
 
 /* Calls of a kind: how many, the longest time and the most steps of one, and of which kinds these were. A call in which the kernel took the processor from its
@@ -66,6 +67,8 @@ static inline enum call kind(enum call by, mh_status answer, const uint64_t *too
     switch (by) {
     case COLLECTS: return stage(took);
     case MAKES: return answer != MH_OK ? MAKES_NOT : took[ReadAlloc] || took[ClaimBlock] || took[ReadStat] ? MAKES_SEARCHING : MAKES;
+    case MAKES_CACHED: return answer == MH_OK ? MAKES_CACHED : answer == MH_NO_CACHE ? LACKS_CACHE : CACHED_NOT;
+    case REFILLS: return answer == MH_NOT_YET || answer == MH_NO_CELL ? REFILLS_NOT : REFILLS;
     case ENTERS: return answer == MH_OK ? ENTERS : ENTERS_NOT;
     case PASSES: return answer == MH_OK ? PASSES : PASSES_NOT;
     default: return by;

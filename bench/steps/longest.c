@@ -52,11 +52,25 @@ static void collect(struct caller *t) {
     else must(t->answer, MH_OK, "mh_collect_step", __FILE__, __LINE__);
 }
 
+/* Comes to a cache with a free cell, step by step. */
+static void refill(struct caller *t) {
+    while (BY(t, REFILLS, mh_refill_step(&t->m, most)) == MH_NOT_YET) rest_if_due(t);
+    if (t->answer == MH_STOPPED) come_in(t);
+    else if (t->answer == MH_NO_CELL) collect(t);
+    else must(t->answer, MH_OK, "mh_refill_step", __FILE__, __LINE__);
+}
+
+/* A new object, by the call that looks for a cell itself or, mostly, by the one that doesn't. */
+static mh_status make_step(struct caller *t, uint32_t v, uint32_t value) {
+    return value % 64 ? BY(t, MAKES_CACHED, mh_make_cached(&t->m, v, value)) : BY(t, MAKES, mh_make_step(&t->m, v, value));
+}
+
 static void make(struct caller *t, uint32_t v, uint32_t value) {
-    while (BY(t, MAKES, mh_make_step(&t->m, v, value)) != MH_OK) {
+    while (make_step(t, v, value) != MH_OK) {
         if (t->answer == MH_STOPPED) come_in(t);
+        else if (t->answer == MH_NO_CACHE) refill(t);
         else if (t->answer == MH_NO_CELL) collect(t);
-        else must(t->answer, MH_OK, "mh_make_step", __FILE__, __LINE__);
+        else must(t->answer, MH_OK, "an object", __FILE__, __LINE__);
     }
 }
 

@@ -51,10 +51,19 @@ def cleaning(cells, most):
     return OUTPUT + INPUT + 5 * most + 16 * most * SCAN + 3 + RECYCLE
 
 
+def refilling(cells, most):
+    """A payment scans 32 roots, passes at most 1,024 cards early in a cycle, traces at most 1,024 objects and looks at as many cards."""
+    look = 3 + OUTPUT + 16 * SCAN + 7 + tracing(0)
+    payment = OUTPUT + INPUT + 32 * FOLLOW + 3 + cleaning(cells, 1024) + tracing(1024) + 1024 * look + 5
+    return 3 * min(most, cells // BLOCK) + payment + 17
+
+
 # What is proved of a call: a number of steps, by the cells and by what a step does at most, or what it does.
 PROVED = {
     "set": 3, "get": 2, "put": 2, "copy": 1, "forget": 1, "value": 1, "is_nil": 0, "same": 0, "root": 2, "exchange": 2, "exchange_value": 1, "spill": 1, "fill": 2,
     "forget_slots": SLOTS, "place": 0, "number": 1, "enter": 5, "enter: stopped": 10, "leave": 5, "safe_point": 2, "safe_point: stopped": 8, "make": 5 + FIELDS,
+    "make_cached": 5 + FIELDS, "make_cached: no cache": 2, "make_cached: stopped": 8, "refill": refilling,
+    "refill: not yet": lambda cells, most: 3 * min(most, cells // BLOCK) + 11,
     "collect: asks": 6, "collect: waits": 1, "collect: begins": 5, "collect: roots": seeing, "collect: traces": lambda cells, most: RECYCLE + tracing(most),
     "collect: looks": lambda cells, most: most + 2, "collect: cleans": cleaning, "collect: clears": clearing, "collect: sweeps": sweeping,
     "collect: counts": lambda cells, most: most, "collect: ends": 17, "trace_turn": "64 objects, 1,024 cards",
@@ -135,12 +144,12 @@ def by_most(steps, nanos):
 
 
 def longest(found, cells):
-    """The call with the most steps, its steps, and the longest time of all calls and of nothing."""
+    """The call with the most steps, its steps, and the longest time of the calls whose bound is no mere number, and of nothing."""
     steps, nanos = found
     usual = USUAL if any(key[0] == cells and key[4] == USUAL for key in steps) else max(key[4] for key in steps if key[0] == cells)
     most = {key[5]: it for key, it in sorted(steps.items(), key=lambda it: it[1]) if key[0] == cells and key[4] == usual}
     call = max(most, key=most.get)
-    spans = [[it for key, it in nanos.items() if key[:5] == (cells, 0, count, 1, usual) and key[5] not in ("collections", "nothing")] for count in (1, 4)]
+    spans = [[it for key, it in nanos.items() if key[:5] == (cells, 0, count, 1, usual) and key[5] in kinds(steps) and not isinstance(PROVED.get(key[5]), int)] for count in (1, 4)]
     return f"`{call}`", f"{most[call]:,}", " / ".join(micros(max(it)) for it in spans if it), times(nanos, "nothing", cells, usual)
 
 
