@@ -83,7 +83,7 @@ def powers(title, unit, values):
     """The same by powers of ten."""
     low, high = math.floor(math.log10(min(values))), math.ceil(math.log10(max(values)))
     place = lambda value: HEAD + (HEIGHT - HEAD - FOOT) * (high - math.log10(value)) / (high - low)
-    told = lambda value: f"{value // 10**6} M" if value >= 10**6 else f"{value:,}"
+    told = lambda value: f"{value // 10**6} M" if value >= 10**6 else f"{value // 1000} k" if value >= 1000 else f"{value}"
     return ruled(title, unit, place, [10**k for k in range(low, high + 1)], told)
 
 
