@@ -7,6 +7,7 @@ pub(crate) const STOPPED: u32 = 2;
 pub(crate) const NO_CELL: u32 = 3;
 pub(crate) const IDLE: u32 = 15;
 pub(crate) const DISMISSED: u32 = 16;
+pub(crate) const NO_CACHE: u32 = 20;
 
 /// Why a call did nothing: objects and variables are as before.
 #[derive(Clone, Copy, Debug, PartialEq, Eq, Hash)]

@@ -59,6 +59,8 @@ extern "C" {
     fn mhl_leave(m: *mut Handle) -> u32;
     fn mhl_pass(m: *mut Handle) -> u32;
     fn mhl_make(m: *mut Handle, v: u32, value: u32) -> u32;
+    fn mhl_make_cached(m: *mut Handle, v: u32, value: u32) -> u32;
+    fn mhl_refill_step(m: *mut Handle, most: u32) -> u32;
     fn mhl_make_with(m: *mut Handle, v: u32, value: u32, fields: *const u32, count: usize) -> u32;
     fn mhl_set(m: *mut Handle, v: u32, i: u32, w: u32) -> u32;
     fn mhl_get(m: *mut Handle, w: u32, v: u32, i: u32) -> u32;
@@ -150,6 +152,14 @@ impl Handle {
 
     pub fn make(&mut self, v: u32, value: u32) -> u32 {
         unsafe { mhl_make(self, v, value) }
+    }
+
+    pub fn make_cached(&mut self, v: u32, value: u32) -> u32 {
+        unsafe { mhl_make_cached(self, v, value) }
+    }
+
+    pub fn refill_step(&mut self, most: u32) -> u32 {
+        unsafe { mhl_refill_step(self, most) }
     }
 
     pub fn make_with(&mut self, v: u32, value: u32, fields: &[u32]) -> u32 {

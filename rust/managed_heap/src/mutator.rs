@@ -1,7 +1,7 @@
 //! Mutators.
 
 use crate::cycles::Why;
-use crate::error::{Error, NOT_YET, NO_CELL, STOPPED};
+use crate::error::{Error, NOT_YET, NO_CACHE, NO_CELL, STOPPED};
 use crate::library::Handle;
 use crate::resting::Rests;
 use crate::world::Shared;
@@ -94,6 +94,28 @@ impl Mutator {
     /// Variable v refers to a new object of this value, whose fields refer to nothing. Where no cell is free it collects. It is a safe point too.
     pub fn make(&mut self, v: u32, value: u32) -> Result<(), Error> {
         self.makes(|handle| handle.make(v, value))
+    }
+
+    /// Makes an object as [`Mutator::make`] does, of a cell that is free in the mutator's cache. It looks for no cell: false where none is free there, and nothing
+    /// is made. Then [`Mutator::refill_step`] is to be called until it is true.
+    pub fn make_cached(&mut self, v: u32, value: u32) -> Result<bool, Error> {
+        loop {
+            match self.handle.make_cached(v, value) {
+                NO_CACHE => return Ok(false),
+                STOPPED => self.enter()?,
+                other => return Error::of(other).map(|()| true),
+            }
+        }
+    }
+
+    /// The next step on the way to a cache with a free cell: it looks at no more than so many blocks of 64 cells, which are at least 1. True where the mutator has
+    /// such a cache, and false where it is to take the next step. [`Error::NoCell`] where no block has a free cell, or a cycle is done with marking: it is to collect.
+    pub fn refill_step(&mut self, most: u32) -> Result<bool, Error> {
+        match self.handle.refill_step(most) {
+            NOT_YET => Ok(false),
+            STOPPED => self.enter().map(|()| false),
+            other => Error::of(other).map(|()| true),
+        }
     }
 
     /// Variable v refers to a new object of this value, whose first fields become what these variables are, or refer to nothing for `None`; so do the others. v

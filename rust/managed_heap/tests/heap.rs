@@ -118,6 +118,36 @@ fn an_object_is_made_with_its_references() {
 }
 
 #[test]
+fn a_cache_comes_in_steps_and_objects_are_made_of_it() {
+    const CELLS: u32 = 256;
+    let world = World::open(Sizes::of_cells(CELLS)).unwrap();
+    let mut m = inside(&world);
+    assert_eq!(m.make_cached(VARIABLES, 1), Err(Error::OutOfRange));
+    assert_eq!(m.refill_step(0), Err(Error::OutOfRange));
+    assert_eq!(m.make_cached(0, 0), Ok(false));
+    assert_eq!(m.is_nil(0), Ok(true));
+    let mut made = 0;
+    while made < CELLS {
+        if m.make_cached(1, made).unwrap() {
+            m.set(1, 0, 0).unwrap();
+            m.copy(0, 1).unwrap();
+            made += 1;
+            continue;
+        }
+        match m.refill_step(1) {
+            Ok(false) => {}
+            Ok(true) => assert_eq!(m.refill_step(1), Ok(true)),
+            Err(refused) => {
+                assert_eq!(refused, Error::NoCell);
+                m.collect().unwrap();
+            }
+        }
+    }
+    assert_eq!(m.value(0), Ok(CELLS - 1));
+    assert_eq!(m.make_cached(1, 0), Ok(false));
+}
+
+#[test]
 fn wrong_calls_are_refused_by_name() {
     let world = World::open(Sizes::of_cells(64)).unwrap();
     let mut m = world.mutator().unwrap();
