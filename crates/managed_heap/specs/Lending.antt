@@ -7,7 +7,7 @@ use Rattle.mark_core.specs.declared.kinds.Shape.{Shape}
 use Rattle.mark_core.specs.declared.kinds.Step.TheVariants.{ReadStat}
 use Rattle.plain_heap.specs.declared.object.Ref.TheVariants.{Nil}
 use Rattle.gc_table.specs.SeatRecords.{At, resting}
-use Rattle.gc_table.specs.Seats.{Found}
+use Rattle.gc_table.specs.Seats.{Found, view_of}
 use Rattle.gc_table.specs.declared.seat.Heap.{Heap}
 use Rattle.gc_table.specs.declared.view.View.{View}
 use Rattle.managed_heap.specs.Calls.{MutatorLeft, heap_of}
@@ -44,11 +44,13 @@ AreAllBack w = (vec_len w.mutators ≡ w.sizes.mutators) × (vec_len w.tracers �
 abbrev pub shape_for : Sizes → Shape
 shape_for s = record { cells = s.cells; packets = s.packets; entries = s.entries; sections = 1 + s.mutators; fields = s.fields; objects = 4294967295; sharing = false; slots = 0; stretch = usual_stretch s.cells }
 
--- a new world of these sizes: its mutators are those of sections 1, 2 and so on, and its tracers have the seats after them; none has done anything, and nobody has one
+-- a new world of these sizes: its mutators are those of sections 1, 2 and so on, and its tracers have the seats after them; none has done anything, and nobody has one.
+-- Section 0 has ended its turn once, so that the mutators' season has come
 pub record IsOpened (sizes : Sizes) (w : World) : Type 0 where
   pub sizes_are : w.sizes ≡ sizes
   pub shape : (arc_value w.heap).shape ≡ shape_for sizes
   pub zero : At (arc_value w.heap) resting 0 w.zero
+  pub season : (view_of w.zero).own.seasons ≡ 1
   pub mutators_are : AreNumbered (IsFreshMutator (arc_value w.heap) sizes.name sizes.in_stops) 1 w.mutators.items
   pub tracers_are : AreNumbered (IsFreshTracer (arc_value w.heap) sizes.name) (1 + sizes.mutators) w.tracers.items
   pub all : AreAllBack w

@@ -2,7 +2,7 @@
 ghost use Rattle.std.specs.Prelude.{◌≡◌, ◌+◌, ◌<◌, ◌≤◌, IfErr, IfOk, IsFalse, IsTrue, is_some, vec_len};
 ghost use Rattle.std.specs.Arc.{arc_value};
 ghost use Rattle.gc_table.specs.SeatRecords.{At, resting};
-ghost use Rattle.gc_table.specs.Seats.{state_of};
+ghost use Rattle.gc_table.specs.Seats.{state_of, view_of};
 ghost use Rattle.managed_heap.specs.Lending.{IsFreshMutator, IsFreshTracer, IsOpened, shape_for};
 ghost use Rattle.managed_heap.specs.Opening.{AreNew, AreNumbered, IsFirstSeat, IsNewSeat};
 ghost use Rattle.managed_heap.specs.Sizing.{Fits};
@@ -116,6 +116,7 @@ fn share(
     requires fits { Fits sizes }
     requires zero { RestsOutside heap zero × IsTrue (is_some (state_of zero).section) }
     requires rests { At heap resting 0 zero }
+    requires season { (view_of zero).own.seasons ≡ 1 }
     requires first { IsFirstSeat heap sizes.tracers zero }
     requires new { AreNew heap 1 seats.old.items }
     requires count { vec_len seats.old ≡ sizes.mutators + sizes.tracers }

@@ -86,6 +86,7 @@ fn stops_now(heap: &Heap, seat: &mut HeapSeat) -> bool
 fn turn(heap: &Heap, seat: &mut HeapSeat)
     requires { Opens heap.now stopped seat.old × (0 < heap.now.shape.sections) × Alone Idle (view_of seat.old) }
     ensures alone { At heap.now stopped 0 seat.new × Alone Idle (view_of seat.new) }
+    ensures season { (view_of seat.new).own.seasons ≡ 1 }
     ensures ran { Across Ran seat.old seat.new }
 {
     heap.next_season(seat);
@@ -95,6 +96,7 @@ fn turn(heap: &Heap, seat: &mut HeapSeat)
 fn goes_on(heap: &Heap, seat: &mut HeapSeat)
     requires { At heap.now stopped 0 seat.old × Alone Idle (view_of seat.old) }
     ensures rests { At heap.now resting 0 seat.new }
+    ensures season { (view_of seat.new).own.seasons ≡ (view_of seat.old).own.seasons }
     ensures ran { Across Ran seat.old seat.new }
 {
     resume(heap, seat);
@@ -106,6 +108,7 @@ fn goes_on(heap: &Heap, seat: &mut HeapSeat)
 pub fn open_turn(heap: &Heap, seat: &mut HeapSeat) -> bool
     requires { Opens heap.now resting seat.old × (0 < heap.now.shape.sections) }
     ensures rests { OnTrue result (At heap.now resting 0 seat.new) }
+    ensures season { OnTrue result ((view_of seat.new).own.seasons ≡ 1) }
     ensures ran { OnTrue result (Across Ran seat.old seat.new) }
 {
     if !raises(heap, seat) || !stops_now(heap, seat) {

@@ -1,4 +1,4 @@
-use Rattle.std.proofs.Common.{◌+◌, sym, ap, ◌∙◌, refl}
+use Rattle.std.proofs.Common.{ℕ, ◌+◌, sym, ap, ◌∙◌, refl}
 use Rattle.mark_core.specs.declared.kinds.Shape.{Shape}
 use Rattle.mark_core.specs.declared.kinds.Step.TheVariants.{NextSeason}
 use Rattle.mark_core.specs.declared.seat.SeatState.{SeatState}
@@ -37,3 +37,6 @@ returns-clause-alone c =
 
 pub returns-clause-ran : goal.returns-clause-ran
 returns-clause-ran c = ran-took (view_of c.args.seat.now) (view_of c.next_season.new.seat) NextSeason refl c.next_season.ensures.view
+
+pub returns-clause-season : goal.returns-clause-season
+returns-clause-season c = ap (λ (x : View). x.own.seasons) c.next_season.ensures.view.1.0 ∙ ap (λ (n : ℕ). n + 1) c.requires.0.2
