@@ -41,13 +41,14 @@ pub record IsNewTracer (h : Heap) (name k : ℕ) (t : Tracer) : Type 0 where
 abbrev pub AreNewTracers : Heap → ℕ → ℕ → List Tracer → Type 0
 AreNewTracers h name k ts = (i : ℕ) (t : Tracer) → slice_get ts i ≡ Some t → IsNewTracer h name (k + i) t
 
--- a new world of these sizes: nobody has one of its mutators or tracers
+-- a new world of these sizes: nobody has one of its mutators or tracers, and section 0 has ended its turn once, so that the mutators' season has come
 pub record IsSharedOpened (sizes : SharedSizes) (w : SharedWorld) : Type 0 where
   pub sizes_are : w.sizes ≡ sizes
   pub cells : (arc_value w.heap).shape.cells ≡ sizes.cells
   pub fields : (arc_value w.heap).shape.fields ≡ sizes.fields
   pub slots : (arc_value w.heap).shape.slots ≡ sizes.slots
   pub shared : IsTrue (arc_value w.heap).shape.sharing
+  pub season : (view_of w.zero).own.seasons ≡ 1
   pub fresh : AreFresh (arc_value w.heap) sizes.name 1 w.mutators.items
   pub count : vec_len w.mutators ≡ sizes.mutators
   pub tracers : AreNewTracers (arc_value w.heap) sizes.name (1 + sizes.mutators) w.tracers.items

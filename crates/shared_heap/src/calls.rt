@@ -1,12 +1,12 @@
 //! What a mutator of a shared world does.
 ghost use Rattle.std.specs.Arc.{arc_value};
-ghost use Rattle.std.specs.Prelude.{◌≡◌, ◌<◌, ◌+◌, IfErr, IfOk, IsFalse, IsTrue};
+ghost use Rattle.std.specs.Prelude.{◌≡◌, ◌<◌, ◌+◌, IfErr, IfOk, IsFalse, IsTrue, false};
 ghost use Rattle.mark_core.specs.Steps.MutatorSteps.{seat_variable as word_in};
 ghost use Rattle.plain_heap.specs.declared.operation.Op.TheVariants as ops;
 ghost use Rattle.gc_table.specs.Seats.{Across, state_of};
 ghost use Rattle.mutator_ops.specs.Few.{AtMost};
 ghost use Rattle.mutator_ops.specs.Sharing.{LendsFound, SetsVariable, TakesSteps, putting_steps, setting_steps};
-ghost use Rattle.mutator_turns.specs.Coming.{CollectsAtTurn, CollectsNone, EntersFull, PollsOutWith, PollsWith, WithOwn};
+ghost use Rattle.mutator_turns.specs.Coming.{CollectsAtTurn, CollectsNone, EntersFull, MakesNoneAtTurn, MakesSharedAtTurn, PollsOutWith, PollsWith, WithOwn};
 ghost use Rattle.mutator_turns.specs.Sharing.{FollowsField, MakesSharedAfter};
 ghost use Rattle.shared_heap.specs.Calls.{CantEnter, FindsValue, HasNoRoot, HasPassed, MakesNone, ReadsNone, RefusedBy, Refuses, SharerCollected, SharerDoes, SharerEntered, SharerLeft, SharerRefused, StaysOut};
 
@@ -104,6 +104,8 @@ impl SharedMutator {
         ensures made { IfOk result (λ c. SharerDoes (MakesSharedAfter v value) (ops.New v value) self.old self.new) }
         ensures place { IfOk result (λ c. word_in (state_of self.new.seat) v ≡ c + 1) }
         ensures refused { IfErr result (λ e. MakesNone e (ops.New v value) self.old self.new) }
+        ensures makes { IfOk result (λ _. Across (MakesSharedAtTurn (arc_value self.old.heap).shape v value) self.old.seat self.new.seat) }
+        ensures none { IfErr result (λ e. RefusedBy (MakesNoneAtTurn e false (arc_value self.old.heap).shape) e self.old self.new) }
         ensures world { arc_value self.new.heap ≡ arc_value self.old.heap }
     {
         if v >= VARIABLES {

@@ -1,6 +1,7 @@
 //! The seats of a new heap are dealt out to mutators and tracers.
 ghost use Rattle.std.specs.Arc.{arc_value};
 ghost use Rattle.std.specs.Prelude.{◌≡◌, ◌+◌, ◌<◌, ◌≤◌, IfErr, IfOk, IsTrue, vec_len};
+ghost use Rattle.gc_table.specs.Seats.{view_of};
 ghost use Rattle.mutator_turns.specs.Standing.{RestsOutside};
 ghost use Rattle.mutator_turns.specs.declared.refused.NotOpened.TheVariants.{OutOfMemory};
 ghost use Rattle.shared_heap.specs.Lending.{AreFresh, AreNewTracers, IsFreshSharer, IsNewTracer, IsSharedOpened};
@@ -110,6 +111,7 @@ fn share(
 ) -> Result<SharedWorld, AllocError>
     requires fits { Fits sizes }
     requires zero { RestsOutside heap zero × IsRootSeat heap zero }
+    requires season { (view_of zero).own.seasons ≡ 1 }
     requires opened { HasSeats heap sizes.tracers zero }
     requires new { AreNew heap 1 seats.old.items }
     requires count { vec_len seats.old ≡ sizes.mutators + sizes.tracers }

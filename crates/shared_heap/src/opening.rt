@@ -132,6 +132,7 @@ fn stops(heap: &Heap, seat: &mut HeapSeat) -> bool
 fn turn(heap: &Heap, seat: &mut HeapSeat)
     requires { StopsWithRoot heap.now seat.old }
     ensures alone { IsAloneInIdle heap.now seat.new }
+    ensures season { (view_of seat.new).own.seasons ≡ 1 }
     ensures spares { Across Spares seat.old seat.new }
 {
     heap.next_season(seat);
@@ -141,6 +142,7 @@ fn turn(heap: &Heap, seat: &mut HeapSeat)
 fn goes_on(heap: &Heap, seat: &mut HeapSeat)
     requires { IsAloneInIdle heap.now seat.old }
     ensures rests { RestsOutside heap.now seat.new }
+    ensures season { (view_of seat.new).own.seasons ≡ (view_of seat.old).own.seasons }
     ensures spares { Across Spares seat.old seat.new }
 {
     resume(heap, seat);
@@ -153,6 +155,7 @@ pub fn open_turn(heap: &Heap, seat: &mut HeapSeat) -> bool
     requires shared { IsTrue heap.now.shape.sharing }
     requires room { 0 < heap.now.shape.objects }
     ensures rests { OnTrue result (RestsOutside heap.now seat.new) }
+    ensures season { OnTrue result ((view_of seat.new).own.seasons ≡ 1) }
     ensures makes { OnTrue result (Across MakesRoot seat.old seat.new) }
 {
     if !goes_in(heap, seat) || !makes_root(heap, seat) || !stops(heap, seat) {
