@@ -1,5 +1,6 @@
 -- Which blocks a search tried, and in how many steps.
-use Rattle.std.proofs.Common.{ℕ, ◌≡◌, ◌≤◌, ◌+◌, ◌-◌, ◌*◌, zero, suc, List, [], ◌∷◌, ◌++◌, length, arith, refl, sym, ap, ◌∙◌, append_assoc}
+use Rattle.std.proofs.Common.{ℕ, ◌≡◌, ◌≤◌, ◌+◌, ◌-◌, ◌*◌, zero, suc, List, [], ◌∷◌, ◌++◌, length, arith, refl, sym, ap, ◌∙◌, append_assoc, Option, Some, None}
+use Rattle.std.specs.Prelude.{IfNone, IfSome}
 use Rattle.std.specs.List.{range_with_len}
 use Rattle.std.proofs.lemmas.List.{length-append}
 use Rattle.gc_table.specs.declared.view.Entry.{Entry}
@@ -7,7 +8,8 @@ use Rattle.gc_table.specs.declared.view.View.{View}
 use Rattle.gc_table.specs.Log.{events}
 use Rattle.gc_table.specs.Running.{Ran}
 use Rattle.gc_table.proofs.Running.{ran-events}
-use Rattle.alloc_cache.specs.Claiming.{blocks_tried, tried_by}
+use Rattle.alloc_cache.specs.Claiming.{ClaimsFirst, Misses, blocks_tried, tried_by}
+use Rattle.alloc_cache.specs.declared.cache.Cache.{Cache}
 
 pub both-tried : (xs ys : List Entry) → blocks_tried (xs ++ ys) ≡ blocks_tried xs ++ blocks_tried ys
 both-tried [] ys = refl
@@ -45,3 +47,15 @@ one-tried b v w es e one =
 
 pub one-few : (b : ℕ) (v w : View) (es : List Entry) → events v w ≡ es → length es ≤ 3 → length (events v w) ≤ 3 * (b + 1 - b)
 one-few b v w es e few = let long = ap length e in omega (arith, long, few)
+
+-- a search of the blocks from lo on and below hi, whatever it came to
+pub few-among : (lo hi : ℕ) (found : Option Cache) (v w : View) → IfSome found (λ h. ClaimsFirst lo hi h v w) → IfNone found (Misses lo hi v w) → length (events v w) ≤ 3 * (hi - lo)
+few-among lo hi (Some h) v w some none =
+    let few = some.few in
+    let within = some.within.1 in
+    omega (arith, few, within)
+few-among lo hi None v w some none = none.few
+
+-- a search that goes round: of the blocks from the first on, and then of those below it
+pub few-round : (first blocks : ℕ) (u v w : View) → first ≤ blocks → Ran u v → Ran v w → length (events u v) ≤ 3 * (blocks - first) → length (events v w) ≤ 3 * (first - 0) → length (events u w) ≤ 3 * blocks
+few-round first blocks u v w l r q e f = let both = ap length (ran-events u v w r q) ∙ length-append (events u v) (events v w) in omega (arith, both, l, e, f)

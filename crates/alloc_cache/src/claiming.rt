@@ -65,6 +65,7 @@ fn claim_from(heap: &Heap, seat: &mut HeapSeat, first: u32) -> Option<Cache>
     ensures ran { Across Ran seat.old seat.new }
     ensures some { IfSome result (λ h. Across (Claims h) seat.old seat.new) }
     ensures none { IfNone result ((state_of seat.new ≡ state_of seat.old) × ((view_of seat.new).own ≡ (view_of seat.old).own) × NoBlock heap.now.shape (did seat.old seat.new) × Across (Only seeks_block) seat.old seat.new) }
+    ensures few { length (did seat.old seat.new) ≤ 3 * block_count heap.now.shape }
 {
     let blocks = heap.shape().cells / BLOCK_CELLS;
     let first = first % blocks;
@@ -77,14 +78,15 @@ fn claim_from(heap: &Heap, seat: &mut HeapSeat, first: u32) -> Option<Cache>
 /// Claims a block in which the seat makes cells: its free cells are at least one, and the count of free cells falls by them. The seat has a section and
 /// no cache, and runs, or has stopped the world while no cycle is under way.
 ///
-/// The search begins behind the block that the seat claimed last, and goes round. None comes only where each block was seen claimed, or with all
-/// allocation bits set, in this call.
+/// The search begins behind the block that the seat claimed last, and goes round: it takes three steps for each block at most. None comes only where each block
+/// was seen claimed, or with all allocation bits set, in this call.
 pub fn claim(heap: &Heap, seat: &mut HeapSeat) -> Option<Cache>
     requires seat { Sits heap.now seat.old × MayClaim (view_of seat.old) }
     ensures seat { Sits heap.now seat.new }
     ensures ran { Across Ran seat.old seat.new }
     ensures some { IfSome result (λ h. Across (Claims h) seat.old seat.new) }
     ensures none { IfNone result ((state_of seat.new ≡ state_of seat.old) × ((view_of seat.new).own ≡ (view_of seat.old).own) × NoBlock heap.now.shape (did seat.old seat.new) × Across (Only seeks_block) seat.old seat.new) }
+    ensures few { length (did seat.old seat.new) ≤ 3 * block_count heap.now.shape }
 {
     let first = seat.hint();
     match claim_from(heap, seat, first) {
