@@ -42,7 +42,8 @@ pub(crate) fn is_late(last: u32, traced: u32, free: u32) -> bool
     7 * u64::from(last) <= 8 * u64::from(traced) || 64 * u64::from(free) <= u64::from(last)
 }
 
-/// Whether the cycle under way is far on, so that cards are worth cleaning: one that is cleaned early is dirtied again, and then the stop cleans it.
+/// Whether the cycle under way is far on, so that the cards of the late pass are worth cleaning: one that it cleaned early would be dirtied again, and then the
+/// stop would clean it.
 pub fn is_far_on(heap: &Heap, seat: &mut HeapSeat) -> bool
     requires seat { Sits heap.now seat.old }
     ensures seat { Sits heap.now seat.new }

@@ -38,9 +38,6 @@ few-events k v w es e le = let long = ap length e in omega (arith, long, le)
 pub few-steps : (k : ℕ) (v w : View) (xs : List Step) → steps_of (events v w) ≡ xs → length xs ≤ k → length (events v w) ≤ k
 few-steps k v w xs e le = let long = sym (length-map (events v w) (λ (x : Entry). x.step)) ∙ ap length e in omega (arith, long, le)
 
-pub fewer : (j k n : ℕ) → n ≤ j → j ≤ k → n ≤ k
-fewer j k n a b = omega (arith, a, b)
-
 pub some-tries : (b : Bool) → 1 ≤ try_steps b
 some-tries true = omega arith
 some-tries false = omega arith
