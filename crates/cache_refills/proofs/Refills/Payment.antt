@@ -136,7 +136,7 @@ undrawn es h = count-none draws es (ap not (none-drawn es (not-true _ h)))
     none-drawn (f ∷ fs) k =
         let q = or_parts (draws_or_clears f.step f.found) (some_event draws_or_clears fs) k in or_from (draws f.step f.found) (some_event draws fs) (drawn-one f.step f.found q.0) (none-drawn fs q.1)
 
--- so many cards were looked at in one call, and so many in the next
+-- so many cards were drawn in one call, and so many in the next
 looked-join : (j k : ℕ) (u v w : View) → Ran u v → Ran v w → count_of draws (events u v) ≤ j → count_of draws (events v w) ≤ k → count_of draws (events u w) ≤ j + k
 looked-join j k u v w r q a b = let both = count-run draws u v w r q in omega (arith, both, a, b)
 
@@ -229,7 +229,7 @@ traces-within quota before j k p u v l a =
     let few = a.looked in
     record { traced = a.traced; quota_is = a.quota_is; most = a.most; done = a.done; looked = omega (arith, few, l); unread = a.unread; unrooted = a.unrooted; stops = a.stops }
 
--- before steps that traced nothing and looked at no card
+-- before steps that traced nothing and drew no card
 pub traces-quiet : (quota before looks : ℕ) (p : Paid) (u v w : View) → TracesOn quota before looks p u v → TracesNone 0 v w → TracesOn quota before looks p u w
 traces-quiet quota before looks p u v w a b = traces-within quota before (looks + 0) looks p u w (omega arith) (traces-none quota before looks 0 p u v w a b)
 

@@ -131,7 +131,7 @@ refused-idle (in_marking p) = absurd (true≢false (sym p.stopped.1))
 refused-idle (in_idle p) = absurd (true≢false (sym p.read))
 refused-idle (in_stop p) = absurd (true≢false (sym p.inside))
 
--- a card was looked at, though the cycle wasn't far on by the numbers read
+-- a card of the pass was drawn, though the cycle wasn't far on by the numbers read
 abbrev looks_early : List Entry
 looks_early = claiming 0 64 ++ (did ReadPhase 1 ∷ nil_roots ++ (numbers 100 20 40 160 ++ (no_input_looks ++ did NextOfCards 3 ∷ did (AddStat traced_count 0 false) 40 ∷ [])))
 

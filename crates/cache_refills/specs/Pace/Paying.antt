@@ -57,7 +57,7 @@ pub record PaysInMarking (sh : Shape) (section cells : ℕ) (paid : Paid) (m : M
   pub early : quota_seen cells (until_first pops (since_claim es)) ≡ Some paid.quota
   pub done : count_of pops (since_claim es) ≡ paid.done
   pub most : paid.done ≤ paid.quota
-  -- a quota is at most 1,024 objects; and as many cards were looked at, at most, and none where the cycle wasn't far on by the numbers read
+  -- a quota is at most 1,024 objects; and as many cards of the pass were drawn, at most, and none where the cycle wasn't far on by the numbers read
   pub short : paid.quota ≤ 1024
   pub looked : count_of draws (since_claim es) ≤ looks_seen (since_claim es)
   pub stopped : StopsAs paid.stopped sh paid.quota paid.done m es
