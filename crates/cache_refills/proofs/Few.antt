@@ -8,6 +8,7 @@ use Rattle.gc_table.specs.Log.{events}
 use Rattle.gc_table.specs.Running.{Ran}
 use Rattle.gc_table.specs.declared.view.View.{View}
 use Rattle.packet_pools.specs.StepBounds.{output_steps, scan_steps}
+use Rattle.packet_pools.proofs.Few.{another}
 use Rattle.tracer.specs.StepBounds.{object_steps, trace_steps, turn_steps}
 use Rattle.card_clean.specs.StepBounds.{clean_one_steps}
 use Rattle.gc_cycle.specs.declared.counts.Paid.{Paid}
@@ -33,20 +34,17 @@ more-traced m n sh l =
     omega (arith, sum, same)
 
 -- one more look
-another-look : (k each : ℕ) → (k + 1) * each ≡ k * each + each
-another-look k each = omega arith
-
 pub look-more : (m n look : ℕ) (sh : Shape) (u v w : View) → Ran u v → Ran v w → m ≤ n → length (events u v) ≤ trace_steps m sh + look * look_steps sh → length (events v w) ≤ 3 + clean_one_steps card_cells sh + trace_steps (n - m) sh → length (events u w) ≤ trace_steps n sh + (look + 1) * look_steps sh
 look-more m n look sh u v w a b l p q =
     let all = few-join (trace_steps m sh + look * look_steps sh) (3 + clean_one_steps card_cells sh + trace_steps (n - m) sh) u v w a b p q in
     let more = more-traced m n sh l in
-    let grown = another-look look (look_steps sh) in
+    let grown = another look (look_steps sh) in
     omega (arith, all, more, grown)
 
 pub look-last : (m look : ℕ) (sh : Shape) (u v w : View) → Ran u v → Ran v w → length (events u v) ≤ trace_steps m sh + look * look_steps sh → length (events v w) ≤ 3 + output_steps sh → length (events u w) ≤ trace_steps m sh + (look + 1) * look_steps sh
 look-last m look sh u v w a b p q =
     let all = few-join (trace_steps m sh + look * look_steps sh) (3 + output_steps sh) u v w a b p q in
-    let grown = another-look look (look_steps sh) in
+    let grown = another look (look_steps sh) in
     omega (arith, all, grown)
 
 pub looks-fewer : (m a b : ℕ) (sh : Shape) (k : ℕ) → a ≤ b → k ≤ trace_steps m sh + a * look_steps sh → k ≤ trace_steps m sh + b * look_steps sh

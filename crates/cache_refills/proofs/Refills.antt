@@ -9,8 +9,11 @@ pub mod Rounds
 pub mod Visiting
 pub mod Claimed
 pub mod RoundsSoFar
+pub mod PaysOnly
 pub mod Refilled
 pub mod Filling
 pub mod Passed
 pub mod Leaves
 pub mod Pieced
+pub mod PieceSteps
+pub mod Together

@@ -1,50 +1,44 @@
--- A refill in pieces: what the steps before a search leave of what it saw, and what the pieces come to together.
-use Rattle.std.proofs.Common.{ℕ, ◌≡◌, ◌<◌, ◌≤◌, ◌+◌, ◌-◌, List, [], ◌∷◌, ◌++◌, suc, length, arith, refl, sym, ap, ◌∙◌, subst, Bool, true, false, not, Some, None, Option, ⊎_elim, ◌⊎◌}
-use Rattle.std.specs.Prelude.{if◌then◌else◌, IfNone, IfSome}
-use Rattle.std.proofs.lemmas.Bool.{and_parts, false≢true, not-true, or_left, or_right}
-use Rattle.std.proofs.lemmas.List.{append-nil, length-append}
+-- A refill in pieces: what a piece saw, and what the steps before its search leave of that.
+use Rattle.std.proofs.Common.{ℕ, ◌≡◌, ◌<◌, ◌≤◌, ◌+◌, ◌-◌, List, [], ◌∷◌, ◌++◌, length, arith, refl, sym, ap, ◌∙◌, subst, Bool, true, false, not, Some, None, Option}
+use Rattle.std.specs.Prelude.{IfNone, IfSome}
+use Rattle.std.proofs.lemmas.Bool.{and_parts, false≢true}
+use Rattle.std.proofs.lemmas.List.{append-nil}
 use Rattle.std.proofs.lemmas.List.FromFn.{length-range_with_len}
 use Rattle.mark_core.specs.Layout.{block_count}
-use Rattle.mark_core.specs.declared.kinds.Phase.TheVariants.{Marking}
 use Rattle.mark_core.specs.declared.kinds.Shape.{Shape}
 use Rattle.mark_core.specs.declared.kinds.Step.{Step}
 use Rattle.mark_core.specs.declared.kinds.Step.TheVariants.{AddStat, ClaimBlock, ReadPhase}
 use Rattle.mark_core.specs.declared.seat.SeatState.{SeatState}
-use Rattle.mark_core.specs.Seats.{phase_of, saw}
-use Rattle.gc_table.specs.Log.{all_steps, event, events, Only}
+use Rattle.gc_table.specs.Log.{all_steps, events, Only}
 use Rattle.gc_table.specs.Running.{Ran}
 use Rattle.gc_table.specs.Seats.{Took}
 use Rattle.gc_table.specs.declared.view.Entry.{Entry}
 use Rattle.gc_table.specs.declared.view.View.{View}
 use Rattle.gc_table.proofs.History.Log.{events-after, only-more}
-use Rattle.gc_table.proofs.Running.{ran-events, ran-join, ran-shape, ran-took}
+use Rattle.gc_table.proofs.Running.{ran-events, ran-shape}
 use Rattle.packet_pools.specs.Seeking.{some_event}
 use Rattle.alloc_cache.specs.Claiming.{blocks_tried, ClaimsFirst, Misses, seeks_block, seen_taken, tried_by}
 use Rattle.alloc_cache.specs.declared.cache.Cache.{Cache}
 use Rattle.alloc_cache.proofs.Tried.{both-tried}
 use Rattle.gc_cycle.specs.declared.counts.Refill.{Refill}
-use Rattle.gc_cycle.specs.declared.counts.Refill.TheVariants as refills
-use Rattle.gc_cycle.specs.Events.{before_last, never, since_last, since_or_all, Sort}
+use Rattle.gc_cycle.specs.Events.{never}
 use Rattle.gc_cycle.specs.Mutating.{stays_calm}
 use Rattle.gc_cycle.specs.Polling.{saw_full}
-use Rattle.gc_cycle.specs.Sorts.{claims, comes_in}
+use Rattle.gc_cycle.specs.Sorts.{comes_in}
 use Rattle.gc_cycle.specs.Standing.{Mutates}
 use Rattle.gc_cycle.specs.Statistics.{PaysNumbers}
 use Rattle.gc_cycle.proofs.Refills.Answered.{mutates-same}
 use Rattle.gc_cycle.proofs.Sequences.{none-of-steps}
-use Rattle.gc_cycle.proofs.Stops.Admitted.{never-join}
-use Rattle.cache_refills.specs.Pieces.{ComesTo, FindsBlock, IsShort, LeavesBlocks, may_collect, refill_of, round_failed, SeenBelow, SeesBlocks, SeesTo, takes_cells}
+use Rattle.cache_refills.specs.Pieces.{FindsBlock, LeavesBlocks, refill_of, SeesBlocks, SeesTo, takes_cells}
 use Rattle.cache_refills.specs.Pace.Pacing.{kicks}
-use Rattle.cache_refills.specs.Refilling.{looks_for_end, prepares, SeesEnd}
-use Rattle.cache_refills.specs.Stops.{marking_done, no_block, this_visit}
+use Rattle.cache_refills.specs.Refilling.{looks_for_end, prepares}
 use Rattle.cache_refills.specs.Trying.{GoesWithout}
 use Rattle.cache_refills.specs.declared.pieces.Piece.{Piece}
 use Rattle.cache_refills.specs.declared.pieces.Piece.TheVariants as pieces
-use Rattle.cache_refills.proofs.Causes.{done-here, done-later, each-in, taken-later, taken-more}
-use Rattle.cache_refills.proofs.Refills.Claimed.{claims-block}
+use Rattle.cache_refills.proofs.Causes.{taken-later, taken-more}
 use Rattle.cache_refills.proofs.Refills.Paced.{seeks-prepare}
 use Rattle.cache_refills.proofs.Refills.Passed.{unseen-full, unseen-join}
-use Rattle.cache_refills.proofs.Refills.Popping.{before-first, calm-claims}
+use Rattle.cache_refills.proofs.Refills.Payment.{never-run}
 use Rattle.cache_refills.proofs.Refills.Rounds.{leads-prepared}
 
 -- steps that try no block
@@ -99,14 +93,11 @@ later-tried u v w bs r q a b = ap blocks_tried (ran-events u v w r q) ∙ (both-
 pub first-tried : (u v w : View) (bs : List ℕ) → Ran u v → Ran v w → blocks_tried (events u v) ≡ bs → blocks_tried (events v w) ≡ [] → blocks_tried (events u w) ≡ bs
 first-tried u v w bs r q a b = ap blocks_tried (ran-events u v w r q) ∙ (both-tried (events u v) (events v w) ∙ ((λ i. a i ++ b i) ∙ append-nil bs))
 
-seen-later : (u v w : View) (b : ℕ) → Ran u v → Ran v w → seen_taken b (events v w) ≡ true → seen_taken b (events u w) ≡ true
+pub seen-later : (u v w : View) (b : ℕ) → Ran u v → Ran v w → seen_taken b (events v w) ≡ true → seen_taken b (events u w) ≡ true
 seen-later u v w b r q h = ap (seen_taken b) (ran-events u v w r q) ∙ taken-later b (events u v) (events v w) h
 
-never-both : (f : Sort) (u v w : View) → Ran u v → Ran v w → never f (events u v) ≡ true → never f (events v w) ≡ true → never f (events u w) ≡ true
-never-both f u v w r q a b = ap (never f) (ran-events u v w r q) ∙ never-join f (events u v) (events v w) a b
-
 pub leaves-join : (u v w : View) → Ran u v → Ran v w → LeavesBlocks u v → LeavesBlocks v w → LeavesBlocks u w
-leaves-join u v w r q a b = record { untried = later-tried u v w [] r q a.untried b.untried; without = never-both takes_cells u v w r q a.without b.without }
+leaves-join u v w r q a b = record { untried = later-tried u v w [] r q a.untried b.untried; without = never-run takes_cells u v w r q a.without b.without }
 
 -- a search of blocks that were all missed
 pub misses-blocks : (lo hi : ℕ) (v w : View) → Ran v w → Misses lo hi v w → SeesBlocks lo hi v w
@@ -145,8 +136,12 @@ first-found lo hi h v x w r q k none =
 pub of-some : (P : Refill → Type 0) (o : Piece) (r : Refill) → refill_of o ≡ Some r → P r → IfSome (refill_of o) P
 of-some P o r e p = subst (λ (z : Option Refill). IfSome z P) (sym e) p
 
-some-same : {X : Type 0} {x y : X} → Some x ≡ Some y → x ≡ y
+pub some-same : {X : Type 0} {x y : X} → Some x ≡ Some y → x ≡ y
 some-same e = cc
+
+-- no answer isn't one
+pub none-some : (r : Refill) → None ≡ Some r → ⊥
+none-some r e = cc
 
 pub paid-sees : (from most : ℕ) (h : Cache) (o : Piece) (r : Refill) (v x w : View) → refill_of o ≡ Some r → Ran v x → Ran x w → ClaimsFirst from (from + most) h v x → Only stays_calm x w → PaysNumbers h r x w → SeesTo from most o v w
 paid-sees from most h (pieces.Cache k paid) r v x w e a b c o p =
@@ -158,64 +153,9 @@ paid-sees from most h pieces.Full r v x w e a b c o p =
     let low = c.within.0 in
     let high = c.within.1 in
     omega (arith, long, low, high)
-paid-sees from most h (pieces.Next n) r v x w e a b c o p = absurd (none-some e)
-  where
-    none-some : None ≡ Some r → ⊥
-    none-some f = cc
-paid-sees from most h pieces.Ended r v x w e a b c o p = absurd (none-some e)
-  where
-    none-some : None ≡ Some r → ⊥
-    none-some f = cc
-paid-sees from most h pieces.MarkingDone r v x w e a b c o p = absurd (none-some e)
-  where
-    none-some : None ≡ Some r → ⊥
-    none-some f = cc
-
--- how many events there are before the last one like f
-
-before-short : (f : Sort) (es : List Entry) → length (before_last f es) ≤ length es
-before-short f [] = omega arith
-before-short f (e ∷ es) = either (some_event f es) (before-short f es)
-  where
-    either : (b : Bool) → length (before_last f es) ≤ length es → length (if b then e ∷ before_last f es else []) ≤ suc (length es)
-    either true k = omega (arith, k)
-    either false k = omega arith
-
-before-long : (f : Sort) (xs ys : List Entry) → length (before_last f (xs ++ ys)) ≤ length xs + length (before_last f ys)
-before-long f [] ys = omega arith
-before-long f (x ∷ xs) ys = either (some_event f (xs ++ ys)) (before-long f xs ys)
-  where
-    either : (b : Bool) → length (before_last f (xs ++ ys)) ≤ length xs + length (before_last f ys) → length (if b then x ∷ before_last f (xs ++ ys) else []) ≤ suc (length xs) + length (before_last f ys)
-    either true k = omega (arith, k)
-    either false k = omega arith
-
-pub paid-short : (from most : ℕ) (h : Cache) (o : Piece) (r : Refill) (v x w : View) → refill_of o ≡ Some r → Ran v x → Ran x w → ClaimsFirst from (from + most) h v x → Only stays_calm x w → (r ≡ refills.Full → length (events x w) ≤ 5) → IsShort 0 most o (events v w)
-paid-short from most h (pieces.Cache k paid) r v x w e a b c o few =
-    let same = ap (λ es. length (before_last claims es)) (ran-events v x w a b) ∙ ap length (before-first claims (events v x) (events x w) (claims-block h v x c.claims) (calm-claims x w o)) in
-    let short = before-short claims (events v x) in
-    let long = c.few in
-    let low = c.within.0 in
-    let high = c.within.1 in
-    omega (arith, same, short, long, low, high)
-paid-short from most h pieces.Full r v x w e a b c o few =
-    let all = ap length (ran-events v x w a b) ∙ length-append (events v x) (events x w) in
-    let end = few (sym (some-same e)) in
-    let long = c.few in
-    let low = c.within.0 in
-    let high = c.within.1 in
-    omega (arith, all, end, long, low, high)
-paid-short from most h (pieces.Next n) r v x w e a b c o few = absurd (none-some e)
-  where
-    none-some : None ≡ Some r → ⊥
-    none-some f = cc
-paid-short from most h pieces.Ended r v x w e a b c o few = absurd (none-some e)
-  where
-    none-some : None ≡ Some r → ⊥
-    none-some f = cc
-paid-short from most h pieces.MarkingDone r v x w e a b c o few = absurd (none-some e)
-  where
-    none-some : None ≡ Some r → ⊥
-    none-some f = cc
+paid-sees from most h (pieces.Next n) r v x w e a b c o p = absurd (none-some r e)
+paid-sees from most h pieces.Ended r v x w e a b c o p = absurd (none-some r e)
+paid-sees from most h pieces.MarkingDone r v x w e a b c o p = absurd (none-some r e)
 
 -- steps before a search
 
@@ -223,8 +163,8 @@ pub blocks-later : (lo hi : ℕ) (u v w : View) → Ran u v → Ran v w → some
 blocks-later lo hi u v w r q i l s =
     record {
       order = s.order;
-      inside = never-both comes_in u v w r q (ap not i) s.inside;
-      without = never-both takes_cells u v w r q l.without s.without;
+      inside = never-run comes_in u v w r q (ap not i) s.inside;
+      without = never-run takes_cells u v w r q l.without s.without;
       seen = λ b a e. seen-later u v w b r q (s.seen b a e);
       tried = later-tried u v w _ r q l.untried s.tried;
     }
@@ -238,87 +178,3 @@ sees-later from most pieces.Ended u v w r q i l s =
 sees-later from most pieces.MarkingDone u v w r q i l s = later-tried u v w [] r q l.untried s
 sees-later from most pieces.Full u v w r q i l s =
     let same = ap length (later-tried u v w (blocks_tried (events v w)) r q l.untried refl) in omega (arith, same, s)
-
-pub short-later : (before most : ℕ) (o : Piece) (u v w : View) → Ran u v → Ran v w → length (events u v) ≤ before → IsShort 0 most o (events v w) → IsShort before most o (events u w)
-short-later before most (pieces.Cache h paid) u v w r q l s =
-    let all = ap (λ es. length (before_last claims es)) (ran-events u v w r q) in let long = before-long claims (events u v) (events v w) in omega (arith, all, long, l, s)
-short-later before most (pieces.Next n) u v w r q l s = let all = ap length (ran-events u v w r q) ∙ length-append (events u v) (events v w) in omega (arith, all, l, s)
-short-later before most pieces.Ended u v w r q l s = let all = ap length (ran-events u v w r q) ∙ length-append (events u v) (events v w) in omega (arith, all, l, s)
-short-later before most pieces.MarkingDone u v w r q l s = let all = ap length (ran-events u v w r q) ∙ length-append (events u v) (events v w) in omega (arith, all, l, s)
-short-later before most pieces.Full u v w r q l s = let all = ap length (ran-events u v w r q) ∙ length-append (events u v) (events v w) in omega (arith, all, l, s)
-
--- what pieces come to
-
--- none was seen yet
-pub seen-none : (u : View) → Ran u u → events u u ≡ [] → SeenBelow 0 u u
-seen-none u r none = record { ran = r; inside = ap (never comes_in) none; without = ap (never takes_cells) none; seen = λ b l. absurd (omega (arith, l)) }
-
--- more blocks were seen after others
-pub seen-on : (lo hi : ℕ) (u v w : View) → Ran v w → SeenBelow lo u v → SeesBlocks lo hi v w → SeenBelow hi u w
-seen-on lo hi u v w q a s =
-    record {
-      ran = ran-join u v w a.ran q;
-      inside = never-both comes_in u v w a.ran q a.inside s.inside;
-      without = never-both takes_cells u v w a.ran q a.without s.without;
-      seen =
-          λ b l.
-          ⊎_elim
-          (λ (e : b < lo). ap (seen_taken b) (ran-events u v w a.ran q) ∙ taken-more b (events u v) (events v w) (a.seen b e))
-          (λ (e : lo ≤ b). seen-later u v w b a.ran q (s.seen b e l))
-          (below-or b lo);
-    }
-  where
-    below-or : (k mid : ℕ) → (k < mid) ⊎ (mid ≤ k)
-    below-or k mid = grind arith
-
--- where there is none like f, all events are those since the last one
-all-since : (f : Sort) (es : List Entry) → never f es ≡ true → since_or_all f es ≡ es
-all-since f es n = ap (λ (b : Bool). if b then since_last f es else es) (not-true _ n)
-
--- each block was seen
-pub seen-all : (sh : Shape) (u w : View) → SeenBelow (block_count sh) u w → round_failed sh (events u w) ≡ true
-seen-all sh u w a =
-    let visit : this_visit (events u w) ≡ events u w = all-since comes_in (events u w) a.inside in
-    ap (λ es. no_block sh (since_or_all takes_cells es)) visit
-    ∙ (ap (no_block sh) (all-since takes_cells (events u w) a.without) ∙ each-in (λ b. seen_taken b (events u w)) (block_count sh) 0 (λ b l. a.seen b (omega (arith, l))))
-
--- the phase was read as Marking, and marking is done
-pub marked-done : (sh : Shape) (u v w : View) → (t : Took ReadPhase u v) → phase_of t.0 ≡ Marking → Ran v w → SeesEnd sh (events v w) → marking_done sh (events u w) ≡ true
-marked-done sh u v w t p r s =
-    ap (marking_done sh) (ran-events u v w (ran-took u v ReadPhase refl t) r ∙ ap (λ es. es ++ events v w) (events-after u v ReadPhase t.0 t.1.0))
-    ∙ done-here sh (event ReadPhase t.0) (events v w) (ap (λ q. saw (Some q) Marking) p) s.cards s.empty
-
-pub done-collects : (sh : Shape) (u v w : View) → Ran u v → Ran v w → marking_done sh (events v w) ≡ true → may_collect sh (events u w) ≡ true
-done-collects sh u v w r q h = or_right (round_failed sh (events u w)) _ (ap (marking_done sh) (ran-events u v w r q) ∙ done-later sh (events u v) (events v w) h)
-
--- a search of all blocks that are left
-pub ended-collects : (from : ℕ) (u v w : View) → Ran v w → SeenBelow from u v → SeesBlocks from (block_count v.shape) v w → may_collect w.shape (events u w) ≡ true
-ended-collects from u v w q a s =
-    or_left (round_failed w.shape (events u w)) _ (seen-all w.shape u w (seen-on from (block_count w.shape) u v w q a (subst (λ (sh : Shape). SeesBlocks from (block_count sh) v w) (sym (ran-shape v w q)) s)))
-
--- a piece with an answer
-pub answered-comes : (o : Piece) (r : Refill) (u w : View) → refill_of o ≡ Some r → ComesTo o u w
-answered-comes (pieces.Cache h paid) r u w e = tt
-answered-comes pieces.Full r u w e = tt
-answered-comes (pieces.Next n) r u w e = absurd (none-some e)
-  where
-    none-some : None ≡ Some r → ⊥
-    none-some f = cc
-answered-comes pieces.Ended r u w e = absurd (none-some e)
-  where
-    none-some : None ≡ Some r → ⊥
-    none-some f = cc
-answered-comes pieces.MarkingDone r u w e = absurd (none-some e)
-  where
-    none-some : None ≡ Some r → ⊥
-    none-some f = cc
-
--- steps by which the seat neither comes in nor gets a block with a free cell leave what was seen
-pub seen-keeps : (n : ℕ) (u v w : View) → Ran v w → some_event comes_in (events v w) ≡ false → never takes_cells (events v w) ≡ true → SeenBelow n u v → SeenBelow n u w
-seen-keeps n u v w q i l a =
-    record {
-      ran = ran-join u v w a.ran q;
-      inside = never-both comes_in u v w a.ran q a.inside (ap not i);
-      without = never-both takes_cells u v w a.ran q a.without l;
-      seen = λ b e. ap (seen_taken b) (ran-events u v w a.ran q) ∙ taken-more b (events u v) (events v w) (a.seen b e);
-    }

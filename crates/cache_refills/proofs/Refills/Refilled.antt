@@ -1,8 +1,8 @@
 -- A mutator's answer, once it has claimed a block and looked at the phase: it paid while a cycle was marking, and owed nothing where none was.
-use Rattle.std.proofs.Common.{ℕ, ◌≡◌, List, [], ◌∷◌, ◌++◌, ◌+◌, length, arith, refl, sym, ap, ◌∙◌, subst, Bool, true, false, not, ◌&&◌, ◌||◌, Some, None, Option, ⊎_elim, ◌⊎◌, eqb-true}
-use Rattle.std.specs.Prelude.{◌==◌, if◌then◌else◌, is_some, unwrap_or}
+use Rattle.std.proofs.Common.{ℕ, ◌≡◌, List, [], ◌∷◌, ◌++◌, ◌+◌, length, arith, refl, sym, ap, ◌∙◌, subst, Bool, true, false, not, ◌&&◌, ◌||◌, Some, None, Option, ⊎_elim, ◌⊎◌}
+use Rattle.std.specs.Prelude.{if◌then◌else◌, is_some, unwrap_or}
 use Rattle.std.specs.Int.Count.{ones}
-use Rattle.std.proofs.lemmas.Bool.{and_parts, false≢true, not-true, or_cases, or_left, or_right}
+use Rattle.std.proofs.lemmas.Bool.{not-true, or_cases, or_left, or_right}
 use Rattle.std.proofs.lemmas.List.{append_assoc}
 use Rattle.mark_core.specs.Cells.{or_else}
 use Rattle.mark_core.specs.Steps.MutatorSteps.{used_bits}
@@ -11,10 +11,9 @@ use Rattle.mark_core.specs.Seats.{phase_of, saw}
 use Rattle.mark_core.specs.declared.kinds.Phase.{Phase}
 use Rattle.mark_core.specs.declared.kinds.Phase.TheVariants.{Full, Idle, Marking}
 use Rattle.mark_core.specs.declared.kinds.Shape.{Shape}
-use Rattle.mark_core.specs.declared.kinds.Step.{Step}
-use Rattle.mark_core.specs.declared.kinds.Step.TheVariants.{AddStat, ClaimBlock, DropStep, NextSeason, RaiseStep, ReadCat, ReadFree, ReadOwn, ReadPhase, ReadSeason, ReadStat, StoreField, StoreNew, StorePhase, StorePosition, StoreRoot, StoreValue, ExchangeField, ExchangeValue, ReadSlot, StoreSlot}
+use Rattle.mark_core.specs.declared.kinds.Step.TheVariants.{AddStat, ClaimBlock, ReadFree, ReadPhase, StorePosition}
 use Rattle.mark_core.specs.declared.seat.SeatState.{SeatState}
-use Rattle.gc_table.specs.Log.{all_steps, event, events, Only, steps_of}
+use Rattle.gc_table.specs.Log.{event, events, Only, steps_of}
 use Rattle.gc_table.specs.PlainSteps.{own_section}
 use Rattle.gc_table.specs.Rule.{KnowsFull}
 use Rattle.gc_table.specs.Running.{Known, Ran}
@@ -32,12 +31,12 @@ use Rattle.packet_pools.proofs.Searches.{some-right}
 use Rattle.tracer.specs.declared.traced.Stopped.{Stopped}
 use Rattle.tracer.specs.declared.traced.Stopped.TheVariants.{Quota, NoWork, NoPacket}
 use Rattle.alloc_cache.specs.Caching.{IsCached}
-use Rattle.mark_core.specs.Numbers.{done_count, free_count, last_count, rescanned_count, traced_count}
+use Rattle.mark_core.specs.Numbers.{free_count, last_count, rescanned_count, traced_count}
 use Rattle.alloc_cache.specs.Claiming.{claimed_by}
 use Rattle.alloc_cache.specs.Retiring.{retiring_steps}
 use Rattle.alloc_cache.specs.declared.cache.Cache.{Cache}
 use Rattle.cache_refills.specs.Getting.{GetsCache}
-use Rattle.gc_cycle.specs.Answering.{answers, EndsFull, GoesOn, last_phase, later_or, phase_read}
+use Rattle.gc_cycle.specs.Answering.{answers, EndsFull, GoesOn, last_phase}
 use Rattle.gc_cycle.specs.declared.counts.Paid.{Paid}
 use Rattle.gc_cycle.specs.Events.{before_last, never, Sort, until_first}
 use Rattle.gc_cycle.specs.Moments.{at_some_moment, begins, finds_no_packet, finds_no_room, finds_no_work}
@@ -56,64 +55,13 @@ use Rattle.gc_cycle.proofs.Refills.KnownFull.{goes-on, mutates-still, phase-seen
 use Rattle.cache_refills.proofs.Refills.Paced.{active-read}
 use Rattle.gc_cycle.proofs.Picked.{picked-none}
 use Rattle.cache_refills.proofs.Refills.PaidFor.{pays-unclaimed}
+use Rattle.cache_refills.proofs.Refills.PaysOnly.{looked-before, pays-calm, pays-unlooked, pays-unlowered, pays-unresumed}
 use Rattle.gc_cycle.proofs.Longer.{later-moment, packet-widens, roots-right}
 use Rattle.cache_refills.proofs.Positions.{pays-inside, stays_inside, stored-more}
 use Rattle.gc_cycle.proofs.Refills.Retired.{retired-mutates, retired-only}
 use Rattle.gc_cycle.proofs.Searched.{both-widen, room-widens, work-widens}
 use Rattle.gc_cycle.proofs.Sequences.{none-of-steps, since-this, some-none}
-use Rattle.gc_cycle.proofs.TracingSpares.{Spares, untaken}
-
--- what a payment doesn't do
-
-pays-calm : (step : Step) → pays_cells step ≡ true → stays_calm step ≡ true
-pays-calm (AddStat which by down) e = ap (λ n. not (n == done_count)) (eqb-true which traced_count (and_parts (which == traced_count) (not down) e).0)
-pays-calm (ClaimBlock b) e = absurd (false≢true e)
-pays-calm RaiseStep e = absurd (false≢true e)
-pays-calm (StorePhase to) e = absurd (false≢true e)
-pays-calm (ReadOwn c i) e = absurd (false≢true e)
-pays-calm (ReadCat v) e = absurd (false≢true e)
-pays-calm (ReadSlot k) e = absurd (false≢true e)
-pays-calm (StoreSlot k r) e = absurd (false≢true e)
-pays-calm (StoreField v i w) e = absurd (false≢true e)
-pays-calm (StoreValue v n) e = absurd (false≢true e)
-pays-calm (ExchangeField v i x y) e = absurd (false≢true e)
-pays-calm (ExchangeValue v m n) e = absurd (false≢true e)
-pays-calm (StoreRoot v r) e = absurd (false≢true e)
-pays-calm (StoreNew c part word) e = absurd (false≢true e)
-pays-calm ReadSeason e = absurd (false≢true e)
-pays-calm NextSeason e = absurd (false≢true e)
-pays-calm (ReadStat which) e = e
-pays-calm step e = refl
-
-pays-unresumed : Spares pays_cells resumes
-pays-unresumed DropStep n e = absurd (false≢true e)
-pays-unresumed step n e = refl
-
-pays-unlooked : Spares pays_cells (reads_phase Full)
-pays-unlooked ReadPhase n e = absurd (false≢true e)
-pays-unlooked step n e = refl
-
-phase-unread : (step : Step) (n : ℕ) → pays_cells step ≡ true → phase_read step n ≡ None
-phase-unread ReadPhase n e = absurd (false≢true e)
-phase-unread step n e = refl
-
-pays-unlowered : (step : Step) (n : ℕ) → pays_cells step ≡ true → lowers_free step n ≡ []
-pays-unlowered (AddStat which by true) n e = absurd (false≢true (and_parts (which == traced_count) false e).1)
-pays-unlowered (AddStat which by false) n e = neither (which == free_count)
-  where
-    neither : (b : Bool) → (if b && false then by ∷ [] else []) ≡ []
-    neither true = refl
-    neither false = refl
-pays-unlowered step n e = refl
-
-none-looked : (es : List Entry) → all_steps pays_cells es ≡ true → last_phase es ≡ None
-none-looked [] o = refl
-none-looked (e ∷ es) o = let p = and_parts (pays_cells e.step) (all_steps pays_cells es) o in λ i. later_or (none-looked es p.1 i) (phase-unread e.step e.found p.0 i)
-
--- the phase as read last is that which was read before the payment
-looked-before : (xs ys : List Entry) → all_steps pays_cells ys ≡ true → last_phase (xs ++ ys) ≡ last_phase xs
-looked-before [] ys o = none-looked ys o
-looked-before (x ∷ xs) ys o = ap (λ q. later_or q (phase_read x.step x.found)) (looked-before xs ys o)
+use Rattle.gc_cycle.proofs.TracingSpares.{untaken}
 
 -- before the last event like f
 before-this : (f : Sort) (xs : List Entry) (e : Entry) (ys : List Entry) → f e.step e.found ≡ true → some_event f ys ≡ false → before_last f (xs ++ (e ∷ ys)) ≡ xs

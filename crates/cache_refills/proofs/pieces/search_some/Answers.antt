@@ -14,9 +14,11 @@ use Rattle.cache_refills.proofs.Due.{due-calm, due-join, due-none}
 use Rattle.cache_refills.proofs.Refills.Claimed.{claims-cached, claims-claimed, claims-only}
 use Rattle.cache_refills.proofs.Refills.Paced.{seeks-prepare}
 use Rattle.cache_refills.proofs.Refills.Passed.{plays-calm, plays-join, plays-leads}
-use Rattle.cache_refills.proofs.Refills.Pieced.{answered-comes, ended-collects, misses-blocks, misses-without, of-some, paid-sees, paid-short, seen-on}
+use Rattle.cache_refills.proofs.Refills.Pieced.{misses-blocks, misses-without, of-some, paid-sees}
+use Rattle.cache_refills.proofs.Refills.PieceSteps.{paid-short}
 use Rattle.cache_refills.proofs.Refills.RoundNumbers.{claims-refill}
 use Rattle.cache_refills.proofs.Refills.Rounds.{leads-prepared, spares-refill}
+use Rattle.cache_refills.proofs.Refills.Together.{answered-comes, ended-collects, seen-on}
 use Rattle.cache_refills.proofs.Stops.InStops.{unbegun-claims, unbegun-seeks}
 use Rattle.cache_refills.specs.Pace.Pacing.{card_looks}
 use Rattle.cache_refills.specs.Pace.StepBounds.{payment_steps}
