@@ -66,12 +66,12 @@ pub record LeavesBlocks (v w : View) : Type 0 where
   pub untried : blocks_tried (events v w) ≡ []
   pub without : IsTrue (never takes_cells (events v w))
 
--- what a piece saw that looks at so many blocks from this one on
+-- what a piece saw that looks at so many blocks from this one on: some of them, or that marking was done
 abbrev pub SeesTo : ℕ → ℕ → Piece → View → View → Type 0
 SeesTo from most (pieces.Cache h paid) v w = FindsBlock from (from + most) h.block v w
 SeesTo from most (pieces.Next n) v w = (n ≡ from + most) × (n < block_count v.shape) × SeesBlocks from n v w
 SeesTo from most pieces.Ended v w = (block_count v.shape ≤ from + most) × SeesBlocks from (block_count v.shape) v w
-SeesTo from most pieces.MarkingDone v w = blocks_tried (events v w) ≡ []
+SeesTo from most pieces.MarkingDone v w = (blocks_tried (events v w) ≡ []) × IsTrue (marking_done v.shape (events v w))
 SeesTo from most pieces.Full v w = length (blocks_tried (events v w)) ≤ most
 
 -- what pieces come to of which this is the last: the next goes on from there, or a collection is called for

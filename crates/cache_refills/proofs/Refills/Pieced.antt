@@ -32,10 +32,11 @@ use Rattle.gc_cycle.proofs.Sequences.{none-of-steps}
 use Rattle.cache_refills.specs.Pieces.{FindsBlock, LeavesBlocks, refill_of, SeesBlocks, SeesTo, takes_cells}
 use Rattle.cache_refills.specs.Pace.Pacing.{kicks}
 use Rattle.cache_refills.specs.Refilling.{looks_for_end, prepares}
+use Rattle.cache_refills.specs.Stops.{marking_done}
 use Rattle.cache_refills.specs.Trying.{GoesWithout}
 use Rattle.cache_refills.specs.declared.pieces.Piece.{Piece}
 use Rattle.cache_refills.specs.declared.pieces.Piece.TheVariants as pieces
-use Rattle.cache_refills.proofs.Causes.{taken-later, taken-more}
+use Rattle.cache_refills.proofs.Causes.{done-later, taken-later, taken-more}
 use Rattle.cache_refills.proofs.Refills.Paced.{seeks-prepare}
 use Rattle.cache_refills.proofs.Refills.Passed.{unseen-full, unseen-join}
 use Rattle.cache_refills.proofs.Refills.Payment.{never-run}
@@ -175,6 +176,9 @@ sees-later from most (pieces.Next n) u v w r q i l s = (s.0, subst (λ (sh : Sha
 sees-later from most pieces.Ended u v w r q i l s =
     let shape = ran-shape u v r in
     (subst (λ (sh : Shape). block_count sh ≤ from + most) shape s.0, blocks-later from (block_count u.shape) u v w r q i l (subst (λ (sh : Shape). SeesBlocks from (block_count sh) v w) shape s.1))
-sees-later from most pieces.MarkingDone u v w r q i l s = later-tried u v w [] r q l.untried s
+sees-later from most pieces.MarkingDone u v w r q i l s = (
+  later-tried u v w [] r q l.untried s.0,
+  ap (marking_done u.shape) (ran-events u v w r q) ∙ done-later u.shape (events u v) (events v w) (subst (λ (sh : Shape). marking_done sh (events v w) ≡ true) (ran-shape u v r) s.1),
+)
 sees-later from most pieces.Full u v w r q i l s =
     let same = ap length (later-tried u v w (blocks_tried (events v w)) r q l.untried refl) in omega (arith, same, s)

@@ -80,7 +80,7 @@ returns-then-begins_or_ends c =
             cache = s.cache ∙ k.cached;
             going = unseen-join v w x e.ran s.ran (k.going v (ran-refl v) (tells-none v)).going (unseen-full w x s.only);
           };
-      sees = (leaves-join v w x e.ran s.ran (looked-leaves v w k.looked) s.leaves).untried;
+      sees = ((leaves-join v w x e.ran s.ran (looked-leaves v w k.looked) s.leaves).untried, subst (λ (sh : Shape). marking_done sh (events v x) ≡ true) (sym c.requires.seat.0.1) marked);
       calls = λ u a. done-collects x.shape u v x a.ran l.ran (subst (λ (sh : Shape). marking_done sh (events v x) ≡ true) (sym (ran-shape v x l.ran ∙ c.requires.seat.0.1)) marked);
       few = five;
       longest = omega (arith, five);
