@@ -13,8 +13,9 @@
 //!    (`finish_cycle` of `gc_cycle`), or collects precisely, and claims in the stop (`claiming`).
 //! 4. Where every allocation word is all ones after a precise collection in that stop, the heap is full.
 //!
-//! `refilling` goes these ways in rounds, `in_stops` does so for a mutator that collects in stops alone, and `trying` has a refill, an entry and a safe point for a caller
-//! that has no runtime to wait with, and `pieces` has the refill in pieces for one that may not take long either. `pace` and `quota` have the numbers; `watching` is told of the stops.
+//! `refilling` goes these ways in rounds, `in_stops` does so for a mutator that collects in stops alone, and `trying` has a refill, an entry and a safe point for
+//! a caller that has no runtime to wait with, and `pieces` has the refill in pieces for one that may not take long either. `pace` and `quota` have the numbers;
+//! `watching` is told of the stops.
 //!
 //! In `specs/`, `Pace` has when a cycle is due, what is owed and what is paid, `Refilling` what a round does, and `Getting` what a refill answers.
 #![tactic(auto)]

@@ -74,7 +74,8 @@ fn search_some(heap: &Heap, seat: &mut HeapSeat, done: u32, from: u32, most: u32
 }
 
 /// A piece of what [`try_refill`](crate::try_refill) does: it looks at `most` blocks at most, from block `from` on, and takes three steps for each, and ten
-/// more. For a cache it pays besides, while a cycle is marking: it traces 1,024 objects at most and looks at 1,024 cards at most.
+/// more. For a cache it pays besides, while a cycle is marking: it traces 1,024 objects at most, draws 1,024 cards of the pass at most, and `longest` bounds all
+/// its steps, with those of the cards that are passed early.
 ///
 /// Next says from which block the next piece goes on, and Ended that there are no more. A search begins at block 0 where it is to be one of all blocks, and
 /// anew where the mutator came in again or got a cache: then `calls` says of its last piece that a collection is called for.
