@@ -1,8 +1,9 @@
 -- A seat that is alone traces, looks at cards and cleans them, in pieces.
-use Rattle.std.proofs.Common.{ℕ, zero, suc, ◌≡◌, ◌≤◌, ◌<◌, ◌+◌, ◌-◌, ⊎_elim, arith, refl, sym, ap, ◌∙◌, subst, Some, List, [], ◌∷◌, length, true, false}
+use Rattle.std.proofs.Common.{ℕ, ◌≡◌, ◌≤◌, ◌<◌, ◌+◌, ◌-◌, ⊎_elim, arith, refl, sym, ap, ◌∙◌, subst, Some, List, [], ◌∷◌, length, true, false}
 use Rattle.std.specs.List.{range_with_len}
 use Rattle.std.proofs.lemmas.Bool.{cases_lt, not-true}
 use Rattle.std.proofs.lemmas.List.{length-append, length-map}
+use Rattle.std.proofs.lemmas.List.FromFn.{length-range_with_len}
 use Rattle.mark_core.specs.Layout.{card_count}
 use Rattle.mark_core.specs.Numbers.{empty_offset}
 use Rattle.mark_core.specs.Places.{the_empty_count}
@@ -67,11 +68,7 @@ looked-all n v l all = record { drains = l.drains; cards = λ card low high. l.b
 
 -- how many looks there were
 clean-long : (from to : ℕ) → length (looks_clean from to) ≡ to - from
-clean-long from to = length-map (range_with_len from (to - from)) (λ k. event (ReadCard k) 0) ∙ range-long from (to - from)
-  where
-    range-long : (k n : ℕ) → length (range_with_len k n) ≡ n
-    range-long k zero = refl
-    range-long k (suc n) = ap suc (range-long (k + 1) n)
+clean-long from to = length-map (range_with_len from (to - from)) (λ k. event (ReadCard k) 0) ∙ length-range_with_len from (to - from)
 
 pub clean-few : (from n most : ℕ) (es : List Entry) → es ≡ looks_clean from (from + n) → n ≤ most → length es ≤ most
 clean-few from n most es e l = let long = ap length e ∙ clean-long from (from + n) in omega (arith, long, l)

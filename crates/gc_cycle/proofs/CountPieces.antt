@@ -4,6 +4,7 @@ use Rattle.std.specs.Prelude.{is_some}
 use Rattle.std.specs.List.{range_with_len}
 use Rattle.std.proofs.lemmas.Bool.{false≢true}
 use Rattle.std.proofs.lemmas.List.{length-map}
+use Rattle.std.proofs.lemmas.List.FromFn.{length-range_with_len}
 use Rattle.mark_core.specs.Cards.{block_cells}
 use Rattle.mark_core.specs.Layout.{block_count}
 use Rattle.mark_core.specs.Places.{alloc_at}
@@ -20,6 +21,7 @@ use Rattle.gc_table.specs.declared.view.View.{View}
 use Rattle.gc_table.proofs.History.Log.{events-after}
 use Rattle.gc_table.proofs.Noticing.{alone-steady}
 use Rattle.gc_table.proofs.Running.{ran-events, ran-found}
+use Rattle.tracer.proofs.Recycled.{steps-append}
 use Rattle.gc_cycle.specs.Finishing.{AllocsNoted, IsPart, ones_noted}
 use Rattle.gc_cycle.specs.Pieces.{CountsFrom, HasCounted}
 use Rattle.gc_cycle.specs.Settling.{alloc_reads}
@@ -31,10 +33,6 @@ reads-longer from (suc n) =
     let z : from + 1 + n ≡ from + suc n = omega arith in
     ap (λ (l : List Step). ReadAlloc from ∷ l) (reads-longer (from + 1) n ∙ ap (λ k. alloc_reads (from + 1) n ++ ReadAlloc k ∷ []) z)
 
-steps-join : (xs ys : List Entry) → steps_of (xs ++ ys) ≡ steps_of xs ++ steps_of ys
-steps-join [] ys = refl
-steps-join (x ∷ xs) ys = ap (λ (l : List Step). x.step ∷ l) (steps-join xs ys)
-
 -- the blocks so far, and the next one
 pub reads-next : (from b : ℕ) (u v w : View) (n : ℕ) → from ≤ b → Ran u v → Found (ReadAlloc b) n v w → steps_of (events u v) ≡ alloc_reads from (b - from) → steps_of (events u w) ≡ alloc_reads from (b + 1 - from)
 reads-next from b u v w n l r f e =
@@ -42,17 +40,13 @@ reads-next from b u v w n l r f e =
     let at : from + (b - from) ≡ b = omega (arith, l) in
     let one = ap steps_of (events-after v w (ReadAlloc b) n f.0) in
     ap steps_of (ran-events u v w r (ran-found v w (ReadAlloc b) n refl f))
-    ∙ (steps-join (events u v) (events v w)
+    ∙ (steps-append (events u v) (events v w)
     ∙ ((λ i. e i ++ one i) ∙ sym (ap (alloc_reads from) (sym more) ∙ (reads-longer from (b - from) ∙ ap (λ k. alloc_reads from (b - from) ++ ReadAlloc k ∷ []) at))))
 
 -- how many they are
 pub reads-few : (from n most : ℕ) (es : List Entry) → steps_of es ≡ alloc_reads from n → n ≤ most → length es ≤ most
 reads-few from n most es e l =
-    let long = sym (length-map es (λ (x : Entry). x.step)) ∙ (ap length e ∙ (length-map (range_with_len from n) (λ b. ReadAlloc b) ∙ range-long from n)) in omega (arith, long, l)
-  where
-    range-long : (k m : ℕ) → length (range_with_len k m) ≡ m
-    range-long k zero = refl
-    range-long k (suc m) = ap suc (range-long (k + 1) m)
+    let long = sym (length-map es (λ (x : Entry). x.step)) ∙ (ap length e ∙ (length-map (range_with_len from n) (λ b. ReadAlloc b) ∙ length-range_with_len from n)) in omega (arith, long, l)
 
 -- what is noted of an allocation word, told by a test and by a fact
 some-noted : (o : Option ℕ) → is_some o ≡ true → (n : ℕ) × (o ≡ Some n)

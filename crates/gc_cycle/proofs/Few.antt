@@ -1,40 +1,17 @@
--- How many steps calls take, one after another, and by their lists.
-use Rattle.std.proofs.Common.{ℕ, ◌≡◌, ◌≤◌, ◌+◌, ◌*◌, List, [], ◌∷◌, ◌++◌, length, arith, refl, sym, ap, ◌∙◌, Bool, true, false, Option, Some, None}
+-- How many steps calls take, by their lists and by their sizes.
+use Rattle.std.proofs.Common.{ℕ, ◌≡◌, ◌≤◌, ◌+◌, ◌*◌, List, [], ◌∷◌, ◌++◌, length, arith, refl, Bool, true, false, Option, Some, None}
 use Rattle.std.specs.Prelude.{◌==◌, if◌then◌else◌}
 use Rattle.std.proofs.Math.Nat.{mul-le-mul_right}
 use Rattle.std.specs.Int.Count.{ones}
-use Rattle.std.proofs.lemmas.List.{length-append, length-map}
 use Rattle.mark_core.specs.Numbers.{free_count}
-use Rattle.mark_core.specs.declared.kinds.Step.{Step}
 use Rattle.mark_core.specs.declared.kinds.Step.TheVariants.{AddStat, PublishCells, ReleaseBlock}
-use Rattle.gc_table.specs.Log.{events, steps_of}
-use Rattle.gc_table.specs.Running.{Ran}
-use Rattle.gc_table.specs.Taking.{after}
-use Rattle.gc_table.specs.declared.view.Entry.{Entry}
-use Rattle.gc_table.specs.declared.view.View.{View}
-use Rattle.gc_table.proofs.History.Log.{events-after}
-use Rattle.gc_table.proofs.Running.{ran-events}
 use Rattle.mark_core.specs.declared.kinds.Shape.{Shape}
 use Rattle.packet_pools.specs.StepBounds.{follow_steps, scan_steps}
+pub use Rattle.packet_pools.proofs.Few.{few-after, few-events, few-join, few-steps}
 use Rattle.card_clean.specs.StepBounds.{clean_some_steps, see_to_steps}
 use Rattle.sweeper.specs.Blocks.{swept_blocks}
 use Rattle.alloc_cache.specs.declared.cache.Cache.{Cache}
 use Rattle.gc_cycle.specs.Answering.{giving_up}
-
--- one call after another
-pub few-join : (j k : ℕ) (u v w : View) → Ran u v → Ran v w → length (events u v) ≤ j → length (events v w) ≤ k → length (events u w) ≤ j + k
-few-join j k u v w a b p q = let both = ap length (ran-events u v w a b) ∙ length-append (events u v) (events v w) in omega (arith, both, p, q)
-
--- one step
-pub few-after : (v w : View) (step : Step) (n : ℕ) → w ≡ after step n v → length (events v w) ≤ 1
-few-after v w step n e = let one = ap length (events-after v w step n e) in omega (arith, one)
-
--- by the list of the events, and by that of the steps
-pub few-events : (k : ℕ) (v w : View) (es : List Entry) → events v w ≡ es → length es ≤ k → length (events v w) ≤ k
-few-events k v w es e le = let long = ap length e in omega (arith, long, le)
-
-pub few-steps : (k : ℕ) (v w : View) (xs : List Step) → steps_of (events v w) ≡ xs → length xs ≤ k → length (events v w) ≤ k
-few-steps k v w xs e le = let long = sym (length-map (events v w) (λ (x : Entry). x.step)) ∙ ap length e in omega (arith, long, le)
 
 -- a cache is given up by three steps at most
 pub giving-few : (o : Option Cache) (used : ℕ) → length (giving_up o used) ≤ 3
