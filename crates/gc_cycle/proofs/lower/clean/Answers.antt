@@ -1,15 +1,12 @@
-use Rattle.std.proofs.Common.{ℕ, ◌≡◌, List, [], ◌∷◌, ◌++◌, append-nil, refl, sym, ap, ◌∙◌, subst, Bool, true, false, not, ⊎_elim, eq-eqb, ◌⊎◌}
-use Rattle.std.specs.Prelude.{if◌then◌else◌}
-use Rattle.std.proofs.lemmas.Bool.{and_from, false≢true, not-true, or_from, or_left}
+use Rattle.std.proofs.Common.{ℕ, ◌≡◌, List, [], ◌++◌, append-nil, refl, sym, ap, ◌∙◌, subst, true, false, ⊎_elim, eq-eqb}
+use Rattle.std.proofs.lemmas.Bool.{and_from, false≢true, or_left}
 use Rattle.mark_core.specs.Seats.{work_in_hand}
 use Rattle.mark_core.specs.declared.kinds.Shape.{Shape}
-use Rattle.mark_core.specs.declared.kinds.Step.{Step}
-use Rattle.mark_core.specs.declared.kinds.Step.TheVariants.{ClearCard, DirtyCard, NextOfCards, ReadAlloc, ReadMarks}
-use Rattle.gc_table.specs.Log.{event, events}
+use Rattle.mark_core.specs.declared.kinds.Step.TheVariants.{NextOfCards}
+use Rattle.gc_table.specs.Log.{events}
 use Rattle.gc_table.specs.Seats.{view_of}
 use Rattle.gc_table.specs.declared.view.Entry.{Entry}
 use Rattle.gc_table.specs.declared.view.View.{View}
-use Rattle.packet_pools.specs.Counts.{scans_object}
 use Rattle.packet_pools.specs.OnlyTraced.{OnlyCleaned, traces_cells}
 use Rattle.packet_pools.specs.Seeking.{moves_packet, no_output, NoOutput, only_moves, some_event, output_pools}
 use Rattle.packet_pools.specs.Tracing.{Traces}
@@ -18,20 +15,18 @@ use Rattle.tracer.specs.Moments.{front}
 use Rattle.tracer.proofs.Moments.{output-front}
 use Rattle.card_clean.specs.Cleaning.{CleansOne, FoundClean, FoundDirty}
 use Rattle.card_clean.specs.declared.cleaned.Cleaned.{Cleaned}
-use Rattle.gc_cycle.specs.Events.{never, Sort}
 use Rattle.gc_cycle.specs.Lower.{HasTraced}
 use Rattle.gc_cycle.specs.Moments.{at_some_moment, begins, finds_no_room, holds_one}
 use Rattle.gc_cycle.specs.Sorts.{clears_card, draws, pops, reads_root}
 use Rattle.gc_cycle.specs.Standing.{is_at_rest}
-use Rattle.gc_cycle.proofs.Ends.Finishes.{never-both}
+use Rattle.gc_cycle.proofs.CleaningSpares.{none-one}
 use Rattle.gc_cycle.proofs.Idling.{idle-of, rest-parts, traced-held, traces-of}
 use Rattle.gc_cycle.proofs.Ends.Rooted.{rest-room}
 use Rattle.gc_cycle.proofs.Sequences.{this-moment}
-use Rattle.gc_cycle.proofs.TracingSpares.{moved-untaken, moves-unpopped, moves-unrooted, scan-steps, scan-unpopped, scan-unrooted, Spares, untaken, unread-of}
+use Rattle.gc_cycle.proofs.TracingSpares.{moved-untaken, moves-unpopped, moves-unrooted, scan-unpopped, scan-unrooted, Spares, untaken, unread-of}
 use Rattle.gc_cycle.specs.CardLooks.{looks_at_card}
 use Rattle.gc_cycle.proofs.CardLooks.{moves-unlooked, scan-unlooked}
 use Rattle.gc_cycle.proofs.lower.clean.Goals as goal
-use Rattle.mark_core.specs.Cards.{block_of_card}
 
 rest-there : (sh : Shape) (v : View) → v.shape ≡ sh → is_at_rest sh v.state ≡ true → is_at_rest v.shape v.state ≡ true
 rest-there sh v e r = subst (λ (x : Shape). is_at_rest x v.state ≡ true) (sym e) r
@@ -46,39 +41,6 @@ met sh card r es k =
     (λ (a : FoundClean card r k.cleaning). ap (some_event (clears_card card)) a.events_are ∙ or_left _ _ (eq-eqb card card refl))
     (λ (a : FoundDirty sh card r k.cleaning). ap (some_event (clears_card card)) a.1 ∙ or_left _ _ (eq-eqb card card refl))
     k.cleans))
-
--- the card is dirtied again where it has to be
-abbrev ending : ℕ → Bool → List Entry
-ending card b = if b then event (DirtyCard card) 1 ∷ [] else []
-
--- what is neither a move of packets nor a step of a scan, and isn't one of the steps of cleaning itself, isn't there
-module _ (f : Sort) (h : Spares (moves_packet output_pools) f) (k : Spares scans_object f) (cleared : (card n : ℕ) → f (ClearCard card) n ≡ false) (marks : (b n : ℕ) → f (ReadMarks b) n ≡ false) (allocs : (b n : ℕ) → f (ReadAlloc b) n ≡ false) (dirtied : (card n : ℕ) → f (DirtyCard card) n ≡ false) where
-  one : (step : Step) (n : ℕ) (es : List Entry) → f step n ≡ false → never f es ≡ true → never f (event step n ∷ es) ≡ true
-  one step n es a b = ap not (or_from (f step n) (some_event f es) a (not-true _ b))
-
-  none-ending : (card : ℕ) (b : Bool) → never f (ending card b) ≡ true
-  none-ending card true = one (DirtyCard card) 1 [] (dirtied card 1) refl
-  none-ending card false = refl
-
-  none-cleaning : (sh : Shape) (card : ℕ) (r : Cleaned) (es : List Entry) → FoundClean card r es ⊎ FoundDirty sh card r es → never f es ≡ true
-  none-cleaning sh card r es c =
-      ⊎_elim
-      (λ (a : FoundClean card r es). ap (never f) a.events_are ∙ one (ClearCard card) 0 [] (cleared card 0) refl)
-      (λ (a : FoundDirty sh card r es).
-      let x = a.2 in
-      let rest : List Entry = x.scan ++ ending card r.redirtied in
-      ap (never f) (a.1 ∙ ap (λ l. event (ClearCard card) 1 ∷ l) x.events_are)
-      ∙ one (ClearCard card) 1 (event (ReadMarks (block_of_card card)) x.marks ∷ event (ReadAlloc (block_of_card card)) x.allocs ∷ rest) (cleared card 1)
-      (one (ReadMarks (block_of_card card)) x.marks (event (ReadAlloc (block_of_card card)) x.allocs ∷ rest) (marks (block_of_card card) x.marks)
-      (one (ReadAlloc (block_of_card card)) x.allocs rest (allocs (block_of_card card) x.allocs)
-      (never-both f x.scan (ending card r.redirtied) (untaken scans_object f k x.scan (sym (scan-steps x.scan) ∙ x.rescans.counts.scans)) (none-ending card r.redirtied)))))
-      c
-
-  none-one : (sh : Shape) (card : ℕ) (r : Cleaned) (es : List Entry) → CleansOne sh card r es → never f es ≡ true
-  none-one sh card r es c =
-      ap (never f) c.events_are
-      ∙ never-both f c.taking (c.cleaning ++ c.giving) (moved-untaken output_pools f h c.taking c.takes)
-      (never-both f c.cleaning c.giving (none-cleaning sh card r c.cleaning c.cleans) (moved-untaken output_pools f h c.giving c.gives))
 
 undraws : Spares traces_cells draws
 undraws NextOfCards n e = absurd (false≢true e)
