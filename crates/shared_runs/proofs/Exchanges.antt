@@ -23,10 +23,8 @@ use Rattle.mark_core.specs.declared.kinds.Shape.{Shape}
 use Rattle.mark_core.specs.declared.kinds.Step.{Step}
 use Rattle.mark_core.specs.declared.kinds.Step.TheVariants.{ExchangeField, ExchangeValue}
 use Rattle.mark_core.specs.declared.seat.SeatState.{SeatState}
-use Rattle.shared_runs.specs.World.{World, WorldObject, variable_of, object_of, reference_of, is_same, with_object, with_reference, with_value, with_exchanged, with_exchanged_value, stored, name_at, referred, own_section}
+use Rattle.shared_runs.specs.World.{World, WorldObject, variable_of, reference_of, is_same, with_object, with_reference, with_value, with_exchanged, with_exchanged_value, stored, name_at, referred, own_section}
 use Rattle.shared_runs.specs.Agreement.{Agrees, AgreesIn, AgreesWith}
-use Rattle.shared_runs.specs.Laws.{FindsReference, FindsValue}
-use Rattle.shared_runs.proofs.Heap.{object-changed}
 use Rattle.shared_runs.proofs.Frame.{moved}
 use Rattle.shared_runs.proofs.Seats.{Mutates, mutates}
 use Rattle.shared_runs.proofs.Stores.{stored-agrees, Refers, refers, Rewrites, object-moves, field-rewrites, field-inside, value-rewrites, values-length}
@@ -58,7 +56,7 @@ holds_used c i s step (Some u) k h =
     (own-fact c i s step (NamesInUse (words_of c.shape c.words).allocs (makers c.seats)) k k.core.sound.references.seats_in_use).0 u 0 (omega (arith, ltb-true u 32 h, (seat-formed c i s step k).env))
 
 -- what is known of an exchange of a field
-record Compares (c : Core) (i : ℕ) (s : SeatState) (v j : ℕ) (x o : Option ℕ) (world : World) : Type 0 where
+pub record Compares (c : Core) (i : ℕ) (s : SeatState) (v j : ℕ) (x o : Option ℕ) (world : World) : Type 0 where
   pub mutator : Mutates c i s
   pub there : Refers c i s v world (word_in s v - 1)
   pub exists : j < c.shape.fields
@@ -67,7 +65,7 @@ record Compares (c : Core) (i : ℕ) (s : SeatState) (v j : ℕ) (x o : Option �
   pub finds : referred (words_of c.shape c.words).identities (found c s (ExchangeField v j x o)) ≡ reference_of there.holds.object j
   pub won : eqb (found c s (ExchangeField v j x o)) (variable_or_nil s x) ≡ is_same (reference_of there.holds.object j) (stored world i x)
 
-compares : (c : Core) (i : ℕ) (s : SeatState) (v j : ℕ) (x o : Option ℕ) (world : World) → Taken c i s (ExchangeField v j x o) → AgreesWith c world → Compares c i s v j x o world
+pub compares : (c : Core) (i : ℕ) (s : SeatState) (v j : ℕ) (x o : Option ℕ) (world : World) → Taken c i s (ExchangeField v j x o) → AgreesWith c world → Compares c i s v j x o world
 compares c i s v j x o world k a = record {
   mutator = mu;
   there = there;
@@ -186,12 +184,12 @@ exchange-field c i s v j x o world k a =
     (subst (λ (z : ℕ). P z (variable_of world i v)) (sym h.there.cell) (subst (P y) (sym h.there.variable) base))
 
 -- what is known of an exchange of a value
-record ComparesValue (c : Core) (i : ℕ) (s : SeatState) (v m n : ℕ) (world : World) : Type 0 where
+pub record ComparesValue (c : Core) (i : ℕ) (s : SeatState) (v m n : ℕ) (world : World) : Type 0 where
   pub mutator : Mutates c i s
   pub there : Refers c i s v world (word_in s v - 1)
   pub finds : found c s (ExchangeValue v m n) ≡ there.holds.object.value
 
-compares_value : (c : Core) (i : ℕ) (s : SeatState) (v m n : ℕ) (world : World) → Taken c i s (ExchangeValue v m n) → AgreesWith c world → ComparesValue c i s v m n world
+pub compares_value : (c : Core) (i : ℕ) (s : SeatState) (v m n : ℕ) (world : World) → Taken c i s (ExchangeValue v m n) → AgreesWith c world → ComparesValue c i s v m n world
 compares_value c i s v m n world k a =
     let w : Words = words_of c.shape c.words in
     let step : Step = ExchangeValue v m n in
@@ -240,63 +238,3 @@ exchange-value c i s v m n world k a =
     (object-moves c i s step v world y (set w.values y word) w.fields f s.owes k a (λ z e. e) h.there (value_exchanged c i s v m n world k.core h)) in
     subst (λ (z : ℕ). AgreesIn c.shape (words_left c s step) (seats_left c i s step) (with_object world (variable_of world z v) f)) (sym h.mutator.own)
     (subst (λ (z : ℕ). P z (variable_of world i v)) (sym h.there.cell) (subst (P y) (sym h.there.variable) base))
-
--- what an exchange finds is what the heap has there, and it is won by the word found
-pub finds-reference : (c : Core) (i : ℕ) (s : SeatState) (v j : ℕ) (x o : Option ℕ) (world : World) → Taken c i s (ExchangeField v j x o) → AgreesWith c world → FindsReference c world s v j x o (found c s (ExchangeField v j x o))
-finds-reference c i s v j x o world k a = record {
-  name = name;
-  object = object;
-  variable = variable;
-  there = h.there.holds.there;
-  exists = omega (arith, h.exists, h.there.holds.room);
-  found = h.finds;
-  won = won;
-  after =
-      subst (λ (p : Option Name). object_of (with_object world p f) name ≡ Some (cond t changed object)) (sym variable)
-      (object-changed world name f object h.there.holds.there ∙ ap (λ (b : Bool). Some (cond b changed object)) (sym won));
-}
-  where
-    h : Compares c i s v j x o world
-    h = compares c i s v j x o world k a
-
-    own : ℕ
-    own = own_section s
-
-    object : WorldObject
-    object = h.there.holds.object
-
-    name : Name
-    name = name_at (words_of c.shape c.words).identities (word_in s v - 1)
-
-    f : WorldObject → WorldObject
-    f = with_exchanged j (stored world own x) (stored world own o)
-
-    changed : WorldObject
-    changed = with_reference j (stored world own o) object
-
-    t : Bool
-    t = eqb (found c s (ExchangeField v j x o)) (variable_or_nil s x)
-
-    variable : variable_of world own v ≡ Some name
-    variable = subst (λ (z : ℕ). variable_of world z v ≡ Some name) (sym h.mutator.own) h.there.variable
-
-    won : t ≡ is_same (reference_of object j) (stored world own x)
-    won = subst (λ (z : ℕ). t ≡ is_same (reference_of object j) (stored world z x)) (sym h.mutator.own) h.won
-
-pub finds-value : (c : Core) (i : ℕ) (s : SeatState) (v m n : ℕ) (world : World) → Taken c i s (ExchangeValue v m n) → AgreesWith c world → FindsValue c world s v m n (found c s (ExchangeValue v m n))
-finds-value c i s v m n world k a =
-    let h : ComparesValue c i s v m n world = compares_value c i s v m n world k a in
-    let name : Name = name_at (words_of c.shape c.words).identities (word_in s v - 1) in
-    let object : WorldObject = h.there.holds.object in
-    let f : WorldObject → WorldObject = with_exchanged_value m n in
-    let variable : variable_of world (own_section s) v ≡ Some name = subst (λ (z : ℕ). variable_of world z v ≡ Some name) (sym h.mutator.own) h.there.variable in
-    record {
-      name = name;
-      object = object;
-      variable = variable;
-      there = h.there.holds.there;
-      found = h.finds;
-      after =
-          subst (λ (p : Option Name). object_of (with_object world p f) name ≡ Some (cond (eqb (found c s (ExchangeValue v m n)) m) (with_value n object) object)) (sym variable)
-          (object-changed world name f object h.there.holds.there ∙ ap (λ (z : ℕ). Some (cond (eqb z m) (with_value n object) object)) (sym h.finds));
-    }

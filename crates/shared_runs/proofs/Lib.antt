@@ -7,10 +7,12 @@ pub mod Still
 pub mod Reading
 pub mod Roots
 pub mod Stores
+pub mod NewParts
 pub mod NewObjects
 pub mod SameCells
 pub mod Forgetting
 pub mod Exchanges
+pub mod ExchangesFind
 pub mod Kept
 pub mod Telling
 pub mod Reached

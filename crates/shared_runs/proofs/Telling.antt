@@ -1,5 +1,5 @@
 -- Whatever a mutator reads of an object is what the heap has there.
-use Rattle.shared_runs.proofs.Exchanges.{finds-reference, finds-value}
+use Rattle.shared_runs.proofs.ExchangesFind.{finds-reference, finds-value}
 use Rattle.std.proofs.Common.{ℕ, ◌≡◌, ◌+◌, ◌-◌, ◌*◌, ◌<◌, zero, suc, List, [], ◌∷◌, get_or, length, arith, sym, ap, ◌∙◌, subst, true, not, ◌||◌, ◌&&◌, eqb, Option, Some, None, inl, inr, ⊎_elim}
 use Rattle.std.specs.Prelude.{slice_get, slice_index, nat_lt}
 use Rattle.std.specs.List.{list_any}

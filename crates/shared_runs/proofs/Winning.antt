@@ -21,7 +21,8 @@ use Rattle.mark_core.specs.declared.seat.SeatState.{SeatState}
 use Rattle.shared_runs.specs.World.{World, WorldObject, object_of, reference_of, referred, is_same, stored, with_reference, with_value, own_section, world_by}
 use Rattle.shared_runs.specs.Agreement.{AgreesWith}
 use Rattle.shared_runs.specs.Laws.{StoresIn, StoresOf, ObjectsStay, FindsReference, FindsValue, Exchanges, WonOnce, ExchangesField, FieldWonOnce, found_of, world_of, world_after, world_run}
-use Rattle.shared_runs.proofs.Exchanges.{finds-value, finds-reference, same-as}
+use Rattle.shared_runs.proofs.Exchanges.{same-as}
+use Rattle.shared_runs.proofs.ExchangesFind.{finds-value, finds-reference}
 use Rattle.shared_runs.proofs.Forgetting.{none-forgotten}
 use Rattle.shared_runs.proofs.Kept.{agrees-kept}
 
