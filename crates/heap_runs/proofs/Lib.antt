@@ -3,6 +3,7 @@ pub mod Threads
 pub mod Sharing
 pub mod Finding
 pub mod Lending
+pub mod SeasonMoves
 pub mod Rooted
 pub mod Single
 pub mod Counting

@@ -1,6 +1,6 @@
 -- Whoever reads the root at his turn finds it.
-use Rattle.std.proofs.Common.{ℕ, zero, suc, ◌≡◌, ◌⊎◌, ◌+◌, ◌<◌, ◌≤◌, ◌==◌, ◌%◌, ◌&&◌, ◌∙◌, List, [], ◌∷◌, ◌++◌, length, map, take, ap, arith, inl, inr, not, refl, subst, sym, ⊎_elim, Bool, true, false, Option, None, Some, eqb-true}
-use Rattle.std.specs.Prelude.{if◌then◌else◌, nat_lt, slice_get, slice_index_or}
+use Rattle.std.proofs.Common.{ℕ, zero, suc, ◌≡◌, ◌⊎◌, ◌+◌, ◌<◌, ◌==◌, ◌%◌, ◌&&◌, ◌∙◌, List, [], ◌∷◌, ◌++◌, length, map, take, ap, arith, inl, inr, not, refl, subst, sym, ⊎_elim, Bool, true, false, Option, None, Some, eqb-true}
+use Rattle.std.specs.Prelude.{if◌then◌else◌, nat_lt, slice_index_or}
 use Rattle.std.specs.List.{range_with_len}
 use Rattle.std.proofs.lemmas.Bool.{and_parts, false≢true, ne_eqb, not-true}
 use Rattle.std.proofs.lemmas.List.{get_or-set_same}
@@ -8,25 +8,24 @@ use Rattle.std.proofs.lemmas.Option.{get_or_from_slice_get}
 use Rattle.plain_heap.specs.Paths.{Name}
 use Rattle.mark_core.specs.Bits.{reference_in}
 use Rattle.mark_core.specs.Laws.{IsCore}
-use Rattle.mark_core.specs.Layout.{Words as MarkWords, words_of}
+use Rattle.mark_core.specs.Layout.{words_of}
 use Rattle.mark_core.specs.Seats.{has_turn, is_the, may_mutate}
 use Rattle.mark_core.specs.Shapes.{IsShape}
 use Rattle.mark_core.specs.Steps.{Core, after_event, failing_part, run_of, start_core}
 use Rattle.mark_core.specs.declared.kinds.Event.{Event}
 use Rattle.mark_core.specs.declared.kinds.Shape.{Shape}
 use Rattle.mark_core.specs.declared.kinds.Step.{Step}
-use Rattle.mark_core.specs.declared.kinds.Step.TheVariants.{NextSeason, ReadCat, StoreRoot}
+use Rattle.mark_core.specs.declared.kinds.Step.TheVariants.{ReadCat, StoreRoot}
 use Rattle.mark_core.specs.declared.seat.SeatState.{SeatState}
-use Rattle.mark_core.proofs.Acting.{Acted, found, words_left}
+use Rattle.mark_core.proofs.Acting.{Acted, found}
 use Rattle.mark_core.proofs.Blocks.BlocksTaken.{Taken}
 use Rattle.mark_core.proofs.Core.{acts}
 use Rattle.mark_core.proofs.CoreKept.{core-starts}
-use Rattle.mark_core.proofs.Pool.PoolsKept.{shape-kept}
 use Rattle.gc_table.specs.Ends.{AreWords, IsEnd}
 use Rattle.gc_table.specs.Entries.{event, is_logged}
 use Rattle.gc_table.specs.Laws.{IsRunOf}
 use Rattle.gc_table.specs.Log.{all_steps}
-use Rattle.gc_table.specs.Past.{adds, entries_of, log_from, word_told}
+use Rattle.gc_table.specs.Past.{adds, log_from, word_told}
 use Rattle.gc_table.specs.Sections.{start_section}
 use Rattle.gc_table.specs.Seats.{view_of}
 use Rattle.gc_table.specs.TableState.{no_section, section_at}
@@ -36,7 +35,7 @@ use Rattle.gc_table.specs.declared.view.SectionState.{SectionState}
 use Rattle.gc_table.specs.declared.words.Words.{Words}
 use Rattle.gc_table.proofs.History.Past.{run-first, run-sound}
 use Rattle.gc_table.proofs.State.StateStart.{told-starts}
-use Rattle.gc_table.proofs.Told.SeasonsKept.{in-turn, season-next, season-same, season_in}
+use Rattle.gc_table.proofs.Told.SeasonsKept.{in-turn, season_in}
 use Rattle.shared_runs.specs.Agreement.{AgreesWith}
 use Rattle.shared_runs.specs.Laws.{world_after, world_of}
 use Rattle.shared_runs.specs.World.{World, WorldSection, in_section, name_at, referred, section_of, start_world, variable_of, with_variable, world_by}
@@ -50,74 +49,7 @@ use Rattle.heap_runs.specs.Runs.{AreAllowed}
 use Rattle.heap_runs.proofs.Lending.{after_some, event_keeps, first_more, none_starts, none_stores}
 use Rattle.heap_runs.proofs.Sharing.{Sound, agree-on, later-sound, tells-on}
 use Rattle.heap_runs.proofs.Threads.{allowed}
-
--- what is so of nothing, and of the entry of the event where it is this seat's, is so of what the event adds to the seat's log
-pub adds-cases : (P : List Entry → Type 0) (i : ℕ) (c : Core) (e : Event) (s : SeatState) → slice_get c.seats e.seat ≡ Some s → P [] → (e.seat ≡ i → is_logged e.step ≡ true → P (event e.step (word_told c s e.step) ∷ [])) → P (adds i c e)
-adds-cases P i c e s got none some =
-    by_seat (e.seat == i) refl
-  where
-    by_kind : (l : Bool) → is_logged e.step ≡ l → e.seat ≡ i → P (if l then event e.step (word_told c s e.step) ∷ [] else [])
-    by_kind true is at = some at is
-    by_kind false is at = none
-
-    by_seat : (b : Bool) → (e.seat == i) ≡ b → P (if b then entries_of c (slice_get c.seats e.seat) e.step else [])
-    by_seat true is = subst (λ (o : Option SeatState). P (entries_of c o e.step)) (sym got) (by_kind (is_logged e.step) refl (eqb-true e.seat i is))
-    by_seat false is = none
-
--- the seasons that one step adds
-abbrev pub bit : Bool → ℕ
-bit b = if b then 1 else 0
-
-none_more : (n : ℕ) → n ≡ n + 0
-none_more n = omega arith
-
-season_left : (c : Core) (i : ℕ) (s : SeatState) (step : Step) → Taken c i s step → (words_left c s step).season ≡ season_in c + bit (moves_season step)
-season_left c i s NextSeason k = season-next c i s k
-season_left c i s step k = season-same c i s step k refl ∙ none_more (season_in c)
-
--- what an event does to the season
-season_step : (c : Core) (e : Event) → IsCore c → failing_part c e ≡ None → season_in (after_event c e) ≡ season_in c + bit (moves_season e.step)
-season_step c e k f =
-    let r : (s : SeatState) × Acted c e s = acts c e k f in
-    ap (λ (sh : Shape). (words_of sh (after_event c e).words).season) (shape-kept c e)
-    ∙ (ap (λ (w : MarkWords). w.season) r.1.words ∙ season_left c e.seat r.0 e.step (record { core = k; got = r.1.seat; live = r.1.live; ok = r.1.ok }))
-
--- what it adds to the count of the first seat's log is no more
-count_added : (c : Core) (e : Event) → IsCore c → failing_part c e ≡ None → season_count (adds 0 c e) ≤ bit (moves_season e.step)
-count_added c e k f =
-    let r : (s : SeatState) × Acted c e s = acts c e k f in
-    adds-cases (λ (l : List Entry). season_count l ≤ bit (moves_season e.step)) 0 c e r.0 r.1.seat (omega arith) (λ at is. omega arith)
-
-pub count-join : (xs ys : List Entry) → season_count (xs ++ ys) ≡ season_count xs + season_count ys
-count-join [] ys = omega arith
-count-join (x ∷ xs) ys = let rest = count-join xs ys in omega (arith, rest)
-
--- the season grows at least by what the first seat's log has
-season_grown : (es : List Event) (c : Core) → Sound c es → AreAllowed c es → season_count (log_from 0 c es) + season_in c ≤ season_in (run_of es c)
-season_grown [] c sound ok = omega arith
-season_grown (e ∷ es) c sound ok =
-    let d : Core = after_event c e in
-    let rest = season_grown es d (later-sound c e es ok.0 sound) ok.1 in
-    let one = season_step c e (sound 0) ok.0 in
-    let most = count_added c e (sound 0) ok.0 in
-    let both = count-join (adds 0 c e) (log_from 0 d es) in
-    let last = ap season_in (run-first c e es ok.0) in
-    omega (arith, rest, one, most, both, last)
-
--- the season moved by the first seat alone
-abbrev Counted : List Event → Core → Type 0
-Counted es c = season_in (run_of es c) ≡ season_count (log_from 0 c es) + season_in c
-
--- so each event moves it as the first seat's log says
-season_by : (e : Event) (es : List Event) (c : Core) → Sound c (e ∷ es) → AreAllowed c (e ∷ es) → Counted (e ∷ es) c → (season_in (after_event c e) ≡ season_count (adds 0 c e) + season_in c) × Counted es (after_event c e)
-season_by e es c sound ok counted =
-    let d : Core = after_event c e in
-    let rest = season_grown es d (later-sound c e es ok.0 sound) ok.1 in
-    let one = season_step c e (sound 0) ok.0 in
-    let most = count_added c e (sound 0) ok.0 in
-    let both = count-join (adds 0 c e) (log_from 0 d es) in
-    let last = ap season_in (run-first c e es ok.0) in
-    (omega (arith, rest, one, most, both, last, counted), omega (arith, rest, one, most, both, last, counted))
+use Rattle.heap_runs.proofs.SeasonMoves.{adds-cases, bit, none_more, Counted, season_by}
 
 -- a word that isn't nil refers to something
 named : (ids : List ℕ) (r : ℕ) → not (r == 0) ≡ true → (name : Name) × (referred ids r ≡ Some name)

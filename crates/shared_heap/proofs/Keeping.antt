@@ -25,7 +25,7 @@ use Rattle.heap_runs.specs.Lending.{leaves_variable, stores_once}
 use Rattle.heap_runs.specs.Rooted.{fills_first, fills_variable, moves_season, season_count}
 use Rattle.heap_runs.specs.Single.{MakesOne, made_count, makes_object, spares_values}
 use Rattle.heap_runs.proofs.Counted.{made_join}
-use Rattle.heap_runs.proofs.Rooted.{count-join}
+use Rattle.heap_runs.proofs.SeasonMoves.{count-join}
 use Rattle.mutator_ops.specs.Sharing.{next_word}
 use Rattle.mutator_turns.specs.Sharing.{spares_heap}
 use Rattle.shared_heap.specs.Opening.{IsNewSeat}
