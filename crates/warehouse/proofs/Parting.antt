@@ -23,7 +23,7 @@ use Rattle.play_end.specs.Done.{HasSaid, IsStill, turn_word}
 use Rattle.play_end.specs.Parts.{IsAfterParts, Player, PlaysPart, SaysSame, StaysOf}
 use Rattle.play_end.specs.declared.played.Played.{Played}
 use Rattle.play_end.specs.declared.played.Played.TheVariants as plays
-use Rattle.play_end.proofs.Commands.{said-still}
+use Rattle.play_end.proofs.Saying.{said-still}
 use Rattle.play_end.proofs.Doing.{done-still}
 use Rattle.play_end.proofs.Within.{left-full, left-none}
 use Rattle.warehouse.specs.Commands.{CountsPart, MayPlayPart, PlaysAll, StopsWithin}
