@@ -22,7 +22,6 @@ use Rattle.packet_pools.specs.Fields.{fields_read, picked, fields_from}
 use Rattle.gc_table.specs.Log.{events}
 use Rattle.packet_pools.specs.Seeking.{moves_packet, only_moves}
 use Rattle.card_clean.specs.Leaving.{rescans, rescanned_in}
-use Rattle.card_clean.specs.Passing.{draws_card}
 use Rattle.mark_core.specs.Cards.{block_cells, block_of_card}
 
 total-join : (xs ys : List Entry) (v : View) → rescanned_in v (xs ++ ys) ≡ rescanned_in v xs + rescanned_in (after_all xs v) ys
@@ -137,10 +136,6 @@ one-leaves c (e ∷ es) v i n o p l =
 pub scan-left : (o : Option Cleaning) (c : ℕ) → may_scan o c ≡ true → left_in o c ≡ true
 scan-left None c e = e
 scan-left (Some x) c e = (and_parts (in_set (block_of_card x.card) x.left c) (in_set (block_of_card x.card) x.published c) e).0
-
-undrawn : (s : SeatState) (step : Step) (found : ℕ) → draws_card step ≡ true → rescans s step found ≡ 0
-undrawn s (ReadField c i) found m = absurd (false≢true m)
-undrawn s step found m = refl
 
 -- where no field is read nothing is scanned again
 unread-step : (s : SeatState) (step : Step) (found : ℕ) (xs : List (ℕ × ℕ)) → fields_read step found ++ xs ≡ [] → (rescans s step found ≡ 0) × (xs ≡ [])
