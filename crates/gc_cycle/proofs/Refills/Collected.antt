@@ -42,16 +42,10 @@ use Rattle.mark_core.specs.declared.kinds.Step.{Step}
 use Rattle.mark_core.specs.declared.kinds.Step.TheVariants.{ClaimBlock, DropStep, JoinHelpStep, LeaveHelpStep, RaiseStep, ReadCat, ReadOwn, ReadPhase, StorePhase, StorePosition, ReadStat, ReadSlot}
 use Rattle.gc_cycle.specs.Collecting.{EndsStop, HoldsWorld, spares_section, TriesAgain}
 use Rattle.gc_cycle.specs.Mutating.{keeps_section, stays_calm, StopsWorld, tries_stopping, TriesToStop}
-use Rattle.gc_cycle.specs.Sparing.{fills_part, spares_part}
+use Rattle.gc_cycle.specs.Sparing.{spares_part}
 
 some-same : {X : Type 0} {x y : X} → Some x ≡ Some y → x ≡ y
 some-same {X} {x} {y} e = cc
-
-keeps-fill : (step : Step) → keeps_section step ≡ true → fills_part step ≡ true
-keeps-fill (ReadOwn c i) e = absurd (false≢true e)
-keeps-fill (ReadCat v) e = absurd (false≢true e)
-keeps-fill (ReadSlot k) e = absurd (false≢true e)
-keeps-fill step e = e
 
 pub section-spares : (step : Step) → spares_section step ≡ true → spares_part step ≡ true
 section-spares (StorePhase to) e = e
