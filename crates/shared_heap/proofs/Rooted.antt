@@ -14,23 +14,12 @@ use Rattle.gc_table.specs.declared.view.View.{View}
 use Rattle.gc_table.proofs.History.Log.{only-after, only-more, only-none}
 use Rattle.gc_table.proofs.Running.{ran-found, ran-join, ran-only, ran-refl}
 use Rattle.gc_cycle.specs.Answering.{retires}
-use Rattle.gc_cycle.specs.Sparing.{fills_part, spares_part}
+use Rattle.gc_cycle.specs.Sparing.{spares_part}
 use Rattle.gc_cycle.proofs.Refills.Retired.{retired-only}
 use Rattle.mutator_ops.specs.Sharing.{ShareCreates}
 use Rattle.mutator_turns.specs.Sharing.{spares_heap}
 use Rattle.seat_turns.specs.Turning.{LooksAtSeason}
 use Rattle.shared_heap.specs.Rooting.{MakesRoot, Spares, SparesSeason, spares_season}
-
-filled : (step : Step) → fills_part step ≡ true → spares_season step ≡ true
-filled (StoreField v i w) e = absurd (false≢true e)
-filled (StoreValue v n) e = absurd (false≢true e)
-filled (StoreRoot v r) e = absurd (false≢true e)
-filled (StoreSlot k r) e = absurd (false≢true e)
-filled (ExchangeField v i x y) e = absurd (false≢true e)
-filled (ExchangeValue v m n) e = absurd (false≢true e)
-filled (StoreNew c part word) e = absurd (false≢true e)
-filled NextSeason e = absurd (false≢true e)
-filled step e = refl
 
 entered : (step : Step) → spares_part step ≡ true → spares_season step ≡ true
 entered (StorePhase to) e = refl
