@@ -394,8 +394,8 @@ static inline mh_status mh_make_step(mh_mutator *m, uint32_t v, uint32_t value) 
 /* As mh_make_step, but it looks for no cell: MH_NO_CACHE where no cell of the mutator's cache is free. So it takes few steps, whatever the heap's size. */
 static inline mh_status mh_make_cached(mh_mutator *m, uint32_t v, uint32_t value) { return mh_counted(m, MH_BY(m, mhl_make_cached(m, v, value))); }
 /* The next step on the way to a cache with a free cell: MH_OK where the mutator has one, and MH_NOT_YET where there are more blocks to look at. It looks at no
-   more than so many blocks of 64 cells. MH_NO_CELL where its steps looked at all blocks and found none, or where a cycle is done with marking: collect. It is a
-   safe point too. */
+   more than so many blocks of 64 cells. MH_NO_CELL where its steps looked at as many blocks as there are and found none, or where a cycle is done with marking:
+   collect. Where the cache has no free cell yet it is a safe point too. */
 static inline mh_status mh_refill_step(mh_mutator *m, uint32_t most) { return MH_BY(m, mhl_refill_step(m, most)); }
 
 /* Stands for no variable among the fields of mh_make_with: that field stays nil. */
