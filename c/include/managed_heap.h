@@ -242,6 +242,9 @@ static inline uint64_t mh_now(void) {
 #endif
 }
 
+/* How long it was between two moments: 0 where the clock was set back meanwhile. */
+static inline uint64_t mh_since(uint64_t from, uint64_t to) { return from < to ? to - from : 0; }
+
 /* The cycle that the mutator is about to end is written. Nobody else writes one meanwhile, since the world stands still. */
 static inline void mh_write_cycle(mh_book *book, const mh_course *course) {
     uint64_t now = book->watch(), began = mh_noted(&book->began), asked = mh_noted(&book->asked), stopped = mh_noted(&book->stopped);
@@ -250,11 +253,11 @@ static inline void mh_write_cycle(mh_book *book, const mh_course *course) {
     mh_note(&book->last[0], number);
     mh_note(&book->last[1], mh_noted(&book->why));
     mh_note(&book->last[2], mh_noted(&book->beside));
-    mh_note(&book->last[3], began && began < asked ? asked - began : 0);
+    mh_note(&book->last[3], began ? mh_since(began, asked) : 0);
     mh_note(&book->last[4], traced - mh_noted(&book->traced_before));
-    mh_note(&book->last[5], stopped - asked);
-    mh_note(&book->last[6], now - stopped);
-    mh_note(&book->last[7], now - mh_noted(&book->swept));
+    mh_note(&book->last[5], mh_since(asked, stopped));
+    mh_note(&book->last[6], mh_since(stopped, now));
+    mh_note(&book->last[7], mh_since(mh_noted(&book->swept), now));
     mh_note(&book->last[8], course->freed);
     mh_note(&book->last[9], course->kept);
     __atomic_store_n(&book->turns, __atomic_load_n(&book->turns, __ATOMIC_RELAXED) + 1u, __ATOMIC_RELEASE);
