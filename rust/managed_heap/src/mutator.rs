@@ -79,16 +79,19 @@ impl Mutator {
                     tries += 1;
                     self.collect_for(Why::Lacked)?;
                 }
-                other => {
-                    Error::of(other)?;
-                    self.made += 1;
-                    if self.made % LOOK == 0 && !self.shared.cycles.saw_marking() && self.handle.course().marking == 1 {
-                        self.shared.cycles.see_marking();
-                    }
-                    return Ok(());
-                }
+                other => return self.counts(other),
             }
         }
+    }
+
+    /// An object was made, if the call says so: with some of them it looks whether a cycle is marking.
+    fn counts(&mut self, status: u32) -> Result<(), Error> {
+        Error::of(status)?;
+        self.made += 1;
+        if self.made % LOOK == 0 && !self.shared.cycles.saw_marking() && self.handle.course().marking == 1 {
+            self.shared.cycles.see_marking();
+        }
+        Ok(())
     }
 
     /// Variable v refers to a new object of this value, whose fields refer to nothing. Where no cell is free it collects. It is a safe point too.
@@ -103,7 +106,7 @@ impl Mutator {
             match self.handle.make_cached(v, value) {
                 NO_CACHE => return Ok(false),
                 STOPPED => self.enter()?,
-                other => return Error::of(other).map(|()| true),
+                other => return self.counts(other).map(|()| true),
             }
         }
     }
