@@ -11,6 +11,7 @@ pub mod CardLooks
 mod Rooting
 pub mod Leavings
 pub mod Takings
+mod Cleared
 pub mod Few
 pub mod Staying
 pub mod Drawn

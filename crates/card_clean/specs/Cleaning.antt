@@ -1,7 +1,8 @@
 -- What the events of a cleaning tell.
-use Rattle.std.specs.Prelude.{ℕ, ◌≡◌, ◌⊎◌, ◌==◌, ◌||◌, not, if◌then◌else◌, nat_lt, List, [], ◌∷◌, ◌++◌, length, Bool, false, Some, bit_and}
+use Rattle.std.specs.Prelude.{ℕ, ◌≡◌, ◌⊎◌, ◌==◌, ◌||◌, not, if◌then◌else◌, nat_lt, List, [], ◌∷◌, ◌++◌, length, Bool, true, false, Some, bit_and}
 use Rattle.mark_core.specs.Bits.{complement}
 use Rattle.mark_core.specs.declared.kinds.Shape.{Shape}
+use Rattle.mark_core.specs.declared.kinds.Step.{Step}
 use Rattle.mark_core.specs.declared.kinds.Step.TheVariants.{ClearCard, DirtyCard, ReadAlloc, ReadMarks}
 use Rattle.gc_table.specs.declared.view.Entry.{Entry}
 use Rattle.gc_table.specs.declared.view.View.{View}
@@ -11,6 +12,11 @@ use Rattle.card_clean.specs.Cells.{cells_of_card}
 use Rattle.card_clean.specs.Rescanning.{Rescans, seen_cells}
 use Rattle.card_clean.specs.Taking.{CleansWithPacket}
 use Rattle.mark_core.specs.Cards.{block_of_card, card_bits}
+
+-- a card was cleared, whether it was dirty or clean
+abbrev pub clears : Step → ℕ → Bool
+clears (ClearCard card) found = true
+clears step found = false
 
 -- the card has a marked cell that isn't published, by the mark and allocation bits of its block
 abbrev pub has_unpublished : ℕ → ℕ → ℕ → Bool

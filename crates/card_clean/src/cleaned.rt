@@ -22,6 +22,15 @@ impl Cleaned {
     }
 }
 
+/// What a pass over some cards came to.
+#[derive(Clone, Copy, Debug, PartialEq, Eq)]
+pub struct CleanedCards {
+    /// How many cells were scanned again.
+    pub rescanned: u32,
+    /// How many cards were cleaned.
+    pub cards: u32,
+}
+
 /// How many cells of a card were scanned again, and how many of the cells that they refer to found no packet with room.
 #[derive(Clone, Copy, Debug, PartialEq, Eq)]
 pub(crate) struct Rescanned {

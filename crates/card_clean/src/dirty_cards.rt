@@ -8,7 +8,9 @@ ghost use Rattle.gc_table.specs.Seats.{Across, did, Sits, state_of, view_of};
 ghost use Rattle.packet_pools.specs.OnlyTraced.{OnlyTraced, OnlyCleaned};
 ghost use Rattle.packet_pools.specs.Tracing.{IsTracer};
 ghost use Rattle.packet_pools.specs.Hands.{HoldsPacket};
+ghost use Rattle.packet_pools.specs.Counts.{count_of};
 ghost use Rattle.packet_pools.specs.Scanning.{Fills};
+ghost use Rattle.card_clean.specs.Cleaning.{clears};
 ghost use Rattle.card_clean.specs.Leaving.{rescanned_in};
 ghost use Rattle.card_clean.specs.DirtyCards.{CleanedFrom, CleanedWhereDirty, CleansDirty, CleansRound, CleansStretch, stretch_cards, stretch_count};
 ghost use Rattle.card_clean.specs.Drained.{AreNotedClean};
@@ -19,6 +21,7 @@ ghost use Rattle.packet_pools.specs.Hands.{free_slots};
 ghost use Rattle.packet_pools.specs.StepBounds.{any_steps};
 ghost use Rattle.card_clean.specs.StepBounds.{clean_dirty_steps, clean_round_steps, clean_some_steps, pass_steps};
 
+use crate::cleaned::CleanedCards;
 use crate::cleaning::clean_card;
 use crate::taking::take_some;
 use gc_table::{Heap, HeapSeat};
@@ -62,8 +65,8 @@ pub(crate) fn first_dirty(heap: &Heap, seat: &mut HeapSeat, from: u32) -> Option
     dirty_between(heap, seat, from, heap.shape().cells / CARD_CELLS)
 }
 
-/// Looks at a card, and cleans it where it is dirty: how many of its cells were scanned again.
-fn clean_where_dirty(heap: &Heap, seat: &mut HeapSeat, card: u32, out: &mut Held) -> u32
+/// Looks at a card, and cleans it where it is dirty.
+fn clean_where_dirty(heap: &Heap, seat: &mut HeapSeat, card: u32, out: &mut Held) -> CleanedCards
     requires seat { IsTracer heap.now seat.old }
     requires card { card < card_count heap.now.shape }
     requires out { HoldsPacket out.old (view_of seat.old) × IsTrue (has_free_slot (state_of seat.old).held) }
@@ -72,20 +75,33 @@ fn clean_where_dirty(heap: &Heap, seat: &mut HeapSeat, card: u32, out: &mut Held
     ensures only { Across OnlyCleaned seat.old seat.new }
     ensures out { Across (Fills out.old out.new) seat.old seat.new }
     ensures work { IsFalse (work_in_hand heap.now.shape.fields (state_of seat.new)) }
-    ensures most { result ≤ card_cells }
-    ensures left { rescanned_in (view_of seat.old) (did seat.old seat.new) ≡ result }
-    ensures cleans { CleanedWhereDirty heap.now.shape card result (did seat.old seat.new) }
-    ensures few { length (did seat.old seat.new) ≤ pass_steps 1 result heap.now.shape }
+    ensures most { (result.rescanned ≤ card_cells) × (result.cards ≤ 1) }
+    ensures left { rescanned_in (view_of seat.old) (did seat.old seat.new) ≡ result.rescanned }
+    ensures cleared { count_of clears (did seat.old seat.new) ≡ result.cards }
+    ensures cleans { CleanedWhereDirty heap.now.shape card result.rescanned (did seat.old seat.new) }
+    ensures few { length (did seat.old seat.new) ≤ pass_steps 1 result.rescanned heap.now.shape }
 {
     if !heap.read_card(seat, card) {
-        return 0;
+        return CleanedCards {
+            rescanned: 0,
+            cards: 0,
+        };
     }
     let cleaned = clean_card(heap, seat, card, out);
-    cleaned.rescanned
+    CleanedCards {
+        rescanned: cleaned.rescanned,
+        cards: 1,
+    }
 }
 
-/// Looks at each of these cards, and cleans those that are dirty: how many cells were scanned again. A clean card costs one look.
-fn clean_between(heap: &Heap, seat: &mut HeapSeat, first: u32, end: u32, out: &mut Held) -> u32
+/// Looks at each of these cards, and cleans those that are dirty. A clean card costs one look.
+fn clean_between(
+    heap: &Heap,
+    seat: &mut HeapSeat,
+    first: u32,
+    end: u32,
+    out: &mut Held,
+) -> CleanedCards
     requires seat { IsTracer heap.now seat.old }
     requires cards { (first ≤ end) × (end ≤ card_count heap.now.shape) }
     requires out { HoldsPacket out.old (view_of seat.old) × IsTrue (has_free_slot (state_of seat.old).held) }
@@ -94,16 +110,20 @@ fn clean_between(heap: &Heap, seat: &mut HeapSeat, first: u32, end: u32, out: &m
     ensures only { Across OnlyCleaned seat.old seat.new }
     ensures out { Across (Fills out.old out.new) seat.old seat.new }
     ensures work { IsFalse (work_in_hand heap.now.shape.fields (state_of seat.new)) }
-    ensures most { result ≤ card_cells * (end - first) }
-    ensures left { rescanned_in (view_of seat.old) (did seat.old seat.new) ≡ result }
-    ensures cleans { CleanedFrom heap.now.shape first (end - first) result (did seat.old seat.new) }
-    ensures few { length (did seat.old seat.new) ≤ pass_steps (end - first) result heap.now.shape }
+    ensures most { (result.rescanned ≤ card_cells * (end - first)) × (result.cards ≤ end - first) }
+    ensures left { rescanned_in (view_of seat.old) (did seat.old seat.new) ≡ result.rescanned }
+    ensures cleared { count_of clears (did seat.old seat.new) ≡ result.cards }
+    ensures cleans { CleanedFrom heap.now.shape first (end - first) result.rescanned (did seat.old seat.new) }
+    ensures few { length (did seat.old seat.new) ≤ pass_steps (end - first) result.rescanned heap.now.shape }
 {
     let mut rescanned = 0;
+    let mut cards = 0;
     for card in first..end {
-        rescanned += clean_where_dirty(heap, seat, card, out);
+        let one = clean_where_dirty(heap, seat, card, out);
+        rescanned += one.rescanned;
+        cards += one.cards;
     }
-    rescanned
+    CleanedCards { rescanned, cards }
 }
 
 /// Looks at each card, and cleans those that are dirty, with a packet that it takes for it: how many cells were scanned again. Where every card is
@@ -128,16 +148,16 @@ pub fn clean_dirty(heap: &Heap, seat: &mut HeapSeat) -> u32
     let Some(mut out) = take_some(heap, seat) else {
         return 0;
     };
-    let rescanned = clean_between(heap, seat, card, heap.shape().cells / CARD_CELLS, &mut out);
+    let cleaned = clean_between(heap, seat, card, heap.shape().cells / CARD_CELLS, &mut out);
     give(heap, seat, out, false);
-    rescanned
+    cleaned.rescanned
 }
 
-/// Looks at each of these cards, and cleans those that are dirty, with a packet that it takes for it: how many cells were scanned again. None comes only where
-/// no packet was found, and then no card was looked at. The seat may trace, has no work in hand, and holds at most two packets.
+/// Looks at each of these cards, and cleans those that are dirty, with a packet that it takes for it. None comes only where no packet was found, and then no
+/// card was looked at. The seat may trace, has no work in hand, and holds at most two packets.
 ///
 /// A card may be dirty again afterwards, as [`clean_card`](crate::clean_card) says.
-pub fn clean_some(heap: &Heap, seat: &mut HeapSeat, first: u32, end: u32) -> Option<u32>
+pub fn clean_some(heap: &Heap, seat: &mut HeapSeat, first: u32, end: u32) -> Option<CleanedCards>
     requires seat { IsTracer heap.now seat.old }
     requires cards { (first ≤ end) × (end ≤ card_count heap.now.shape) }
     requires free { 2 ≤ free_slots (state_of seat.old).held }
@@ -146,16 +166,17 @@ pub fn clean_some(heap: &Heap, seat: &mut HeapSeat, first: u32, end: u32) -> Opt
     ensures only { Across OnlyCleaned seat.old seat.new }
     ensures held { (state_of seat.new).held ≡ (state_of seat.old).held }
     ensures work { IsFalse (work_in_hand heap.now.shape.fields (state_of seat.new)) }
-    ensures some { IfSome result (λ n. (n ≤ card_cells * (end - first)) × (rescanned_in (view_of seat.old) (did seat.old seat.new) ≡ n) × CleansWithPacket (CleanedFrom heap.now.shape first (end - first) n) (did seat.old seat.new)) }
+    ensures some { IfSome result (λ r. (r.rescanned ≤ card_cells * (end - first)) × (rescanned_in (view_of seat.old) (did seat.old seat.new) ≡ r.rescanned) × CleansWithPacket (CleanedFrom heap.now.shape first (end - first) r.rescanned) (did seat.old seat.new)) }
+    ensures cleared { IfSome result (λ r. (r.cards ≤ end - first) × (count_of clears (did seat.old seat.new) ≡ r.cards)) }
     ensures none { IfNone result (NoPacket heap.now.shape (did seat.old seat.new) × IsTrue (only_moves output_pools (did seat.old seat.new)) × (rescanned_in (view_of seat.old) (did seat.old seat.new) ≡ 0)) }
-    ensures few { IfSome result (λ n. length (did seat.old seat.new) ≤ clean_some_steps (end - first) n heap.now.shape) × IfNone result (length (did seat.old seat.new) ≤ any_steps heap.now.shape) }
+    ensures few { IfSome result (λ r. length (did seat.old seat.new) ≤ clean_some_steps (end - first) r.rescanned heap.now.shape) × IfNone result (length (did seat.old seat.new) ≤ any_steps heap.now.shape) }
 {
     let Some(mut out) = take_some(heap, seat) else {
         return None;
     };
-    let rescanned = clean_between(heap, seat, first, end, &mut out);
+    let cleaned = clean_between(heap, seat, first, end, &mut out);
     give(heap, seat, out, false);
-    Some(rescanned)
+    Some(cleaned)
 }
 
 /// How many cards are passed with one packet.
@@ -179,7 +200,7 @@ fn clean_stretch(heap: &Heap, seat: &mut HeapSeat, s: u32) -> u32
     let first = s * STRETCH;
     let end = (first + STRETCH).min(heap.shape().cells / CARD_CELLS);
     match clean_some(heap, seat, first, end) {
-        Some(rescanned) => rescanned,
+        Some(cleaned) => cleaned.rescanned,
         None => 0,
     }
 }

@@ -61,7 +61,7 @@ mod taking;
 
 pub use barrier::{store_ref, store_value};
 pub use card_pass::next_card;
-pub use cleaned::Cleaned;
+pub use cleaned::{Cleaned, CleanedCards};
 pub use cleaning::clean_card;
 pub use dirty_cards::{clean_dirty, clean_dirty_round, clean_some, dirty_between};
 pub use drain_end::is_drained;

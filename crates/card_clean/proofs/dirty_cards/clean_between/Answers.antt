@@ -7,34 +7,35 @@ use Rattle.packet_pools.proofs.Filled.{fills-join}
 use Rattle.packet_pools.proofs.TracedSteps.{cleaned-join}
 use Rattle.gc_table.proofs.History.Log.{events-join}
 use Rattle.card_clean.specs.DirtyCards.{CleanedFrom, CleanedWhereDirty}
+use Rattle.card_clean.proofs.Cleared.{cleared-join}
 use Rattle.card_clean.proofs.Leavings.{rescanned-join}
 use Rattle.card_clean.proofs.Few.{pass-few}
 use Rattle.card_clean.proofs.dirty_cards.clean_between.Goals as goal
 
-pub clean_where_dirty-rescanned-requires-clause-seat : goal.clean_where_dirty-rescanned-requires-clause-seat
-clean_where_dirty-rescanned-requires-clause-seat c = let i = c.loop-card.invariant in (i.sits, i.traces)
+pub clean_where_dirty-one-requires-clause-seat : goal.clean_where_dirty-one-requires-clause-seat
+clean_where_dirty-one-requires-clause-seat c = let i = c.loop-card.invariant in (i.sits, i.traces)
 
-pub clean_where_dirty-rescanned-requires-clause-card : goal.clean_where_dirty-rescanned-requires-clause-card
-clean_where_dirty-rescanned-requires-clause-card c = omega (arith, c.loop-card-test.true, c.requires.cards.1)
+pub clean_where_dirty-one-requires-clause-card : goal.clean_where_dirty-one-requires-clause-card
+clean_where_dirty-one-requires-clause-card c = omega (arith, c.loop-card-test.true, c.requires.cards.1)
 
-pub clean_where_dirty-rescanned-requires-clause-out : goal.clean_where_dirty-rescanned-requires-clause-out
-clean_where_dirty-rescanned-requires-clause-out c = let i = c.loop-card.invariant in (i.packet.held, i.packet.free)
+pub clean_where_dirty-one-requires-clause-out : goal.clean_where_dirty-one-requires-clause-out
+clean_where_dirty-one-requires-clause-out c = let i = c.loop-card.invariant in (i.packet.held, i.packet.free)
 
-pub clean_where_dirty-rescanned-requires-clause-work : goal.clean_where_dirty-rescanned-requires-clause-work
-clean_where_dirty-rescanned-requires-clause-work c = c.loop-card.invariant.work
+pub clean_where_dirty-one-requires-clause-work : goal.clean_where_dirty-one-requires-clause-work
+clean_where_dirty-one-requires-clause-work c = c.loop-card.invariant.work
 
 pub loop-card-preserved : goal.loop-card-preserved
 loop-card-preserved c =
     let sh : Shape = c.args.heap.now.shape in
     let v : View = view_of c.args.seat.now in
     let w : View = view_of c.loop-card.seat in
-    let x : View = view_of c.clean_where_dirty-rescanned.new.seat in
+    let x : View = view_of c.clean_where_dirty-one.new.seat in
     let i = c.loop-card.invariant in
-    let e = c.clean_where_dirty-rescanned.ensures in
+    let e = c.clean_where_dirty-one.ensures in
     let from : ℕ = c.args.first in
     let card : ℕ = c.loop-card.card in
     let done : ℕ = c.loop-card.rescanned in
-    let one : ℕ = c.clean_where_dirty-rescanned.result in
+    let one : ℕ = c.clean_where_dirty-one.result.rescanned in
     let at : card ≡ from + (card - from) = omega (arith, i.order) in
     let more : suc (card - from) ≡ card + 1 - from = omega (arith, i.order) in
     record {
@@ -43,9 +44,10 @@ loop-card-preserved c =
       order = omega (arith, i.order);
       end = omega (arith, c.loop-card-test.true);
       only = cleaned-join v w x i.only e.only;
-      packet = fills-join v w x c.args.out.now c.loop-card.out c.clean_where_dirty-rescanned.new.out i.packet e.out;
+      packet = fills-join v w x c.args.out.now c.loop-card.out c.clean_where_dirty-one.new.out i.packet e.out;
       work = e.work;
-      most = omega (arith, i.most, e.most, i.order);
+      most = (omega (arith, i.most.0, e.most.0, i.order), omega (arith, i.most.1, e.most.1, i.order));
+      cleared = let j = cleared-join v w x i.only.ran e.only.ran in omega (arith, j, i.cleared, e.cleared);
       left = let j = rescanned-join v w x i.only.ran e.only.ran in omega (arith, j, i.left, e.left);
       cleans =
           subst (λ k. CleanedFrom sh from k (done + one) (events v x)) more

@@ -7,6 +7,8 @@ use Rattle.packet_pools.specs.OnlyTraced.{OnlyCleaned}
 use Rattle.gc_table.specs.Log.{events}
 use Rattle.packet_pools.specs.Tracing.{Traces}
 use Rattle.packet_pools.specs.Scanning.{Fills}
+use Rattle.packet_pools.specs.Counts.{count_of}
+use Rattle.card_clean.specs.Cleaning.{clears}
 use Rattle.card_clean.specs.Leaving.{rescanned_in}
 use Rattle.card_clean.specs.DirtyCards.{CleanedFrom}
 use Rattle.card_clean.specs.StepBounds.{pass_steps}
@@ -21,7 +23,8 @@ invariant-loop-card l = record {
   only : OnlyCleaned (view_of l.fn.seat) (view_of l.seat);
   packet : Fills l.fn.out l.out (view_of l.fn.seat) (view_of l.seat);
   work : IsFalse (work_in_hand l.heap.shape.fields (view_of l.seat).state);
-  most : l.rescanned ≤ card_cells * (l.card - l.fn.first);
+  most : (l.rescanned ≤ card_cells * (l.card - l.fn.first)) × (l.cards ≤ l.card - l.fn.first);
+  cleared : count_of clears (events (view_of l.fn.seat) (view_of l.seat)) ≡ l.cards;
   left : rescanned_in (view_of l.fn.seat) (events (view_of l.fn.seat) (view_of l.seat)) ≡ l.rescanned;
   cleans : CleanedFrom l.heap.shape l.fn.first (l.card - l.fn.first) l.rescanned (events (view_of l.fn.seat) (view_of l.seat));
   few : length (events (view_of l.fn.seat) (view_of l.seat)) ≤ pass_steps (l.card - l.fn.first) l.rescanned l.heap.shape;

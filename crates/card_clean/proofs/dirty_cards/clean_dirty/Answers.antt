@@ -62,8 +62,8 @@ returns-in_default-take_some-clause-left c =
     let j = rescanned-join v w x c.first_dirty.ensures.only.ran c.take_some.ensures.only.ran in
     omega (arith, j, first, second)
 
-pub clean_between-rescanned-requires-clause-out : goal.clean_between-rescanned-requires-clause-out
-clean_between-rescanned-requires-clause-out c =
+pub clean_between-cleaned-requires-clause-out : goal.clean_between-cleaned-requires-clause-out
+clean_between-cleaned-requires-clause-out c =
     let v : View = view_of c.args.seat.now in
     let w : View = view_of c.first_dirty.new.seat in
     let h = c.in-Some-take_some.out in
@@ -76,10 +76,10 @@ returns-clause-only c =
     let v : View = view_of c.args.seat.now in
     let w : View = view_of c.first_dirty.new.seat in
     let x : View = view_of c.take_some.new.seat in
-    let y : View = view_of c.clean_between-rescanned.new.seat in
+    let y : View = view_of c.clean_between-cleaned.new.seat in
     let z : View = view_of c.give.new.seat in
     cleaned-join v w z (traced-cleaned v w c.first_dirty.ensures.only)
-    (cleaned-join w x z (traced-cleaned w x c.take_some.ensures.only) (cleaned-join x y z c.clean_between-rescanned.ensures.only (traced-cleaned y z c.give.ensures.only)))
+    (cleaned-join w x z (traced-cleaned w x c.take_some.ensures.only) (cleaned-join x y z c.clean_between-cleaned.ensures.only (traced-cleaned y z c.give.ensures.only)))
 
 pub returns-clause-held : goal.returns-clause-held
 returns-clause-held c =
@@ -87,7 +87,7 @@ returns-clause-held c =
     let h = c.in-Some-take_some.out in
     let s = c.in-Some-take_some.ensures.some in
     ap (λ (t : SeatState). t.held) c.give.ensures.state
-    ∙ (c.clean_between-rescanned.ensures.out.slots
+    ∙ (c.clean_between-cleaned.ensures.out.slots
     ∙ (ap (λ (t : SeatState). drop_packet t.held h.packet) s.2 ∙ (drop-with w.state.held h.packet h.length s.0 ∙ ap (λ (t : SeatState). t.held) c.first_dirty.ensures.state)))
 
 pub returns-clause-left : goal.returns-clause-left
@@ -95,12 +95,12 @@ returns-clause-left c =
     let v : View = view_of c.args.seat.now in
     let w : View = view_of c.first_dirty.new.seat in
     let x : View = view_of c.take_some.new.seat in
-    let y : View = view_of c.clean_between-rescanned.new.seat in
+    let y : View = view_of c.clean_between-cleaned.new.seat in
     let z : View = view_of c.give.new.seat in
-    let k = c.clean_between-rescanned.new.out in
+    let k = c.clean_between-cleaned.new.out in
     let a = c.first_dirty.ensures.only in
     let b = c.take_some.ensures.only in
-    let d = c.clean_between-rescanned.ensures in
+    let d = c.clean_between-cleaned.ensures in
     let g = c.give.ensures in
     let end = cleaned-join x y z d.only (traced-cleaned y z g.only) in
     let first : rescanned_in v (events v w) ≡ 0 = rescanned-dirty v w 0 c.in-Some.card c.in-Some.ensures.dirty.2 in
@@ -127,12 +127,12 @@ returns-clause-cleans c =
     let v : View = view_of c.args.seat.now in
     let w : View = view_of c.first_dirty.new.seat in
     let x : View = view_of c.take_some.new.seat in
-    let y : View = view_of c.clean_between-rescanned.new.seat in
+    let y : View = view_of c.clean_between-cleaned.new.seat in
     let z : View = view_of c.give.new.seat in
-    let k = c.clean_between-rescanned.new.out in
+    let k = c.clean_between-cleaned.new.out in
     let a = c.first_dirty.ensures.only in
     let b = c.take_some.ensures in
-    let d = c.clean_between-rescanned.ensures in
+    let d = c.clean_between-cleaned.ensures in
     let g = c.give.ensures in
     let end = cleaned-join x y z d.only (traced-cleaned y z g.only) in
     let rest = cleaned-join w x z (traced-cleaned w x b.only) end in
@@ -148,7 +148,7 @@ returns-clause-cleans c =
             giving = events y z;
             events_are = events-join w x z b.only.log end.log ∙ ap (λ es. events w x ++ es) (events-join x y z d.only.log g.only.log);
             takes = b.moves;
-            cleans = subst (λ (sh : Shape). CleanedFrom c.args.heap.now.shape c.in-Some.card (card_count sh - c.in-Some.card) c.clean_between-rescanned.result (events x y)) c.shape.ensures d.cleans;
+            cleans = subst (λ (sh : Shape). CleanedFrom c.args.heap.now.shape c.in-Some.card (card_count sh - c.in-Some.card) c.clean_between-cleaned.result.rescanned (events x y)) c.shape.ensures d.cleans;
             gives = given-moves output_pools k.packet (k.length == 0) (events y z) g.steps;
           }
           ),
@@ -171,15 +171,15 @@ returns-clause-few c =
     let v : View = view_of c.args.seat.now in
     let w : View = view_of c.first_dirty.new.seat in
     let x : View = view_of c.take_some.new.seat in
-    let y : View = view_of c.clean_between-rescanned.new.seat in
+    let y : View = view_of c.clean_between-cleaned.new.seat in
     let z : View = view_of c.give.new.seat in
-    let k = c.clean_between-rescanned.new.out in
-    let n : ℕ = pass_steps (card_count sh - c.in-Some.card) c.clean_between-rescanned.result sh in
+    let k = c.clean_between-cleaned.new.out in
+    let n : ℕ = pass_steps (card_count sh - c.in-Some.card) c.clean_between-cleaned.result.rescanned sh in
     let a = c.first_dirty.ensures in
     let b = c.take_some.ensures in
-    let d = c.clean_between-rescanned.ensures in
+    let d = c.clean_between-cleaned.ensures in
     let g = c.give.ensures in
-    let passed : length (events x y) ≤ n = subst (λ (s : Shape). length (events x y) ≤ pass_steps (card_count s - c.in-Some.card) c.clean_between-rescanned.result sh) c.shape.ensures d.few in
+    let passed : length (events x y) ≤ n = subst (λ (s : Shape). length (events x y) ≤ pass_steps (card_count s - c.in-Some.card) c.clean_between-cleaned.result.rescanned sh) c.shape.ensures d.few in
     let one = few-join (card_count sh - 0) (any_steps sh) v w x a.only.ran b.only.ran a.few b.few in
     let two = cleaned-join v w x (traced-cleaned v w a.only) (traced-cleaned w x b.only) in
     let three = cleaned-join v x y two d.only in

@@ -11,6 +11,7 @@ use Rattle.packet_pools.proofs.InHand.{drop-with}
 use Rattle.packet_pools.proofs.TracedSteps.{cleaned-join, traced-cleaned}
 use Rattle.card_clean.specs.Leaving.{rescanned_in}
 use Rattle.packet_pools.specs.Seeking.{output_pools}
+use Rattle.card_clean.proofs.Cleared.{cleared-join, cleared-moves}
 use Rattle.card_clean.proofs.Leavings.{rescanned-join, rescanned-moves}
 use Rattle.card_clean.proofs.Takings.{some-free, with-free}
 use Rattle.mark_core.specs.declared.kinds.Shape.{Shape}
@@ -22,8 +23,8 @@ use Rattle.card_clean.proofs.dirty_cards.clean_some.Goals as goal
 pub take_some-requires-clause-free : goal.take_some-requires-clause-free
 take_some-requires-clause-free c = some-free (view_of c.args.seat.now).state.held (omega (arith, c.requires.free))
 
-pub clean_between-rescanned-requires-clause-out : goal.clean_between-rescanned-requires-clause-out
-clean_between-rescanned-requires-clause-out c =
+pub clean_between-cleaned-requires-clause-out : goal.clean_between-cleaned-requires-clause-out
+clean_between-cleaned-requires-clause-out c =
     let v : View = view_of c.args.seat.now in
     let h = c.in-Some.out in
     let s = c.in-Some.ensures.some in
@@ -33,9 +34,9 @@ pub returns-clause-only : goal.returns-clause-only
 returns-clause-only c =
     let v : View = view_of c.args.seat.now in
     let x : View = view_of c.take_some.new.seat in
-    let y : View = view_of c.clean_between-rescanned.new.seat in
+    let y : View = view_of c.clean_between-cleaned.new.seat in
     let z : View = view_of c.give.new.seat in
-    cleaned-join v x z (traced-cleaned v x c.take_some.ensures.only) (cleaned-join x y z c.clean_between-rescanned.ensures.only (traced-cleaned y z c.give.ensures.only))
+    cleaned-join v x z (traced-cleaned v x c.take_some.ensures.only) (cleaned-join x y z c.clean_between-cleaned.ensures.only (traced-cleaned y z c.give.ensures.only))
 
 pub returns-clause-held : goal.returns-clause-held
 returns-clause-held c =
@@ -43,7 +44,7 @@ returns-clause-held c =
     let h = c.in-Some.out in
     let s = c.in-Some.ensures.some in
     ap (λ (t : SeatState). t.held) c.give.ensures.state
-    ∙ (c.clean_between-rescanned.ensures.out.slots ∙ (ap (λ (t : SeatState). drop_packet t.held h.packet) s.2 ∙ drop-with v.state.held h.packet h.length s.0))
+    ∙ (c.clean_between-cleaned.ensures.out.slots ∙ (ap (λ (t : SeatState). drop_packet t.held h.packet) s.2 ∙ drop-with v.state.held h.packet h.length s.0))
 
 pub returns-in_default-clause-none : goal.returns-in_default-clause-none
 returns-in_default-clause-none c =
@@ -55,18 +56,18 @@ pub returns-clause-some : goal.returns-clause-some
 returns-clause-some c =
     let v : View = view_of c.args.seat.now in
     let x : View = view_of c.take_some.new.seat in
-    let y : View = view_of c.clean_between-rescanned.new.seat in
+    let y : View = view_of c.clean_between-cleaned.new.seat in
     let z : View = view_of c.give.new.seat in
-    let k = c.clean_between-rescanned.new.out in
+    let k = c.clean_between-cleaned.new.out in
     let b = c.take_some.ensures in
-    let d = c.clean_between-rescanned.ensures in
+    let d = c.clean_between-cleaned.ensures in
     let g = c.give.ensures in
     let end = cleaned-join x y z d.only (traced-cleaned y z g.only) in
     let none : rescanned_in v (events v x) ≡ 0 = rescanned-moves output_pools (events v x) v b.moves in
     let last : rescanned_in y (events y z) ≡ 0 = rescanned-moves output_pools (events y z) y (given-moves output_pools k.packet (k.length == 0) (events y z) g.steps) in
     let j = rescanned-join v x z b.only.ran end.ran in
     let l = rescanned-join x y z d.only.ran g.only.ran in (
-      d.most,
+      d.most.0,
       omega (arith, j, l, none, last, d.left),
       record {
         taking = events v x;
@@ -79,6 +80,22 @@ returns-clause-some c =
       },
     )
 
+pub returns-clause-cleared : goal.returns-clause-cleared
+returns-clause-cleared c =
+    let v : View = view_of c.args.seat.now in
+    let x : View = view_of c.take_some.new.seat in
+    let y : View = view_of c.clean_between-cleaned.new.seat in
+    let z : View = view_of c.give.new.seat in
+    let k = c.clean_between-cleaned.new.out in
+    let b = c.take_some.ensures in
+    let d = c.clean_between-cleaned.ensures in
+    let g = c.give.ensures in
+    let none = cleared-moves output_pools (events v x) b.moves in
+    let last = cleared-moves output_pools (events y z) (given-moves output_pools k.packet (k.length == 0) (events y z) g.steps) in
+    let j = cleared-join v x z b.only.ran (cleaned-join x y z d.only (traced-cleaned y z g.only)).ran in
+    let l = cleared-join x y z d.only.ran g.only.ran in
+    (d.most.1, omega (arith, j, l, none, last, d.cleared))
+
 pub returns-in_default-clause-few : goal.returns-in_default-clause-few
 returns-in_default-clause-few c = (tt, c.take_some.ensures.few)
 
@@ -87,12 +104,12 @@ returns-clause-few c =
     let sh : Shape = c.args.heap.now.shape in
     let v : View = view_of c.args.seat.now in
     let x : View = view_of c.take_some.new.seat in
-    let y : View = view_of c.clean_between-rescanned.new.seat in
+    let y : View = view_of c.clean_between-cleaned.new.seat in
     let z : View = view_of c.give.new.seat in
-    let k = c.clean_between-rescanned.new.out in
-    let n : ℕ = pass_steps (c.args.end - c.args.first) c.clean_between-rescanned.result sh in
+    let k = c.clean_between-cleaned.new.out in
+    let n : ℕ = pass_steps (c.args.end - c.args.first) c.clean_between-cleaned.result.rescanned sh in
     let b = c.take_some.ensures in
-    let d = c.clean_between-rescanned.ensures in
+    let d = c.clean_between-cleaned.ensures in
     let g = c.give.ensures in
     let first = few-join (any_steps sh) n v x y b.only.ran d.only.ran b.few d.few in
     let both = cleaned-join v x y (traced-cleaned v x b.only) d.only in

@@ -19,7 +19,7 @@ returns-in-Some-clause-cleans c =
     let from : ℕ = c.args.s * stretch_cards in
     let cells : c.shape.result.cells ≡ sh.cells = ap (λ (s : Shape). s.cells) c.shape.ensures in
     let same : c.min-end.result ≡ min (from + stretch_cards) (card_count sh) = c.min-end.ensures ∙ ap (λ n. min (from + stretch_cards) (n / 16)) cells in
-    inr (subst (λ n. CleansWithPacket (CleanedFrom sh from (n - from) c.in-Some.rescanned) es) same c.in-Some.ensures.some.2)
+    inr (subst (λ n. CleansWithPacket (CleanedFrom sh from (n - from) c.in-Some.cleaned.rescanned) es) same c.in-Some.ensures.some.2)
 
 pub returns-in-None-clause-left : goal.returns-in-None-clause-left
 returns-in-None-clause-left c = c.in-None.ensures.none.2
@@ -35,7 +35,7 @@ returns-in-Some-clause-few c =
     let same : c.min-end.result ≡ min (from + stretch_cards) (card_count sh) = c.min-end.ensures ∙ ap (λ n. min (from + stretch_cards) (n / 16)) cells in
     let few = c.in-Some.ensures.few.0 in
     let most = stretch-few from (card_count sh) stretch_cards in
-    some-fewer (c.min-end.result - from) (min stretch_cards (card_count sh)) c.in-Some.rescanned sh _ (omega (arith, most, same)) few
+    some-fewer (c.min-end.result - from) (min stretch_cards (card_count sh)) c.in-Some.cleaned.rescanned sh _ (omega (arith, most, same)) few
 
 pub returns-in-None-clause-few : goal.returns-in-None-clause-few
 returns-in-None-clause-few c = let few = c.in-None.ensures.few.1 in omega (arith, few)

@@ -9,7 +9,10 @@ use Rattle.gc_table.specs.Log.{events, event}
 use Rattle.packet_pools.proofs.Doing.{traces-on}
 use Rattle.packet_pools.proofs.TracedSteps.{cleaned-join, traced-cleaned}
 use Rattle.gc_table.proofs.History.Log.{events-after, events-join}
+use Rattle.packet_pools.specs.Counts.{count_of}
+use Rattle.card_clean.specs.Cleaning.{clears}
 use Rattle.card_clean.specs.Leaving.{rescanned_in}
+use Rattle.card_clean.proofs.Cleared.{cleared-join, cleared-one}
 use Rattle.card_clean.proofs.Leavings.{rescanned-join}
 use Rattle.card_clean.proofs.Steps.{traced-read_card, card-small}
 use Rattle.card_clean.specs.StepBounds.{clean_steps}
@@ -88,6 +91,21 @@ returns-clause-left c =
     let first : rescanned_in v (events v w) ≡ 0 = ap (rescanned_in v) (events-after v w (ReadCard c.args.card) e.0 e.1) in
     let j = rescanned-join v w x (traced-read_card v w e.0 c.args.card e.2 e.1).ran c.clean_card-cleaned.ensures.only.ran in
     omega (arith, j, first, c.clean_card-cleaned.ensures.left)
+
+pub returns-then-not-read_card-clause-cleared : goal.returns-then-not-read_card-clause-cleared
+returns-then-not-read_card-clause-cleared c = let e = c.read_card.ensures.view in ap (count_of clears) (events-after (view_of c.args.seat.now) (view_of c.read_card.new.seat) (ReadCard c.args.card) e.0 e.1)
+
+pub returns-clause-cleared : goal.returns-clause-cleared
+returns-clause-cleared c =
+    let v : View = view_of c.args.seat.now in
+    let w : View = view_of c.read_card.new.seat in
+    let x : View = view_of c.clean_card-cleaned.new.seat in
+    let e = c.read_card.ensures.view in
+    let d = c.clean_card-cleaned.ensures in
+    let first : count_of clears (events v w) ≡ 0 = ap (count_of clears) (events-after v w (ReadCard c.args.card) e.0 e.1) in
+    let one = cleared-one c.args.heap.now.shape c.args.card c.clean_card-cleaned.result (events w x) d.cleans in
+    let both = cleared-join v w x (traced-read_card v w e.0 c.args.card e.2 e.1).ran d.only.ran in
+    omega (arith, both, first, one)
 
 pub returns-then-not-read_card-clause-few : goal.returns-then-not-read_card-clause-few
 returns-then-not-read_card-clause-few c = let one = few-after (view_of c.args.seat.now) (view_of c.read_card.new.seat) (ReadCard c.args.card) _ c.read_card.ensures.view.1 in omega (arith, one)
