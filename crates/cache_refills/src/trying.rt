@@ -1,6 +1,6 @@
 //! Safe points, entries and caches for a mutator that must not wait, since its caller (in C, say) has no runtime to wait with: where another seat's
 //! stop is under way it is told so, and comes again. Where a collection is called for it is told so as well, and makes it in steps
-//! ([`ask_to_stop`](crate::ask_to_stop)).
+//! (`cycle_steps`).
 ghost use Rattle.std.specs.Bool.{OnFalse, OnTrue};
 ghost use Rattle.std.specs.Prelude.{◌≡◌, ◌≤◌, [], length, None, Some, IfNone, IfSome, IsFalse, IsTrue, is_some};
 ghost use Rattle.mark_core.specs.Places.{the_phase};

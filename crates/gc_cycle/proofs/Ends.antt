@@ -11,4 +11,3 @@ pub mod Swept
 pub mod NoRescans
 pub mod Spared
 pub mod Rooted
-pub mod Exactly

@@ -22,7 +22,7 @@ use Rattle.gc_cycle.specs.Lower.{EndsTrace, ScansRoots}
 use Rattle.gc_cycle.specs.Moments.{at_some_moment, begins, finds_no_packet, finds_no_work}
 use Rattle.gc_cycle.specs.Roots.{roots_scanned}
 use Rattle.gc_cycle.specs.Sorts.{joins, pops}
-use Rattle.gc_cycle.specs.Stepping.{BringsBack}
+use Rattle.gc_cycle.specs.RoundParts.{BringsBack}
 use Rattle.gc_cycle.specs.Turns.{DrainsFor, HelpsBetween, HelpsInTurns, HelpsOnce, SeesToRoots, StaysApart, help_quota}
 use Rattle.gc_cycle.proofs.Stops.Admitted.{count-none, count-run, never-join}
 use Rattle.gc_cycle.proofs.Longer.{earlier-moment, later-moment, packet-longer, packet-widens, roots-left, roots-right}

@@ -21,7 +21,7 @@ use Rattle.gc_cycle.specs.Drained.{DrainedAlone, RootedAlone}
 use Rattle.gc_cycle.specs.Events.{never, since_last}
 use Rattle.gc_cycle.specs.Finishing.{IsMove, IsPart}
 use Rattle.gc_cycle.specs.Sorts.{moves_to, sees_all_empty}
-use Rattle.gc_cycle.specs.Stepping.{BringsBack, CleansLast}
+use Rattle.gc_cycle.specs.RoundParts.{BringsBack, CleansLast}
 use Rattle.gc_cycle.specs.Turns.{DrainsFor, SeesToRoots, round_quota}
 
 -- a look at the cards and at the count of packets found something left; and after it a round was made: first what was deferred was brought back; then so many

@@ -24,12 +24,12 @@ ghost use Rattle.gc_cycle.specs.declared.counts.Safe.TheVariants as safes;
 
 use crate::counts::Safe;
 use crate::finishing::precise;
-use crate::lower::{poll, resume, retire};
 use crate::stopping::{go_in, go_out, stop};
-use alloc_cache::Cache;
+use alloc_cache::{Cache, retire};
 use gc_table::{Heap, HeapSeat};
 use mark_core::Phase;
 use std::sync::Wait;
+use stop_world::{poll, resume};
 
 /// A precise collection that this mutator makes. Where another seat's stop comes first it waits for its end, and tries again.
 ///
@@ -101,7 +101,7 @@ fn collect_in_stop<R: Wait>(rt: &R, heap: &Heap, seat: &mut HeapSeat)
 }
 
 /// Whether the seat has read the phase last as Full.
-pub(crate) fn has_seen_full(seat: &HeapSeat) -> bool
+pub fn has_seen_full(seat: &HeapSeat) -> bool
     ensures seen { OnTrue result ((state_of seat.now).phase_seen ≡ Some Full) }
     ensures other { OnFalse result ((state_of seat.now).phase_seen ≢ Some Full) }
 {

@@ -16,24 +16,24 @@ ghost use Rattle.gc_cycle.specs.Drained.{DrainedAlone};
 ghost use Rattle.gc_cycle.specs.Finishing.{DrainsInStop, IsAloneIn, IsMove, most};
 ghost use Rattle.gc_cycle.specs.Lower.{HasTraced};
 ghost use Rattle.gc_cycle.specs.Sorts.{pops, sees_all_empty as says_all_empty};
-ghost use Rattle.gc_cycle.specs.Stepping.{BringsBack, CleansLast};
+ghost use Rattle.gc_cycle.specs.RoundParts.{BringsBack, CleansLast};
 ghost use Rattle.gc_cycle.specs.Turns.{DrainsFor, SeesToRoots, round_quota};
 
-use crate::lower::{
-    clean_dirty, clean_dirty_round, close_help, is_drained, open_help, recycle_deferred,
-    scan_roots, see_to_roots, sees_all_empty, trace,
-};
+use crate::cards::{clean_dirty, clean_dirty_round, is_drained};
+use crate::roots::{scan_roots, see_to_roots};
+use crate::tracing::{recycle_deferred, sees_all_empty, trace};
 use gc_table::{Heap, HeapSeat};
 use mark_core::{BLOCK_COUNTER, CARD_COUNTER, Phase as CyclePhase};
 use std::sync::Wait;
 use std::thread;
+use stop_world::{close_help, open_help};
 
 /// How many objects a round of the drain pops at most: all that there are. A round passes over all cards at its end, so it would cost too much to make one
 /// before there is nothing left to trace.
 const ROUND: u32 = u32::MAX;
 
 /// Begins the drain. The pass over all cards begins again.
-pub(crate) fn begin_drain(heap: &Heap, seat: &mut HeapSeat)
+pub fn begin_drain(heap: &Heap, seat: &mut HeapSeat)
     requires seat { Sits heap.now seat.old }
     requires alone { IsAloneIn Idle (view_of seat.old) ⊎ IsAloneIn Marking (view_of seat.old) }
     ensures seat { Sits heap.now seat.new }
@@ -47,7 +47,7 @@ pub(crate) fn begin_drain(heap: &Heap, seat: &mut HeapSeat)
 }
 
 /// One round, alone or beside helpers: what was deferred, so many objects of the packets, and all cards. How many objects were scanned again.
-pub(crate) fn drain_round(heap: &Heap, seat: &mut HeapSeat, quota: u32) -> u32
+pub fn drain_round(heap: &Heap, seat: &mut HeapSeat, quota: u32) -> u32
     requires seat { Sits heap.now seat.old }
     requires drains { DrainsInStop (view_of seat.old) }
     ensures seat { Sits heap.now seat.new }
@@ -154,7 +154,7 @@ pub(crate) fn drain_alone<R: Wait>(rt: &R, heap: &Heap, seat: &mut HeapSeat) -> 
 }
 
 /// Ends the drain.
-pub(crate) fn begin_sweep(heap: &Heap, seat: &mut HeapSeat)
+pub fn begin_sweep(heap: &Heap, seat: &mut HeapSeat)
     requires seat { Sits heap.now seat.old }
     requires drained { DrainedAlone (view_of seat.old) }
     ensures seat { Sits heap.now seat.new }

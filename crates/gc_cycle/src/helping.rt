@@ -16,8 +16,10 @@ ghost use Rattle.gc_cycle.specs.Sorts.{joins, leaves};
 ghost use Rattle.gc_cycle.specs.Standing.{Helps, KeepsSeat};
 ghost use Rattle.gc_cycle.specs.Statistics.{leaves_numbers};
 
+use crate::blocks::sweep_next;
+use crate::cards::clean_dirty_round;
 use crate::counts::{HelpEnd, Helped};
-use crate::lower::{clean_dirty_round, lacks_work, sees_all_empty, sweep_next, trace};
+use crate::tracing::{lacks_work, sees_all_empty, trace};
 use gc_table::{Heap, HeapSeat};
 use mark_core::Phase;
 use std::thread;

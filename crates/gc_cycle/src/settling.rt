@@ -18,13 +18,7 @@ use gc_table::{Heap, HeapSeat};
 use mark_core::{BLOCK_CELLS, CARD_COUNTER, FREE, LAST, RESCANNED, TRACED};
 
 /// How many allocation bits are set in the blocks before `end`, of which those before this one were counted already, as a seat that is alone reads them.
-pub(crate) fn count_between(
-    heap: &Heap,
-    seat: &mut HeapSeat,
-    from: u32,
-    end: u32,
-    counted: u32,
-) -> u32
+pub fn count_between(heap: &Heap, seat: &mut HeapSeat, from: u32, end: u32, counted: u32) -> u32
     requires seat { Sits heap.now seat.old }
     requires alone { IsAloneIn Idle (view_of seat.old) }
     requires blocks { (from ≤ end) × (end ≤ block_count heap.now.shape) }
@@ -89,7 +83,7 @@ fn clear_statistic(heap: &Heap, seat: &mut HeapSeat, which: u8)
 }
 
 /// Sets the numbers that pace the next cycle, once the cells in use were counted.
-pub(crate) fn set_numbers(
+pub fn set_numbers(
     heap: &Heap,
     seat: &mut HeapSeat,
     marked: u32,
@@ -122,7 +116,7 @@ pub(crate) fn set_numbers(
 }
 
 /// Ends the count of a cycle: the cells in use are counted, and the numbers are set that pace the next one.
-pub(crate) fn settle(heap: &Heap, seat: &mut HeapSeat, rescanned: u32, freed: u32) -> Counts
+pub fn settle(heap: &Heap, seat: &mut HeapSeat, rescanned: u32, freed: u32) -> Counts
     requires seat { Sits heap.now seat.old }
     requires alone { IsAloneIn Idle (view_of seat.old) }
     ensures seat { Sits heap.now seat.new }

@@ -21,13 +21,12 @@ ghost use Rattle.gc_cycle.specs.Statistics.{leaves_numbers};
 ghost use Rattle.gc_cycle.specs.Turns.{HelpsFor, HelpsInTurns, HelpsOnce, help_quota};
 
 use crate::helping::help_with;
-use crate::lower::{await_stopped, enter, join_help, leave, leave_help, poll, raise};
 use gc_table::{Heap, HeapSeat};
 use mark_core::{BLOCK_CELLS, BLOCK_COUNTER, Phase, Shape, has_flag};
 use packet_pools::all_empty;
 use std::sync::Wait;
 use std::thread;
-use stop_world::Raised;
+use stop_world::{Raised, await_stopped, enter, join_help, leave, leave_help, poll, raise};
 
 /// How many objects a waiting seat traces before it looks again whether the stop has ended.
 const TURN: u32 = 1_024;

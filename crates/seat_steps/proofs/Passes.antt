@@ -12,10 +12,10 @@ use Rattle.gc_table.specs.declared.seat.HeapSeat.{HeapSeat}
 use Rattle.gc_table.specs.declared.view.View.{View}
 use Rattle.tracer.specs.StepBounds.{object_steps, recycle_steps, trace_steps, turn_steps}
 use Rattle.gc_cycle.specs.Finishing.{IsPart}
-use Rattle.gc_cycle.specs.Pieces.{SeesRootsFrom, StandsAfter}
-use Rattle.gc_cycle.specs.Stepping.{IsAtRoots, IsOwner}
-use Rattle.gc_cycle.specs.declared.card_steps.Look.{Look}
-use Rattle.gc_cycle.specs.declared.card_steps.Look.TheVariants as looks
+use Rattle.cycle_steps.specs.Pieces.{SeesRootsFrom, StandsAfter}
+use Rattle.cycle_steps.specs.Stepping.{IsAtRoots, IsOwner}
+use Rattle.cycle_steps.specs.declared.card_steps.Look.{Look}
+use Rattle.cycle_steps.specs.declared.card_steps.Look.TheVariants as looks
 use Rattle.gc_table.specs.Running.{Alone}
 use Rattle.mutator_turns.specs.Standing.{IsMutator}
 use Rattle.seat_steps.specs.Amounts.{DrawsNone}

@@ -17,7 +17,7 @@ use Rattle.gc_cycle.specs.Courses.{goes_on}
 use Rattle.gc_cycle.specs.Finishing.{IsMove, IsPart, stays_in}
 use Rattle.gc_cycle.specs.Sparing.{fills_part, spares_part}
 use Rattle.gc_cycle.specs.Standing.{KeepsSeat}
-use Rattle.gc_cycle.specs.Stepping.{AsksOnce, FindsRunning, FindsStopped}
+use Rattle.cycle_steps.specs.Stepping.{AsksOnce, FindsRunning, FindsStopped}
 use Rattle.mutator_turns.specs.Sharing.{LeavesHeap, spares_heap}
 use Rattle.mutator_turns.proofs.Leaving.{leaves-filled}
 

@@ -4,10 +4,10 @@ use Rattle.gc_table.specs.Seats.{Sits, view_of}
 use Rattle.gc_table.specs.declared.seat.Heap.{Heap}
 use Rattle.gc_table.specs.declared.seat.HeapSeat.{HeapSeat}
 use Rattle.gc_cycle.specs.Collecting.{HoldsWorld}
-use Rattle.gc_cycle.specs.Pieces.{CountsFrom, HasCleared, HasCounted, HasLooked, IsAtClear, LooksFrom, SeesRootsFrom}
-use Rattle.gc_cycle.specs.Stepping.{AwaitsStop, Drains, HasMarkedAll, HasSwept, IsAtSweep}
-use Rattle.gc_cycle.specs.declared.card_steps.Look.{Look}
-use Rattle.gc_cycle.specs.declared.card_steps.Look.TheVariants as looks
+use Rattle.cycle_steps.specs.Pieces.{CountsFrom, HasCleared, HasCounted, HasLooked, IsAtClear, LooksFrom, SeesRootsFrom}
+use Rattle.cycle_steps.specs.Stepping.{AwaitsStop, Drains, HasMarkedAll, HasSwept, IsAtSweep}
+use Rattle.cycle_steps.specs.declared.card_steps.Look.{Look}
+use Rattle.cycle_steps.specs.declared.card_steps.Look.TheVariants as looks
 use Rattle.mutator_turns.specs.Standing.{IsMutator}
 
 -- the seat has asked for a stop

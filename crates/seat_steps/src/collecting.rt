@@ -15,7 +15,7 @@ ghost use Rattle.gc_cycle.specs.Courses.{TakesCourse, sets_numbers};
 ghost use Rattle.gc_cycle.specs.Finishing.{IsMove, IsPart, most as greatest};
 ghost use Rattle.gc_cycle.specs.Settling.{alloc_reads};
 ghost use Rattle.gc_cycle.specs.Sorts.{draws_block};
-ghost use Rattle.gc_cycle.specs.Stepping.{AsksOnce, EndsCollection, FindsRunning, FindsStopped};
+ghost use Rattle.cycle_steps.specs.Stepping.{AsksOnce, EndsCollection, FindsRunning, FindsStopped};
 ghost use Rattle.seat_steps.specs.Asked.{CountsSinceAsked, MarksSinceAsked, SweepsSinceAsked, WaitsSinceAsked};
 ghost use Rattle.seat_steps.specs.Bounds.{DoesFew, PassesFew};
 ghost use Rattle.seat_steps.specs.Collecting.{AsksStop, HoldsStop, SitsAtCount, SitsAtRoots, SitsAtSweep, SitsCounted, SitsMarkedAll, SitsSweptAll};
@@ -23,7 +23,7 @@ ghost use Rattle.seat_steps.specs.Course.{CollectsSinceAsked};
 ghost use Rattle.mutator_turns.specs.Sharing.{LeavesHeap};
 ghost use Rattle.mutator_turns.specs.Standing.{Halts, IsMutatorOutside, plain_of};
 
-use gc_cycle::{
+use cycle_steps::{
     CountStep, SweepStep, ask_to_stop, begin_collection, count_step, finds_stopped, finish_count,
     start_count, start_sweep, sweep_step,
 };

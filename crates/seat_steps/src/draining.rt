@@ -13,9 +13,9 @@ ghost use Rattle.card_clean.specs.StepBounds.{clean_some_steps, see_to_steps};
 ghost use Rattle.mutator_ops.specs.Few.{AtMost};
 ghost use Rattle.gc_cycle.specs.Courses.{TakesCourse};
 ghost use Rattle.gc_cycle.specs.Finishing.{IsMove, IsPart};
-ghost use Rattle.gc_cycle.specs.Pieces.{CleansCards, LooksAt, ReadsCount};
+ghost use Rattle.cycle_steps.specs.Pieces.{CleansCards, LooksAt, ReadsCount};
 ghost use Rattle.gc_cycle.specs.Sorts.{draws_block, pops};
-ghost use Rattle.gc_cycle.specs.Stepping.{LacksPacket};
+ghost use Rattle.gc_cycle.specs.RoundParts.{LacksPacket};
 ghost use Rattle.mutator_turns.specs.Sharing.{LeavesHeap};
 ghost use Rattle.mutator_turns.specs.Standing.{plain_of};
 ghost use Rattle.seat_steps.specs.Amounts.{DrawsNone, PopsNone};
@@ -24,7 +24,7 @@ ghost use Rattle.seat_steps.specs.Bounds.{DoesFew, PassesFew};
 ghost use Rattle.seat_steps.specs.Collecting.{LooksStand, SitsAtClear, SitsAtDrain, SitsAtLook, SitsAtRoots, SitsCleared, SitsLooked, SitsMarkedAll};
 ghost use Rattle.seat_steps.specs.Passes.{SeesRoots, TracesFor};
 
-use gc_cycle::{
+use cycle_steps::{
     Look, clean_step, clear_step, finds_all_marked, finish_clear, look_step, root_piece,
     start_clear, trace_step,
 };

@@ -20,7 +20,7 @@ use crate::draining::{
 use crate::leaving::gives_own_up;
 use crate::stepper::{Came, Stage, Stepper};
 use crate::tries::arrive;
-use gc_cycle::{Look, stretches_of};
+use cycle_steps::{Look, stretches_of};
 use gc_table::{Heap, HeapSeat};
 use mutator_turns::leave;
 

@@ -13,7 +13,7 @@ use crate::planning::RootPlan;
 use crate::sizes::SharedSizes;
 use alloc_cache::{Cache, claim, leave_with_seat, retire};
 use cache_refills::{Pass, try_enter};
-use gc_cycle::{ask_to_stop, finds_stopped};
+use cycle_steps::{ask_to_stop, finds_stopped};
 use gc_table::{Heap, HeapSeat};
 use mark_core::{Phase, Shape, usual_stretch};
 use mutator_ops::share_create;

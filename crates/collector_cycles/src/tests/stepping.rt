@@ -3,7 +3,7 @@ ghost use Rattle.std.specs.Prelude.{◌≡◌, None, IfSome};
 ghost use Rattle.std.specs.Bool.{OnFalse, OnTrue};
 ghost use Rattle.gc_table.specs.Seats.{Sits, view_of};
 ghost use Rattle.gc_cycle.specs.Collecting.{HoldsWorld};
-ghost use Rattle.gc_cycle.specs.Stepping.{AwaitsStop, Drains, HasMarkedAll, IsAtRoots};
+ghost use Rattle.cycle_steps.specs.Stepping.{AwaitsStop, Drains, HasMarkedAll, IsAtRoots};
 ghost use Rattle.test_heaps.specs.Seats.{HasEachObject};
 
 use super::checks::{is_out, may_call};
@@ -12,10 +12,11 @@ use super::objects::{chain, free_cells, walk};
 use super::seasons::begin;
 use alloc_cache::Cache;
 use cache_refills::{Pass, try_enter, try_safe_point};
-use gc_cycle::{
-    Counts, ask_to_stop, begin_collection, drain_again, drain_step, end_collection, finds_stopped,
+use cycle_steps::{
+    ask_to_stop, begin_collection, drain_again, drain_step, end_collection, finds_stopped,
     root_step,
 };
+use gc_cycle::Counts;
 use gc_table::{Heap, HeapSeat};
 use test_heaps::{SMALL, next_seat, open};
 

@@ -9,7 +9,7 @@ use Rattle.card_clean.specs.Drained.{FindsNoDirtyCard, FindsWork}
 use Rattle.gc_cycle.specs.DrainRounds.{DrainsAlone, GoesInRounds, GoesRound}
 use Rattle.gc_cycle.specs.Drained.{DrainedAlone, RootedAlone}
 use Rattle.gc_cycle.specs.Finishing.{IsPart}
-use Rattle.gc_cycle.specs.Stepping.{BringsBack, CleansLast}
+use Rattle.gc_cycle.specs.RoundParts.{BringsBack, CleansLast}
 use Rattle.gc_cycle.specs.Turns.{DrainsFor, round_quota}
 
 -- the rounds up to now

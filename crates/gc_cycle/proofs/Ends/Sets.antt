@@ -1,5 +1,5 @@
 -- The steps of a seat that is alone, and counts and sets the numbers for the next cycle.
-use Rattle.std.proofs.Common.{ℕ, ◌≡◌, ◌≤◌, ◌+◌, suc, zero, arith, refl, sym, ap, ◌∙◌, subst, Bool, true, false, not, ◌&&◌, ◌||◌, Some, None, Option, is_some, cond, eqb, eq-eqb, eqb-true, ⊎_elim, inl, inr}
+use Rattle.std.proofs.Common.{ℕ, ◌≡◌, ◌≤◌, ◌+◌, ◌-◌, List, [], ◌∷◌, ◌++◌, suc, zero, arith, refl, sym, ap, ◌∙◌, subst, Bool, true, false, not, ◌&&◌, ◌||◌, Some, None, Option, is_some, cond, eqb, eq-eqb, eqb-true, inl, inr, ⊎_elim}
 use Rattle.std.specs.Prelude.{◌==◌, bit_and, is_none, unwrap_or}
 use Rattle.std.specs.Int.Count.{ones}
 use Rattle.std.proofs.lemmas.Bool.{and_from, and_parts, cases_eq, false≢true, le-leb, ne_eqb, not-false, not-true, or_from, or_left, or_parts, or_right, true≢false}
@@ -19,15 +19,17 @@ use Rattle.mark_core.specs.declared.kinds.Step.TheVariants.{AddStat, ReadAlloc, 
 use Rattle.mark_core.specs.declared.seat.BlockState.{BlockState}
 use Rattle.mark_core.specs.declared.seat.Cleaning.{Cleaning}
 use Rattle.mark_core.specs.declared.seat.SeatState.{SeatState}
+use Rattle.gc_table.specs.Log.{events, steps_of}
 use Rattle.gc_table.specs.Seats.{Found, Took}
 use Rattle.gc_table.specs.Taking.{after, Finds, May}
 use Rattle.gc_table.specs.declared.view.View.{View}
-use Rattle.gc_table.specs.Running.{ends_alone, IsSeen, Known}
-use Rattle.gc_table.proofs.History.Log.{only-after}
+use Rattle.gc_table.specs.Running.{ends_alone, IsSeen, Known, Ran}
+use Rattle.gc_table.proofs.History.Log.{events-after, only-after}
 use Rattle.gc_table.proofs.Noticing.{alone-steady, alone-step, found-noted, known-alone, known-here, known-step, Spares}
-use Rattle.gc_table.proofs.Running.{ran-found, ran-only}
+use Rattle.gc_table.proofs.Running.{ran-events, ran-found, ran-only}
+use Rattle.tracer.proofs.Recycled.{steps-append}
 use Rattle.gc_cycle.specs.Finishing.{AllocsNoted, IsAloneIn, IsPart, ones_noted, stays_in}
-use Rattle.gc_cycle.specs.Settling.{adjusts, Sets}
+use Rattle.gc_cycle.specs.Settling.{adjusts, alloc_reads, Sets}
 use Rattle.mark_core.specs.Numbers.{done_count, free_count, last_count}
 use Rattle.gc_cycle.specs.Standing.{IsAlone}
 use Rattle.gc_cycle.proofs.Ends.Moving.{may-reset_idle, no-block}
@@ -151,6 +153,24 @@ ones-more v w b n f a h =
     let next : b + 1 ≡ suc b = omega arith in
     let more : ones_noted (b + 1) w ≡ ones_noted (suc b) w = ap (λ k. ones_noted k w) next in
     omega (arith, same, new, more)
+
+-- the blocks whose bits were read
+
+reads-longer : (from n : ℕ) → alloc_reads from (suc n) ≡ alloc_reads from n ++ ReadAlloc (from + n) ∷ []
+reads-longer from zero = let z : from ≡ from + 0 = omega arith in ap (λ k. ReadAlloc k ∷ []) z
+reads-longer from (suc n) =
+    let z : from + 1 + n ≡ from + suc n = omega arith in
+    ap (λ (l : List Step). ReadAlloc from ∷ l) (reads-longer (from + 1) n ∙ ap (λ k. alloc_reads (from + 1) n ++ ReadAlloc k ∷ []) z)
+
+-- the blocks so far, and the next one
+pub reads-next : (from b : ℕ) (u v w : View) (n : ℕ) → from ≤ b → Ran u v → Found (ReadAlloc b) n v w → steps_of (events u v) ≡ alloc_reads from (b - from) → steps_of (events u w) ≡ alloc_reads from (b + 1 - from)
+reads-next from b u v w n l r f e =
+    let more : suc (b - from) ≡ b + 1 - from = omega (arith, l) in
+    let at : from + (b - from) ≡ b = omega (arith, l) in
+    let one = ap steps_of (events-after v w (ReadAlloc b) n f.0) in
+    ap steps_of (ran-events u v w r (ran-found v w (ReadAlloc b) n refl f))
+    ∙ (steps-append (events u v) (events v w)
+    ∙ ((λ i. e i ++ one i) ∙ sym (ap (alloc_reads from) (sym more) ∙ (reads-longer from (b - from) ∙ ap (λ k. alloc_reads from (b - from) ++ ReadAlloc k ∷ []) at))))
 
 -- a step at a counter or statistic
 

@@ -9,7 +9,7 @@ use Rattle.gc_cycle.proofs.Ends.DrainRounds.{begins-rounds, drains-alone, goes-o
 use Rattle.gc_cycle.proofs.Ends.Moving.{may-reset_drain}
 use Rattle.gc_cycle.proofs.Parts.{only-reset, part-join, part-reset}
 use Rattle.gc_cycle.proofs.Traced.{rescans-none, traced-part}
-use Rattle.gc_cycle.proofs.Stepped.{cleared}
+use Rattle.gc_cycle.proofs.Ends.Rooted.{cleared}
 use Rattle.gc_cycle.proofs.draining.drain_alone.Goals as goal
 
 pub reset-requires-clause-may : goal.reset-requires-clause-may

@@ -3,9 +3,8 @@ use Rattle.gc_table.specs.Seats.{view_of}
 use Rattle.gc_table.specs.declared.view.View.{View}
 use Rattle.mark_core.specs.declared.kinds.Phase.TheVariants.{Idle}
 use Rattle.std.proofs.lemmas.Nat.{ones-le}
-use Rattle.gc_cycle.proofs.CountPieces.{reads-next}
+use Rattle.gc_cycle.proofs.Ends.Sets.{allocs-more, ones-more, part-read, reads-next}
 use Rattle.gc_cycle.proofs.Parts.{part-join}
-use Rattle.gc_cycle.proofs.Ends.Sets.{allocs-more, ones-more, part-read}
 use Rattle.mark_core.specs.declared.kinds.Step.TheVariants.{ReadAlloc}
 use Rattle.gc_table.proofs.History.Log.{only-after}
 use Rattle.gc_table.proofs.Running.{ran-found, ran-only}

@@ -1,7 +1,7 @@
 use Rattle.std.proofs.Common.{refl}
 use Rattle.mark_core.specs.declared.kinds.Phase.TheVariants.{Idle}
 use Rattle.gc_table.specs.Seats.{view_of}
-use Rattle.gc_cycle.proofs.Courses.{part-unpopped}
+use Rattle.cycle_steps.proofs.Courses.{part-unpopped}
 use Rattle.mutator_turns.proofs.Seats.{mutator-kept}
 use Rattle.seat_steps.proofs.Amounts.{unpopped}
 use Rattle.seat_steps.proofs.SinceAsked.{counts-on}

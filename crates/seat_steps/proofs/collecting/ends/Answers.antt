@@ -3,7 +3,7 @@ use Rattle.mark_core.specs.declared.kinds.Phase.TheVariants.{Idle}
 use Rattle.mark_core.specs.declared.kinds.Shape.{Shape}
 use Rattle.gc_table.specs.Seats.{view_of}
 use Rattle.gc_cycle.specs.Courses.{TakesCourse, sets_numbers}
-use Rattle.gc_cycle.specs.Stepping.{EndsCollection}
+use Rattle.cycle_steps.specs.Stepping.{EndsCollection}
 use Rattle.gc_cycle.specs.declared.counts.Counts.{Counts}
 use Rattle.mutator_turns.proofs.Seats.{mutator-kept}
 use Rattle.seat_steps.proofs.Amounts.{unpopped}

@@ -1,5 +1,5 @@
 use Rattle.gc_table.specs.Seats.{view_of}
-use Rattle.gc_cycle.specs.Stepping.{IsAtRoots}
+use Rattle.cycle_steps.specs.Stepping.{IsAtRoots}
 use Rattle.test_heaps.specs.Seats.{HasEachObject}
 use Rattle.collector_cycles.proofs.tests.stepping.sees_roots.Given as goal
 

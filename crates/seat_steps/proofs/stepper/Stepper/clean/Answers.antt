@@ -4,7 +4,7 @@ use Rattle.mark_core.specs.Layout.{card_count}
 use Rattle.mark_core.specs.Cards.{card_cells}
 use Rattle.gc_table.specs.Seats.{Across, view_of}
 use Rattle.gc_table.specs.declared.seat.Heap.{Heap}
-use Rattle.gc_cycle.specs.Pieces.{CleansCards}
+use Rattle.cycle_steps.specs.Pieces.{CleansCards}
 use Rattle.tracer.specs.StepBounds.{recycle_steps}
 use Rattle.card_clean.specs.StepBounds.{clean_some_steps}
 use Rattle.seat_steps.specs.Bounds.{DoesFew}

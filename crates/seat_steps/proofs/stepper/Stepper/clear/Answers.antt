@@ -3,7 +3,7 @@ use Rattle.mark_core.specs.Layout.{block_count}
 use Rattle.mark_core.specs.declared.kinds.Shape.{Shape}
 use Rattle.gc_table.specs.Seats.{did, view_of}
 use Rattle.gc_table.specs.declared.seat.Heap.{Heap}
-use Rattle.gc_cycle.specs.Pieces.{stretches_in}
+use Rattle.cycle_steps.specs.Pieces.{stretches_in}
 use Rattle.mutator_turns.proofs.Leaving.{leaves-join}
 use Rattle.packet_pools.specs.Counts.{count_of}
 use Rattle.gc_cycle.specs.Sorts.{draws_block}

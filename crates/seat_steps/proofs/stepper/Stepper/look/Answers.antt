@@ -3,8 +3,8 @@ use Rattle.mark_core.specs.Layout.{card_count}
 use Rattle.gc_table.specs.Seats.{did, view_of}
 use Rattle.gc_table.specs.declared.seat.Heap.{Heap}
 use Rattle.gc_table.proofs.Running.{ran-join}
-use Rattle.gc_cycle.specs.Pieces.{LooksAt}
-use Rattle.gc_cycle.specs.declared.card_steps.Look.TheVariants as looks
+use Rattle.cycle_steps.specs.Pieces.{LooksAt}
+use Rattle.cycle_steps.specs.declared.card_steps.Look.TheVariants as looks
 use Rattle.mark_core.specs.declared.kinds.Phase.TheVariants.{Clear, Drain, Sweep}
 use Rattle.mutator_turns.proofs.Leaving.{leaves-join}
 use Rattle.seat_steps.specs.Asked.{MarksSinceAsked}

@@ -8,7 +8,7 @@ use Rattle.packet_pools.specs.Counts.{count_of}
 use Rattle.sweeper.specs.Freeing.{freed_in}
 use Rattle.mutator_turns.proofs.Leaving.{leaves-join}
 use Rattle.gc_cycle.specs.Finishing.{most as greatest}
-use Rattle.gc_cycle.specs.Pieces.{stretches_in}
+use Rattle.cycle_steps.specs.Pieces.{stretches_in}
 use Rattle.gc_cycle.specs.Sorts.{draws_block}
 use Rattle.gc_cycle.proofs.Ends.Completing.{freed-move, freed-run}
 use Rattle.gc_cycle.proofs.Stops.Admitted.{count-run}

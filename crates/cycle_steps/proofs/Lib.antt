@@ -1,0 +1,7 @@
+pub mod Courses
+mod Exactly
+mod Stepped
+mod RootPieces
+mod CardPieces
+mod ClearPieces
+mod CountPieces

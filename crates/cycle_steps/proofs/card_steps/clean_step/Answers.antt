@@ -1,0 +1,88 @@
+use Rattle.std.proofs.Common.{◌≡◌, ◌-◌, ◌+◌, ℕ, arith, ap, subst, ◌≤◌, ◌*◌, length}
+use Rattle.mark_core.specs.declared.kinds.Phase.TheVariants.{Drain}
+use Rattle.mark_core.specs.declared.kinds.Shape.{Shape}
+use Rattle.gc_table.specs.Seats.{view_of}
+use Rattle.gc_table.specs.declared.view.View.{View}
+use Rattle.gc_table.proofs.History.Log.{events-none, only-none}
+use Rattle.gc_cycle.specs.Events.{never}
+use Rattle.cycle_steps.specs.Pieces.{CleansCards}
+use Rattle.gc_cycle.specs.Sorts.{pops}
+use Rattle.gc_cycle.specs.Statistics.{leaves_numbers}
+use Rattle.cycle_steps.proofs.CardPieces.{alone-of, cleans-none}
+use Rattle.cycle_steps.proofs.Exactly.{exact-part}
+use Rattle.gc_cycle.proofs.Parts.{part-none}
+use Rattle.cycle_steps.proofs.Stepped.{part-keeps}
+use Rattle.mark_core.specs.Cards.{card_cells}
+use Rattle.card_clean.specs.StepBounds.{clean_some_steps}
+use Rattle.tracer.specs.StepBounds.{recycle_steps}
+use Rattle.gc_cycle.proofs.Few.{cards-fewer}
+use Rattle.cycle_steps.proofs.card_steps.clean_step.Goals as goal
+
+pub returns-then-number-eq0-clause-part : goal.returns-then-number-eq0-clause-part
+returns-then-number-eq0-clause-part c = let v : View = view_of c.args.seat.now in part-none Drain v (alone-of v c.requires.drains)
+
+pub returns-then-number-eq0-clause-unpopped : goal.returns-then-number-eq0-clause-unpopped
+returns-then-number-eq0-clause-unpopped c = ap (never pops) (events-none (view_of c.args.seat.now))
+
+pub returns-then-number-eq0-clause-cleaned : goal.returns-then-number-eq0-clause-cleaned
+returns-then-number-eq0-clause-cleaned c =
+    let none = c.if-number-eq0.true in
+    let many = c.at_most-number.ensures in
+    let cells = ap (λ (s : Shape). s.cells) c.shape.ensures in
+    (omega (arith, none, many, cells), cleans-none c.args.from (view_of c.args.seat.now))
+
+pub returns-then-number-eq0-clause-numbers : goal.returns-then-number-eq0-clause-numbers
+returns-then-number-eq0-clause-numbers c = only-none leaves_numbers (view_of c.args.seat.now)
+
+pub returns-then-number-eq0-clause-keeps : goal.returns-then-number-eq0-clause-keeps
+returns-then-number-eq0-clause-keeps c = let v : View = view_of c.args.seat.now in part-keeps Drain v v (part-none Drain v (alone-of v c.requires.drains))
+
+pub cleans_some-requires-clause-cards : goal.cleans_some-requires-clause-cards
+cleans_some-requires-clause-cards c =
+    let some = c.if-number-eq0.false in
+    let many = c.at_most-number.ensures in
+    let cells = ap (λ (s : Shape). s.cells) c.shape.ensures in
+    (omega arith, omega (arith, some, many, cells))
+
+pub returns-then-cleans_some-clause-cleaned : goal.returns-then-cleans_some-clause-cleaned
+returns-then-cleans_some-clause-cleaned c =
+    let n : ℕ = c.at_most-number.result in
+    let same : c.args.from + n - c.args.from ≡ n = omega arith in
+    let many = c.at_most-number.ensures in
+    let cells = ap (λ (s : Shape). s.cells) c.shape.ensures in
+    (omega (arith, many, cells), subst (λ k. CleansCards c.args.from k (view_of c.args.seat.now) (view_of c.cleans_some.new.seat)) same (c.cleans_some.ensures.cleaned c.if-cleans_some.true))
+
+pub returns-then-cleans_some-clause-exact : goal.returns-then-cleans_some-clause-exact
+returns-then-cleans_some-clause-exact c u k = exact-part Drain u (view_of c.args.seat.now) (view_of c.cleans_some.new.seat) c.cleans_some.ensures.part k
+
+pub returns-then-cleans_some-clause-keeps : goal.returns-then-cleans_some-clause-keeps
+returns-then-cleans_some-clause-keeps c = part-keeps Drain (view_of c.args.seat.now) (view_of c.cleans_some.new.seat) c.cleans_some.ensures.part
+
+pub returns-clause-exact : goal.returns-clause-exact
+returns-clause-exact c u k = exact-part Drain u (view_of c.args.seat.now) (view_of c.cleans_some.new.seat) c.cleans_some.ensures.part k
+
+pub returns-clause-keeps : goal.returns-clause-keeps
+returns-clause-keeps c = part-keeps Drain (view_of c.args.seat.now) (view_of c.cleans_some.new.seat) c.cleans_some.ensures.part
+
+pub returns-then-number-eq0-clause-few : goal.returns-then-number-eq0-clause-few
+returns-then-number-eq0-clause-few c = let none = ap length (events-none (view_of c.args.seat.now)) in omega (arith, none)
+
+-- what was passed is at most what was to be
+piece-few : (from number most : ℕ) (sh : Shape) (k r : ℕ) → number ≤ most → k ≤ clean_some_steps (from + number - from) (card_cells * (from + number - from)) sh + r → k ≤ clean_some_steps most (card_cells * most) sh + r
+piece-few from number most sh k r l few =
+    let n : ℕ = from + number - from in
+    let same : n ≡ number = omega arith in
+    let all = cards-fewer n most (card_cells * n) (card_cells * most) sh (clean_some_steps n (card_cells * n) sh) (omega (arith, same, l)) (omega (arith, same, l)) (omega arith) in
+    omega (arith, few, all)
+
+pub returns-then-cleans_some-clause-few : goal.returns-then-cleans_some-clause-few
+returns-then-cleans_some-clause-few c =
+    let sh : Shape = c.args.heap.now.shape in
+    let many = c.at_most-number.ensures in
+    piece-few c.args.from c.at_most-number.result c.args.most sh _ (recycle_steps sh) (omega (arith, many)) c.cleans_some.ensures.few
+
+pub returns-clause-few : goal.returns-clause-few
+returns-clause-few c =
+    let sh : Shape = c.args.heap.now.shape in
+    let many = c.at_most-number.ensures in
+    piece-few c.args.from c.at_most-number.result c.args.most sh _ (recycle_steps sh) (omega (arith, many)) c.cleans_some.ensures.few

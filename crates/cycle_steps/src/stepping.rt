@@ -1,0 +1,159 @@
+//! The steps of a collection up to its sweep: the world stops, the roots are seen to, and all is marked.
+ghost use Rattle.std.specs.Prelude.{◌≡◌, ◌≢◌, [], ◌∷◌, None, Some, ◌≤◌, length, if◌then◌else◌, IsTrue};
+ghost use Rattle.std.specs.Bool.{OnFalse, OnTrue};
+ghost use Rattle.mark_core.specs.declared.kinds.Phase.TheVariants.{Clear, Drain, Full, Idle};
+ghost use Rattle.mark_core.specs.declared.kinds.Step.TheVariants.{Reset};
+ghost use Rattle.mark_core.specs.Numbers.{block_counter, card_counter};
+ghost use Rattle.gc_table.specs.Log.{Only};
+ghost use Rattle.gc_table.specs.Rule.{KnowsFull};
+ghost use Rattle.gc_table.specs.Running.{Ran};
+ghost use Rattle.gc_table.specs.Seats.{Across, did, Sits, state_of, view_of};
+ghost use Rattle.gc_table.specs.declared.view.View.{View};
+ghost use Rattle.card_clean.specs.Drained.{FindsNoDirtyCard};
+ghost use Rattle.gc_cycle.specs.Collecting.{HoldsWorld};
+ghost use Rattle.gc_cycle.specs.Courses.{TakesCourse};
+ghost use Rattle.gc_cycle.specs.Events.{never};
+ghost use Rattle.gc_cycle.specs.Finishing.{IsAloneIn, IsPart};
+ghost use Rattle.gc_cycle.specs.Sorts.{pops};
+ghost use Rattle.gc_cycle.specs.Standing.{IsOut, Mutates};
+ghost use Rattle.gc_cycle.specs.Statistics.{leaves_numbers};
+ghost use Rattle.gc_cycle.specs.RoundParts.{LacksPacket};
+ghost use Rattle.cycle_steps.specs.Stepping.{AwaitsStop, AsksOnce, Drains, FindsRunning, FindsStopped, HasMarkedAll, IsExactSince, IsOwner, Keeps, MakesRound, RunsAgain, IsAtRoots};
+
+use crate::clear_steps::{finish_clear, start_clear};
+use gc_cycle::{
+    begin_drain, clear_rest, drain_round, go_out, has_seen_full, is_drained, sees_to_roots,
+};
+use gc_table::{Heap, HeapSeat};
+use mark_core::BLOCK_COUNTER;
+use stop_world::{Raised, raise, resume};
+
+/// Leaves the world with the position stored, and asks for a stop: true where the flag is the seat's own now. False comes exactly where another's was
+/// up, whose stop comes first; the seat is outside then.
+pub fn ask_to_stop(heap: &Heap, seat: &mut HeapSeat, done: u32) -> bool
+    requires seat { Sits heap.now seat.old × Mutates (view_of seat.old) }
+    requires cache { (state_of seat.old).cache ≡ None }
+    ensures seat { Sits heap.now seat.new }
+    ensures ran { Across Ran seat.old seat.new }
+    ensures asks { Across (AsksOnce done result) seat.old seat.new }
+    ensures yours { OnTrue result (AwaitsStop (view_of seat.new)) }
+    ensures theirs { OnFalse result (IsOut (view_of seat.new)) }
+    ensures position { (view_of seat.new).own.position ≡ done }
+    ensures few { length (did seat.old seat.new) ≤ 3 }
+    ensures keeps { Across Keeps seat.old seat.new }
+{
+    go_out(heap, seat, done);
+    match raise(heap, seat) {
+        Raised::Yours => true,
+        Raised::Theirs => false,
+    }
+}
+
+/// Whether the world has stopped, as one look finds it.
+pub fn finds_stopped(heap: &Heap, seat: &mut HeapSeat) -> bool
+    requires seat { Sits heap.now seat.old }
+    requires asks { AwaitsStop (view_of seat.old) }
+    ensures seat { Sits heap.now seat.new }
+    ensures ran { Across Ran seat.old seat.new }
+    ensures stopped { OnTrue result (HoldsWorld (view_of seat.new) × Across FindsStopped seat.old seat.new) }
+    ensures not_yet { OnFalse result (AwaitsStop (view_of seat.new) × Across FindsRunning seat.old seat.new) }
+    ensures few { length (did seat.old seat.new) ≤ 2 }
+    ensures keeps { Across Keeps seat.old seat.new }
+{
+    heap.observe(seat);
+    if !seat.state().knows {
+        return false;
+    }
+    heap.read_phase(seat);
+    true
+}
+
+/// The block counter is set, before the roots are seen to.
+pub(crate) fn reset_blocks(heap: &Heap, seat: &mut HeapSeat)
+    requires seat { Sits heap.now seat.old }
+    requires owner { IsOwner (view_of seat.old) }
+    requires alone { IsAloneIn Drain (view_of seat.old) }
+    ensures seat { Sits heap.now seat.new }
+    ensures part { Across (IsPart Drain) seat.old seat.new }
+    ensures course { Across (TakesCourse [] (Reset block_counter ∷ [])) seat.old seat.new }
+    ensures roots { IsAtRoots (view_of seat.new) }
+    ensures few { length (did seat.old seat.new) ≤ 1 }
+{
+    heap.reset(seat, BLOCK_COUNTER);
+}
+
+/// Begins the drain in a stopped world. False comes exactly where the heap is full: then the world goes on, and the seat runs.
+pub fn begin_collection(heap: &Heap, seat: &mut HeapSeat) -> bool
+    requires seat { Sits heap.now seat.old }
+    requires stopped { HoldsWorld (view_of seat.old) }
+    ensures seat { Sits heap.now seat.new }
+    ensures ran { Across Ran seat.old seat.new }
+    ensures begun { OnTrue result (IsAtRoots (view_of seat.new) × ((state_of seat.old).phase_seen ≢ Some Full)) }
+    ensures exact { OnTrue result ((state_of seat.old).phase_seen ≡ Some Idle → (u : View) → Ran u (view_of seat.old) → IsExactSince u (view_of seat.new)) }
+    ensures full { OnFalse result (RunsAgain (view_of seat.new) × KnowsFull (view_of seat.new)) }
+    ensures course { OnTrue result (Across (TakesCourse (Drain ∷ []) (Reset card_counter ∷ Reset block_counter ∷ [])) seat.old seat.new) }
+    ensures over { OnFalse result (Across (TakesCourse [] []) seat.old seat.new) }
+    ensures few { length (did seat.old seat.new) ≤ (if result then 3 else 1) }
+    ensures keeps { Across Keeps seat.old seat.new }
+{
+    if has_seen_full(seat) {
+        resume(heap, seat);
+        return false;
+    }
+    begin_drain(heap, seat);
+    reset_blocks(heap, seat);
+    true
+}
+
+/// Marks what the roots refer to, and pops no object. False comes only where no packet could be had: the deferred ones are back then, and it is to be called
+/// again.
+pub fn root_step(heap: &Heap, seat: &mut HeapSeat) -> bool
+    requires seat { Sits heap.now seat.old }
+    requires roots { IsAtRoots (view_of seat.old) }
+    ensures seat { Sits heap.now seat.new }
+    ensures part { Across (IsPart Drain) seat.old seat.new }
+    ensures unpopped { IsTrue (never pops (did seat.old seat.new)) }
+    ensures rooted { OnTrue result (Drains (view_of seat.new)) }
+    ensures not_yet { OnFalse result (IsAtRoots (view_of seat.new) × Across LacksPacket seat.old seat.new) }
+    ensures exact { (u : View) → IsExactSince u (view_of seat.old) → IsExactSince u (view_of seat.new) }
+    ensures numbers { Across (Only leaves_numbers) seat.old seat.new }
+    ensures keeps { Across Keeps seat.old seat.new }
+{
+    sees_to_roots(heap, seat)
+}
+
+/// True where all is marked: no card was found dirty, and all packets empty. Else something was left, and a round was made: it popped `most` objects, or
+/// as many as there were, and cleaned each card that was dirty then. It is to be called again.
+pub fn drain_step(heap: &Heap, seat: &mut HeapSeat, most: u32) -> bool
+    requires seat { Sits heap.now seat.old }
+    requires drains { Drains (view_of seat.old) }
+    ensures seat { Sits heap.now seat.new }
+    ensures part { Across (IsPart Drain) seat.old seat.new }
+    ensures drained { OnTrue result (HasMarkedAll (view_of seat.new) × FindsNoDirtyCard heap.now.shape (did seat.old seat.new)) }
+    ensures not_yet { OnFalse result (Drains (view_of seat.new) × Across (MakesRound most) seat.old seat.new) }
+    ensures exact { (u : View) → IsExactSince u (view_of seat.old) → IsExactSince u (view_of seat.new) }
+    ensures numbers { Across (Only leaves_numbers) seat.old seat.new }
+    ensures keeps { Across Keeps seat.old seat.new }
+{
+    if is_drained(heap, seat) {
+        return true;
+    }
+    drain_round(heap, seat, most);
+    false
+}
+
+/// Takes all marks away and begins the drain once more, so that only what is reachable now is marked.
+pub fn drain_again(heap: &Heap, seat: &mut HeapSeat)
+    requires seat { Sits heap.now seat.old }
+    requires drained { HasMarkedAll (view_of seat.old) }
+    ensures seat { Sits heap.now seat.new }
+    ensures ran { Across Ran seat.old seat.new }
+    ensures roots { IsAtRoots (view_of seat.new) }
+    ensures exact { (u : View) → Ran u (view_of seat.old) → IsExactSince u (view_of seat.new) }
+    ensures course { Across (TakesCourse (Clear ∷ Drain ∷ []) (Reset card_counter ∷ Reset block_counter ∷ [])) seat.old seat.new }
+    ensures keeps { Across Keeps seat.old seat.new }
+{
+    start_clear(heap, seat);
+    clear_rest(heap, seat);
+    finish_clear(heap, seat);
+}
