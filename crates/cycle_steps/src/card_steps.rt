@@ -1,5 +1,5 @@
 //! A drain in pieces, once the roots are seen to: so many objects are traced, so many cards are looked at, and so many cleaned.
-ghost use Rattle.std.specs.Prelude.{◌≡◌, ◌≤◌, ◌+◌, ◌-◌, min, length, IsTrue, IsFalse, IfSome, IfNone, ◌*◌};
+ghost use Rattle.std.specs.Prelude.{◌≡◌, ◌≤◌, ◌+◌, ◌-◌, min, length, IsTrue, IfSome, IfNone, ◌*◌};
 ghost use Rattle.std.specs.Bool.{OnFalse, OnTrue};
 ghost use Rattle.mark_core.specs.Layout.{card_count};
 ghost use Rattle.mark_core.specs.declared.kinds.Phase.TheVariants.{Drain};
@@ -12,7 +12,7 @@ ghost use Rattle.tracer.specs.StepBounds.{recycle_steps, trace_steps};
 ghost use Rattle.card_clean.specs.StepBounds.{clean_some_steps};
 ghost use Rattle.gc_cycle.specs.Events.{never};
 ghost use Rattle.gc_cycle.specs.Finishing.{IsPart};
-ghost use Rattle.gc_cycle.specs.Sorts.{pops};
+ghost use Rattle.gc_cycle.specs.Sorts.{clears, pops};
 ghost use Rattle.gc_cycle.specs.Statistics.{leaves_numbers};
 ghost use Rattle.gc_cycle.specs.RoundParts.{BringsBack, LacksPacket};
 ghost use Rattle.gc_cycle.specs.Turns.{DrainsFor};
@@ -32,6 +32,15 @@ pub enum Look {
     Clean(u32),
     /// This card is dirty.
     Dirty(u32),
+}
+
+/// What a step of cleaning came to.
+#[derive(Clone, Copy, Debug, PartialEq, Eq, Drop)]
+pub struct CleanStep {
+    /// How many cards it passed. Where they are fewer than were to be, none is left.
+    pub passed: u32,
+    /// How many of them it cleaned.
+    pub cleaned: u32,
 }
 
 /// Brings back what was deferred, and traces at most so many objects. How many it popped: fewer come only where, at some moment, there was none.
@@ -91,9 +100,9 @@ pub fn finds_all_marked(heap: &Heap, seat: &mut HeapSeat) -> bool
     sees_all_empty(heap, seat)
 }
 
-/// Cleans what is dirty of these cards, where a packet can be had for it. Where none can, what was deferred is brought back, which is all that can keep packets
-/// from a seat that is alone.
-fn cleans_some(heap: &Heap, seat: &mut HeapSeat, first: u32, end: u32) -> bool
+/// Cleans what is dirty of these cards, where a packet can be had for it: how many it cleaned. Where none can, what was deferred is brought back, which is all
+/// that can keep packets from a seat that is alone.
+fn cleans_some(heap: &Heap, seat: &mut HeapSeat, first: u32, end: u32) -> Option<u32>
     requires seat { Sits heap.now seat.old }
     requires drains { Drains (view_of seat.old) }
     requires cards { (first ≤ end) × (end ≤ card_count heap.now.shape) }
@@ -102,32 +111,36 @@ fn cleans_some(heap: &Heap, seat: &mut HeapSeat, first: u32, end: u32) -> bool
     ensures drains { Drains (view_of seat.new) }
     ensures unpopped { IsTrue (never pops (did seat.old seat.new)) }
     ensures numbers { Across (Only leaves_numbers) seat.old seat.new }
-    ensures cleaned { IsTrue result → Across (CleansCards first (end - first)) seat.old seat.new }
-    ensures lacks { IsFalse result → Across LacksPacket seat.old seat.new }
+    ensures cleaned { IfSome result (λ _. Across (CleansCards first (end - first)) seat.old seat.new) }
+    ensures counts { IfSome result (λ n. (n ≤ end - first) × (count_of clears (did seat.old seat.new) ≡ n)) }
+    ensures lacks { IfNone result (Across LacksPacket seat.old seat.new) }
+    ensures uncleaned { IfNone result (IsTrue (never clears (did seat.old seat.new))) }
     ensures few { length (did seat.old seat.new) ≤ clean_some_steps (end - first) (card_cells * (end - first)) heap.now.shape + recycle_steps heap.now.shape }
 {
     match clean_some(heap, seat, first, end) {
-        Some(_) => true,
+        Some(cleaned) => Some(cleaned.cards),
         None => {
             recycle_deferred(heap, seat);
-            false
+            None
         }
     }
 }
 
-/// Looks at the cards from this one on, at most so many of them, cleans those that are dirty, and pops no object. How many cards it passed: fewer come exactly
-/// where none is left. None comes only where no packet could be had: the deferred ones are back then, and it is to be called again.
+/// Looks at the cards from this one on, at most so many of them, cleans those that are dirty, and pops no object. How many cards it passed and cleaned: fewer are
+/// passed exactly where none is left. None comes only where no packet could be had: the deferred ones are back then, and it is to be called again.
 ///
 /// A card may be dirty again afterwards, so that a look is due.
-pub fn clean_step(heap: &Heap, seat: &mut HeapSeat, from: u32, most: u32) -> Option<u32>
+pub fn clean_step(heap: &Heap, seat: &mut HeapSeat, from: u32, most: u32) -> Option<CleanStep>
     requires seat { Sits heap.now seat.old }
     requires drains { Drains (view_of seat.old) }
     ensures seat { Sits heap.now seat.new }
     ensures part { Across (IsPart Drain) seat.old seat.new }
     ensures drains { Drains (view_of seat.new) }
     ensures unpopped { IsTrue (never pops (did seat.old seat.new)) }
-    ensures cleaned { IfSome result (λ n. (n ≡ min most (card_count heap.now.shape - from)) × Across (CleansCards from n) seat.old seat.new) }
+    ensures cleaned { IfSome result (λ r. (r.passed ≡ min most (card_count heap.now.shape - from)) × Across (CleansCards from r.passed) seat.old seat.new) }
+    ensures counts { IfSome result (λ r. (r.cleaned ≤ r.passed) × (count_of clears (did seat.old seat.new) ≡ r.cleaned)) }
     ensures lacks { IfNone result (Across LacksPacket seat.old seat.new) }
+    ensures uncleaned { IfNone result (IsTrue (never clears (did seat.old seat.new))) }
     ensures exact { (u : View) → IsExactSince u (view_of seat.old) → IsExactSince u (view_of seat.new) }
     ensures numbers { Across (Only leaves_numbers) seat.old seat.new }
     ensures keeps { Across Keeps seat.old seat.new }
@@ -135,10 +148,16 @@ pub fn clean_step(heap: &Heap, seat: &mut HeapSeat, from: u32, most: u32) -> Opt
 {
     let number = at_most(most, from, heap.shape().cells / CARD_CELLS);
     if number == 0 {
-        return Some(0);
+        return Some(CleanStep {
+            passed: 0,
+            cleaned: 0,
+        });
     }
-    if cleans_some(heap, seat, from, from + number) {
-        return Some(number);
+    match cleans_some(heap, seat, from, from + number) {
+        Some(cleaned) => Some(CleanStep {
+            passed: number,
+            cleaned,
+        }),
+        None => None,
     }
-    None
 }

@@ -47,7 +47,7 @@ mod root_steps;
 mod stepping;
 mod sweep_steps;
 
-pub use card_steps::{Look, clean_step, finds_all_marked, look_step, trace_step};
+pub use card_steps::{CleanStep, Look, clean_step, finds_all_marked, look_step, trace_step};
 pub use clear_steps::{clear_step, finish_clear, start_clear};
 pub use count_steps::{CountStep, count_step, finish_count, start_count};
 pub use pieces::stretches_of;

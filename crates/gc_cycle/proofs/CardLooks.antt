@@ -11,6 +11,7 @@ use Rattle.gc_table.specs.declared.view.View.{View}
 use Rattle.packet_pools.specs.Counts.{scans_object}
 use Rattle.packet_pools.specs.Seeking.{moves_packet, only_moves, output_pools}
 use Rattle.packet_pools.specs.StepBounds.{any_steps}
+use Rattle.card_clean.specs.declared.cleaned.CleanedCards.{CleanedCards}
 use Rattle.card_clean.specs.DirtyCards.{CleanedFrom}
 use Rattle.card_clean.specs.Leaving.{rescanned_in}
 use Rattle.card_clean.specs.Passing.{draws_card}
@@ -46,12 +47,12 @@ moves-unlooked qs step n e = refl
 
 -- what the cleaning of some cards came to
 module _ (sh : Shape) (first end : ℕ) (v w : View) where
-  pub passed : (o : Option ℕ) → IfSome o (λ n. (n ≤ card_cells * (end - first)) × (rescanned_in v (events v w) ≡ n) × CleansWithPacket (CleanedFrom sh first (end - first) n) (events v w)) → IfNone o (NoPacket sh (events v w) × (only_moves output_pools (events v w) ≡ true) × (rescanned_in v (events v w) ≡ 0)) → PassesCards sh first end (events v w)
-  passed (Some n) s m = inl (n, s.2)
+  pub passed : (o : Option CleanedCards) → IfSome o (λ r. (r.rescanned ≤ card_cells * (end - first)) × (rescanned_in v (events v w) ≡ r.rescanned) × CleansWithPacket (CleanedFrom sh first (end - first) r.rescanned) (events v w)) → IfNone o (NoPacket sh (events v w) × (only_moves output_pools (events v w) ≡ true) × (rescanned_in v (events v w) ≡ 0)) → PassesCards sh first end (events v w)
+  passed (Some r) s m = inl (r.rescanned, s.2)
   passed None s m = inr (m.0, m.1)
 
-  pub passed-few : (o : Option ℕ) → IfSome o (λ n. (n ≤ card_cells * (end - first)) × (rescanned_in v (events v w) ≡ n) × CleansWithPacket (CleanedFrom sh first (end - first) n) (events v w)) → IfSome o (λ n. length (events v w) ≤ clean_some_steps (end - first) n sh) × IfNone o (length (events v w) ≤ any_steps sh) → length (events v w) ≤ clean_some_steps (end - first) (card_cells * (end - first)) sh
-  passed-few (Some n) s f = cards-fewer (end - first) (end - first) n (card_cells * (end - first)) sh (length (events v w)) (omega arith) s.0 f.0
+  pub passed-few : (o : Option CleanedCards) → IfSome o (λ r. (r.rescanned ≤ card_cells * (end - first)) × (rescanned_in v (events v w) ≡ r.rescanned) × CleansWithPacket (CleanedFrom sh first (end - first) r.rescanned) (events v w)) → IfSome o (λ r. length (events v w) ≤ clean_some_steps (end - first) r.rescanned sh) × IfNone o (length (events v w) ≤ any_steps sh) → length (events v w) ≤ clean_some_steps (end - first) (card_cells * (end - first)) sh
+  passed-few (Some r) s f = cards-fewer (end - first) (end - first) r.rescanned (card_cells * (end - first)) sh (length (events v w)) (omega arith) s.0 f.0
   passed-few None s f = let few = f.1 in omega (arith, few)
 
 -- what is neither a move of packets nor a step of a scan, and isn't one of the steps of cleaning itself, isn't there

@@ -8,6 +8,7 @@ use Rattle.mark_core.specs.declared.kinds.Phase.TheVariants.{Idle, Marking, Drai
 use Rattle.mark_core.specs.declared.kinds.Step.{Step}
 use Rattle.mark_core.specs.declared.kinds.Step.TheVariants.{ReadCount, ReadAlloc, ReadRoot, ClearCard, ReadPhase, StoreField, StoreValue, StoreRoot, StoreNew, ClaimBlock, EnterStep, LeaveStep, RaiseStep, Observe, DropStep, StorePhase, NextBlock, NextOfCards, StoreNamed, AddStat, ReadStat, OpenStep, JoinHelpStep, ExchangeField, ExchangeValue, LoadSlot, StoreSlot}
 use Rattle.gc_table.specs.Taking.{moves_from}
+pub use Rattle.card_clean.specs.Cleaning.{clears}
 pub use Rattle.tracer.specs.Roots.{shows_marked}
 pub use Rattle.tracer.specs.Tally.{pops}
 
@@ -135,11 +136,6 @@ abbrev pub sees_last_block : ℕ → Step → ℕ → Bool
 sees_last_block blocks (ReadStat which) found = (which == block_counter) && nat_le blocks found
 sees_last_block blocks NextBlock found = nat_le blocks found
 sees_last_block blocks step found = false
-
--- a card was cleared, whether it was dirty or clean
-abbrev pub clears : Step → ℕ → Bool
-clears (ClearCard card) found = true
-clears step found = false
 
 -- this card was cleared, whether it was dirty or clean
 abbrev pub clears_card : ℕ → Step → ℕ → Bool

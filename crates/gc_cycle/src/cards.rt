@@ -100,9 +100,8 @@ pub fn clean(heap: &Heap, seat: &mut HeapSeat, card: u32) -> Option<u32>
     }
 }
 
-/// Looks at each of these cards, and cleans those that are dirty, beside others, with a packet that it takes for it: how many objects were scanned again. None
-/// comes only where no packet could be had, and then no card was looked at.
-pub fn clean_between(heap: &Heap, seat: &mut HeapSeat, first: u32, end: u32) -> Option<u32>
+/// Looks at each of these cards, and cleans those that are dirty, beside others, with a packet that it takes for it. Where no packet can be had, it looks at none.
+pub fn clean_between(heap: &Heap, seat: &mut HeapSeat, first: u32, end: u32)
     requires seat { Sits heap.now seat.old × IsTrue (traces (view_of seat.old)) }
     requires rest { IsTrue (is_at_rest heap.now.shape (state_of seat.old)) }
     requires cards { (first ≤ end) × (end ≤ card_count heap.now.shape) }
@@ -115,7 +114,7 @@ pub fn clean_between(heap: &Heap, seat: &mut HeapSeat, first: u32, end: u32) -> 
     ensures unread { IsTrue (never reads_pace (did seat.old seat.new)) }
     ensures few { length (did seat.old seat.new) ≤ clean_some_steps (end - first) (card_cells * (end - first)) heap.now.shape }
 {
-    card_clean::clean_some(heap, seat, first, end)
+    let _ = card_clean::clean_some(heap, seat, first, end);
 }
 
 /// Whether the drain is at its end, where all roots are seen to.

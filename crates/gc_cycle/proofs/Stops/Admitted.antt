@@ -110,7 +110,7 @@ pub idle-longer : (sh : Shape) (ys : List Entry) → never clears ys ≡ true �
 idle-longer sh ys n m es e = let a = and_parts (never clears es) _ e in and_from _ _ (never-join clears es ys a.0 n) (work-longer sh ys m es a.1)
 
 -- a trace clears no card
-uncleared : (es : List Entry) → never draws_or_clears es ≡ true → never clears es ≡ true
+pub uncleared : (es : List Entry) → never draws_or_clears es ≡ true → never clears es ≡ true
 uncleared [] h = refl
 uncleared (e ∷ es) h =
     let p = or_parts (draws_or_clears e.step e.found) (some_event draws_or_clears es) (not-true _ h) in

@@ -6,7 +6,8 @@ use Rattle.gc_table.specs.declared.view.View.{View}
 use Rattle.gc_table.proofs.History.Log.{events-none, only-none}
 use Rattle.gc_cycle.specs.Events.{never}
 use Rattle.cycle_steps.specs.Pieces.{CleansCards}
-use Rattle.gc_cycle.specs.Sorts.{pops}
+use Rattle.packet_pools.specs.Counts.{count_of}
+use Rattle.gc_cycle.specs.Sorts.{clears, pops}
 use Rattle.gc_cycle.specs.Statistics.{leaves_numbers}
 use Rattle.cycle_steps.proofs.CardPieces.{alone-of, cleans-none}
 use Rattle.cycle_steps.proofs.Exactly.{exact-part}
@@ -31,6 +32,9 @@ returns-then-number-eq0-clause-cleaned c =
     let cells = ap (λ (s : Shape). s.cells) c.shape.ensures in
     (omega (arith, none, many, cells), cleans-none c.args.from (view_of c.args.seat.now))
 
+pub returns-then-number-eq0-clause-counts : goal.returns-then-number-eq0-clause-counts
+returns-then-number-eq0-clause-counts c = (omega arith, ap (count_of clears) (events-none (view_of c.args.seat.now)))
+
 pub returns-then-number-eq0-clause-numbers : goal.returns-then-number-eq0-clause-numbers
 returns-then-number-eq0-clause-numbers c = only-none leaves_numbers (view_of c.args.seat.now)
 
@@ -44,25 +48,28 @@ cleans_some-requires-clause-cards c =
     let cells = ap (λ (s : Shape). s.cells) c.shape.ensures in
     (omega arith, omega (arith, some, many, cells))
 
-pub returns-then-cleans_some-clause-cleaned : goal.returns-then-cleans_some-clause-cleaned
-returns-then-cleans_some-clause-cleaned c =
+pub returns-in-Some-clause-cleaned : goal.returns-in-Some-clause-cleaned
+returns-in-Some-clause-cleaned c =
     let n : ℕ = c.at_most-number.result in
     let same : c.args.from + n - c.args.from ≡ n = omega arith in
     let many = c.at_most-number.ensures in
     let cells = ap (λ (s : Shape). s.cells) c.shape.ensures in
-    (omega (arith, many, cells), subst (λ k. CleansCards c.args.from k (view_of c.args.seat.now) (view_of c.cleans_some.new.seat)) same (c.cleans_some.ensures.cleaned c.if-cleans_some.true))
+    (omega (arith, many, cells), subst (λ k. CleansCards c.args.from k (view_of c.args.seat.now) (view_of c.cleans_some.new.seat)) same c.in-Some.ensures.cleaned)
 
-pub returns-then-cleans_some-clause-exact : goal.returns-then-cleans_some-clause-exact
-returns-then-cleans_some-clause-exact c u k = exact-part Drain u (view_of c.args.seat.now) (view_of c.cleans_some.new.seat) c.cleans_some.ensures.part k
+pub returns-in-Some-clause-counts : goal.returns-in-Some-clause-counts
+returns-in-Some-clause-counts c = let counts = c.in-Some.ensures.counts in (omega (arith, counts.0), counts.1)
 
-pub returns-then-cleans_some-clause-keeps : goal.returns-then-cleans_some-clause-keeps
-returns-then-cleans_some-clause-keeps c = part-keeps Drain (view_of c.args.seat.now) (view_of c.cleans_some.new.seat) c.cleans_some.ensures.part
+pub returns-in-Some-clause-exact : goal.returns-in-Some-clause-exact
+returns-in-Some-clause-exact c u k = exact-part Drain u (view_of c.args.seat.now) (view_of c.cleans_some.new.seat) c.cleans_some.ensures.part k
 
-pub returns-clause-exact : goal.returns-clause-exact
-returns-clause-exact c u k = exact-part Drain u (view_of c.args.seat.now) (view_of c.cleans_some.new.seat) c.cleans_some.ensures.part k
+pub returns-in-Some-clause-keeps : goal.returns-in-Some-clause-keeps
+returns-in-Some-clause-keeps c = part-keeps Drain (view_of c.args.seat.now) (view_of c.cleans_some.new.seat) c.cleans_some.ensures.part
 
-pub returns-clause-keeps : goal.returns-clause-keeps
-returns-clause-keeps c = part-keeps Drain (view_of c.args.seat.now) (view_of c.cleans_some.new.seat) c.cleans_some.ensures.part
+pub returns-in-None-clause-exact : goal.returns-in-None-clause-exact
+returns-in-None-clause-exact c u k = exact-part Drain u (view_of c.args.seat.now) (view_of c.cleans_some.new.seat) c.cleans_some.ensures.part k
+
+pub returns-in-None-clause-keeps : goal.returns-in-None-clause-keeps
+returns-in-None-clause-keeps c = part-keeps Drain (view_of c.args.seat.now) (view_of c.cleans_some.new.seat) c.cleans_some.ensures.part
 
 pub returns-then-number-eq0-clause-few : goal.returns-then-number-eq0-clause-few
 returns-then-number-eq0-clause-few c = let none = ap length (events-none (view_of c.args.seat.now)) in omega (arith, none)
@@ -75,14 +82,14 @@ piece-few from number most sh k r l few =
     let all = cards-fewer n most (card_cells * n) (card_cells * most) sh (clean_some_steps n (card_cells * n) sh) (omega (arith, same, l)) (omega (arith, same, l)) (omega arith) in
     omega (arith, few, all)
 
-pub returns-then-cleans_some-clause-few : goal.returns-then-cleans_some-clause-few
-returns-then-cleans_some-clause-few c =
+pub returns-in-Some-clause-few : goal.returns-in-Some-clause-few
+returns-in-Some-clause-few c =
     let sh : Shape = c.args.heap.now.shape in
     let many = c.at_most-number.ensures in
     piece-few c.args.from c.at_most-number.result c.args.most sh _ (recycle_steps sh) (omega (arith, many)) c.cleans_some.ensures.few
 
-pub returns-clause-few : goal.returns-clause-few
-returns-clause-few c =
+pub returns-in-None-clause-few : goal.returns-in-None-clause-few
+returns-in-None-clause-few c =
     let sh : Shape = c.args.heap.now.shape in
     let many = c.at_most-number.ensures in
     piece-few c.args.from c.at_most-number.result c.args.most sh _ (recycle_steps sh) (omega (arith, many)) c.cleans_some.ensures.few

@@ -12,7 +12,7 @@ use Rattle.card_clean.specs.DirtyCards.{CleanedFrom}
 use Rattle.card_clean.specs.Taking.{CleansWithPacket, NoPacket}
 use Rattle.gc_cycle.specs.Events.{never}
 use Rattle.gc_cycle.specs.Lower.{HasTraced, traces_or_cleans}
-use Rattle.gc_cycle.specs.Sorts.{pops}
+use Rattle.gc_cycle.specs.Sorts.{clears, draws_or_clears, pops}
 use Rattle.gc_cycle.specs.Standing.{is_at_rest}
 use Rattle.gc_cycle.specs.Statistics.{leaves_numbers}
 use Rattle.cycle_steps.proofs.CardPieces.{alone-of, cleaned-traced, drains-part, drains-still, rest-of}
@@ -23,7 +23,8 @@ use Rattle.gc_cycle.proofs.Idling.{rest-parts, traces-of}
 use Rattle.gc_cycle.proofs.Leaving.{traces-leave}
 use Rattle.gc_cycle.proofs.Longer.{has-traced}
 use Rattle.gc_cycle.proofs.Traced.{alone-traces}
-use Rattle.gc_cycle.proofs.TracingSpares.{moved-untaken, moves-unpopped, scan-unpopped}
+use Rattle.gc_cycle.proofs.Stops.Admitted.{uncleared}
+use Rattle.gc_cycle.proofs.TracingSpares.{moved-untaken, moves-uncleaned, moves-unpopped, scan-unpopped}
 use Rattle.cycle_steps.proofs.card_steps.cleans_some.Goals.{After-clean_some, After-recycle_deferred}
 use Rattle.mark_core.specs.Cards.{card_cells}
 use Rattle.packet_pools.specs.StepBounds.{any_steps}
@@ -59,15 +60,18 @@ returns-in-Some-clause-drains c = drains-still (view_of c.args.seat.now) (view_o
 
 pub returns-in-Some-clause-unpopped : goal.returns-in-Some-clause-unpopped
 returns-in-Some-clause-unpopped c =
-    none-with pops (moves-unpopped output_pools) scan-unpopped (λ k m. refl) (λ k m. refl) (λ k m. refl) (λ k m. refl) c.args.heap.now.shape c.args.first (c.args.end - c.args.first) c.in-Some.field-0 (events (view_of c.args.seat.now) (view_of c.clean_some.new.seat)) (λ k m. refl) c.in-Some.ensures.some.2
+    none-with pops (moves-unpopped output_pools) scan-unpopped (λ k m. refl) (λ k m. refl) (λ k m. refl) (λ k m. refl) c.args.heap.now.shape c.args.first (c.args.end - c.args.first) c.in-Some.cleaned.rescanned (events (view_of c.args.seat.now) (view_of c.clean_some.new.seat)) (λ k m. refl) c.in-Some.ensures.some.2
 
 pub returns-in-Some-clause-numbers : goal.returns-in-Some-clause-numbers
 returns-in-Some-clause-numbers c = only-more traces_or_cleans leaves_numbers traces-leave (view_of c.args.seat.now) (view_of c.clean_some.new.seat) (traced c.before).only
 
 pub returns-in-Some-clause-cleaned : goal.returns-in-Some-clause-cleaned
-returns-in-Some-clause-cleaned c _ =
+returns-in-Some-clause-cleaned c =
     let es = events (view_of c.args.seat.now) (view_of c.clean_some.new.seat) in
-    (c.in-Some.field-0, subst (λ (sh : Shape). CleansWithPacket (CleanedFrom sh c.args.first (c.args.end - c.args.first) c.in-Some.field-0) es) (sym c.requires.seat.1) c.in-Some.ensures.some.2)
+    (c.in-Some.cleaned.rescanned, subst (λ (sh : Shape). CleansWithPacket (CleanedFrom sh c.args.first (c.args.end - c.args.first) c.in-Some.cleaned.rescanned) es) (sym c.requires.seat.1) c.in-Some.ensures.some.2)
+
+pub returns-in-Some-clause-counts : goal.returns-in-Some-clause-counts
+returns-in-Some-clause-counts c = c.in-Some.ensures.cleared
 
 pub recycle_deferred-requires-clause-seat : goal.recycle_deferred-requires-clause-seat
 recycle_deferred-requires-clause-seat c =
@@ -96,11 +100,20 @@ returns-in-None-clause-unpopped c =
     ap (never pops) (ran-events v w x c.clean_some.ensures.only.ran r.traced.ran)
     ∙ never-both pops (events v w) (events w x) (moved-untaken output_pools pops (moves-unpopped output_pools) (events v w) c.in-None.ensures.none.1) r.unpopped
 
+pub returns-in-None-clause-uncleaned : goal.returns-in-None-clause-uncleaned
+returns-in-None-clause-uncleaned c =
+    let v : View = view_of c.args.seat.now in
+    let w : View = view_of c.clean_some.new.seat in
+    let x : View = view_of c.recycle_deferred.new.seat in
+    let r = c.recycle_deferred.ensures in
+    ap (never clears) (ran-events v w x c.clean_some.ensures.only.ran r.traced.ran)
+    ∙ never-both clears (events v w) (events w x) (uncleared (events v w) (moved-untaken output_pools draws_or_clears (moves-uncleaned output_pools) (events v w) c.in-None.ensures.none.1)) (uncleared (events w x) r.uncleaned)
+
 pub returns-in-None-clause-numbers : goal.returns-in-None-clause-numbers
 returns-in-None-clause-numbers c = only-more traces_or_cleans leaves_numbers traces-leave (view_of c.args.seat.now) (view_of c.recycle_deferred.new.seat) (both-traced c).only
 
 pub returns-in-None-clause-lacks : goal.returns-in-None-clause-lacks
-returns-in-None-clause-lacks c _ =
+returns-in-None-clause-lacks c =
     let v : View = view_of c.args.seat.now in
     let w : View = view_of c.clean_some.new.seat in
     let x : View = view_of c.recycle_deferred.new.seat in
@@ -119,7 +132,7 @@ returns-in-Some-clause-few c =
     let sh : Shape = c.args.heap.now.shape in
     let cards : ℕ = c.args.end - c.args.first in
     let e = c.in-Some.ensures in
-    let few = cards-fewer cards cards c.in-Some.field-0 (card_cells * cards) sh _ (omega arith) e.some.0 e.few.0 in
+    let few = cards-fewer cards cards c.in-Some.cleaned.rescanned (card_cells * cards) sh _ (omega arith) e.some.0 e.few.0 in
     omega (arith, few)
 
 pub returns-in-None-clause-few : goal.returns-in-None-clause-few
