@@ -12,6 +12,7 @@ use Rattle.packet_pools.proofs.Few.{another}
 use Rattle.tracer.specs.StepBounds.{object_steps, trace_steps, turn_steps}
 use Rattle.card_clean.specs.StepBounds.{clean_one_steps}
 use Rattle.gc_cycle.specs.declared.counts.Paid.{Paid}
+use Rattle.gc_cycle.specs.declared.counts.Refill.{Refill}
 use Rattle.gc_cycle.proofs.Few.{few-join}
 use Rattle.cache_refills.specs.Pace.Pacing.{card_looks, looks_by}
 use Rattle.cache_refills.specs.Pace.Payment.{TracesNone, TracesOn}
@@ -76,3 +77,8 @@ looked-few None before sh u v w x a b c d p q r =
 pub cleaned-ran : (o : Option Paid) (before : Paid) (v w : View) → IfSome o (λ paid. TracesOn before.quota before.done 0 paid v w) → IfNone o (TracesNone 0 v w) → Ran v w
 cleaned-ran (Some paid) before v w s n = s.traced.ran
 cleaned-ran None before v w s n = n.traced.ran
+
+-- no cache was got after other steps
+pub none-few : (o : Option Refill) (j k : ℕ) (u v w : View) → Ran u v → Ran v w → length (events u v) ≤ j → IfNone o (length (events v w) ≤ k) → IfNone o (length (events u w) ≤ k + j)
+none-few None j k u v w a b p q = let all = few-join j k u v w a b p q in omega (arith, all)
+none-few (Some r) j k u v w a b p q = tt

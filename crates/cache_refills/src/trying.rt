@@ -2,7 +2,8 @@
 //! stop is under way it is told so, and comes again. Where a collection is called for it is told so as well, and makes it in steps
 //! (`cycle_steps`).
 ghost use Rattle.std.specs.Bool.{OnFalse, OnTrue};
-ghost use Rattle.std.specs.Prelude.{◌≡◌, ◌≤◌, [], length, None, Some, IfNone, IfSome, IsFalse, IsTrue, is_some};
+ghost use Rattle.std.specs.Prelude.{◌≡◌, ◌≤◌, ◌+◌, ◌*◌, [], length, None, Some, IfNone, IfSome, IsFalse, IsTrue, is_some};
+ghost use Rattle.mark_core.specs.Layout.{block_count};
 ghost use Rattle.mark_core.specs.Places.{the_phase};
 ghost use Rattle.mark_core.specs.Seats.{phase_number};
 ghost use Rattle.mark_core.specs.declared.kinds.Phase.TheVariants.{Marking};
@@ -16,8 +17,9 @@ ghost use Rattle.gc_cycle.specs.Answering.{HasCache, StoredAt, TellsFull};
 ghost use Rattle.gc_cycle.specs.Cycles.{never_fills};
 ghost use Rattle.gc_cycle.specs.Events.{never};
 ghost use Rattle.gc_cycle.specs.Mutating.{GoesOut};
-ghost use Rattle.cache_refills.specs.Pace.Pacing.{begins_where_due};
+ghost use Rattle.cache_refills.specs.Pace.Pacing.{begins_where_due, card_looks};
 ghost use Rattle.cache_refills.specs.Pace.Paying.{pops_where_paid};
+ghost use Rattle.cache_refills.specs.Pace.StepBounds.{payment_steps};
 ghost use Rattle.cache_refills.specs.Pieces.{LeavesBlocks};
 ghost use Rattle.cache_refills.specs.Refilling.{IsPaced, SeesEnd, prepares};
 ghost use Rattle.gc_cycle.specs.Sorts.{polls, pops, raises_flag};
@@ -124,6 +126,9 @@ pub(crate) fn begins_or_ends(heap: &Heap, seat: &mut HeapSeat) -> bool
 /// A cache for a mutator without one, as [`refill`](crate::refill) gives it: a cycle is begun where one is due, and while one is marking the mutator pays for
 /// the cache. Where no block has a free cell, or marking is done, the answer is none, and nothing was traced: a collection is called for, which the caller makes in
 /// steps.
+///
+/// It takes three steps for each block, and five more; where it gets a cache six more, and those of a payment: 1,024 objects are traced and as many cards looked
+/// at, at most, while a cycle is marking.
 pub fn try_refill(heap: &Heap, seat: &mut HeapSeat, done: u32) -> Option<Refill>
     requires seat { Sits heap.now seat.old × Mutates (view_of seat.old) }
     requires cache { (state_of seat.old).cache ≡ None }
@@ -136,6 +141,8 @@ pub fn try_refill(heap: &Heap, seat: &mut HeapSeat, done: u32) -> Option<Refill>
     ensures pops { IsTrue (pops_where_paid (did seat.old seat.new)) }
     ensures unpopped { IfNone result (IsFalse (some_event pops (did seat.old seat.new))) }
     ensures numbers { Across (RoundNumbers result) seat.old seat.new }
+    ensures few { IfNone result (length (did seat.old seat.new) ≤ 3 * block_count heap.now.shape + 5) }
+    ensures longest { length (did seat.old seat.new) ≤ 3 * block_count heap.now.shape + 6 + payment_steps 1024 card_looks heap.now.shape }
 {
     if ends_full(heap, seat, done) {
         return Some(Refill::Full);
@@ -159,6 +166,8 @@ fn try_claim(heap: &Heap, seat: &mut HeapSeat, done: u32) -> Option<Refill>
     ensures pops { IsTrue (pops_where_paid (did seat.old seat.new)) }
     ensures unpopped { IfNone result (IsFalse (some_event pops (did seat.old seat.new))) }
     ensures numbers { Across (RoundNumbers result) seat.old seat.new }
+    ensures few { IfNone result (length (did seat.old seat.new) ≤ 3 * block_count heap.now.shape) }
+    ensures longest { length (did seat.old seat.new) ≤ 3 * block_count heap.now.shape + 1 + payment_steps 1024 card_looks heap.now.shape }
 {
     match claim(heap, seat) {
         None => None,

@@ -1,10 +1,14 @@
-use Rattle.std.proofs.Common.{[]}
+use Rattle.std.proofs.Common.{[], ◌+◌, ◌*◌, arith}
+use Rattle.mark_core.specs.Layout.{block_count}
 use Rattle.gc_table.specs.Seats.{view_of}
 use Rattle.gc_table.specs.declared.view.View.{View}
 use Rattle.gc_table.proofs.History.Log.{only-more}
 use Rattle.alloc_cache.specs.Claiming.{seeks_block}
+use Rattle.cache_refills.specs.Pace.Pacing.{card_looks}
+use Rattle.cache_refills.specs.Pace.StepBounds.{payment_steps}
 use Rattle.cache_refills.specs.Refilling.{prepares}
 use Rattle.gc_cycle.proofs.Changes.{numbers-one}
+use Rattle.gc_cycle.proofs.Few.{few-join}
 use Rattle.cache_refills.proofs.Refills.Claimed.{claims-block, claims-cached, claims-claimed, claims-only}
 use Rattle.gc_cycle.proofs.Numbers.{seeks-by}
 use Rattle.cache_refills.proofs.Refills.Paced.{seeks-prepare}
@@ -99,3 +103,13 @@ returns-in-Some-clause-pops c =
     let w : View = view_of c.pay_for.new.seat in
     let p = c.pay_for.ensures in
     leads-claimed v x w (leads-prepared v x c.claim.ensures.ran (claims-only c.in-Some.cache v x c.in-Some.ensures.some)) p.ran (claims-block c.in-Some.cache v x c.in-Some.ensures.some) (calm-claims x w p.only)
+
+pub returns-in-None-clause-longest : goal.returns-in-None-clause-longest
+returns-in-None-clause-longest c = let few = c.claim.ensures.few in omega (arith, few)
+
+pub returns-in-Some-clause-longest : goal.returns-in-Some-clause-longest
+returns-in-Some-clause-longest c =
+    let p = c.pay_for.ensures in
+    let k = c.claim.ensures in
+    let all = few-join (3 * block_count c.args.heap.now.shape) (1 + payment_steps 1024 card_looks c.args.heap.now.shape) (view_of c.args.seat.now) (view_of c.claim.new.seat) (view_of c.pay_for.new.seat) k.ran p.ran k.few p.longest in
+    omega (arith, all)

@@ -1,5 +1,7 @@
-use Rattle.std.proofs.Common.{◌≡◌, [], ◌∙◌, subst, sym, true}
+use Rattle.std.proofs.Common.{◌≡◌, ◌+◌, ◌*◌, [], ◌∙◌, arith, subst, sym, true}
+use Rattle.mark_core.specs.Layout.{block_count}
 use Rattle.mark_core.specs.declared.kinds.Shape.{Shape}
+use Rattle.mark_core.specs.declared.kinds.Step.TheVariants.{ReadPhase}
 use Rattle.gc_table.specs.Log.{events}
 use Rattle.gc_table.specs.Seats.{view_of}
 use Rattle.gc_table.specs.declared.view.View.{View}
@@ -7,9 +9,12 @@ use Rattle.gc_table.proofs.History.Log.{only-more}
 use Rattle.gc_table.proofs.Running.{ran-join, ran-refl}
 use Rattle.gc_cycle.specs.Answering.{answers}
 use Rattle.gc_cycle.specs.Mutating.{stays_calm}
+use Rattle.cache_refills.specs.Pace.Pacing.{card_looks}
+use Rattle.cache_refills.specs.Pace.StepBounds.{payment_steps}
 use Rattle.cache_refills.specs.Stops.{may_stop}
 use Rattle.gc_cycle.proofs.Refills.Answered.{answers-calm}
 use Rattle.gc_cycle.proofs.Changes.{by-join, numbers-one}
+use Rattle.gc_cycle.proofs.Few.{few-after, few-join}
 use Rattle.gc_cycle.proofs.Refills.KnownFull.{tells-none}
 use Rattle.cache_refills.proofs.Refills.Passed.{both-some, none-calls, plays-calm, plays-join, plays-keeps, plays-leads, unseen-full, unseen-join}
 use Rattle.cache_refills.proofs.Positions.{stored-more, stored-none}
@@ -18,6 +23,7 @@ use Rattle.cache_refills.proofs.Refills.RoundNumbers.{leaves-first, leaves-full}
 use Rattle.cache_refills.proofs.Refills.Popping.{answered-pops, stops-paid, unpopped}
 use Rattle.cache_refills.proofs.Refills.Visiting.{leads-paid, none-pops}
 use Rattle.cache_refills.proofs.Due.{due-calm, due-join}
+use Rattle.cache_refills.proofs.Few.{none-few}
 use Rattle.cache_refills.proofs.trying.try_refill.Goals as goal
 
 pub returns-then-ends_full : goal.returns-then-ends_full
@@ -26,8 +32,9 @@ returns-then-ends_full c =
     let w : View = view_of c.ends_full.new.seat in
     let e = c.ends_full.ensures in
     let f = c.if-ends_full.ensures.full in
+    let few = e.few in
     let p = plays-calm v w e.ran (only-more answers stays_calm answers-calm v w e.only) in
-    record { seat = e.seat.0; plays = p; refills = (f.0, f.1); calls = tt; keeps = plays-keeps v w p; due = due-calm v w (only-more answers stays_calm answers-calm v w e.only); pops = stops-paid (events v w) (unpopped (events v w) (answered-pops v w e.only)); unpopped = tt; numbers = leaves-full v w e.numbers }
+    record { seat = e.seat.0; plays = p; refills = (f.0, f.1); calls = tt; keeps = plays-keeps v w p; due = due-calm v w (only-more answers stays_calm answers-calm v w e.only); pops = stops-paid (events v w) (unpopped (events v w) (answered-pops v w e.only)); unpopped = tt; numbers = leaves-full v w e.numbers; few = tt; longest = omega (arith, few) }
 
 pub begins_or_ends-requires-clause-marking : goal.begins_or_ends-requires-clause-marking
 begins_or_ends-requires-clause-marking c =
@@ -47,6 +54,7 @@ returns-then-begins_or_ends c =
     let d = c.if-begins_or_ends.ensures.done in
     let l = leads-looked v w k in
     let p = plays-leads v x (leads-join v w x l (leads-prepared w x s.ran s.only)) in
+    let five = few-join 1 4 v w x e.ran s.ran (few-after v w ReadPhase k.looked.0 k.looked.1.0) s.few in
     record {
       seat = s.seat.0;
       plays = p;
@@ -63,6 +71,8 @@ returns-then-begins_or_ends c =
       pops = stops-paid (events v x) (unpopped (events v x) (leads-join v w x l (leads-prepared w x s.ran s.only)).unpopped);
       unpopped = (leads-join v w x l (leads-prepared w x s.ran s.only)).unpopped;
       numbers = numbers-one [] v x (by-join [] [] v w x e.numbers s.numbers);
+      few = omega (arith, five);
+      longest = omega (arith, five);
     }
 
 pub returns : goal.returns
@@ -80,6 +90,9 @@ returns c =
     let p = plays-join v x y (plays-leads v x l) t.plays in
     let unseen = unseen-join v w x a.ran s.ran (k.going v (ran-refl v) (tells-none v)).going (unseen-full w x s.only) in
     let all = ran-join v v x (ran-refl v) l.ran in
+    let sh : Shape = c.args.heap.now.shape in
+    let five = few-join 1 4 v w x e.ran s.ran (few-after v w ReadPhase k.looked.0 k.looked.1.0) s.few in
+    let longest = few-join 5 (3 * block_count sh + 1 + payment_steps 1024 card_looks sh) v x y l.ran t.plays.ran five t.longest in
     record {
       seat = t.seat;
       plays = p;
@@ -93,4 +106,6 @@ returns c =
       pops = leads-paid v x y l t.plays.ran t.pops;
       unpopped = none-pops c.try_claim.result v x y l t.plays.ran t.unpopped;
       numbers = leaves-first c.try_claim.result v x y (by-join [] [] v w x e.numbers s.numbers) t.numbers;
+      few = none-few c.try_claim.result 5 (3 * block_count sh) v x y l.ran t.plays.ran five t.few;
+      longest = omega (arith, longest);
     }
