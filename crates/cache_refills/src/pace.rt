@@ -51,6 +51,7 @@ pub fn is_far_on(heap: &Heap, seat: &mut HeapSeat) -> bool
     ensures only { Across (Only reads_number) seat.old seat.new }
     ensures state { state_of seat.new ≡ state_of seat.old }
     ensures late { late_seen (did seat.old seat.new) ≡ Some result }
+    ensures few { length (did seat.old seat.new) ≤ 3 }
 {
     let last = read_statistic(heap, seat, LAST);
     let traced = read_statistic(heap, seat, TRACED);
