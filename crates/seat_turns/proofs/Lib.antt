@@ -1,2 +1,3 @@
+mod Few
 pub mod Standing
 pub mod Tending

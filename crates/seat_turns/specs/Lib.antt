@@ -1,3 +1,4 @@
 pub mod Standing
+pub mod StepBounds
 pub mod Tending
 pub mod Turning

@@ -15,6 +15,10 @@ use Rattle.tracer.specs.Tally.{pops}
 abbrev pub turn_quota : ℕ
 turn_quota = 64
 
+-- how many cards a turn passes, where the cycle is far on and there are as many
+abbrev pub turn_cards : ℕ
+turn_cards = 1024
+
 -- the step traces or cleans cards, or reads a number, but not that of the parts that were played: none changes a number, moves or reads the phase, or enters
 -- or leaves
 abbrev pub tends_inside : Step → Bool

@@ -13,6 +13,8 @@
 //!    again, and then the stop cleans it. A clean card costs one look and no packet;
 //! 3. deferred cells, which weren't published yet, may be traced again.
 //!
+//! All its steps are counted (`few`): a bound by the packets and the fields of the heap, whatever its size (`turn_steps`).
+//!
 //! It answers how many objects it traced. The caller tells the collector that number, by a step of its own; where no object was traced, one caller takes that
 //! step and another doesn't.
 //!
@@ -22,8 +24,8 @@
 //!
 //! # Where things are
 //!
-//! `marking` has a tracer's turn and `turns` a mutator's. In `specs/`, `Standing` says who may call, `Tending` what a tracer's steps are, and `Turning` what a
-//! reading of the season tells.
+//! `marking` has a tracer's turn and `turns` a mutator's. In `specs/`, `Standing` says who may call, `Tending` what a tracer's steps are, `StepBounds` how many, and
+//! `Turning` what a reading of the season tells.
 #![tactic(auto)]
 
 mod marking;

@@ -1,11 +1,15 @@
 //! A tracer inside the world: it reads the phase, traces a few objects, and where there are none, cleans a few cards.
-ghost use Rattle.std.specs.Prelude.{◌≡◌, ◌<◌, IfSome, Some};
+ghost use Rattle.std.specs.Prelude.{◌≡◌, ◌<◌, ◌≤◌, ◌+◌, IfSome, Some, length};
+ghost use Rattle.mark_core.specs.Cards.{card_cells};
 ghost use Rattle.mark_core.specs.Layout.{card_count};
 ghost use Rattle.mark_core.specs.Seats.{phase_of};
 ghost use Rattle.mark_core.specs.declared.kinds.Step.TheVariants.{ReadPhase};
-ghost use Rattle.gc_table.specs.Seats.{Across, Answered, state_of};
+ghost use Rattle.gc_table.specs.Seats.{Across, Answered, did, state_of};
+ghost use Rattle.card_clean.specs.StepBounds.{clean_one_steps};
+ghost use Rattle.tracer.specs.StepBounds.{recycle_steps, trace_steps};
 ghost use Rattle.seat_turns.specs.Standing.{Goes, GoesMarking};
-ghost use Rattle.seat_turns.specs.Tending.{MarksSome, Tends, TracesSome};
+ghost use Rattle.seat_turns.specs.StepBounds.{card_steps, cards_steps, late_steps, turn_steps};
+ghost use Rattle.seat_turns.specs.Tending.{MarksSome, Tends, TracesSome, turn_quota};
 
 use cache_refills::is_far_on;
 use card_clean::{clean_one, next_card};
@@ -34,6 +38,7 @@ fn trace_objects(heap: &Heap, seat: &mut HeapSeat) -> Traced
     requires { GoesMarking heap.now seat.old }
     ensures seat { GoesMarking heap.now seat.new }
     ensures traces { Across (TracesSome result.done) seat.old seat.new }
+    ensures few { length (did seat.old seat.new) ≤ trace_steps turn_quota heap.now.shape }
 {
     trace(heap, seat, OBJECTS)
 }
@@ -44,6 +49,7 @@ fn draw(heap: &Heap, seat: &mut HeapSeat) -> Option<u32>
     ensures seat { GoesMarking heap.now seat.new }
     ensures tends { Across (Tends 0) seat.old seat.new }
     ensures there { IfSome result (λ card. card < card_count heap.now.shape) }
+    ensures few { length (did seat.old seat.new) ≤ 2 }
 {
     next_card(heap, seat)
 }
@@ -54,6 +60,7 @@ fn clean(heap: &Heap, seat: &mut HeapSeat, card: u32) -> bool
     requires card { card < card_count heap.now.shape }
     ensures seat { GoesMarking heap.now seat.new }
     ensures tends { Across (Tends 0) seat.old seat.new }
+    ensures few { length (did seat.old seat.new) ≤ clean_one_steps card_cells heap.now.shape }
 {
     match clean_one(heap, seat, card) {
         Some(_) => true,
@@ -67,6 +74,7 @@ fn is_dirty(heap: &Heap, seat: &mut HeapSeat, card: u32) -> bool
     requires card { card < card_count heap.now.shape }
     ensures seat { GoesMarking heap.now seat.new }
     ensures tends { Across (Tends 0) seat.old seat.new }
+    ensures few { length (did seat.old seat.new) ≤ 1 }
 {
     heap.read_card(seat, card)
 }
@@ -77,6 +85,7 @@ fn clean_where_dirty(heap: &Heap, seat: &mut HeapSeat, card: u32) -> bool
     requires card { card < card_count heap.now.shape }
     ensures seat { GoesMarking heap.now seat.new }
     ensures tends { Across (Tends 0) seat.old seat.new }
+    ensures few { length (did seat.old seat.new) ≤ 1 + clean_one_steps card_cells heap.now.shape }
 {
     if !is_dirty(heap, seat, card) {
         return true;
@@ -89,6 +98,7 @@ fn clean_next(heap: &Heap, seat: &mut HeapSeat) -> bool
     requires { GoesMarking heap.now seat.old }
     ensures seat { GoesMarking heap.now seat.new }
     ensures tends { Across (Tends 0) seat.old seat.new }
+    ensures few { length (did seat.old seat.new) ≤ card_steps heap.now.shape }
 {
     match draw(heap, seat) {
         Some(card) => clean_where_dirty(heap, seat, card),
@@ -101,8 +111,9 @@ fn clean_cards(heap: &Heap, seat: &mut HeapSeat)
     requires { GoesMarking heap.now seat.old }
     ensures seat { GoesMarking heap.now seat.new }
     ensures tends { Across (Tends 0) seat.old seat.new }
+    ensures few { length (did seat.old seat.new) ≤ cards_steps heap.now.shape }
 {
-    for _ in 0..CARDS {
+    for _card in 0..CARDS {
         if !clean_next(heap, seat) {
             return;
         }
@@ -114,6 +125,7 @@ fn is_late(heap: &Heap, seat: &mut HeapSeat) -> bool
     requires { GoesMarking heap.now seat.old }
     ensures seat { GoesMarking heap.now seat.new }
     ensures tends { Across (Tends 0) seat.old seat.new }
+    ensures few { length (did seat.old seat.new) ≤ 3 }
 {
     is_far_on(heap, seat)
 }
@@ -123,6 +135,7 @@ fn clean_late(heap: &Heap, seat: &mut HeapSeat)
     requires { GoesMarking heap.now seat.old }
     ensures seat { GoesMarking heap.now seat.new }
     ensures tends { Across (Tends 0) seat.old seat.new }
+    ensures few { length (did seat.old seat.new) ≤ late_steps heap.now.shape }
 {
     if is_late(heap, seat) {
         clean_cards(heap, seat);
@@ -134,6 +147,7 @@ fn clean_after(heap: &Heap, seat: &mut HeapSeat, stopped: Stopped)
     requires { GoesMarking heap.now seat.old }
     ensures seat { GoesMarking heap.now seat.new }
     ensures tends { Across (Tends 0) seat.old seat.new }
+    ensures few { length (did seat.old seat.new) ≤ late_steps heap.now.shape }
 {
     if let Stopped::NoWork = stopped {
         clean_late(heap, seat);
@@ -145,6 +159,7 @@ fn recycle(heap: &Heap, seat: &mut HeapSeat)
     requires { GoesMarking heap.now seat.old }
     ensures seat { GoesMarking heap.now seat.new }
     ensures tends { Across (Tends 0) seat.old seat.new }
+    ensures few { length (did seat.old seat.new) ≤ recycle_steps heap.now.shape }
 {
     recycle_deferred(heap, seat);
 }
@@ -154,6 +169,7 @@ fn tend(heap: &Heap, seat: &mut HeapSeat, stopped: Stopped)
     requires { GoesMarking heap.now seat.old }
     ensures seat { GoesMarking heap.now seat.new }
     ensures tends { Across (Tends 0) seat.old seat.new }
+    ensures few { length (did seat.old seat.new) ≤ late_steps heap.now.shape + recycle_steps heap.now.shape }
 {
     clean_after(heap, seat, stopped);
     recycle(heap, seat);
@@ -165,6 +181,7 @@ pub fn mark_some(heap: &Heap, seat: &mut HeapSeat) -> u32
     requires { GoesMarking heap.now seat.old }
     ensures seat { GoesMarking heap.now seat.new }
     ensures marks { Across (MarksSome result) seat.old seat.new }
+    ensures few { length (did seat.old seat.new) ≤ turn_steps heap.now.shape }
 {
     let traced = trace_objects(heap, seat);
     tend(heap, seat, traced.stopped);

@@ -9,6 +9,7 @@ use Rattle.gc_table.proofs.History.Log.{events-after}
 use Rattle.packet_pools.specs.Counts.{count_of}
 use Rattle.packet_pools.specs.OnlyTraced.{OnlyTraced}
 use Rattle.packet_pools.proofs.Doing.{traces-on}
+use Rattle.packet_pools.proofs.Few.{few-after}
 use Rattle.tracer.specs.Tally.{pops}
 use Rattle.gc_cycle.proofs.Stops.Looked.{looks}
 use Rattle.seat_turns.proofs.Standing.{empty-of, marks-later, marks-trace}
@@ -36,3 +37,6 @@ returns-clause-tends c =
     let w : View = view_of c.read_card.new.seat in
     let e = c.read_card.ensures.view in
     tends-by 0 v w (looked c) (ap (count_of pops) (events-after v w (ReadCard c.args.card) e.0 e.1))
+
+pub returns-clause-few : goal.returns-clause-few
+returns-clause-few c = few-after (view_of c.args.seat.now) (view_of c.read_card.new.seat) (ReadCard c.args.card) _ c.read_card.ensures.view.1

@@ -1,9 +1,12 @@
-use Rattle.std.proofs.Common.{ap, ◌∙◌, sym, inl, inr, ⊎_elim}
+use Rattle.std.proofs.Common.{ap, ◌∙◌, ◌+◌, ◌≤◌, arith, sym, inl, inr, ⊎_elim}
+use Rattle.std.proofs.Math.Nat.{mul-le-mul_right}
 use Rattle.std.specs.Prelude.{is_none}
 use Rattle.mark_core.specs.Held.{holds_any}
 use Rattle.mark_core.specs.Seats.{work_in_hand}
 use Rattle.mark_core.specs.declared.kinds.Shape.{Shape}
 use Rattle.gc_table.specs.Seats.{view_of}
+use Rattle.tracer.specs.StepBounds.{object_steps, turn_steps}
+use Rattle.seat_turns.specs.Tending.{turn_quota}
 use Rattle.seat_turns.proofs.Standing.{empty-of, is-none, marks-idle, marks-later, marks-trace}
 use Rattle.seat_turns.proofs.Tending.{tends-by}
 use Rattle.seat_turns.proofs.marking.trace_objects.Goals as goal
@@ -30,3 +33,12 @@ returns-clause-traces c =
       tends = tends-by c.trace.result.done (view_of c.args.seat.now) (view_of c.trace.new.seat) e.only e.tally.done;
       ends = ⊎_elim (λ q. inl q.1) (λ q. inr (q.1, q.2)) e.stopped;
     }
+
+pub returns-clause-few : goal.returns-clause-few
+returns-clause-few c =
+    let sh : Shape = c.args.heap.now.shape in
+    let e = c.trace.ensures in
+    let few = e.few in
+    let done : c.trace.result.done ≤ turn_quota = ⊎_elim (λ q. omega (arith, q.1)) (λ q. omega (arith, q.1)) e.stopped in
+    let most = mul-le-mul_right {m = c.trace.result.done} {n = turn_quota} (turn_steps sh + object_steps sh) done in
+    omega (arith, few, most)
