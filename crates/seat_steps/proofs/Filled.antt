@@ -1,10 +1,11 @@
--- How many steps are taken besides a try to get a cell.
+-- How many steps are taken with a try to get a cell, and besides.
 use Rattle.std.proofs.Common.{ℕ, ◌≡◌, ◌+◌, inl, inr, arith, subst, Option, Some, None}
+use Rattle.mark_core.specs.declared.kinds.Shape.{Shape}
 use Rattle.gc_table.specs.Running.{Ran}
 use Rattle.gc_table.specs.declared.seat.Heap.{Heap}
 use Rattle.gc_table.specs.declared.seat.HeapSeat.{HeapSeat}
 use Rattle.gc_table.specs.declared.view.View.{View}
-use Rattle.gc_table.proofs.Running.{ran-join}
+use Rattle.gc_table.proofs.Running.{ran-join, ran-shape}
 use Rattle.gc_table.specs.Rule.{KnowsFull}
 use Rattle.gc_cycle.specs.declared.counts.Refill.{Refill}
 use Rattle.gc_cycle.specs.declared.counts.Refill.TheVariants as refills
@@ -13,7 +14,7 @@ use Rattle.cache_refills.specs.Getting.{RefillsTo}
 use Rattle.mutator_ops.specs.Few.{AtMost}
 use Rattle.mutator_ops.proofs.Few.{at-most-join, at-most-more}
 use Rattle.seat_steps.specs.Causes.{ArrivesBy, FillsBy, LacksBy, MakesBy}
-use Rattle.seat_steps.specs.Filling.{TriesOnce, TriesToFill}
+use Rattle.seat_steps.specs.Filling.{TriesOnce, TriesToFill, filling_steps, search_steps}
 use Rattle.seat_steps.specs.Stepping.{LeavesWorld, Refills}
 use Rattle.seat_steps.specs.declared.stepper.Came.{Came}
 use Rattle.seat_steps.specs.declared.stepper.Came.TheVariants as cames
@@ -45,6 +46,21 @@ tries-last before later more o u v w r few t =
       last = ran-join t.got v w t.last r;
       last_few = at-most-join later more t.got v w t.last r t.last_few few;
     }
+
+-- all steps of a call whose try took so many
+in_all : (before k later : ℕ) (o : Option Refill) (v w : View) → (t : TriesOnce before later o v w) → AtMost k t.asked t.got → AtMost (before + (k + later)) v w
+in_all before k later o v w t few = at-most-join before (k + later) v t.asked w t.first (ran-join t.asked t.got w t.ran t.last) t.first_few (at-most-join k later t.asked t.got w t.ran t.last few t.last_few)
+
+tried-few : (o : Option Refill) (v w : View) → TriesToFill o v w → AtMost (filling_steps v.shape) v w
+tried-few None v w t = at-most-more (search_steps v.shape) (filling_steps v.shape) v w (omega arith) t.2
+tried-few (Some r) v w t = t.2
+
+pub tries-few : (before later : ℕ) (o : Option Refill) (v w : View) → TriesOnce before later o v w → AtMost (before + (filling_steps v.shape + later)) v w
+tries-few before later o v w t =
+    in_all before (filling_steps v.shape) later o v w t (subst (λ (sh : Shape). AtMost (filling_steps sh) t.asked t.got) (ran-shape v t.asked t.first) (tried-few o t.asked t.got t.tries))
+
+none-few : (before later : ℕ) (v w : View) → TriesOnce before later None v w → AtMost (before + (search_steps v.shape + later)) v w
+none-few before later v w t = in_all before (search_steps v.shape) later None v w t (subst (λ (sh : Shape). AtMost (search_steps sh) t.asked t.got) (ran-shape v t.asked t.first) t.tries.2)
 
 -- a cache is given up, a try is made, and then the mutator comes to its turn or leaves
 module _ (u v w x : View) (a : Ran u v) (few : AtMost 3 u v) (o : Option Refill) (b : Ran v w) (t : TriesToFill o v w) (d : Ran w x) where
@@ -78,13 +94,19 @@ full-refills r h s is p = (subst (λ (z : Refill). Refills z h s) is p).1
 
 -- and before it two looks
 pub arrives-makes : (c : Came) (h : Heap) (s : HeapSeat) (v w : View) → LeavesWorld c h s → ArrivesBy c v w → MakesBy c v w
-arrives-makes cames.Stopped h s v w l g = (g.0, inl g.1)
-arrives-makes cames.Full h s v w l g = (g.0, inl g.1)
+arrives-makes cames.Stopped h s v w l g = ((g.0, at-most-more 8 (filling_steps v.shape + 13) v w (omega arith) g.1), inl g.1)
+arrives-makes cames.Full h s v w l g = ((g.0, at-most-more 8 (filling_steps v.shape + 13) v w (omega arith) g.1), inl g.1)
 arrives-makes c h s v w l g = absurd l
+
+in_thirteen : (o : Option Refill) (v w : View) → TriesOnce 5 8 o v w → AtMost (filling_steps v.shape + 13) v w
+in_thirteen o v w t = let all = tries-few 5 8 o v w t in omega (arith, all)
 
 pub fills-makes : (c : Came) (u v w : View) → Ran u v → AtMost 2 u v → Ran v w → FillsBy c v w → MakesBy c u w
 fills-makes cames.Done u v w a few b g = absurd g
-fills-makes cames.NoCell u v w a few b g = tries-first 2 3 3 None u v w a few g
-fills-makes cames.Stopped u v w a few b g = (found-right u v w a b g.0, inr (g.1.0, tries-first 2 3 8 g.1.0 u v w a few g.1.1))
-fills-makes cames.Full u v w a few b g = ((full-right u v w a b g.0.0, g.0.1), inr (g.1.0, tries-first 2 3 8 g.1.0 u v w a few g.1.1))
+fills-makes cames.NoCell u v w a few b g =
+    let t = tries-first 2 3 3 None u v w a few g in
+    let all = none-few 5 3 u w t in
+    (t, omega (arith, all))
+fills-makes cames.Stopped u v w a few b g = let t = tries-first 2 3 8 g.1.0 u v w a few g.1.1 in ((found-right u v w a b g.0, in_thirteen g.1.0 u w t), inr (g.1.0, t))
+fills-makes cames.Full u v w a few b g = let t = tries-first 2 3 8 g.1.0 u v w a few g.1.1 in (((full-right u v w a b g.0.0, g.0.1), in_thirteen g.1.0 u w t), inr (g.1.0, t))
 fills-makes c u v w a few b g = g

@@ -14,8 +14,8 @@ use Rattle.mutator_ops.specs.Few.{AtMost}
 use Rattle.mutator_ops.proofs.Few.{at-most-join, at-most-more}
 use Rattle.gc_cycle.specs.Sorts.{sees_no_flag}
 use Rattle.seat_steps.specs.Causes.{ComesFreely, MakesFreely}
-use Rattle.seat_steps.specs.Filling.{TriesSome}
-use Rattle.seat_steps.proofs.Filled.{tries-last}
+use Rattle.seat_steps.specs.Filling.{TriesSome, filling_steps, make_steps}
+use Rattle.seat_steps.proofs.Filled.{tries-few, tries-last}
 
 -- more steps are allowed after a try
 tries_more : (before later more : ℕ) (v w : View) → later ≤ more → TriesSome before later v w → TriesSome before more v w
@@ -47,5 +47,12 @@ made-free h x v w sits a b c m =
           (λ (few : AtMost 2 u v). inl (in_all few))
           (λ (t : TriesSome 5 3 u v).
           inr (tries_more 5 (3 + (h.shape.fields + 3)) (u.shape.fields + 6) u w (omega (arith, same)) (t.0, tries-last 5 3 (h.shape.fields + 3) t.0 u v w b m t.1)))
+          c.besides;
+      longest =
+          ⊎_elim
+          (λ (few : AtMost 2 u v). at-most-more (u.shape.fields + 5) (make_steps u.shape) u w (omega arith) (in_all few))
+          (λ (t : TriesSome 5 3 u v).
+          at-most-more (5 + (filling_steps u.shape + (3 + (h.shape.fields + 3)))) (make_steps u.shape) u w (omega (arith, same))
+          (tries-few 5 (3 + (h.shape.fields + 3)) t.0 u w (tries-last 5 3 (h.shape.fields + 3) t.0 u v w b m t.1)))
           c.besides;
     }

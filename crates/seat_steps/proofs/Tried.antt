@@ -1,8 +1,9 @@
 -- What a mutator is after a call that doesn't wait.
-use Rattle.std.proofs.Common.{ℕ, ◌≡◌, true, ap, refl, subst, Option, Some, None}
+use Rattle.std.proofs.Common.{ℕ, ◌≡◌, true, ap, refl, sym, subst, Option, Some, None}
 use Rattle.std.specs.Prelude.{is_some, not, IfNone, IfSome, IsFalse, IsTrue}
 use Rattle.std.proofs.lemmas.Bool.{false≢true}
 use Rattle.mark_core.specs.Seats.{has_turn}
+use Rattle.mark_core.specs.declared.kinds.Shape.{Shape}
 use Rattle.gc_table.specs.Log.{events}
 use Rattle.gc_table.specs.Running.{Ran}
 use Rattle.gc_table.specs.Seats.{Sits, view_of}
@@ -24,8 +25,9 @@ use Rattle.gc_cycle.specs.declared.counts.Refill.{Refill}
 use Rattle.gc_cycle.specs.declared.counts.Refill.TheVariants as refills
 use Rattle.cache_refills.specs.declared.trying.Pass.{Pass}
 use Rattle.cache_refills.specs.declared.trying.Pass.TheVariants as passes
+use Rattle.mutator_ops.specs.Few.{AtMost}
 use Rattle.mutator_turns.specs.Standing.{Halts, IsMutatorOutside, Works}
-use Rattle.seat_steps.specs.Filling.{TriesToFill}
+use Rattle.seat_steps.specs.Filling.{TriesToFill, filling_steps, search_steps}
 use Rattle.seat_steps.specs.Stepping.{Passes, Refills, Tries}
 use Rattle.mutator_turns.proofs.Seats.{going-seen, kept-works, mutator-kept}
 use Rattle.seat_steps.proofs.Amounts.{unpopped}
@@ -66,10 +68,11 @@ fills-none (Some r) h x y k sits ran seat section p = tt
 
 -- what the try came to
 pub fills-tries :
-    (o : Option Refill) (done : ℕ) (v w : View) → done ≡ v.state.made → IfSome o (λ r. RefillsTo r done v w × SparesRefill r v w) → IfNone o (CallsForCollection v w)
-    → IsTrue (pops_where_paid (events v w)) → IfNone o (IsFalse (some_event pops (events v w))) → TriesToFill o v w
-fills-tries None done v w e some none paid calm = (none.cause, unpopped v w (ap not calm))
-fills-tries (Some r) done v w e some none paid calm = (subst (λ n. RefillsTo r n v w) e some.0, paid)
+    (o : Option Refill) (done : ℕ) (sh : Shape) (v w : View) → v.shape ≡ sh → done ≡ v.state.made → IfSome o (λ r. RefillsTo r done v w × SparesRefill r v w) → IfNone o (CallsForCollection v w)
+    → IsTrue (pops_where_paid (events v w)) → IfNone o (IsFalse (some_event pops (events v w))) → IfNone o (AtMost (search_steps sh) v w) → AtMost (filling_steps sh) v w → TriesToFill o v w
+fills-tries None done sh v w shape e some none paid calm few longest = (none.cause, unpopped v w (ap not calm), subst (λ (s : Shape). AtMost (search_steps s) v w) (sym shape) few)
+fills-tries (Some r) done sh v w shape e some none paid calm few longest =
+    (subst (λ n. RefillsTo r n v w) e some.0, paid, subst (λ (s : Shape). AtMost (filling_steps s) v w) (sym shape) longest)
 
 -- the cache that the seat's record has, as it is lent
 pub own-cache : (o : Option Cache) (v : View) → IfSome o (λ h. IsCached h v) → IfNone o (v.state.cache ≡ None) → HasCache o v

@@ -17,7 +17,7 @@ use Rattle.gc_cycle.specs.Sorts.{enters_freely, sees_no_flag}
 use Rattle.cache_refills.specs.declared.trying.Pass.{Pass}
 use Rattle.cache_refills.specs.declared.trying.Pass.TheVariants as passes
 use Rattle.seat_turns.specs.Turning.{SeesOther}
-use Rattle.seat_steps.specs.Filling.{FewBesides, TriesOnce, TriesSome}
+use Rattle.seat_steps.specs.Filling.{FewBesides, TriesOnce, TriesSome, filling_steps, make_steps, search_steps}
 use Rattle.seat_steps.specs.declared.stepper.Came.{Came}
 use Rattle.seat_steps.specs.declared.stepper.Came.TheVariants as cames
 
@@ -51,9 +51,9 @@ FoundFull v w = IsTrue (saw_full (events v w)) × KnowsFull w
 abbrev pub FoundFullIn : ℕ → View → View → Type 0
 FoundFullIn most v w = FoundFull v w × AtMost most v w
 
--- a try to get a cell found none, or marking done: 5 steps before it at most, and 3 after it
+-- a try to get a cell found none, or marking done: 5 steps before it at most, and 3 after it, and so many in all
 abbrev pub FoundNoCell : View → View → Type 0
-FoundNoCell v w = TriesOnce 5 3 None v w
+FoundNoCell v w = TriesOnce 5 3 None v w × AtMost (search_steps v.shape + 8) v w
 
 -- one look at the world found no stop, and one at the phase followed, and nothing else was done
 abbrev pub LooksFreely : View → View → Type 0
@@ -96,11 +96,13 @@ pub record ComesFreely (v w : View) : Type 0 where
   pub few : HasFree v.state.cache → AtMost 2 v w
   pub besides : FewBesides 2 5 3 v w
 
--- a look at the world found no stop; where the seat had a cache with a free cell, an object was made by so many steps; else by so many, and a try to get a cell
+-- a look at the world found no stop; where the seat had a cache with a free cell, an object was made by so many steps; else by so many, and a try to get a cell;
+-- and by so many in all
 pub record MakesFreely (v w : View) : Type 0 where
   pub free : IsTrue (some_event sees_no_flag (events v w))
   pub few : HasFree v.state.cache → AtMost (v.shape.fields + 5) v w
   pub besides : FewBesides (v.shape.fields + 5) 5 (v.shape.fields + 6) v w
+  pub longest : AtMost (make_steps v.shape) v w
 
 -- what a mutator found that came to its turn, or left
 abbrev pub ArrivesBy : Came → View → View → Type 0
@@ -141,6 +143,6 @@ FillsBy c v w = ⊥
 abbrev pub MakesBy : Came → View → View → Type 0
 MakesBy cames.Done v w = MakesFreely v w
 MakesBy cames.NoCell v w = FoundNoCell v w
-MakesBy cames.Stopped v w = FoundStop v w × FewBesides 8 5 8 v w
-MakesBy cames.Full v w = FoundFull v w × FewBesides 8 5 8 v w
+MakesBy cames.Stopped v w = FoundStopIn (filling_steps v.shape + 13) v w × FewBesides 8 5 8 v w
+MakesBy cames.Full v w = FoundFullIn (filling_steps v.shape + 13) v w × FewBesides 8 5 8 v w
 MakesBy c v w = ⊥

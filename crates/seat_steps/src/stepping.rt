@@ -78,6 +78,7 @@ impl Stepper {
     }
 
     /// Makes an object with this value, whose references refer to nothing, and lets variable v refer to it. It is a safe point too.
+    /// Where no cell of its cache is free it looks at all blocks, if need be, and may pay for another cache: `make_cached` and `refill_step` do so step by step.
     pub fn make(&mut self, v: u8, value: u32) -> Came
         ensures makes { StepperMakes result (ops.New v value) self.old self.new }
     {

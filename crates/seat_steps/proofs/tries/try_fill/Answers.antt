@@ -21,7 +21,7 @@ returns-clause-ran c = c.try_refill.ensures.plays.ran
 pub returns-clause-tries : goal.returns-clause-tries
 returns-clause-tries c =
     let e = c.try_refill.ensures in
-    fills-tries c.try_refill.result _ (view_of c.args.seat.now) (view_of c.try_refill.new.seat) (ap (λ (s : SeatState). s.made) c.state.ensures) e.refills e.calls e.pops e.unpopped
+    fills-tries c.try_refill.result _ c.args.heap.now.shape (view_of c.args.seat.now) (view_of c.try_refill.new.seat) c.requires.halts.works.sits.1 (ap (λ (s : SeatState). s.made) c.state.ensures) e.refills e.calls e.pops e.unpopped e.few e.longest
 
 pub returns-clause-leaves : goal.returns-clause-leaves
 returns-clause-leaves c = let e = c.try_refill.ensures in leaves-spared (view_of c.args.seat.now) (view_of c.try_refill.new.seat) e.plays.ran e.plays.spares e.keeps.0
