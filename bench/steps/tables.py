@@ -51,18 +51,26 @@ def cleaning(cells, most):
     return OUTPUT + INPUT + 5 * most + 16 * most * SCAN + 3 + RECYCLE
 
 
-def refilling(cells, most):
+def paying(cells):
     """A payment scans 32 roots, passes at most 1,024 cards early in a cycle, traces at most 1,024 objects and looks at as many cards."""
     look = 3 + OUTPUT + 16 * SCAN + 7 + tracing(0)
-    payment = OUTPUT + INPUT + 32 * FOLLOW + 3 + cleaning(cells, 1024) + tracing(1024) + 1024 * look + 5
-    return 3 * min(most, cells // BLOCK) + payment + 17
+    return OUTPUT + INPUT + 32 * FOLLOW + 3 + cleaning(cells, 1024) + tracing(1024) + 1024 * look + 5
+
+
+def refilling(cells, most):
+    return 3 * min(most, cells // BLOCK) + paying(cells) + 17
+
+
+def making(cells, _most):
+    """An object is made after a search of all blocks and a payment, or isn't, after both."""
+    return 3 * (cells // BLOCK) + paying(cells) + max(FIELDS + 17, 19)
 
 
 # What is proved of a call: a number of steps, by the cells and by what a step does at most, or what it does.
 PROVED = {
     "set": 3, "get": 2, "put": 2, "copy": 1, "forget": 1, "value": 1, "is_nil": 0, "same": 0, "root": 2, "exchange": 2, "exchange_value": 1, "spill": 1, "fill": 2,
     "forget_slots": SLOTS, "place": 0, "number": 1, "enter": 5, "enter: stopped": 10, "leave": 5, "safe_point": 2, "safe_point: stopped": 8, "make": 5 + FIELDS,
-    "make_cached": 5 + FIELDS, "make_cached: no cache": 2, "make_cached: stopped": 8, "refill": refilling,
+    "make_cached": 5 + FIELDS, "make_cached: no cache": 2, "make_cached: stopped": 8, "make: searched": making, "make: none": making, "refill": refilling,
     "refill: not yet": lambda cells, most: 3 * min(most, cells // BLOCK) + 11,
     "collect: asks": 6, "collect: waits": 1, "collect: begins": 5, "collect: roots": seeing, "collect: traces": lambda cells, most: RECYCLE + tracing(most),
     "collect: looks": lambda cells, most: most + 2, "collect: cleans": cleaning, "collect: clears": clearing, "collect: sweeps": sweeping,
@@ -84,6 +92,11 @@ def read(path):
 def proved(call, cells, most):
     it = PROVED.get(call, "")
     return f"{it(cells, most):,}" if callable(it) else f"{it:,}" if isinstance(it, int) else it.format(most=f"{most:,}")
+
+
+def grows(call, cells):
+    """Whether the bound depends on how much a step does."""
+    return proved(call, cells, 1) != proved(call, cells, USUAL)
 
 
 def most_steps(steps, call, cells, most):
@@ -139,7 +152,7 @@ def by_most(steps, nanos):
     amounts = sorted({key[4] for key in steps if key[0] == cells})
     header("Call", *(f"{it:,}: {what}" for it in amounts for what in ("proved", "measured", "µs")))
     for call in kinds(steps):
-        if callable(PROVED.get(call)):
+        if grows(call, cells):
             row(f"`{call}`", *(cell for it in amounts for cell in (proved(call, cells, it), most_steps(steps, call, cells, it), times(nanos, call, cells, it))))
 
 
