@@ -48,7 +48,7 @@ def check_steps():
 
 def check_commands():
     commands = len(re.findall(r"^    [A-Z]\w*(?:\(.*\))?,$", text_of("crates/command_words/src/asked.rt"), re.M))
-    says("commands", "README.md", r"has its (\S+) commands", commands)
+    says("commands", "README.md", r"the (\S+) commands, with examples", commands)
     says("commands", "docs/ARCHITECTURE.md", r"all (\S+) commands \|", commands)
 
 
@@ -60,10 +60,6 @@ def check_lines():
     page, core = "docs/DECISIONS.md", "crates/mark_core/src"
     says("lines of mark_core", page, r"`mark_core` \(some ([\d,]+) lines", lines_of(*glob.glob(core + "/**/*.rt", recursive=True)), near=50)
     says("lines of managed_heap", page, r"`managed_heap` has some ([\d,]+) lines", lines_of(*glob.glob("crates/managed_heap/src/*.rt")), near=50)
-    for names, told in re.findall(r"\(((?:`\w+`, )+`\w+`): ([\d,]+)[) ]", text_of(page)):
-        files = [path for name in re.findall(r"\w+", names) for path in glob.glob(f"{core}/{name}.rt") + glob.glob(f"{core}/{name}/*.rt")]
-        if abs(lines_of(*files) - int(told.replace(",", ""))) > 50:
-            print(f"{page}: lines of {names}: {told}, where it is {lines_of(*files)}")
 
 
 def check_closures():
