@@ -1,7 +1,10 @@
 -- What making an object with its references came to.
-use Rattle.std.specs.Prelude.{ℕ, zero, suc, ◌≡◌, ◌≤◌, ◌<◌, ◌⊎◌, List, length, slice_index}
+use Rattle.std.specs.Prelude.{ℕ, zero, suc, ◌≡◌, ◌≤◌, ◌<◌, ◌+◌, ◌*◌, ◌⊎◌, List, length, slice_index}
 use Rattle.mark_core.specs.Numbers.{section_variables}
 use Rattle.plain_heap.specs.declared.operation.Op.TheVariants as ops
+use Rattle.gc_table.specs.Seats.{Across, view_of}
+use Rattle.mutator_ops.specs.Few.{AtMost}
+use Rattle.seat_steps.specs.Filling.{make_steps}
 use Rattle.seat_steps.specs.Stepping.{Operates, StepperMakes, fields_in}
 use Rattle.seat_steps.specs.declared.stepper.Came.{Came}
 use Rattle.seat_steps.specs.declared.stepper.Came.TheVariants as cames
@@ -32,11 +35,12 @@ unfoldable pub SetsFirst : ℕ → ℕ → List ℕ → Stepper → Stepper → 
 SetsFirst zero v ns x y = y ≡ x
 SetsFirst (suc k) v ns x y = (z : Stepper) × SetsFirst k v ns x z × SetsGiven v k (slice_index ns k) z y
 
--- the object was made, and then its fields were set
+-- the object was made, and then its fields were set, each by three steps at most
 pub record MakesThenSets (v value : ℕ) (ns : List ℕ) (x y : Stepper) : Type 0 where
   pub made : Stepper
   pub makes : StepperMakes cames.Done (ops.New v value) x made
   pub sets : SetsFirst (length ns) v ns made y
+  pub few : Across (AtMost (make_steps (view_of x.seat).shape + 3 * length ns)) x.seat y.seat
 
 -- what it came to: all was done, or none of it
 abbrev pub MakesWith : ℕ → ℕ → List ℕ → Came → Stepper → Stepper → Type 0
