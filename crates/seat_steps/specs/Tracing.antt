@@ -2,11 +2,12 @@
 -- phase, traces where a cycle is marking, and leaves; or it finds a stop under way, leaves at once and helps until that has ended. A run is a list of turns,
 -- each of which starts where the one before ended: all but the last were to be followed by another, and the last found the tracers dismissed, or the heap full.
 -- Both are told of what the seat knew before and after: a view v, the log of which the turn's events were added to, and then w.
-use Rattle.std.specs.Prelude.{ℕ, ◌≡◌, ◌<◌, ◌⊎◌, List, [], ◌∷◌, false, IsTrue}
+use Rattle.std.specs.Prelude.{ℕ, ◌≡◌, ◌<◌, ◌+◌, ◌⊎◌, List, [], ◌∷◌, false, IsTrue}
 use Rattle.mark_core.specs.Numbers.{done_count, traced_count}
 use Rattle.mark_core.specs.Seats.{phase_of}
 use Rattle.mark_core.specs.declared.kinds.Phase.{Phase}
 use Rattle.mark_core.specs.declared.kinds.Phase.TheVariants as phases
+use Rattle.mark_core.specs.declared.kinds.Shape.{Shape}
 use Rattle.mark_core.specs.declared.kinds.Step.TheVariants.{AddStat, LeaveStep, ReadPhase, ReadStat}
 use Rattle.gc_table.specs.Log.{Only, events}
 use Rattle.gc_table.specs.Running.{Ran}
@@ -18,6 +19,8 @@ use Rattle.tracer.specs.Causes.{FoundNoWork}
 use Rattle.tracer.specs.Tally.{pops}
 use Rattle.gc_cycle.specs.Polling.{saw_resumed}
 use Rattle.gc_cycle.specs.Turns.{HelpsInTurns}
+use Rattle.mutator_ops.specs.Few.{AtMost}
+use Rattle.seat_turns.specs.StepBounds.{turn_steps}
 use Rattle.seat_turns.specs.Tending.{tends_inside, turn_quota}
 use Rattle.seat_steps.specs.declared.background.Turn.{Turn}
 use Rattle.seat_steps.specs.declared.background.Turn.TheVariants as turns
@@ -50,6 +53,11 @@ abbrev pub MarksIn : Phase → View → View → Type 0
 MarksIn phases.Marking v w = HasMarked v w
 MarksIn p v w = w ≡ v
 
+-- and so many steps are taken at most: those of a turn, and one that tells
+abbrev pub marking_steps : Phase → Shape → ℕ
+marking_steps phases.Marking sh = turn_steps sh + 1
+marking_steps p sh = 0
+
 -- the seat took one step, which read this phase
 abbrev pub Sees : Phase → View → View → Type 0
 Sees p v w = Answered ReadPhase (λ n. p ≡ phase_of n) v w
@@ -62,11 +70,12 @@ pub record Rounds (p : Phase) (v w : View) : Type 0 where
   pub marks : MarksIn p read marked
   pub leaves : Took LeaveStep marked w
 
--- the seat entered while no stop was under way, read this phase, marked where it is Marking, and left
+-- the seat entered while no stop was under way, read this phase, marked where it is Marking, and left: one step each beside those of marking
 pub record VisitsWorld (p : Phase) (v w : View) : Type 0 where
   pub entered : View
   pub enters : Enters v entered
   pub rounds : Rounds p entered w
+  pub few : AtMost (marking_steps p v.shape + 3) v w
 
 -- the seat found a stop under way, left at once, and helped in turns until the stop had ended
 pub record WaitsHelping (v w : View) : Type 0 where

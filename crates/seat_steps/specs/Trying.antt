@@ -1,13 +1,16 @@
 -- What a turn of a tracer that doesn't wait does, and what dismissing the tracers does.
-use Rattle.std.specs.Prelude.{ℕ, ◌≡◌, ◌≢◌, ◌<◌, ◌∷◌, [], false}
+use Rattle.std.specs.Prelude.{ℕ, ◌≡◌, ◌≢◌, ◌<◌, ◌+◌, ◌∷◌, [], false}
 use Rattle.mark_core.specs.Numbers.{done_count}
 use Rattle.mark_core.specs.declared.kinds.Phase.{Phase}
 use Rattle.mark_core.specs.declared.kinds.Phase.TheVariants as phases
+use Rattle.mark_core.specs.declared.kinds.Shape.{Shape}
 use Rattle.mark_core.specs.declared.kinds.Step.TheVariants.{AddStat, LeaveStep, ReadStat, StorePosition}
 use Rattle.gc_table.specs.Log.{event, events}
 use Rattle.gc_table.specs.Seats.{Found, Took}
 use Rattle.gc_table.specs.declared.view.View.{View}
 use Rattle.stop_world.specs.Gates.{Enters, TurnsBack}
+use Rattle.mutator_ops.specs.Few.{AtMost}
+use Rattle.seat_turns.specs.StepBounds.{turn_steps}
 use Rattle.mutator_turns.specs.Coming.{GoesIn}
 use Rattle.seat_steps.specs.Tracing.{VisitsWorld}
 use Rattle.seat_steps.specs.declared.try_turns.TryTurn.{TryTurn}
@@ -25,12 +28,21 @@ TriesTo tries.Marked n v w = (n ≡ 0) × VisitsWorld phases.Marking v w
 TriesTo tries.Idle n v w = (n ≡ 0) × FindsNoCycle v w
 TriesTo tries.Full n v w = (n ≡ 0) × VisitsWorld phases.Full v w
 
+-- how many steps a turn takes at most that comes to this
+abbrev pub tried_steps : TryTurn → Shape → ℕ
+tried_steps tries.Dismissed sh = 1
+tried_steps tries.Stopped sh = 3
+tried_steps tries.Marked sh = turn_steps sh + 5
+tried_steps tries.Idle sh = 4
+tried_steps tries.Full sh = 4
+
 -- a turn: it read whether the tracers were dismissed, and where they weren't it tried to enter once, and marked and left where it was in
 pub record TriesTurn (tried : TryTurn) (v w : View) : Type 0 where
   pub dismissals : ℕ
   pub looked : View
   pub looks : Found (ReadStat done_count) dismissals v looked
   pub takes : TriesTo tried dismissals looked w
+  pub few : AtMost (tried_steps tried v.shape) v w
 
 -- the seat entered while no stop was under way, raised the number of dismissals by one, and left
 pub record Dismisses (v w : View) : Type 0 where

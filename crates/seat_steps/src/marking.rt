@@ -1,15 +1,17 @@
 //! A turn of a seat that marks beside the mutators.
-ghost use Rattle.std.specs.Prelude.{◌≡◌, Some, IsTrue, IsFalse};
+ghost use Rattle.std.specs.Prelude.{◌≡◌, ◌+◌, Some, IsTrue, IsFalse};
 ghost use Rattle.std.specs.Bool.{OnFalse, OnTrue};
 ghost use Rattle.mark_core.specs.Numbers.{done_count};
 ghost use Rattle.mark_core.specs.declared.kinds.Step.TheVariants.{LeaveStep, ReadStat};
 ghost use Rattle.gc_table.specs.Running.{Ran};
 ghost use Rattle.gc_table.specs.Seats.{Across, Found, Took, state_of};
 ghost use Rattle.stop_world.specs.Gates.{Enters, TurnsBack};
+ghost use Rattle.mutator_ops.specs.Few.{AtMost};
 ghost use Rattle.seat_turns.specs.Standing.{Goes, GoesMarking};
+ghost use Rattle.seat_turns.specs.StepBounds.{turn_steps};
 ghost use Rattle.mutator_turns.specs.Standing.{RestsOutside};
 ghost use Rattle.seat_steps.specs.Tallying.{Tallies};
-ghost use Rattle.seat_steps.specs.Tracing.{HasMarked, MarksIn, Rounds, TracerTakesTurn};
+ghost use Rattle.seat_steps.specs.Tracing.{HasMarked, MarksIn, Rounds, TracerTakesTurn, marking_steps};
 
 use crate::background::Turn;
 use gc_cycle::await_resumed_helping;
@@ -25,6 +27,7 @@ fn mark(heap: &Heap, seat: &mut HeapSeat, tally: &mut u64)
     ensures seat { Goes heap.now seat.new }
     ensures marks { Across HasMarked seat.old seat.new }
     ensures tally { Across (Tallies tally.old tally.new) seat.old seat.new }
+    ensures few { Across (AtMost (turn_steps heap.now.shape + 1)) seat.old seat.new }
 {
     let traced = mark_some(heap, seat);
     heap.add_stat(seat, TRACED, traced, false);
@@ -38,6 +41,7 @@ fn mark_in(heap: &Heap, seat: &mut HeapSeat, phase: Phase, tally: &mut u64)
     ensures seat { Goes heap.now seat.new }
     ensures marks { Across (MarksIn phase) seat.old seat.new }
     ensures tally { Across (Tallies tally.old tally.new) seat.old seat.new }
+    ensures few { Across (AtMost (marking_steps phase heap.now.shape)) seat.old seat.new }
 {
     if let Phase::Marking = phase {
         mark(heap, seat, tally);
@@ -72,6 +76,7 @@ pub fn go_round(heap: &Heap, seat: &mut HeapSeat, tally: &mut u64) -> Phase
     ensures seat { RestsOutside heap.now seat.new }
     ensures rounds { Across (Rounds result) seat.old seat.new }
     ensures tally { Across (Tallies tally.old tally.new) seat.old seat.new }
+    ensures few { Across (AtMost (marking_steps result heap.now.shape + 2)) seat.old seat.new }
 {
     let phase = see_phase(heap, seat);
     mark_in(heap, seat, phase, tally);

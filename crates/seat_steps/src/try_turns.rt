@@ -48,6 +48,7 @@ fn try_take_turn(heap: &Heap, seat: &mut HeapSeat, tally: &mut u64) -> TryTurn
 impl Tracer {
     /// One turn that doesn't wait, for a thread without a runtime: it enters the world once, traces at most 64 objects where a cycle is marking, passes at most
     /// 1,024 cards where that is far on, and leaves. Where a stop is under way it does nothing, and comes again. Between two turns its thread lets others run.
+    /// Each answer has its bound of steps (`tried_steps`), which doesn't grow with the heap.
     pub fn try_turn(&mut self) -> TryTurn
         ensures turn { Across (TriesTurn result) self.old.seat self.new.seat }
         ensures tally { Across (Tallies self.old.traced self.new.traced) self.old.seat self.new.seat }

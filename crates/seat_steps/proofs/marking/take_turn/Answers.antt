@@ -1,18 +1,45 @@
-use Rattle.std.proofs.Common.{inr, arith}
+use Rattle.std.proofs.Common.{inr, arith, subst}
 use Rattle.std.proofs.lemmas.Bool.{OnFalse_at, OnTrue_at}
+use Rattle.mark_core.specs.declared.kinds.Phase.{Phase}
 use Rattle.gc_table.specs.Seats.{view_of}
+use Rattle.gc_table.specs.declared.view.View.{View}
+use Rattle.seat_steps.specs.Tracing.{VisitsWorld}
 use Rattle.seat_steps.proofs.Tallying.{tallies-back, tallies-join, tallies-only, tallies-read, tallies-went}
+use Rattle.seat_steps.proofs.Visiting.{visits}
 use Rattle.seat_steps.proofs.marking.take_turn.Goals as goal
 
 pub returns-in_default-clause-turn : goal.returns-in_default-clause-turn
 returns-in_default-clause-turn g c =
+    let d = c.see_dismissals.ensures in
+    let e = c.go_round.ensures in
     record {
       dismissals = c.see_dismissals.result;
       looked = view_of c.see_dismissals.new.seat;
-      looks = c.see_dismissals.ensures.looks;
+      looks = d.looks;
       takes = (
         omega (arith, c.if-see_dismissals-ne0.false),
-        inr (c.go_round.result, c.in_default.not-Full, record { entered = view_of c.goes_in.new.seat; enters = OnTrue_at c.if-not-goes_in.false c.goes_in.ensures.enters; rounds = c.go_round.ensures.rounds }),
+        inr (
+          c.go_round.result,
+          c.in_default.not-Full,
+          visits c.go_round.result c.args.heap.now.shape (view_of c.see_dismissals.new.seat) (view_of c.goes_in.new.seat) (view_of c.go_round.new.seat) d.seat.sits.1 c.goes_in.ensures.ran e.tally.ran (OnTrue_at c.if-not-goes_in.false c.goes_in.ensures.enters) e.rounds e.few,
+        ),
+      );
+    }
+
+pub returns-in-Full-clause-turn : goal.returns-in-Full-clause-turn
+returns-in-Full-clause-turn g c =
+    let v : View = view_of c.see_dismissals.new.seat in
+    let w : View = view_of c.go_round.new.seat in
+    let d = c.see_dismissals.ensures in
+    let e = c.go_round.ensures in
+    record {
+      dismissals = c.see_dismissals.result;
+      looked = v;
+      looks = d.looks;
+      takes = (
+        omega (arith, c.if-see_dismissals-ne0.false),
+        subst (λ (p : Phase). VisitsWorld p v w) c.in-Full.is
+        (visits c.go_round.result c.args.heap.now.shape v (view_of c.goes_in.new.seat) w d.seat.sits.1 c.goes_in.ensures.ran e.tally.ran (OnTrue_at c.if-not-goes_in.false c.goes_in.ensures.enters) e.rounds e.few),
       );
     }
 
