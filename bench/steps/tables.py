@@ -66,7 +66,13 @@ def making(cells, _most):
     return 3 * (cells // BLOCK) + paying(cells) + max(FIELDS + 17, 19)
 
 
-# What is proved of a call: a number of steps, by the cells and by what a step does at most, or what it does.
+def turning(cells, most):
+    """A turn traces 64 objects and passes 1,024 cards, whatever the heap's size, and takes five steps besides."""
+    card = 3 + OUTPUT + 16 * SCAN + 7
+    return tracing(64) + 3 + 1024 * card + RECYCLE + 5
+
+
+# What is proved of a call: a number of steps, or one by the cells and by what a step does at most.
 PROVED = {
     "set": 3, "get": 2, "put": 2, "copy": 1, "forget": 1, "value": 1, "is_nil": 0, "same": 0, "root": 2, "exchange": 2, "exchange_value": 1, "spill": 1, "fill": 2,
     "forget_slots": SLOTS, "place": 0, "number": 1, "enter": 5, "enter: stopped": 10, "leave": 5, "safe_point": 2, "safe_point: stopped": 8, "make": 5 + FIELDS,
@@ -74,7 +80,7 @@ PROVED = {
     "refill: not yet": lambda cells, most: 3 * min(most, cells // BLOCK) + 11,
     "collect: asks": 6, "collect: waits": 1, "collect: begins": 5, "collect: roots": seeing, "collect: traces": lambda cells, most: RECYCLE + tracing(most),
     "collect: looks": lambda cells, most: most + 2, "collect: cleans": cleaning, "collect: clears": clearing, "collect: sweeps": sweeping,
-    "collect: counts": lambda cells, most: most, "collect: ends": 17, "trace_turn": "64 objects, 1,024 cards",
+    "collect: counts": lambda cells, most: most, "collect: ends": 17, "trace_turn": turning,
 }
 
 
@@ -90,8 +96,8 @@ def read(path):
 
 
 def proved(call, cells, most):
-    it = PROVED.get(call, "")
-    return f"{it(cells, most):,}" if callable(it) else f"{it:,}" if isinstance(it, int) else it.format(most=f"{most:,}")
+    it = PROVED.get(call)
+    return "" if it is None else f"{it(cells, most) if callable(it) else it:,}"
 
 
 def grows(call, cells):

@@ -1,6 +1,6 @@
 """How many steps a call takes at most: the tables of docs/EMBEDDING.md and docs/EMBEDDING_C.md have the numbers of the clauses, and each call of which a clause has
 one. A clause has one where it says `AtMost N`, or by a definition that says so of the answer Done, or in its field `few`; those of refusals don't count. A call
-that borrows its mutator to read alone, or leaves it as it is, takes no step."""
+that borrows its mutator to read alone, or leaves it as it is, or finds none, takes no step."""
 import glob
 import re
 import sys
@@ -11,7 +11,7 @@ from pages import rows_of, text_of  # noqa: E402
 TYPES = ["Mutator", "Stepper", "SharedMutator"]
 OPERATIONS = "crates/mutator_ops/specs/Few.antt"
 AT_MOST = re.compile(r"\bAtMost (\d+|\((?:[^()]|\([^()]*\))*\))")
-SAME = re.compile(r"(?:^|\()y ≡ x(?:\)|$)")
+SAME = re.compile(r"(?:^|\()y ≡ (?:x|None)(?:\)|$)")
 
 
 def argument(words, start):
@@ -67,9 +67,9 @@ def of_operation(name):
 
 
 def size(bound):
-    """Bounds by size: numbers first."""
+    """Bounds by size: numbers first, then those that are a definition's."""
     found = re.search(r"\d+$", bound)
-    return "fields" in bound, int(found[0]) if found else 0
+    return "fields" in bound, not found, int(found[0]) if found else 0
 
 
 def of_words(words, page, operation):
@@ -134,6 +134,7 @@ def told_in(page, columns):
             cell = re.sub(r"^1 for each slot$", "to - from", cell)
             cell = re.sub(r"^`refill_steps`, below$", "refill_steps most x", cell)
             cell = re.sub(r"^`make_steps`, below, and 3 for each reference that it is given$", "make_steps (view_of x.seat).shape + 3 * length ns", cell)
+            cell = re.sub(r"^`tried_steps`, below$", "tried_steps tried v.shape", cell)
             found.update({(owner, name): cell for name in re.findall(r"`([a-z]\w*)`", names) if cell})
     return found
 
