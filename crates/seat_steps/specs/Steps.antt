@@ -76,16 +76,16 @@ StepsOn stages.Draining stages.Looking most x y = (objects_popped x y < most) ×
 StepsOn stages.Looking stages.Looking most x y = LooksAt (shape_of x) x.next most (looks.Clean most) (did x.seat y.seat) × (y.next ≡ x.next + most) × (y.again ≡ x.again)
 StepsOn stages.Looking stages.Cleaning most x y = LooksAt (shape_of x) x.next most (looks.Dirty y.next) (did x.seat y.seat) × (y.again ≡ x.again)
 StepsOn stages.Looking stages.Draining most x y = (cards_left x < most) × Across (FindsPacketLeft x.next) x.seat y.seat × (y.again ≡ x.again)
-StepsOn stages.Looking stages.Clearing most x y = (cards_left x < most) × Across (BeginsClear x.next) x.seat y.seat × IsTrue x.again
-StepsOn stages.Looking stages.Sweeping most x y = (cards_left x < most) × Across (BeginsSweep x.next) x.seat y.seat × IsFalse x.again × (y.freed ≡ 0)
+StepsOn stages.Looking stages.Clearing most x y = (cards_left x < most) × Across (BeginsClear x.next) x.seat y.seat × IsTrue x.again × (y.again ≡ x.again)
+StepsOn stages.Looking stages.Sweeping most x y = (cards_left x < most) × Across (BeginsSweep x.next) x.seat y.seat × IsFalse x.again × (y.freed ≡ 0) × (y.again ≡ x.again)
 StepsOn stages.Cleaning stages.Cleaning most x y = CleansSome most x y × (y.again ≡ x.again)
 StepsOn stages.Cleaning stages.Draining most x y = (cards_left x < most) × Across (CleansCards x.next (cards_left x)) x.seat y.seat × (y.again ≡ x.again)
-StepsOn stages.Clearing stages.Clearing most x y = (stretches_drawn x y ≡ draws_for most x) × Across (IsPart Clear) x.seat y.seat
+StepsOn stages.Clearing stages.Clearing most x y = (stretches_drawn x y ≡ draws_for most x) × Across (IsPart Clear) x.seat y.seat × (y.again ≡ x.again)
 StepsOn stages.Clearing stages.Rooting most x y = Across (BeginsAgain (draws_for most x)) x.seat y.seat × (y.next ≡ 0) × IsFalse y.again
-StepsOn stages.Sweeping stages.Sweeping most x y = (stretches_drawn x y ≡ draws_for most x) × CountsFreed x y
-StepsOn stages.Sweeping stages.Counting most x y = (stretches_drawn x y < draws_for most x) × CountsFreed x y × Across EndsSweep x.seat y.seat × (y.next ≡ 0) × (y.counted ≡ 0)
-StepsOn stages.Counting stages.Counting most x y = (most ≤ blocks_left x) × (steps_of (did x.seat y.seat) ≡ alloc_reads x.next most) × (y.next ≡ x.next + most) × (y.freed ≡ x.freed)
-StepsOn stages.Counting stages.Ending most x y = (blocks_left x < most) × (steps_of (did x.seat y.seat) ≡ alloc_reads x.next (blocks_left x)) × (y.freed ≡ x.freed)
+StepsOn stages.Sweeping stages.Sweeping most x y = (stretches_drawn x y ≡ draws_for most x) × CountsFreed x y × (y.again ≡ x.again)
+StepsOn stages.Sweeping stages.Counting most x y = (stretches_drawn x y < draws_for most x) × CountsFreed x y × Across EndsSweep x.seat y.seat × (y.next ≡ 0) × (y.counted ≡ 0) × (y.again ≡ x.again)
+StepsOn stages.Counting stages.Counting most x y = (most ≤ blocks_left x) × (steps_of (did x.seat y.seat) ≡ alloc_reads x.next most) × (y.next ≡ x.next + most) × (y.freed ≡ x.freed) × (y.again ≡ x.again)
+StepsOn stages.Counting stages.Ending most x y = (blocks_left x < most) × (steps_of (did x.seat y.seat) ≡ alloc_reads x.next (blocks_left x)) × (y.freed ≡ x.freed) × (y.again ≡ x.again)
 StepsOn s t most x y = ⊥
 
 -- what its collection has counted: no object is told as scanned again

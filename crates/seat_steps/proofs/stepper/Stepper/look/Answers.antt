@@ -95,6 +95,7 @@ returns-then-self-clause-collects c =
         moved = b.moved;
       },
       c.if-self.true,
+      refl,
     )
     (record { heap = b.same ∙ (f.same ∙ e.same); leaves = leaves-join u v y e.leaves (leaves-join v w y f.leaves b.leaves); world = refl; name_is = refl })
 
@@ -136,6 +137,7 @@ returns-clause-collects c =
         moved = b.moved;
       },
       c.if-self.false,
+      refl,
       refl,
     )
     (record { heap = b.same ∙ (f.same ∙ e.same); leaves = leaves-join u v y e.leaves (leaves-join v w y f.leaves b.leaves); world = refl; name_is = refl })
