@@ -143,7 +143,7 @@ refills-done most n x m y reaches shape r b was inside k =
     let at : RefillsBy x.block (reach most x) soughts.Free (view_of x.seat) (view_of y.seat) = subst (λ (i : ℕ). RefillsBy x.block i soughts.Free (view_of x.seat) (view_of y.seat)) reaches (subst (λ (s : HeapSeat). RefillsBy x.block n soughts.Free (view_of x.seat) (view_of s)) (sym b.seat) r) in (
       at,
       refilled-few most x (view_of y.seat) shape at,
-      b.seen,
+      b.search,
       was,
       b.stage ∙ inside,
       record {

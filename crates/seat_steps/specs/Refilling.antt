@@ -1,10 +1,11 @@
 -- What a stepper is told that makes an object by its cache alone, and that comes to a cache with a free cell in pieces.
-use Rattle.std.specs.Prelude.{ℕ, ◌≡◌, ◌≤◌, ◌<◌, ◌+◌, ◌-◌, ◌*◌, ◌⊎◌, length, min, IsTrue}
+use Rattle.std.specs.Prelude.{ℕ, ◌≡◌, ◌≤◌, ◌<◌, ◌+◌, ◌-◌, ◌*◌, ◌⊎◌, length, min, Option, None, Some, IsTrue}
 use Rattle.std.specs.Arc.{arc_value}
 use Rattle.mark_core.specs.Layout.{block_count}
+use Rattle.mark_core.specs.declared.seat.CacheState.{CacheState}
 use Rattle.plain_heap.specs.PlainStep.{IsInRange}
 use Rattle.plain_heap.specs.declared.operation.Op.{Op}
-use Rattle.gc_table.specs.Seats.{Across, view_of}
+use Rattle.gc_table.specs.Seats.{Across, state_of, view_of}
 use Rattle.mutator_ops.specs.Few.{AtMost}
 use Rattle.cache_refills.specs.Pace.Pacing.{card_looks}
 use Rattle.cache_refills.specs.Pace.StepBounds.{payment_steps}
@@ -58,13 +59,22 @@ pub record NotesSeen (number next : ℕ) (came : Came) (x y : Stepper) : Type 0 
   pub block : y.block ≡ next
   pub seen : SeenTo came number x y
 
+-- the block behind that of a cache
+abbrev pub block_behind : Option CacheState → ℕ
+block_behind None = 0
+block_behind (Some c) = c.block + 1
+
+-- the stepper is to search all blocks, from the one on that is behind the block of its mutator's cache
+abbrev pub IsToSearch : Stepper → Type 0
+IsToSearch x = (x.seen ≡ 0) × (x.block ≡ min (block_behind (state_of x.seat).cache) (blocks_of x))
+
 -- the next search begins, of all blocks
 pub record BeginsSearch (x y : Stepper) : Type 0 where
   pub seat : y.seat ≡ x.seat
   pub stage : y.stage ≡ x.stage
   pub heap : y.heap ≡ x.heap
   pub name_is : y.name ≡ x.name
-  pub seen : y.seen ≡ 0
+  pub search : IsToSearch y
 
 -- from the block on where the search stood so many blocks were looked at, in their order, and no other, and each was seen without a free cell; the search goes on
 -- behind them, or at block 0; so many steps were taken at most
@@ -90,7 +100,7 @@ refill_steps most x = 3 * reach most x + payment_steps 1024 card_looks (shape_of
 
 -- what a step of a refill came to
 abbrev pub StepperRefills : ℕ → Came → Stepper → Stepper → Type 0
-StepperRefills most cames.Done x y = RefillsBy x.block (reach most x) soughts.Free (view_of x.seat) (view_of y.seat) × Across (AtMost (refill_steps most x)) x.seat y.seat × (y.seen ≡ 0) × (x.stage ≡ Inside) × (y.stage ≡ Inside) × KeepsAll x y
+StepperRefills most cames.Done x y = RefillsBy x.block (reach most x) soughts.Free (view_of x.seat) (view_of y.seat) × Across (AtMost (refill_steps most x)) x.seat y.seat × IsToSearch y × (x.stage ≡ Inside) × (y.stage ≡ Inside) × KeepsAll x y
 StepperRefills most cames.NotYet x y = LooksOn most x y × SeenTo cames.NotYet (looked most x) x y × (x.stage ≡ Inside) × (y.stage ≡ Inside) × KeepsAll x y
 StepperRefills most cames.NoCell x y = LacksAll most x y × (x.stage ≡ Inside) × (y.stage ≡ Inside) × KeepsAll x y
 StepperRefills most cames.Stopped x y = Across (FailsBy 3 x.block (reach most x) cames.Stopped) x.seat y.seat × Across (AtMost (refill_steps most x)) x.seat y.seat × (x.stage ≡ Inside) × (y.stage ≡ Outside) × KeepsAll x y

@@ -1,15 +1,25 @@
 //! A stepper makes an object where its cache has a free cell, and comes to a cache with one in pieces.
-ghost use Rattle.std.specs.Prelude.{◌≡◌, ◌≤◌, ◌<◌, ◌+◌, IfNone, IfSome};
+ghost use Rattle.std.specs.Prelude.{◌≡◌, ◌≤◌, ◌<◌, ◌+◌, min, IfNone, IfSome};
 ghost use Rattle.std.specs.Arc.{arc_value};
 ghost use Rattle.mark_core.specs.Layout.{block_count};
 ghost use Rattle.mark_core.specs.Numbers.{section_variables};
 ghost use Rattle.plain_heap.specs.declared.operation.Op.TheVariants as ops;
-ghost use Rattle.seat_steps.specs.Refilling.{BeginsSearch, MakesCached, NotesSeen, StepperRefills};
+ghost use Rattle.seat_steps.specs.Refilling.{BeginsSearch, MakesCached, NotesSeen, StepperRefills, block_behind};
 ghost use Rattle.seat_steps.specs.declared.stepper.Stage.TheVariants as stages;
 
 use crate::seeking::{Sought, make_here, refill_once};
 use crate::stepper::{Came, Stage, Stepper};
-use mark_core::{BLOCK_CELLS, VARIABLES};
+use mark_core::{BLOCK_CELLS, CacheState, VARIABLES};
+
+/// The block behind that of this cache, among so many.
+fn behind(cache: Option<CacheState>, blocks: u32) -> u32
+    ensures { result ≡ min (block_behind cache) blocks }
+{
+    match cache {
+        Some(cache) => cache.block.saturating_add(1).min(blocks),
+        None => 0,
+    }
+}
 
 /// How many blocks were seen, with so many more; None where these are all blocks.
 fn seen_after(seen: u32, number: u32, blocks: u32) -> Option<u32>
@@ -107,7 +117,7 @@ impl Stepper {
     fn begin_search(&mut self)
         ensures begins { BeginsSearch self.old self.new }
     {
-        self.block = self.seat.hint().min(self.blocks());
+        self.block = behind(self.seat.state().cache, self.blocks());
         self.seen = 0;
     }
 
