@@ -63,17 +63,17 @@ tries-piece p from most done v w e sees short longest some = record { sees = see
 
 -- a piece, and then the way to its turn, or out
 module _ (from most : ℕ) (p : Piece) (v w x : View) (a : Ran v w) (t : TriesPiece from most p v w) (b : Ran w x) where
-  pub seeks : (later : ℕ) → AtMost later w x → SeeksOnce 0 later from most p v x
-  seeks later few = record { asked = v; first = ran-refl v; first_few = at-most-none 0 v; got = w; ran = a; tries = t; last = b; last_few = few }
+  pub seeks : (Later : View → View → Type 0) → Later w x → SeeksOnce 0 Later from most p v x
+  seeks Later k = record { asked = v; first = ran-refl v; first_few = at-most-none 0 v; got = w; ran = a; tries = t; last = b; later = k }
 
   pub fails : (c : Came) (h : Heap) (s : HeapSeat) → LeavesWorld c h s → ArrivesBy c w x → FailsBy 0 from most c v x
-  fails cames.Stopped h s l g = (found-right v w x a b g.0, (p, seeks 8 g.1))
-  fails cames.Full h s l g = ((full-right v w x a b g.0.0, g.0.1), (p, seeks 8 g.1))
+  fails cames.Stopped h s l g = (found-right v w x a b g.0, (p, seeks (AtMost 8) g.1))
+  fails cames.Full h s l g = ((full-right v w x a b g.0.0, g.0.1), (p, seeks (AtMost 8) g.1))
   fails c h s l g = absurd l
 
 -- more steps before it
-pub seeks-first : (more before later from most : ℕ) (p : Piece) (u v w : View) → Ran u v → AtMost more u v → SeeksOnce before later from most p v w → SeeksOnce (more + before) later from most p u w
-seeks-first more before later from most p u v w r few t =
+pub seeks-first : (more before from most : ℕ) (Later : View → View → Type 0) (p : Piece) (u v w : View) → Ran u v → AtMost more u v → SeeksOnce before Later from most p v w → SeeksOnce (more + before) Later from most p u w
+seeks-first more before from most Later p u v w r few t =
     record {
       asked = t.asked;
       first = ran-join u v t.asked r t.first;
@@ -82,20 +82,20 @@ seeks-first more before later from most p u v w r few t =
       ran = t.ran;
       tries = t.tries;
       last = t.last;
-      last_few = t.last_few;
+      later = t.later;
     }
 
 -- the cache was given up first
 module _ (from most : ℕ) (u v w : View) (r : Ran u v) (few : AtMost 3 u v) where
   pub given-up : (s : Sought) → SoughtBy 0 from most s v w → RefillsBy from most s u w
-  given-up soughts.Free k = (k.0, inr (k.1.0, k.1.1, seeks-first 3 0 3 from most (pieces.Cache k.1.0 k.1.1) u v w r few k.1.2))
-  given-up (soughts.Next n) k = seeks-first 3 0 3 from most (pieces.Next n) u v w r few k
-  given-up soughts.Ended k = seeks-first 3 0 3 from most pieces.Ended u v w r few k
-  given-up soughts.MarkingDone k = seeks-first 3 0 3 from most pieces.MarkingDone u v w r few k
+  given-up soughts.Free k = (k.0, inr (k.1.0, k.1.1, seeks-first 3 0 from most GoesFreely (pieces.Cache k.1.0 k.1.1) u v w r few k.1.2))
+  given-up (soughts.Next n) k = seeks-first 3 0 from most GoesFreely (pieces.Next n) u v w r few k
+  given-up soughts.Ended k = seeks-first 3 0 from most GoesFreely pieces.Ended u v w r few k
+  given-up soughts.MarkingDone k = seeks-first 3 0 from most GoesFreely pieces.MarkingDone u v w r few k
 
   pub fails-first : (c : Came) → Ran v w → FailsBy 0 from most c v w → FailsBy 3 from most c u w
-  fails-first cames.Stopped q k = (found-right u v w r q k.0, (k.1.0, seeks-first 3 0 8 from most k.1.0 u v w r few k.1.1))
-  fails-first cames.Full q k = ((full-right u v w r q k.0.0, k.0.1), (k.1.0, seeks-first 3 0 8 from most k.1.0 u v w r few k.1.1))
+  fails-first cames.Stopped q k = (found-right u v w r q k.0, (k.1.0, seeks-first 3 0 from most (AtMost 8) k.1.0 u v w r few k.1.1))
+  fails-first cames.Full q k = ((full-right u v w r q k.0.0, k.0.1), (k.1.0, seeks-first 3 0 from most (AtMost 8) k.1.0 u v w r few k.1.1))
   fails-first c q k = k
 
 -- who tried to come to its turn and hasn't left the world
@@ -114,13 +114,13 @@ had-free o h v some is free = has-free h v (subst (λ (p : Option Cache). IfSome
 
 -- a piece that found no cell
 pub lacked :
-    (from most : ℕ) (s : Sought) (v w x : View) (r : Result Sought Came) → IfOk r (λ t. t ≡ s) → IfOk r (λ _. AtMost 3 w x) → (AtMost 3 w x → SoughtBy 0 from most s v x) → IfOk r (λ t. SoughtBy 0 from most t v x)
-lacked from most s v w x (Ok t) e few k = subst (λ (u : Sought). SoughtBy 0 from most u v x) (sym e) (k few)
-lacked from most s v w x (Err c) e few k = tt
+    (from most : ℕ) (s : Sought) (v w x : View) (r : Result Sought Came) → IfOk r (λ t. t ≡ s) → IfOk r (λ _. GoesFreely w x) → (GoesFreely w x → SoughtBy 0 from most s v x) → IfOk r (λ t. SoughtBy 0 from most t v x)
+lacked from most s v w x (Ok t) e g k = subst (λ (u : Sought). SoughtBy 0 from most u v x) (sym e) (k g)
+lacked from most s v w x (Err c) e g k = tt
 
 -- a piece that found the heap full
 pub seeks-full : (from most : ℕ) (v w x : View) → Ran v w → TriesPiece from most pieces.Full v w → Ran w x → AtMost 2 w x → KnowsFull x → FailsBy 0 from most cames.Full v x
-seeks-full from most v w x a t b few known = ((full-left v w x a b t.gets.read, known), (pieces.Full, seeks from most pieces.Full v w x a t b 8 (at-most-more 2 8 w x (omega arith) few)))
+seeks-full from most v w x a t b few known = ((full-left v w x a b t.gets.read, known), (pieces.Full, seeks from most pieces.Full v w x a t b (AtMost 8) (at-most-more 2 8 w x (omega arith) few)))
 
 -- an object was made of a cell of the cache
 pub makes-own : (h : Heap) (x : HeapSeat) (v w : View) → Sits h x → Ran v w → GoesFreely (view_of x) v → is_some (view_of x).state.season_seen ≡ true → HasFree (view_of x).state.cache → AtMost (h.shape.fields + 3) v w → MakesOwn (view_of x) w

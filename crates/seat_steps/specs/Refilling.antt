@@ -12,6 +12,7 @@ use Rattle.cache_refills.specs.Pace.StepBounds.{payment_steps}
 use Rattle.cache_refills.specs.Pieces.{SeesBlocks}
 use Rattle.cache_refills.specs.declared.pieces.Piece.{Piece}
 use Rattle.cache_refills.specs.declared.pieces.Piece.TheVariants as pieces
+use Rattle.seat_steps.specs.Causes.{GoesFreely}
 use Rattle.seat_steps.specs.Seeking.{CachedBy, FailsBy, RefillsBy, SeeksOnce}
 use Rattle.seat_steps.specs.Stepping.{KeepsAll, StepperDoes, fields_in, heap_of_stepper, is_collecting}
 use Rattle.seat_steps.specs.Steps.{shape_of}
@@ -76,18 +77,18 @@ pub record BeginsSearch (x y : Stepper) : Type 0 where
   pub name_is : y.name ≡ x.name
   pub search : IsToSearch y
 
--- from the block on where the search stood so many blocks were looked at, in their order, and no other, and each was seen without a free cell; the search goes on
--- behind them, or at block 0; so many steps were taken at most
+-- from the block on where the search stood so many blocks were looked at, in their order, and no other, and each was seen without a free cell; then a look at the
+-- world found no stop; the search goes on behind these blocks, or at block 0; so many steps were taken at most
 pub record LooksOn (most : ℕ) (x y : Stepper) : Type 0 where
   pub piece : Piece
-  pub seeks : Across (SeeksOnce 3 3 x.block (reach most x) piece) x.seat y.seat
+  pub seeks : Across (SeeksOnce 3 GoesFreely x.block (reach most x) piece) x.seat y.seat
   pub sees : SeesBlocks x.block (x.block + looked most x) seeks.asked seeks.got
   pub few : Across (AtMost (3 * reach most x + 11)) x.seat y.seat
   pub next : (y.block ≡ x.block + looked most x) ⊎ ((y.block ≡ 0) × (x.block + looked most x ≡ blocks_of x))
 
--- marking was done, and no block was looked at
+-- marking was done, and no block was looked at; then a look at the world found no stop
 pub record FindsMarked (most : ℕ) (x y : Stepper) : Type 0 where
-  pub seeks : Across (SeeksOnce 3 3 x.block (reach most x) pieces.MarkingDone) x.seat y.seat
+  pub seeks : Across (SeeksOnce 3 GoesFreely x.block (reach most x) pieces.MarkingDone) x.seat y.seat
   pub few : Across (AtMost 11) x.seat y.seat
 
 -- why a collection is called for: as many blocks were seen as there are, in this step and those before it, or marking was done

@@ -22,7 +22,7 @@ use Rattle.cache_refills.specs.Pieces.{IsShort, SeesTo, refill_of}
 use Rattle.cache_refills.specs.declared.pieces.Piece.{Piece}
 use Rattle.cache_refills.specs.declared.pieces.Piece.TheVariants as pieces
 use Rattle.mutator_turns.specs.Standing.{Halts, IsAtTurn, Works, plain_of}
-use Rattle.seat_steps.specs.Causes.{FoundFull, FoundFullIn, FoundStop, FoundStopIn, HasFree, PassesFreely}
+use Rattle.seat_steps.specs.Causes.{FoundFull, FoundFullIn, FoundStop, FoundStopIn, GoesFreely, HasFree, PassesFreely}
 use Rattle.seat_steps.specs.Doing.{Does}
 use Rattle.seat_steps.specs.Stepping.{LeavesWorld}
 use Rattle.seat_steps.specs.declared.seeking.Sought.{Sought}
@@ -46,8 +46,8 @@ pub record TriesPiece (from most : ℕ) (piece : Piece) (v w : View) : Type 0 wh
   pub longest : length (events v w) ≤ 3 * most + 6 + payment_steps 1024 card_looks v.shape
   pub gets : IfSome (refill_of piece) (λ r. RefillsTo r v.state.made v w)
 
--- so many steps were taken at most, then a piece was made that came to this, and then so many steps
-pub record SeeksOnce (before later from most : ℕ) (piece : Piece) (v w : View) : Type 0 where
+-- so many steps were taken at most, then a piece was made that came to this, and then what is so `Later`
+pub record SeeksOnce (before : ℕ) (Later : View → View → Type 0) (from most : ℕ) (piece : Piece) (v w : View) : Type 0 where
   pub asked : View
   pub first : Ran v asked
   pub first_few : AtMost before v asked
@@ -55,24 +55,25 @@ pub record SeeksOnce (before later from most : ℕ) (piece : Piece) (v w : View)
   pub ran : Ran asked got
   pub tries : TriesPiece from most piece asked got
   pub last : Ran got w
-  pub last_few : AtMost later got w
+  pub later : Later got w
 
--- what the search came to: the mutator has a cache with a free cell, or is to go on, or no block is left, or marking is done
+-- what the search came to: the mutator has a cache with a free cell, or is to go on, or no block is left, or marking is done. After the piece a look at the world
+-- found no stop
 abbrev pub SoughtBy : ℕ → ℕ → ℕ → Sought → View → View → Type 0
-SoughtBy before from most soughts.Free v w = HasFree w.state.cache × ((h : Cache) × (paid : Paid) × SeeksOnce before 3 from most (pieces.Cache h paid) v w)
-SoughtBy before from most (soughts.Next n) v w = SeeksOnce before 3 from most (pieces.Next n) v w
-SoughtBy before from most soughts.Ended v w = SeeksOnce before 3 from most pieces.Ended v w
-SoughtBy before from most soughts.MarkingDone v w = SeeksOnce before 3 from most pieces.MarkingDone v w
+SoughtBy before from most soughts.Free v w = HasFree w.state.cache × ((h : Cache) × (paid : Paid) × SeeksOnce before GoesFreely from most (pieces.Cache h paid) v w)
+SoughtBy before from most (soughts.Next n) v w = SeeksOnce before GoesFreely from most (pieces.Next n) v w
+SoughtBy before from most soughts.Ended v w = SeeksOnce before GoesFreely from most pieces.Ended v w
+SoughtBy before from most soughts.MarkingDone v w = SeeksOnce before GoesFreely from most pieces.MarkingDone v w
 
 -- why the mutator left instead
 abbrev pub FailsBy : ℕ → ℕ → ℕ → Came → View → View → Type 0
-FailsBy before from most cames.Stopped v w = FoundStop v w × ((piece : Piece) × SeeksOnce before 8 from most piece v w)
-FailsBy before from most cames.Full v w = FoundFull v w × ((piece : Piece) × SeeksOnce before 8 from most piece v w)
+FailsBy before from most cames.Stopped v w = FoundStop v w × ((piece : Piece) × SeeksOnce before (AtMost 8) from most piece v w)
+FailsBy before from most cames.Full v w = FoundFull v w × ((piece : Piece) × SeeksOnce before (AtMost 8) from most piece v w)
 FailsBy before from most c v w = ⊥
 
 -- what a step of a refill came to: the cache had a free cell, and nothing was done, or a cache without one was given up first
 abbrev pub RefillsBy : ℕ → ℕ → Sought → View → View → Type 0
-RefillsBy from most soughts.Free v w = HasFree w.state.cache × ((w ≡ v) ⊎ ((h : Cache) × (paid : Paid) × SeeksOnce 3 3 from most (pieces.Cache h paid) v w))
+RefillsBy from most soughts.Free v w = HasFree w.state.cache × ((w ≡ v) ⊎ ((h : Cache) × (paid : Paid) × SeeksOnce 3 GoesFreely from most (pieces.Cache h paid) v w))
 RefillsBy from most sought v w = SoughtBy 3 from most sought v w
 
 -- a look at the world found no stop, and an object was made of a cell that was free in the seat's cache, by so many steps at most

@@ -5,10 +5,9 @@ ghost use Rattle.mark_core.specs.Numbers.{section_variables};
 ghost use Rattle.plain_heap.specs.declared.operation.Op.TheVariants as ops;
 ghost use Rattle.gc_table.specs.Running.{Ran};
 ghost use Rattle.gc_table.specs.Seats.{Across, view_of};
-ghost use Rattle.mutator_ops.specs.Few.{AtMost};
 ghost use Rattle.mutator_turns.specs.Sharing.{LeavesHeap};
 ghost use Rattle.mutator_turns.specs.Standing.{Halts, IsAtTurn, plain_of};
-ghost use Rattle.seat_steps.specs.Causes.{ArrivesBy};
+ghost use Rattle.seat_steps.specs.Causes.{ArrivesBy, GoesFreely};
 ghost use Rattle.seat_steps.specs.Seeking.{CachedBy, FailsBy, MakesHere, RefillsBy, SoughtBy, StandsAfter, TriesPiece};
 ghost use Rattle.seat_steps.specs.Stepping.{LeavesWorld};
 ghost use Rattle.seat_steps.specs.declared.stepper.Came.TheVariants as cames;
@@ -58,7 +57,7 @@ fn lacks_some(heap: &Heap, seat: &mut HeapSeat, sought: Sought) -> Result<Sought
     ensures same { plain_of seat.new ≡ plain_of seat.old }
     ensures leaves { Across LeavesHeap seat.old seat.new }
     ensures ran { Across Ran seat.old seat.new }
-    ensures few { IfOk result (λ _. Across (AtMost 3) seat.old seat.new) }
+    ensures freely { IfOk result (λ _. Across GoesFreely seat.old seat.new) }
     ensures found { IfErr result (λ came. Across (ArrivesBy came) seat.old seat.new) }
 {
     match arrive(heap, seat) {

@@ -227,6 +227,7 @@ pub fn point_with(heap: &Heap, seat: &mut HeapSeat, cache: Cache) -> Result<Cach
     ensures leaves { Across LeavesHeap seat.old seat.new }
     ensures ran { Across Ran seat.old seat.new }
     ensures few { IfOk result (λ _. Across (AtMost 3) seat.old seat.new) }
+    ensures freely { IfOk result (λ _. Across GoesFreely seat.old seat.new) }
     ensures found { IfErr result (λ came. Across (ArrivesBy came) seat.old seat.new) }
 {
     match point(heap, seat, Some(cache)) {

@@ -2,6 +2,7 @@ use Rattle.gc_table.specs.Seats.{view_of}
 use Rattle.gc_table.proofs.Running.{ran-join}
 use Rattle.cache_refills.specs.declared.pieces.Piece.TheVariants as pieces
 use Rattle.mutator_turns.proofs.Leaving.{leaves-join}
+use Rattle.seat_steps.specs.Causes.{GoesFreely}
 use Rattle.seat_steps.specs.declared.seeking.Sought.TheVariants as soughts
 use Rattle.seat_steps.proofs.Found.{err-both}
 use Rattle.seat_steps.proofs.Sought.{fails, has-free, lacked, seeks, seeks-full}
@@ -19,7 +20,7 @@ returns-in-Ok-clause-sought c =
     let w = view_of c.tries_some.new.seat in
     let x = view_of c.point_with.new.seat in
     let e = c.in-Ok.ensures in
-    (has-free c.in-Ok.free x e.ok.1 e.free, (c.in-Cache.cache, c.in-Cache._paid, seeks c.args.from c.args.most _ v w x c.tries_some.ensures.ran c.in-Cache.ensures.tries c.point_with.ensures.ran 3 e.few))
+    (has-free c.in-Ok.free x e.ok.1 e.free, (c.in-Cache.cache, c.in-Cache._paid, seeks c.args.from c.args.most _ v w x c.tries_some.ensures.ran c.in-Cache.ensures.tries c.point_with.ensures.ran GoesFreely e.freely))
 
 pub returns-in-Err-clause-leaves : goal.returns-in-Err-clause-leaves
 returns-in-Err-clause-leaves c = leaves-join (view_of c.args.seat.now) (view_of c.tries_some.new.seat) (view_of c.point_with.new.seat) c.tries_some.ensures.leaves c.point_with.ensures.leaves
@@ -56,7 +57,7 @@ returns-in-Next-clause-sought c =
     let v = view_of c.args.seat.now in
     let w = view_of c.tries_some.new.seat in
     let x = view_of c.lacks_some.new.seat in
-    lacked c.args.from c.args.most (soughts.Next c.in-Next.next) v w x c.lacks_some.result c.lacks_some.ensures.ok c.lacks_some.ensures.few (λ few. seeks c.args.from c.args.most (pieces.Next c.in-Next.next) v w x c.tries_some.ensures.ran c.in-Next.ensures.tries c.lacks_some.ensures.ran 3 few)
+    lacked c.args.from c.args.most (soughts.Next c.in-Next.next) v w x c.lacks_some.result c.lacks_some.ensures.ok c.lacks_some.ensures.freely (λ g. seeks c.args.from c.args.most (pieces.Next c.in-Next.next) v w x c.tries_some.ensures.ran c.in-Next.ensures.tries c.lacks_some.ensures.ran GoesFreely g)
 
 pub returns-in-Next-clause-found : goal.returns-in-Next-clause-found
 returns-in-Next-clause-found c =
@@ -76,7 +77,7 @@ returns-in-Ended-clause-sought c =
     let v = view_of c.args.seat.now in
     let w = view_of c.tries_some.new.seat in
     let x = view_of c.lacks_some-in-Ended.new.seat in
-    lacked c.args.from c.args.most soughts.Ended v w x c.lacks_some-in-Ended.result c.lacks_some-in-Ended.ensures.ok c.lacks_some-in-Ended.ensures.few (λ few. seeks c.args.from c.args.most pieces.Ended v w x c.tries_some.ensures.ran c.in-Ended.ensures.tries c.lacks_some-in-Ended.ensures.ran 3 few)
+    lacked c.args.from c.args.most soughts.Ended v w x c.lacks_some-in-Ended.result c.lacks_some-in-Ended.ensures.ok c.lacks_some-in-Ended.ensures.freely (λ g. seeks c.args.from c.args.most pieces.Ended v w x c.tries_some.ensures.ran c.in-Ended.ensures.tries c.lacks_some-in-Ended.ensures.ran GoesFreely g)
 
 pub returns-in-Ended-clause-found : goal.returns-in-Ended-clause-found
 returns-in-Ended-clause-found c =
@@ -96,7 +97,7 @@ returns-in-MarkingDone-clause-sought c =
     let v = view_of c.args.seat.now in
     let w = view_of c.tries_some.new.seat in
     let x = view_of c.lacks_some-in-MarkingDone.new.seat in
-    lacked c.args.from c.args.most soughts.MarkingDone v w x c.lacks_some-in-MarkingDone.result c.lacks_some-in-MarkingDone.ensures.ok c.lacks_some-in-MarkingDone.ensures.few (λ few. seeks c.args.from c.args.most pieces.MarkingDone v w x c.tries_some.ensures.ran c.in-MarkingDone.ensures.tries c.lacks_some-in-MarkingDone.ensures.ran 3 few)
+    lacked c.args.from c.args.most soughts.MarkingDone v w x c.lacks_some-in-MarkingDone.result c.lacks_some-in-MarkingDone.ensures.ok c.lacks_some-in-MarkingDone.ensures.freely (λ g. seeks c.args.from c.args.most pieces.MarkingDone v w x c.tries_some.ensures.ran c.in-MarkingDone.ensures.tries c.lacks_some-in-MarkingDone.ensures.ran GoesFreely g)
 
 pub returns-in-MarkingDone-clause-found : goal.returns-in-MarkingDone-clause-found
 returns-in-MarkingDone-clause-found c =

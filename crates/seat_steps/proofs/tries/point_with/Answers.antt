@@ -14,3 +14,6 @@ returns-in-Err-with_free-clause-found c =
 
 pub returns-in-Ok-with_free-clause-few : goal.returns-in-Ok-with_free-clause-few
 returns-in-Ok-with_free-clause-few c = c.in-Ok.ensures.freely.1.few
+
+pub returns-in-Ok-with_free-clause-freely : goal.returns-in-Ok-with_free-clause-freely
+returns-in-Ok-with_free-clause-freely c = c.in-Ok.ensures.freely.1
