@@ -1,16 +1,15 @@
--- What is told of a collection's course and of a tracer's count, by a handle that no other call uses.
+-- What is told of a collection's course, of a mutator's work and of a tracer's count, by a handle that no other call uses.
 use Rattle.std.proofs.Common.{ℕ, ◌≡◌, Option, None, true, false, refl, sym, ap, ◌∙◌, subst, inl, inr}
 use Rattle.std.proofs.lemmas.Bool.{false≢true}
 use Rattle.std.specs.Prelude.{IsFalse, IsTrue}
 use Rattle.seat_steps.specs.declared.background.Tracer.{Tracer}
-use Rattle.managed_heap_c.specs.Telling.{SparesCourse, TellsTraced, TellsTracedOnce}
-use Rattle.managed_heap_c.specs.declared.course.CCourse.{CCourse}
+use Rattle.managed_heap_c.specs.Telling.{TellsTraced, TellsTracedOnce}
 use Rattle.managed_heap_c.specs.declared.hands.Hand.{Hand}
 use Rattle.managed_heap_c.specs.declared.hands.TracerHand.{TracerHand}
 use Rattle.managed_heap_c.proofs.Used.{Begun, has}
 
-pub spared-course : (before after : CCourse) {x m b : Hand} → m ≡ x → Begun m b → (b.stepper ≡ None → after ≡ before) → SparesCourse x before after
-spared-course before after lent begun s =
+pub spared : {X : Type 0} (before after : X) {x m b : Hand} → m ≡ x → Begun m b → (b.stepper ≡ None → after ≡ before) → (IsTrue x.busy → after ≡ before) × (x.stepper ≡ None → after ≡ before)
+spared before after lent begun s =
     (λ used. absurd (false≢true (sym (subst (λ (h : Hand). IsFalse h.busy) lent begun.0) ∙ used)), λ none. s (has lent begun ∙ none))
 
 -- a tracer's handle was free, and a call has it now

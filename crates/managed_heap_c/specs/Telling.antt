@@ -1,4 +1,4 @@
--- What an export answers that is asked how far a collection is, or how much a tracer has traced.
+-- What an export answers that is asked how far a collection is, or how much a mutator or a tracer has traced.
 use Rattle.std.specs.Prelude.{ℕ, ◌≡◌, ◌⊎◌, Option, Some, None, IsFalse, IsTrue}
 use Rattle.mark_core.specs.Seats.{saw}
 use Rattle.mark_core.specs.declared.kinds.Phase.TheVariants.{Marking}
@@ -14,6 +14,7 @@ use Rattle.managed_heap_c.specs.Tracers.{IsTracerInUse}
 use Rattle.managed_heap_c.specs.declared.course.CCourse.{CCourse}
 use Rattle.managed_heap_c.specs.declared.hands.Hand.{Hand}
 use Rattle.managed_heap_c.specs.declared.hands.TracerHand.{TracerHand}
+use Rattle.managed_heap_c.specs.declared.work.CWork.{CWork}
 
 -- the number of where a mutator stands
 abbrev pub number_of_stage : Stage → ℕ
@@ -46,6 +47,19 @@ TellsCourse after came x y = (came ≡ cames.Done) × (y ≡ x) × (after ≡ co
 -- nothing is written by a handle that another call uses, or that was given back
 abbrev pub SparesCourse : Hand → CCourse → CCourse → Type 0
 SparesCourse h before after = (IsTrue h.busy → after ≡ before) × (h.stepper ≡ None → after ≡ before)
+
+-- how much the mutator has traced to pay for its caches (PaysMaking and PaysRefill), and what its collection has traced and cleaned (CountsTraced and
+-- CountsCleaned)
+abbrev pub work_of : Stepper → CWork
+work_of x = record { paid = x.paid; traced = x.traced; cleaned = x.cleaned }
+
+-- it was written how much the mutator has traced and cleaned; the mutator is as it was
+abbrev pub TellsWork : CWork → Came → Stepper → Stepper → Type 0
+TellsWork after came x y = (came ≡ cames.Done) × (y ≡ x) × (after ≡ work_of x)
+
+-- nothing is written by a handle that another call uses, or that was given back
+abbrev pub SparesWork : Hand → CWork → CWork → Type 0
+SparesWork h before after = (IsTrue h.busy → after ≡ before) × (h.stepper ≡ None → after ≡ before)
 
 -- the handle was given back and nothing is written, or it was written how many objects the tracer has traced beside the mutators; the tracer is as it was
 abbrev pub TellsTraced : ℕ → Option Tracer → Option Tracer → ℕ → ℕ → Type 0

@@ -27,6 +27,7 @@ mod storing;
 mod tracers;
 mod tracing;
 mod using;
+mod work;
 mod worlds;
 
 ghost use Rattle.plain_heap.specs.declared.operation.Op.TheVariants as ops;

@@ -64,7 +64,7 @@ none-few before later v w t = in_all before (search_steps v.shape) later None v 
 
 -- a cache is given up, a try is made, and then the mutator comes to its turn or leaves
 module _ (u v w x : View) (a : Ran u v) (few : AtMost 3 u v) (o : Option Refill) (b : Ran v w) (t : TriesToFill o v w) (d : Ran w x) where
-  once : (later : ℕ) → AtMost later w x → TriesOnce 3 later o u x
+  pub once : (later : ℕ) → AtMost later w x → TriesOnce 3 later o u x
   once later rest = record { asked = v; first = a; first_few = few; got = w; ran = b; tries = t; last = d; last_few = rest }
 
   pub fills-on : (rest : AtMost 3 w x) → TriesOnce 3 3 o u x

@@ -1,5 +1,6 @@
 mod Amounts
 mod Answered
+mod Counted
 mod Doing
 pub mod Few
 mod Filled

@@ -10,6 +10,7 @@ pub mod Doing
 pub mod Filling
 pub mod Handing
 pub mod Passes
+pub mod Payments
 pub mod Refilling
 pub mod Seeking
 pub mod Stepping

@@ -57,6 +57,7 @@ pub record NotesSeen (number next : ℕ) (came : Came) (x y : Stepper) : Type 0 
   pub stage : y.stage ≡ x.stage
   pub heap : y.heap ≡ x.heap
   pub name_is : y.name ≡ x.name
+  pub paid_is : y.paid ≡ x.paid
   pub block : y.block ≡ next
   pub seen : SeenTo came number x y
 
@@ -75,6 +76,7 @@ pub record BeginsSearch (x y : Stepper) : Type 0 where
   pub stage : y.stage ≡ x.stage
   pub heap : y.heap ≡ x.heap
   pub name_is : y.name ≡ x.name
+  pub paid_is : y.paid ≡ x.paid
   pub search : IsToSearch y
 
 -- from the block on where the search stood so many blocks were looked at, in their order, and no other, and each was seen without a free cell; then a look at the

@@ -12,7 +12,7 @@ use Rattle.sweeper.specs.Freeing.{freed_in}
 use Rattle.gc_cycle.specs.Finishing.{IsPart, most as greatest}
 use Rattle.cycle_steps.specs.Pieces.{CleansCards, LooksAt, stretches_in}
 use Rattle.gc_cycle.specs.Settling.{alloc_reads}
-use Rattle.gc_cycle.specs.Sorts.{draws_block, pops}
+use Rattle.gc_cycle.specs.Sorts.{clears, draws_block, pops}
 use Rattle.gc_cycle.specs.RoundParts.{LacksPacket}
 use Rattle.cycle_steps.specs.Stepping.{FindsRunning}
 use Rattle.cycle_steps.specs.declared.card_steps.Look.TheVariants as looks
@@ -56,36 +56,54 @@ draws_for most x = stretches_in (shape_of x) most
 abbrev pub CountsFreed : Stepper → Stepper → Type 0
 CountsFreed x y = y.freed ≡ min (x.freed + freed_in (view_of x.seat) (did x.seat y.seat)) greatest
 
+-- how many cards were cleaned
+abbrev pub cards_cleaned : Stepper → Stepper → ℕ
+cards_cleaned x y = count_of clears (did x.seat y.seat)
+
+-- what its collection has traced and cleaned is counted as before
+abbrev pub KeepsWork : Stepper → Stepper → Type 0
+KeepsWork x y = (y.traced ≡ x.traced) × (y.cleaned ≡ x.cleaned)
+
+-- the objects that the step traced were added to those traced before
+abbrev pub CountsTraced : Stepper → Stepper → Type 0
+CountsTraced x y = (y.traced ≡ min (x.traced + objects_popped x y) greatest) × (y.cleaned ≡ x.cleaned)
+
+-- the cards that the step cleaned were added to those cleaned before
+abbrev pub CountsCleaned : Stepper → Stepper → Type 0
+CountsCleaned x y = (y.traced ≡ x.traced) × (y.cleaned ≡ min (x.cleaned + cards_cleaned x y) greatest)
+
 -- so many roots were seen to, or no packet was found for it
 abbrev pub SeesSome : ℕ → Stepper → Stepper → Type 0
 SeesSome most x y = ((most ≤ roots_left x) × (y.next ≡ x.next + most) × Across (SeesRoots x.next most) x.seat y.seat) ⊎ ((y.next ≡ x.next) × Across LacksPacket x.seat y.seat)
 
 -- so many cards were passed, and cleaned where they were dirty, or no packet was found for it
 abbrev pub CleansSome : ℕ → Stepper → Stepper → Type 0
-CleansSome most x y = ((most ≤ cards_left x) × (y.next ≡ x.next + most) × Across (CleansCards x.next most) x.seat y.seat) ⊎ ((y.next ≡ x.next) × Across LacksPacket x.seat y.seat)
+CleansSome most x y =
+    ((most ≤ cards_left x) × (y.next ≡ x.next + most) × Across (CleansCards x.next most) x.seat y.seat × CountsCleaned x y)
+    ⊎ ((y.next ≡ x.next) × Across LacksPacket x.seat y.seat × (cards_cleaned x y ≡ 0) × KeepsWork x y)
 
 -- what a step did after which there is more to do
 abbrev pub StepsOn : Stage → Stage → ℕ → Stepper → Stepper → Type 0
 StepsOn stages.Inside stages.Stopping most x y = Across (AsksForStop true) x.seat y.seat
 StepsOn stages.Stopping stages.Stopping most x y = Across FindsRunning x.seat y.seat
-StepsOn stages.Stopping stages.Rooting most x y = Across (BeginsMarking y.again) x.seat y.seat × (y.next ≡ 0)
-StepsOn stages.Rooting stages.Rooting most x y = SeesSome most x y × (y.again ≡ x.again)
-StepsOn stages.Rooting stages.Draining most x y = (roots_left x < most) × Across (SeesRoots x.next (roots_left x)) x.seat y.seat × (y.again ≡ x.again)
-StepsOn stages.Draining stages.Draining most x y = (objects_popped x y ≡ most) × Across (TracesFor most) x.seat y.seat × (y.again ≡ x.again)
-StepsOn stages.Draining stages.Looking most x y = (objects_popped x y < most) × Across (TracesFor most) x.seat y.seat × (y.next ≡ 0) × (y.again ≡ x.again)
-StepsOn stages.Looking stages.Looking most x y = LooksAt (shape_of x) x.next most (looks.Clean most) (did x.seat y.seat) × (y.next ≡ x.next + most) × (y.again ≡ x.again)
-StepsOn stages.Looking stages.Cleaning most x y = LooksAt (shape_of x) x.next most (looks.Dirty y.next) (did x.seat y.seat) × (y.again ≡ x.again)
-StepsOn stages.Looking stages.Draining most x y = (cards_left x < most) × Across (FindsPacketLeft x.next) x.seat y.seat × (y.again ≡ x.again)
-StepsOn stages.Looking stages.Clearing most x y = (cards_left x < most) × Across (BeginsClear x.next) x.seat y.seat × IsTrue x.again × (y.again ≡ x.again)
-StepsOn stages.Looking stages.Sweeping most x y = (cards_left x < most) × Across (BeginsSweep x.next) x.seat y.seat × IsFalse x.again × (y.freed ≡ 0) × (y.again ≡ x.again)
+StepsOn stages.Stopping stages.Rooting most x y = Across (BeginsMarking y.again) x.seat y.seat × (y.next ≡ 0) × (y.traced ≡ 0) × (y.cleaned ≡ 0)
+StepsOn stages.Rooting stages.Rooting most x y = SeesSome most x y × (y.again ≡ x.again) × KeepsWork x y
+StepsOn stages.Rooting stages.Draining most x y = (roots_left x < most) × Across (SeesRoots x.next (roots_left x)) x.seat y.seat × (y.again ≡ x.again) × KeepsWork x y
+StepsOn stages.Draining stages.Draining most x y = (objects_popped x y ≡ most) × Across (TracesFor most) x.seat y.seat × (y.again ≡ x.again) × CountsTraced x y
+StepsOn stages.Draining stages.Looking most x y = (objects_popped x y < most) × Across (TracesFor most) x.seat y.seat × (y.next ≡ 0) × (y.again ≡ x.again) × CountsTraced x y
+StepsOn stages.Looking stages.Looking most x y = LooksAt (shape_of x) x.next most (looks.Clean most) (did x.seat y.seat) × (y.next ≡ x.next + most) × (y.again ≡ x.again) × KeepsWork x y
+StepsOn stages.Looking stages.Cleaning most x y = LooksAt (shape_of x) x.next most (looks.Dirty y.next) (did x.seat y.seat) × (y.again ≡ x.again) × KeepsWork x y
+StepsOn stages.Looking stages.Draining most x y = (cards_left x < most) × Across (FindsPacketLeft x.next) x.seat y.seat × (y.again ≡ x.again) × KeepsWork x y
+StepsOn stages.Looking stages.Clearing most x y = (cards_left x < most) × Across (BeginsClear x.next) x.seat y.seat × IsTrue x.again × (y.again ≡ x.again) × KeepsWork x y
+StepsOn stages.Looking stages.Sweeping most x y = (cards_left x < most) × Across (BeginsSweep x.next) x.seat y.seat × IsFalse x.again × (y.freed ≡ 0) × (y.again ≡ x.again) × KeepsWork x y
 StepsOn stages.Cleaning stages.Cleaning most x y = CleansSome most x y × (y.again ≡ x.again)
-StepsOn stages.Cleaning stages.Draining most x y = (cards_left x < most) × Across (CleansCards x.next (cards_left x)) x.seat y.seat × (y.again ≡ x.again)
-StepsOn stages.Clearing stages.Clearing most x y = (stretches_drawn x y ≡ draws_for most x) × Across (IsPart Clear) x.seat y.seat × (y.again ≡ x.again)
-StepsOn stages.Clearing stages.Rooting most x y = Across (BeginsAgain (draws_for most x)) x.seat y.seat × (y.next ≡ 0) × IsFalse y.again
-StepsOn stages.Sweeping stages.Sweeping most x y = (stretches_drawn x y ≡ draws_for most x) × CountsFreed x y × (y.again ≡ x.again)
-StepsOn stages.Sweeping stages.Counting most x y = (stretches_drawn x y < draws_for most x) × CountsFreed x y × Across EndsSweep x.seat y.seat × (y.next ≡ 0) × (y.counted ≡ 0) × (y.again ≡ x.again)
-StepsOn stages.Counting stages.Counting most x y = (most ≤ blocks_left x) × (steps_of (did x.seat y.seat) ≡ alloc_reads x.next most) × (y.next ≡ x.next + most) × (y.freed ≡ x.freed) × (y.again ≡ x.again)
-StepsOn stages.Counting stages.Ending most x y = (blocks_left x < most) × (steps_of (did x.seat y.seat) ≡ alloc_reads x.next (blocks_left x)) × (y.freed ≡ x.freed) × (y.again ≡ x.again)
+StepsOn stages.Cleaning stages.Draining most x y = (cards_left x < most) × Across (CleansCards x.next (cards_left x)) x.seat y.seat × (y.again ≡ x.again) × CountsCleaned x y
+StepsOn stages.Clearing stages.Clearing most x y = (stretches_drawn x y ≡ draws_for most x) × Across (IsPart Clear) x.seat y.seat × (y.again ≡ x.again) × KeepsWork x y
+StepsOn stages.Clearing stages.Rooting most x y = Across (BeginsAgain (draws_for most x)) x.seat y.seat × (y.next ≡ 0) × IsFalse y.again × KeepsWork x y
+StepsOn stages.Sweeping stages.Sweeping most x y = (stretches_drawn x y ≡ draws_for most x) × CountsFreed x y × (y.again ≡ x.again) × KeepsWork x y
+StepsOn stages.Sweeping stages.Counting most x y = (stretches_drawn x y < draws_for most x) × CountsFreed x y × Across EndsSweep x.seat y.seat × (y.next ≡ 0) × (y.counted ≡ 0) × (y.again ≡ x.again) × KeepsWork x y
+StepsOn stages.Counting stages.Counting most x y = (most ≤ blocks_left x) × (steps_of (did x.seat y.seat) ≡ alloc_reads x.next most) × (y.next ≡ x.next + most) × (y.freed ≡ x.freed) × (y.again ≡ x.again) × KeepsWork x y
+StepsOn stages.Counting stages.Ending most x y = (blocks_left x < most) × (steps_of (did x.seat y.seat) ≡ alloc_reads x.next (blocks_left x)) × (y.freed ≡ x.freed) × (y.again ≡ x.again) × KeepsWork x y
 StepsOn s t most x y = ⊥
 
 -- what its collection has counted: no object is told as scanned again

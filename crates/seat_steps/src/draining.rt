@@ -14,7 +14,7 @@ ghost use Rattle.mutator_ops.specs.Few.{AtMost};
 ghost use Rattle.gc_cycle.specs.Courses.{TakesCourse};
 ghost use Rattle.gc_cycle.specs.Finishing.{IsMove, IsPart};
 ghost use Rattle.cycle_steps.specs.Pieces.{CleansCards, LooksAt, ReadsCount};
-ghost use Rattle.gc_cycle.specs.Sorts.{draws_block, pops};
+ghost use Rattle.gc_cycle.specs.Sorts.{clears, draws_block, pops};
 ghost use Rattle.gc_cycle.specs.RoundParts.{LacksPacket};
 ghost use Rattle.mutator_turns.specs.Sharing.{LeavesHeap};
 ghost use Rattle.mutator_turns.specs.Standing.{plain_of};
@@ -25,7 +25,7 @@ ghost use Rattle.seat_steps.specs.Collecting.{LooksStand, SitsAtClear, SitsAtDra
 ghost use Rattle.seat_steps.specs.Passes.{SeesRoots, TracesFor};
 
 use cycle_steps::{
-    Look, clean_step, clear_step, finds_all_marked, finish_clear, look_step, root_piece,
+    CleanStep, Look, clean_step, clear_step, finds_all_marked, finish_clear, look_step, root_piece,
     start_clear, trace_step,
 };
 use gc_table::{Heap, HeapSeat};
@@ -89,14 +89,16 @@ pub fn finds_marked(heap: &Heap, seat: &mut HeapSeat) -> bool
     finds_all_marked(heap, seat)
 }
 
-/// Cleans what is dirty of the cards from this one on, at most so many: how many it looked at, and fewer come only where none is left. None where it is to be
-/// called again.
-pub fn cleans(heap: &Heap, seat: &mut HeapSeat, from: u32, most: u32) -> Option<u32>
+/// Cleans what is dirty of the cards from this one on, at most so many: how many it looked at, where fewer come only if none is left, and how many it cleaned.
+/// None where it is to be called again.
+pub fn cleans(heap: &Heap, seat: &mut HeapSeat, from: u32, most: u32) -> Option<CleanStep>
     requires draining { SitsAtDrain heap.now seat.old }
     ensures draining { SitsAtDrain heap.now seat.new }
-    ensures some { IfSome result (λ n. n ≡ min most (card_count heap.now.shape - from)) }
-    ensures cleans { IfSome result (λ n. Across (CleansCards from n) seat.old seat.new) }
+    ensures some { IfSome result (λ r. r.passed ≡ min most (card_count heap.now.shape - from)) }
+    ensures cleans { IfSome result (λ r. Across (CleansCards from r.passed) seat.old seat.new) }
+    ensures counts { IfSome result (λ r. count_of clears (did seat.old seat.new) ≡ r.cleaned) }
     ensures lacks { IfNone result (Across LacksPacket seat.old seat.new) }
+    ensures uncleaned { IfNone result (count_of clears (did seat.old seat.new) ≡ 0) }
     ensures same { plain_of seat.new ≡ plain_of seat.old }
     ensures leaves { Across LeavesHeap seat.old seat.new }
     ensures few { Across (DoesFew (clean_some_steps most (card_cells * most) heap.now.shape + recycle_steps heap.now.shape)) seat.old seat.new }

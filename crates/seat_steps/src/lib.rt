@@ -6,7 +6,7 @@
 //!
 //! `stepper` and `background` are the types. A stepper's calls are in `stepping` and `asking`, those of a world that shares its objects in `acting`, `spilling`
 //! and `knowing`; `operations` has one operation of either kind of heap. Its collection is in `steps`, over `tries`, `leaving`, `collecting` and `draining`, and
-//! `telling` says how far it is; `refills` comes to a cell in pieces, over `seeking`. `resting` and `handing` say how a stepper is made of a seat and comes apart
+//! `telling` says how far it is; `refills` comes to a cell in pieces, over `seeking`; `payments` counts what is traced for a cache. `resting` and `handing` say how a stepper is made of a seat and comes apart
 //! again. `marking` is a tracer's turn, `try_turns` one that doesn't wait, and `dismissing` ends them.
 #![tactic(auto)]
 
@@ -21,6 +21,7 @@ mod knowing;
 mod leaving;
 mod marking;
 mod operations;
+mod payments;
 mod refills;
 mod resting;
 mod seeking;

@@ -4,6 +4,7 @@ ghost use Rattle.std.specs.Arc.{arc_value};
 ghost use Rattle.mark_core.specs.Layout.{block_count};
 ghost use Rattle.mark_core.specs.Numbers.{section_variables};
 ghost use Rattle.plain_heap.specs.declared.operation.Op.TheVariants as ops;
+ghost use Rattle.seat_steps.specs.Payments.{PaysRefill};
 ghost use Rattle.seat_steps.specs.Refilling.{BeginsSearch, MakesCached, NotesSeen, StepperRefills, block_behind};
 ghost use Rattle.seat_steps.specs.declared.stepper.Stage.TheVariants as stages;
 
@@ -73,6 +74,7 @@ impl Stepper {
     /// as many blocks as there are, one after another, and none had a free cell, or where marking is done: a collection is called for. It is a safe point too.
     pub fn refill_step(&mut self, most: u32) -> Came
         ensures refills { StepperRefills most result self.old self.new }
+        ensures pays { PaysRefill most self.old self.new }
     {
         if most == 0 {
             return Came::OutOfRange;
@@ -88,10 +90,11 @@ impl Stepper {
     fn refill_inside(&mut self, most: u32) -> Came
         requires inside { self.old.stage ≡ stages.Inside }
         ensures refills { StepperRefills most result self.old self.new }
+        ensures pays { PaysRefill most self.old self.new }
     {
         let blocks = self.blocks();
         let most = most.min(blocks.saturating_sub(self.seen));
-        match refill_once(&self.heap, &mut self.seat, self.block, most) {
+        match refill_once(&self.heap, &mut self.seat, &mut self.paid, self.block, most) {
             Ok(Sought::Free) => {
                 self.begin_search();
                 Came::Done

@@ -8,12 +8,14 @@ ghost use Rattle.gc_table.specs.Seats.{Across, view_of};
 ghost use Rattle.mutator_turns.specs.Sharing.{LeavesHeap};
 ghost use Rattle.mutator_turns.specs.Standing.{Halts, IsAtTurn, plain_of};
 ghost use Rattle.seat_steps.specs.Causes.{ArrivesBy, GoesFreely};
+ghost use Rattle.seat_steps.specs.Payments.{CountsPiece, CountsRefill};
 ghost use Rattle.seat_steps.specs.Seeking.{CachedBy, FailsBy, MakesHere, RefillsBy, SoughtBy, StandsAfter, TriesPiece};
 ghost use Rattle.seat_steps.specs.Stepping.{LeavesWorld};
 ghost use Rattle.seat_steps.specs.declared.stepper.Came.TheVariants as cames;
 
 use crate::leaving::gives_up;
 use crate::operations::makes;
+use crate::payments::count_paid;
 use crate::stepper::Came;
 use crate::tries::{arrive, point, point_with};
 use alloc_cache::{cache_of, leave_with_seat};
@@ -67,7 +69,13 @@ fn lacks_some(heap: &Heap, seat: &mut HeapSeat, sought: Sought) -> Result<Sought
 }
 
 /// A piece of the search, and then the way to its turn.
-fn seek(heap: &Heap, seat: &mut HeapSeat, from: u32, most: u32) -> Result<Sought, Came>
+fn seek(
+    heap: &Heap,
+    seat: &mut HeapSeat,
+    paid: &mut u64,
+    from: u32,
+    most: u32,
+) -> Result<Sought, Came>
     requires halts { Halts heap.now seat.old }
     requires from { from ≤ block_count heap.now.shape }
     ensures turn { IfOk result (λ _. IsAtTurn heap.now seat.new) }
@@ -77,15 +85,19 @@ fn seek(heap: &Heap, seat: &mut HeapSeat, from: u32, most: u32) -> Result<Sought
     ensures ran { Across Ran seat.old seat.new }
     ensures sought { IfOk result (λ s. Across (SoughtBy 0 from most s) seat.old seat.new) }
     ensures found { IfErr result (λ came. Across (FailsBy 0 from most came) seat.old seat.new) }
+    ensures pays { Across (CountsPiece 0 8 from most paid.old paid.new) seat.old seat.new }
 {
     match tries_some(heap, seat, from, most) {
-        Piece::Cache(cache, _paid) => match point_with(heap, seat, cache) {
-            Ok(free) => {
-                leave_with_seat(free);
-                Ok(Sought::Free)
+        Piece::Cache(cache, traced) => {
+            count_paid(paid, traced);
+            match point_with(heap, seat, cache) {
+                Ok(free) => {
+                    leave_with_seat(free);
+                    Ok(Sought::Free)
+                }
+                Err(came) => Err(came),
             }
-            Err(came) => Err(came),
-        },
+        }
         Piece::Next(next) => lacks_some(heap, seat, Sought::Next(next)),
         Piece::Ended => lacks_some(heap, seat, Sought::Ended),
         Piece::MarkingDone => lacks_some(heap, seat, Sought::MarkingDone),
@@ -97,7 +109,13 @@ fn seek(heap: &Heap, seat: &mut HeapSeat, from: u32, most: u32) -> Result<Sought
 }
 
 /// Comes to a cache with a free cell, or looks for one in so many blocks from this one on. A cache without a free cell is given up first.
-pub fn refill_once(heap: &Heap, seat: &mut HeapSeat, from: u32, most: u32) -> Result<Sought, Came>
+pub fn refill_once(
+    heap: &Heap,
+    seat: &mut HeapSeat,
+    paid: &mut u64,
+    from: u32,
+    most: u32,
+) -> Result<Sought, Came>
     requires turn { IsAtTurn heap.now seat.old }
     requires from { from ≤ block_count heap.now.shape }
     ensures turn { IfOk result (λ _. IsAtTurn heap.now seat.new) }
@@ -106,6 +124,7 @@ pub fn refill_once(heap: &Heap, seat: &mut HeapSeat, from: u32, most: u32) -> Re
     ensures leaves { Across LeavesHeap seat.old seat.new }
     ensures sought { IfOk result (λ s. RefillsBy from most s (view_of seat.old) (view_of seat.new)) }
     ensures found { IfErr result (λ came. Across (FailsBy 3 from most came) seat.old seat.new) }
+    ensures pays { Across (CountsRefill from most paid.old paid.new) seat.old seat.new }
 {
     match with_free(cache_of(seat)) {
         Ok(free) => {
@@ -114,7 +133,7 @@ pub fn refill_once(heap: &Heap, seat: &mut HeapSeat, from: u32, most: u32) -> Re
         }
         Err(none) => {
             gives_up(heap, seat, none);
-            seek(heap, seat, from, most)
+            seek(heap, seat, paid, from, most)
         }
     }
 }

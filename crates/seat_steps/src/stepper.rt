@@ -87,6 +87,12 @@ pub struct Stepper {
     pub(crate) again: bool,
     /// How many cells its sweep has freed, at most 4,294,967,295.
     pub(crate) freed: u32,
+    /// How many objects its collection has traced, at most 4,294,967,295.
+    pub(crate) traced: u32,
+    /// How many cards its collection has cleaned, at most 4,294,967,295.
+    pub(crate) cleaned: u32,
+    /// How many objects it has traced to pay for its caches, at most 2^64 - 1.
+    pub(crate) paid: u64,
     /// From which root, card or block on the pass is to go on that its stage makes.
     pub(crate) next: u32,
     /// How many cells in use it has counted.

@@ -2,6 +2,7 @@
 ghost use Rattle.std.specs.Prelude.{◌≡◌, ◌<◌};
 ghost use Rattle.mark_core.specs.Numbers.{section_variables};
 ghost use Rattle.plain_heap.specs.declared.operation.Op.TheVariants as ops;
+ghost use Rattle.seat_steps.specs.Payments.{PaysMaking};
 ghost use Rattle.seat_steps.specs.Stepping.{Entered, Left, StepperMakes, Operates, Passed, ReadsValue};
 ghost use Rattle.seat_steps.specs.declared.stepper.Stage.TheVariants as stages;
 
@@ -81,6 +82,7 @@ impl Stepper {
     /// Where no cell of its cache is free it looks at all blocks, if need be, and may pay for another cache: `make_cached` and `refill_step` do so step by step.
     pub fn make(&mut self, v: u8, value: u32) -> Came
         ensures makes { StepperMakes result (ops.New v value) self.old self.new }
+        ensures pays { PaysMaking self.old self.new }
     {
         if v >= VARIABLES {
             return Came::OutOfRange;
@@ -97,11 +99,12 @@ impl Stepper {
         requires inside { self.old.stage ≡ stages.Inside }
         requires range { v < section_variables }
         ensures makes { StepperMakes result (ops.New v value) self.old self.new }
+        ensures pays { PaysMaking self.old self.new }
     {
         if self.seat.state().made >= self.heap.shape().objects {
             return Came::Spent;
         }
-        match make_once(&self.heap, &mut self.seat, v, value) {
+        match make_once(&self.heap, &mut self.seat, &mut self.paid, v, value) {
             Came::Done => Came::Done,
             Came::NoCell => Came::NoCell,
             other => {

@@ -109,6 +109,8 @@ impl Stepper {
         self.again = saw_marking(&self.seat);
         if begins(&self.heap, &mut self.seat) {
             self.next = 0;
+            self.traced = 0;
+            self.cleaned = 0;
             self.stage = Stage::Rooting;
             return Came::NotYet;
         }
@@ -141,6 +143,7 @@ impl Stepper {
         ensures bounded { IsBoundedStep most self.old self.new }
     {
         let popped = traces(&self.heap, &mut self.seat, most);
+        self.traced = self.traced.saturating_add(popped);
         if popped != most {
             self.next = 0;
             self.stage = Stage::Looking;
@@ -187,11 +190,12 @@ impl Stepper {
         ensures collects { StepsCollection most result self.old self.new }
         ensures bounded { IsBoundedStep most self.old self.new }
     {
-        let Some(number) = cleans(&self.heap, &mut self.seat, self.next, most) else {
+        let Some(step) = cleans(&self.heap, &mut self.seat, self.next, most) else {
             return Came::NotYet;
         };
-        if number == most {
-            self.next += number;
+        self.cleaned = self.cleaned.saturating_add(step.cleaned);
+        if step.passed == most {
+            self.next += step.passed;
             return Came::NotYet;
         }
         self.stage = Stage::Draining;

@@ -1,4 +1,4 @@
-//! How far a stepper's collection is.
+//! How far a stepper's collection is, and how much it has traced.
 ghost use Rattle.std.specs.Prelude.{◌≡◌};
 ghost use Rattle.mark_core.specs.Seats.{saw};
 ghost use Rattle.mark_core.specs.declared.kinds.Phase.TheVariants.{Marking};
@@ -27,6 +27,27 @@ impl Stepper {
             freed: self.freed,
             rescanned: 0,
         }
+    }
+
+    /// How many objects its collection has traced, from the roots on.
+    pub fn traced(&self) -> u32
+        ensures traced { result ≡ self.now.traced }
+    {
+        self.traced
+    }
+
+    /// How many cards its collection has cleaned, from the roots on.
+    pub fn cleaned(&self) -> u32
+        ensures cleaned { result ≡ self.now.cleaned }
+    {
+        self.cleaned
+    }
+
+    /// How many objects it has traced to pay for its caches, since it was made.
+    pub fn paid(&self) -> u64
+        ensures paid { result ≡ self.now.paid }
+    {
+        self.paid
     }
 
     /// Whether its collection is to mark once more. As it begins to mark that says whether a cycle was marking beside the program when the world stopped.

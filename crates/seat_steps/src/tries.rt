@@ -16,11 +16,13 @@ ghost use Rattle.mutator_turns.specs.Sharing.{LeavesHeap};
 ghost use Rattle.mutator_turns.specs.Standing.{Halts, IsAtTurn, Plays, IsMutatorOutside, Works, plain_of};
 ghost use Rattle.seat_steps.specs.Causes.{ArrivesBy, ComesFreely, EntersBy, FillsBy, GoesFreely, LacksBy, LooksBy, MakesBy, PassesBy};
 ghost use Rattle.seat_steps.specs.Filling.{TriesSome, TriesToFill};
+ghost use Rattle.seat_steps.specs.Payments.{CountsBeside, CountsMaking, CountsTry};
 ghost use Rattle.seat_steps.specs.declared.stepper.Came.TheVariants as cames;
 ghost use Rattle.seat_steps.specs.Stepping.{Arrives, LacksCell, LeavesWorld, MakesOne, Passes, Refills, Tries};
 
 use crate::leaving::gives_up;
 use crate::operations::makes;
+use crate::payments::count_paid;
 use crate::stepper::Came;
 use alloc_cache::{Cache, cache_of};
 use cache_refills::{Pass, try_enter, try_refill, try_safe_point};
@@ -243,7 +245,12 @@ pub fn point_with(heap: &Heap, seat: &mut HeapSeat, cache: Cache) -> Result<Cach
 }
 
 /// Another cache, with a free cell: this one is given up.
-fn fill(heap: &Heap, seat: &mut HeapSeat, cache: Option<Cache>) -> Result<Cache, Came>
+fn fill(
+    heap: &Heap,
+    seat: &mut HeapSeat,
+    cache: Option<Cache>,
+    paid: &mut u64,
+) -> Result<Cache, Came>
     requires works { Works heap.now seat.old }
     requires cache { HasCache cache (view_of seat.old) }
     ensures ok { IfOk result (λ free. Plays heap.now seat.new × IsCached free (view_of seat.new)) }
@@ -254,6 +261,7 @@ fn fill(heap: &Heap, seat: &mut HeapSeat, cache: Option<Cache>) -> Result<Cache,
     ensures ran { Across Ran seat.old seat.new }
     ensures besides { IfOk result (λ _. Across (TriesSome 3 3) seat.old seat.new) }
     ensures found { IfErr result (λ came. Across (FillsBy came) seat.old seat.new) }
+    ensures pays { Across (CountsTry 3 8 paid.old paid.new) seat.old seat.new }
 {
     gives_up(heap, seat, cache);
     match try_fill(heap, seat) {
@@ -262,12 +270,15 @@ fn fill(heap: &Heap, seat: &mut HeapSeat, cache: Option<Cache>) -> Result<Cache,
             leave(heap, seat);
             Err(Came::Full)
         }
-        Some(Refill::Cache(cache, _paid)) => point_with(heap, seat, cache),
+        Some(Refill::Cache(cache, traced)) => {
+            count_paid(paid, traced);
+            point_with(heap, seat, cache)
+        }
     }
 }
 
 /// Comes to a cache with a free cell.
-fn come_once(heap: &Heap, seat: &mut HeapSeat) -> Result<Cache, Came>
+fn come_once(heap: &Heap, seat: &mut HeapSeat, paid: &mut u64) -> Result<Cache, Came>
     requires turn { IsAtTurn heap.now seat.old }
     ensures ok { IfOk result (λ free. Plays heap.now seat.new × IsCached free (view_of seat.new)) }
     ensures free { IfOk result (λ free. 0 < ones free.cells) }
@@ -277,27 +288,29 @@ fn come_once(heap: &Heap, seat: &mut HeapSeat) -> Result<Cache, Came>
     ensures ran { Across Ran seat.old seat.new }
     ensures freely { IfOk result (λ _. Across ComesFreely seat.old seat.new) }
     ensures found { IfErr result (λ came. Across (MakesBy came) seat.old seat.new) }
+    ensures pays { Across (CountsBeside 8 5 8 paid.old paid.new) seat.old seat.new }
 {
     let cache = cache_of(seat);
     match point(heap, seat, cache) {
         Err(came) => Err(came),
         Ok(kept) => match with_free(kept) {
             Ok(free) => Ok(free),
-            Err(none) => fill(heap, seat, none),
+            Err(none) => fill(heap, seat, none, paid),
         },
     }
 }
 
 /// Makes an object in variable v, after a safe point. The section hasn't made all its objects.
-pub fn make_once(heap: &Heap, seat: &mut HeapSeat, v: u8, value: u32) -> Came
+pub fn make_once(heap: &Heap, seat: &mut HeapSeat, paid: &mut u64, v: u8, value: u32) -> Came
     requires turn { IsAtTurn heap.now seat.old }
     requires room { length (plain_of seat.old).objects < heap.now.shape.objects }
     requires range { v < section_variables }
     ensures makes { MakesOne result (ops.New v value) heap.now seat.old seat.new }
     ensures leaves { (result ≡ cames.Done → ⊥) → Across LeavesHeap seat.old seat.new }
     ensures found { Across (MakesBy result) seat.old seat.new }
+    ensures pays { Across (CountsMaking paid.old paid.new) seat.old seat.new }
 {
-    match come_once(heap, seat) {
+    match come_once(heap, seat, paid) {
         Ok(free) => {
             makes(heap, seat, free, v, value);
             Came::Done

@@ -1,7 +1,8 @@
-use Rattle.std.proofs.Common.{inl, refl}
+use Rattle.std.proofs.Common.{inl, inr, refl}
 use Rattle.std.proofs.lemmas.Result.{IfOk-weaker}
 use Rattle.gc_table.specs.Seats.{view_of}
 use Rattle.mutator_turns.proofs.Leaving.{leaves-join}
+use Rattle.seat_steps.proofs.Counted.{pieces-first}
 use Rattle.seat_steps.proofs.Found.{err-weaker}
 use Rattle.seat_steps.proofs.Sought.{fails-first, given-up, had-free}
 use Rattle.seat_steps.proofs.seeking.refill_once.Goals as goal
@@ -25,3 +26,10 @@ returns-in-Err-clause-found c =
     let v = view_of c.gives_up.new.seat in
     let w = view_of c.seek.new.seat in
     err-weaker c.seek.result _ _ (λ came k. fails-first c.args.from c.args.most u v w c.gives_up.ensures.ran c.gives_up.ensures.few came c.seek.ensures.ran k) c.seek.ensures.found
+
+pub returns-in-Ok-clause-pays : goal.returns-in-Ok-clause-pays
+returns-in-Ok-clause-pays c = inl (refl, refl)
+
+pub returns-in-Err-clause-pays : goal.returns-in-Err-clause-pays
+returns-in-Err-clause-pays c =
+    inr (pieces-first 3 0 8 c.args.from c.args.most c.args.paid.now c.seek.new.paid (view_of c.args.seat.now) (view_of c.gives_up.new.seat) (view_of c.seek.new.seat) c.gives_up.ensures.ran c.gives_up.ensures.few c.seek.ensures.pays)

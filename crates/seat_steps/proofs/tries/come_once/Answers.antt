@@ -1,11 +1,13 @@
 use Rattle.mutator_turns.proofs.Leaving.{leaves-join}
-use Rattle.std.proofs.Common.{◌∙◌}
+use Rattle.std.proofs.Common.{◌∙◌, arith, inl, inr, refl}
+use Rattle.mutator_ops.proofs.Few.{at-most-more}
 use Rattle.std.proofs.lemmas.Result.{IfOk-weaker}
 use Rattle.gc_table.specs.Seats.{view_of}
 use Rattle.gc_table.specs.declared.view.View.{View}
 use Rattle.gc_table.proofs.Running.{ran-join}
+use Rattle.seat_steps.proofs.Counted.{counts-first}
 use Rattle.seat_steps.proofs.Filled.{arrives-makes, fills-makes, tries-first}
-use Rattle.seat_steps.proofs.Found.{comes-filled, comes-free, err-weaker, turn-known}
+use Rattle.seat_steps.proofs.Found.{arrives-few, comes-filled, comes-free, err-weaker, turn-known}
 use Rattle.seat_steps.proofs.tries.come_once.Goals as goal
 
 pub returns-in-Err-clause-found : goal.returns-in-Err-clause-found
@@ -39,3 +41,15 @@ returns-in-Err-with_free-clause-found c =
 
 pub returns-in-Err-with_free-clause-leaves : goal.returns-in-Err-with_free-clause-leaves
 returns-in-Err-with_free-clause-leaves c = leaves-join (view_of c.args.seat.now) (view_of c.point.new.seat) (view_of c.fill.new.seat) c.point.ensures.leaves c.fill.ensures.leaves
+
+pub returns-in-Err-clause-pays : goal.returns-in-Err-clause-pays
+returns-in-Err-clause-pays c = inl (arrives-few c.in-Err.came (view_of c.args.seat.now) (view_of c.point.new.seat) c.in-Err.ensures.found, refl)
+
+pub returns-in-Ok-with_free-clause-pays : goal.returns-in-Ok-with_free-clause-pays
+returns-in-Ok-with_free-clause-pays c = inl (at-most-more 3 8 (view_of c.args.seat.now) (view_of c.point.new.seat) (omega arith) c.in-Ok.ensures.freely.1.few, refl)
+
+pub returns-in-Err-with_free-clause-pays : goal.returns-in-Err-with_free-clause-pays
+returns-in-Err-with_free-clause-pays c =
+    let u : View = view_of c.args.seat.now in
+    let k = turn-known u.state.section u.state.season_seen c.requires.turn.turn in
+    inr (counts-first 2 3 8 c.args.paid.now c.fill.new.paid u (view_of c.point.new.seat) (view_of c.fill.new.seat) c.point.ensures.ran (c.in-Ok.ensures.freely.1.known k) c.fill.ensures.pays)

@@ -31,7 +31,7 @@ returns-then-begins c =
     record {
       collects = λ most.
           step-on most x _ stages.Stopping stages.Rooting c.requires.stopping refl
-          (record { stopped = v; finds = c.if-not-stops.ensures.found; course = c.if-begins.ensures.course; marking = c.saw_marking-self.ensures.marking }, refl)
+          (record { stopped = v; finds = c.if-not-stops.ensures.found; course = c.if-begins.ensures.course; marking = c.saw_marking-self.ensures.marking }, refl, refl, refl)
           (record { heap = b.same ∙ s.same; leaves = leaves-join u v w s.leaves b.leaves; world = refl; name_is = refl });
       bounded = λ most.
           bounded-on most x _ stages.Stopping stages.Rooting c.requires.stopping refl

@@ -28,7 +28,7 @@ returns-then-clears-draws c =
     let few = subst (λ (h : Heap). PassesFew (c.stretches_of-draws.result * (2 + h.shape.stretch)) u v) c.deref-2.ensures e.few in
     let all = count ∙ (c.if-clears-draws.true ∙ draws) in
     record {
-      collects = step-on c.args.most x _ stages.Clearing stages.Clearing c.requires.clearing c.requires.clearing (all, e.part, refl) (record { heap = e.same; leaves = e.leaves; world = refl; name_is = refl });
+      collects = step-on c.args.most x _ stages.Clearing stages.Clearing c.requires.clearing c.requires.clearing (all, e.part, refl, (refl, refl)) (record { heap = e.same; leaves = e.leaves; world = refl; name_is = refl });
       bounded =
           bounded-on c.args.most x _ stages.Clearing stages.Clearing c.requires.clearing c.requires.clearing
           (omega (arith, all), subst (λ (k : ℕ). PassesFew (k * (2 + (shape_of x).stretch)) u v) draws few);
@@ -55,6 +55,7 @@ returns-clause-collects c =
       },
       refl,
       refl,
+      (refl, refl),
     )
     (record { heap = b.same ∙ e.same; leaves = leaves-join u v w e.leaves b.leaves; world = refl; name_is = refl })
 

@@ -20,7 +20,7 @@ returns-in-Dirty-clause-collects c =
     let x = c.args.self.now in
     let e = c.in-Dirty.ensures in
     step-on c.args.most x _ stages.Looking stages.Cleaning c.requires.looking refl
-    (subst (λ (h : Heap). LooksAt h.shape x.next c.args.most (looks.Dirty c.in-Dirty.card) (did x.seat c.looks.new.seat)) c.deref.ensures e.looked, refl)
+    (subst (λ (h : Heap). LooksAt h.shape x.next c.args.most (looks.Dirty c.in-Dirty.card) (did x.seat c.looks.new.seat)) c.deref.ensures e.looked, refl, (refl, refl))
     (record { heap = e.same; leaves = e.leaves; world = refl; name_is = refl })
 
 pub returns-in-Dirty-clause-bounded : goal.returns-in-Dirty-clause-bounded
@@ -36,6 +36,7 @@ returns-then-number-most-clause-collects c =
           (subst (λ k. LooksAt c.deref.result.now.shape x.next c.args.most (looks.Clean k) (did x.seat c.looks.new.seat)) is e.looked),
       ap (λ k. x.next + k) is,
       refl,
+      (refl, refl),
     )
     (record { heap = e.same; leaves = e.leaves; world = refl; name_is = refl })
 
@@ -57,6 +58,7 @@ returns-then-not-finds_marked-clause-collects c =
           (cards-left c.finds_marked.result sh x.next c.in-Clean.number c.args.most u v w shape e.leaves.ran f.leaves.ran e.looked c.if-number-most.false f.reads),
       packet-left c.finds_marked.result sh x.next c.in-Clean.number c.args.most u v w shape e.leaves.ran f.leaves.ran e.looked c.if-number-most.false f.reads c.if-not-finds_marked.true,
       refl,
+      (refl, refl),
     )
     (record { heap = f.same ∙ e.same; leaves = leaves-join u v w e.leaves f.leaves; world = refl; name_is = refl })
 
@@ -96,6 +98,7 @@ returns-then-self-clause-collects c =
       },
       c.if-self.true,
       refl,
+      (refl, refl),
     )
     (record { heap = b.same ∙ (f.same ∙ e.same); leaves = leaves-join u v y e.leaves (leaves-join v w y f.leaves b.leaves); world = refl; name_is = refl })
 
@@ -139,6 +142,7 @@ returns-clause-collects c =
       c.if-self.false,
       refl,
       refl,
+      (refl, refl),
     )
     (record { heap = b.same ∙ (f.same ∙ e.same); leaves = leaves-join u v y e.leaves (leaves-join v w y f.leaves b.leaves); world = refl; name_is = refl })
 

@@ -2,6 +2,7 @@ use Rattle.std.proofs.Common.{◌≡◌, ◌-◌, arith, refl}
 use Rattle.gc_table.specs.Seats.{view_of}
 use Rattle.cache_refills.specs.declared.pieces.Piece.TheVariants as pieces
 use Rattle.seat_steps.specs.Refilling.{blocks_of, reach}
+use Rattle.seat_steps.proofs.Counted.{pays-refill, refill-at}
 use Rattle.seat_steps.proofs.Refilled.{ended-of, fails-at, free-of, next-of, next-within, refills-done, refills-ended, refills-next, refills-out, seeks-at}
 use Rattle.seat_steps.proofs.stepper.Stepper.refill_inside.Goals as goal
 
@@ -35,6 +36,7 @@ returns-in-Ok-Free c =
           c.requires.inside
           c.requires.inside
           (record { heap = c.refill_once.ensures.same; leaves = c.refill_once.ensures.leaves; world = refl; name_is = refl });
+      pays = let b = c.begin_search.ensures.begins in pays-refill c.args.most c.min-most.result c.refill_once.new.paid c.refill_once.new.seat x c.begin_search.new.self reaches b.seat b.paid_is c.refill_once.ensures.pays;
     }
 
 pub returns-in-Ok-Next : goal.returns-in-Ok-Next
@@ -55,6 +57,7 @@ returns-in-Ok-Next c =
           a.next-is
           (next-of x.block c.min-most.result a.next a.field-0 (view_of x.seat) (view_of c.refill_once.new.seat) a.field-0-is a.ensures.sought)
           c.note_seen.ensures.notes;
+      pays = let b = c.note_seen.ensures.notes in pays-refill c.args.most c.min-most.result c.refill_once.new.paid c.refill_once.new.seat x c.note_seen.new.self reaches b.seat b.paid_is c.refill_once.ensures.pays;
     }
 
 pub returns-in-Ok-Ended : goal.returns-in-Ok-Ended
@@ -76,6 +79,7 @@ returns-in-Ok-Ended c =
           x.within
           (ended-of x.block c.min-most.result a.field-0 (view_of x.seat) (view_of c.refill_once.new.seat) a.field-0-is a.ensures.sought)
           c.note_seen-in-Ok-Ended.ensures.notes;
+      pays = let b = c.note_seen-in-Ok-Ended.ensures.notes in pays-refill c.args.most c.min-most.result c.refill_once.new.paid c.refill_once.new.seat x c.note_seen-in-Ok-Ended.new.self reaches b.seat b.paid_is c.refill_once.ensures.pays;
     }
 
 pub returns-in-Err : goal.returns-in-Err
@@ -90,4 +94,14 @@ returns-in-Err c =
       refills =
           refills-out c.args.most c.in-Err.came c.deref.result.now x _ (x.inside c.requires.inside).works.sits.1 e.err (fails-at c.min-most.result c.args.most c.in-Err.came x (view_of c.refill_once.new.seat) reaches e.found) c.requires.inside refl
           (record { heap = c.refill_once.ensures.same; leaves = c.refill_once.ensures.leaves; world = refl; name_is = refl });
+      pays = refill-at c.args.most c.min-most.result c.refill_once.new.paid x (view_of c.refill_once.new.seat) reaches c.refill_once.ensures.pays;
     }
+
+pub returns-in-Ok-MarkingDone-clause-pays : goal.returns-in-Ok-MarkingDone-clause-pays
+returns-in-Ok-MarkingDone-clause-pays c =
+    let x = c.args.self.now in
+    let first = c.saturating_sub.ensures in
+    let second = c.min-most.ensures in
+    let blocks = c.blocks-blocks.ensures in
+    let reaches : c.min-most.result ≡ reach c.args.most x = omega (arith, first, second, blocks) in
+    refill-at c.args.most c.min-most.result c.refill_once.new.paid x (view_of c.refill_once.new.seat) reaches c.refill_once.ensures.pays

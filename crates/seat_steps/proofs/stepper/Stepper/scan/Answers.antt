@@ -18,7 +18,7 @@ returns-in_default c =
     let x = c.args.self.now in
     let e = c.in_default.ensures in
     record {
-      collects = step-on c.args.most x _ stages.Rooting stages.Rooting c.requires.rooting c.requires.rooting (inr (refl, e.lacks), refl) (record { heap = e.same; leaves = e.leaves; world = refl; name_is = refl });
+      collects = step-on c.args.most x _ stages.Rooting stages.Rooting c.requires.rooting c.requires.rooting (inr (refl, e.lacks), refl, (refl, refl)) (record { heap = e.same; leaves = e.leaves; world = refl; name_is = refl });
       bounded = bounded-on c.args.most x _ stages.Rooting stages.Rooting c.requires.rooting c.requires.rooting (inr e.lacks, subst (λ (h : Heap). DoesFew (see_to_steps c.args.most h.shape + recycle_steps h.shape) (view_of x.seat) (view_of c.roots.new.seat)) c.deref.ensures e.few);
     }
 
@@ -30,7 +30,7 @@ returns-then-number-most-clause-collects c =
     let is = c.if-number-most.true in
     let count : n ≡ min c.args.most (roots_left x) = subst (λ (h : Heap). n ≡ min c.args.most (root_count h.shape - x.next)) c.deref.ensures e.some.1 in
     step-on c.args.most x _ stages.Rooting stages.Rooting c.requires.rooting c.requires.rooting
-    (inl (as-many n c.args.most (roots_left x) count is, ap (λ k. x.next + k) is, subst (λ k. Across (SeesRoots x.next k) x.seat c.roots.new.seat) is e.sees), refl)
+    (inl (as-many n c.args.most (roots_left x) count is, ap (λ k. x.next + k) is, subst (λ k. Across (SeesRoots x.next k) x.seat c.roots.new.seat) is e.sees), refl, (refl, refl))
     (record { heap = e.same; leaves = e.leaves; world = refl; name_is = refl })
 
 pub returns-then-number-most-clause-bounded : goal.returns-then-number-most-clause-bounded
@@ -46,7 +46,7 @@ returns-clause-collects c =
     let n : ℕ = c.in-Some.number in
     let count : n ≡ min c.args.most (roots_left x) = subst (λ (h : Heap). n ≡ min c.args.most (root_count h.shape - x.next)) c.deref.ensures e.some.1 in
     let all = all-left n c.args.most (roots_left x) count c.if-number-most.false in
-    step-on c.args.most x _ stages.Rooting stages.Draining c.requires.rooting refl (all.0, subst (λ k. Across (SeesRoots x.next k) x.seat c.roots.new.seat) all.1 e.sees, refl)
+    step-on c.args.most x _ stages.Rooting stages.Draining c.requires.rooting refl (all.0, subst (λ k. Across (SeesRoots x.next k) x.seat c.roots.new.seat) all.1 e.sees, refl, (refl, refl))
     (record { heap = e.same; leaves = e.leaves; world = refl; name_is = refl })
 
 pub returns-clause-bounded : goal.returns-clause-bounded

@@ -31,7 +31,7 @@ returns-then-step-draws-clause-collects c =
     let sum = c.saturating_add-self.ensures in
     let more = e.freed in
     let freed : c.saturating_add-self.result ≡ min (x.freed + freed_in (view_of x.seat) (did x.seat c.sweeps-step.new.seat)) greatest = omega (arith, sum, more) in
-    step-on c.args.most x _ stages.Sweeping stages.Sweeping c.requires.sweeping c.requires.sweeping (count ∙ (c.if-step-draws.true ∙ draws), freed, refl) (record { heap = e.same; leaves = e.leaves; world = refl; name_is = refl })
+    step-on c.args.most x _ stages.Sweeping stages.Sweeping c.requires.sweeping c.requires.sweeping (count ∙ (c.if-step-draws.true ∙ draws), freed, refl, (refl, refl)) (record { heap = e.same; leaves = e.leaves; world = refl; name_is = refl })
 
 pub returns-then-step-draws-clause-bounded : goal.returns-then-step-draws-clause-bounded
 returns-then-step-draws-clause-bounded c =
@@ -68,7 +68,7 @@ returns-clause-collects c =
     let unfreed = freed-move Sweep Idle v w m.moved in
     let freed : c.saturating_add-self.result ≡ min (x.freed + freed_in u (did x.seat c.ends_sweep.new.seat)) greatest = omega (arith, sum, more, total, unfreed) in
     step-on c.args.most x _ stages.Sweeping stages.Counting c.requires.sweeping refl
-    (drawn, freed, record { swept = v; part = e.part; moved = m.moved }, refl, refl, refl)
+    (drawn, freed, record { swept = v; part = e.part; moved = m.moved }, refl, refl, refl, (refl, refl))
     (record { heap = m.same ∙ e.same; leaves = leaves-join u v w e.leaves m.leaves; world = refl; name_is = refl })
 
 pub returns-clause-bounded : goal.returns-clause-bounded

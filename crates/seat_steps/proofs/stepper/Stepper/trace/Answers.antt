@@ -1,9 +1,11 @@
 use Rattle.std.proofs.Common.{◌≡◌, ◌<◌, ◌+◌, arith, refl, subst}
+use Rattle.std.specs.Prelude.{min}
 use Rattle.gc_table.specs.Seats.{did, view_of}
 use Rattle.gc_table.specs.declared.seat.Heap.{Heap}
 use Rattle.packet_pools.specs.Counts.{count_of}
 use Rattle.tracer.specs.StepBounds.{recycle_steps, trace_steps}
 use Rattle.mutator_ops.specs.Few.{AtMost}
+use Rattle.gc_cycle.specs.Finishing.{most as greatest}
 use Rattle.gc_cycle.specs.Sorts.{pops}
 use Rattle.seat_steps.specs.declared.stepper.Stage.TheVariants as stages
 use Rattle.seat_steps.proofs.Stages.{bounded-on, step-on}
@@ -17,7 +19,9 @@ returns-then-popped-most-clause-collects c =
     let count = e.popped.1 in
     let other = c.if-popped-most.true in
     let fewer : count_of pops (did x.seat c.traces-popped.new.seat) < c.args.most = omega (arith, bound, count, other) in
-    step-on c.args.most x _ stages.Draining stages.Looking c.requires.draining refl (fewer, e.traces, refl, refl) (record { heap = e.same; leaves = e.leaves; world = refl; name_is = refl })
+    let sum = c.saturating_add-self.ensures in
+    let traced : c.saturating_add-self.result ≡ min (x.traced + count_of pops (did x.seat c.traces-popped.new.seat)) greatest = omega (arith, sum, count) in
+    step-on c.args.most x _ stages.Draining stages.Looking c.requires.draining refl (fewer, e.traces, refl, refl, (traced, refl)) (record { heap = e.same; leaves = e.leaves; world = refl; name_is = refl })
 
 pub returns-then-popped-most-clause-bounded : goal.returns-then-popped-most-clause-bounded
 returns-then-popped-most-clause-bounded c =
@@ -33,7 +37,9 @@ returns-else-popped-most-clause-collects c =
     let count = e.popped.1 in
     let all = c.if-popped-most.false in
     let popped : count_of pops (did x.seat c.traces-popped.new.seat) ≡ c.args.most = omega (arith, count, all) in
-    step-on c.args.most x _ stages.Draining stages.Draining c.requires.draining c.requires.draining (popped, e.traces, refl) (record { heap = e.same; leaves = e.leaves; world = refl; name_is = refl })
+    let sum = c.saturating_add-self.ensures in
+    let traced : c.saturating_add-self.result ≡ min (x.traced + count_of pops (did x.seat c.traces-popped.new.seat)) greatest = omega (arith, sum, count) in
+    step-on c.args.most x _ stages.Draining stages.Draining c.requires.draining c.requires.draining (popped, e.traces, refl, (traced, refl)) (record { heap = e.same; leaves = e.leaves; world = refl; name_is = refl })
 
 pub returns-else-popped-most-clause-bounded : goal.returns-else-popped-most-clause-bounded
 returns-else-popped-most-clause-bounded c =

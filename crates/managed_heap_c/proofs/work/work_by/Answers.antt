@@ -1,0 +1,10 @@
+use Rattle.std.proofs.Common.{refl}
+use Rattle.seat_steps.specs.declared.stepper.Came.TheVariants as cames
+use Rattle.managed_heap_c.specs.Telling.{TellsWork}
+use Rattle.managed_heap_c.proofs.Answered.{answered}
+use Rattle.managed_heap_c.proofs.work.work_by.Goals as goal
+
+pub returns-in-Some-clause-answers : goal.returns-in-Some-clause-answers
+returns-in-Some-clause-answers c =
+    let x = c.in-Some.stepper in
+    answered (TellsWork c.work_now.result) 0 c.args.hand.now.stepper x x cames.Done c.in-Some.is refl (refl, refl, c.work_now.ensures.work)
