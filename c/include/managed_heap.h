@@ -29,7 +29,7 @@ extern "C" {
 #endif
 
 /* The version of these calls. The first number rises where a program has to be changed or compiled again. */
-#define MH_VERSION "3.0"
+#define MH_VERSION "3.1"
 
 /* What a call came to. Where it isn't MH_OK, objects and variables are as before, but for what a line here says. */
 typedef enum mh_status {
@@ -96,10 +96,10 @@ static inline const char *mh_status_text(mh_status s) {
  */
 typedef struct mh_world { void *at; struct mh_book *book; } mh_world;
 #ifdef MH_CHECKED
-typedef struct mh_mutator { void *at; struct mh_book *book; uint32_t made, used; } mh_mutator;
+typedef struct mh_mutator { void *at; struct mh_book *book; uint32_t made, used; uint64_t told; } mh_mutator;
 typedef struct mh_tracer { void *at; struct mh_book *book; uint64_t told; uint32_t used; } mh_tracer;
 #else
-typedef struct mh_mutator { void *at; struct mh_book *book; uint32_t made; } mh_mutator;
+typedef struct mh_mutator { void *at; struct mh_book *book; uint32_t made; uint64_t told; } mh_mutator;
 typedef struct mh_tracer { void *at; struct mh_book *book; uint64_t told; } mh_tracer;
 #endif
 
@@ -141,6 +141,9 @@ typedef struct mh_cycle {
     uint64_t swept;   /* and how long of that it was swept, and the cells in use were counted */
     uint64_t freed;   /* how many cells were freed, */
     uint64_t kept;    /* and how many are in use */
+    uint64_t mutators; /* how many objects mutators traced beside the program since the cycle before, to pay for the cells that they took */
+    uint64_t traced;  /* how many objects were traced while the world stood still, */
+    uint64_t cleaned; /* and how many cards of 16 cells were cleaned then, since they were dirty */
 } mh_cycle;
 
 /* Why a cycle ended: a collection was asked for, or no cell was free for an object. */
@@ -155,6 +158,14 @@ typedef struct mh_course {
     uint32_t freed;
     uint32_t kept;
 } mh_course;
+
+/* How much a mutator has traced: objects, to pay for the cells that it took, since it was taken; and what its collection has done from the roots on: how many
+   objects it has traced, and how many cards it has cleaned. */
+typedef struct mh_work {
+    uint64_t paid;
+    uint32_t traced;
+    uint32_t cleaned;
+} mh_work;
 
 /* Where a mutator stands: outside, inside, or between two steps of its collection. */
 enum {
@@ -198,6 +209,7 @@ mh_status mhl_give_back_tracer(mh_world *world, mh_tracer *t);
 mh_status mhl_trace_turn(mh_tracer *t);
 mh_status mhl_dismiss_step(mh_world *world);
 mh_status mhl_course(mh_mutator *m, mh_course *course);
+mh_status mhl_work(mh_mutator *m, mh_work *work);
 mh_status mhl_traced(mh_tracer *t, uint64_t *traced);
 
 /* A call by the handle of a mutator or of a tracer. */
@@ -214,7 +226,7 @@ static inline mh_status mh_was_used(uint32_t *used, mh_status s) {
 
 /* What the header itself keeps of a world, by atomic words: how many slots a mutator has, and the cycles. */
 
-enum { MH_CYCLE_NUMBERS = 10 };
+enum { MH_CYCLE_NUMBERS = 13 };
 
 typedef struct mh_book {
     uint64_t (*watch)(void);
@@ -224,10 +236,12 @@ typedef struct mh_book {
     uint64_t stage, why, beside;     /* of the collection under way */
     uint64_t began, asked, stopped, swept; /* when marking was first seen, and when it got so far */
     uint64_t traced, traced_before;  /* what all tracers have told, and had as the last cycle ended */
+    uint64_t paid, paid_before;      /* and all mutators */
 } mh_book;
 
 static inline uint64_t mh_noted(const uint64_t *number) { return __atomic_load_n(number, __ATOMIC_ACQUIRE); }
 static inline void mh_note(uint64_t *number, uint64_t n) { __atomic_store_n(number, n, __ATOMIC_RELEASE); }
+static inline void mh_add(uint64_t *number, uint64_t n) { __atomic_fetch_add(number, n, __ATOMIC_SEQ_CST); }
 
 /* The time, in nanoseconds: by a clock that nobody sets where <time.h> has it, as under -std=gnu11 or with _POSIX_C_SOURCE. */
 static inline uint64_t mh_now(void) {
@@ -246,9 +260,9 @@ static inline uint64_t mh_now(void) {
 static inline uint64_t mh_since(uint64_t from, uint64_t to) { return from < to ? to - from : 0; }
 
 /* The cycle that the mutator is about to end is written. Nobody else writes one meanwhile, since the world stands still. */
-static inline void mh_write_cycle(mh_book *book, const mh_course *course) {
+static inline void mh_write_cycle(mh_book *book, const mh_course *course, const mh_work *work) {
     uint64_t now = book->watch(), began = mh_noted(&book->began), asked = mh_noted(&book->asked), stopped = mh_noted(&book->stopped);
-    uint64_t traced = mh_noted(&book->traced), number = mh_noted(&book->last[0]) + 1;
+    uint64_t traced = mh_noted(&book->traced), paid = mh_noted(&book->paid), number = mh_noted(&book->last[0]) + 1;
     __atomic_store_n(&book->turns, __atomic_load_n(&book->turns, __ATOMIC_RELAXED) + 1u, __ATOMIC_RELAXED);
     mh_note(&book->last[0], number);
     mh_note(&book->last[1], mh_noted(&book->why));
@@ -260,13 +274,17 @@ static inline void mh_write_cycle(mh_book *book, const mh_course *course) {
     mh_note(&book->last[7], mh_since(mh_noted(&book->swept), now));
     mh_note(&book->last[8], course->freed);
     mh_note(&book->last[9], course->kept);
+    mh_note(&book->last[10], paid - mh_noted(&book->paid_before));
+    mh_note(&book->last[11], work->traced);
+    mh_note(&book->last[12], work->cleaned);
     __atomic_store_n(&book->turns, __atomic_load_n(&book->turns, __ATOMIC_RELAXED) + 1u, __ATOMIC_RELEASE);
     mh_note(&book->traced_before, traced);
+    mh_note(&book->paid_before, paid);
     mh_note(&book->began, 0);
 }
 
 /* What is noted of a collection after a step of it, by the mutator that has the stop. */
-static inline void mh_note_course(mh_book *book, const mh_course *course, uint64_t why) {
+static inline void mh_note_course(mh_book *book, const mh_course *course, const mh_work *work, uint64_t why) {
     uint64_t before = mh_noted(&book->stage);
     if (course->stage == before) return;
     mh_note(&book->stage, course->stage);
@@ -281,9 +299,19 @@ static inline void mh_note_course(mh_book *book, const mh_course *course, uint64
         mh_note(&book->beside, course->again);
         return;
     case MH_AT_SWEEP: mh_note(&book->swept, book->watch()); return;
-    case MH_AT_END: mh_write_cycle(book, course); return;
+    case MH_AT_END: mh_write_cycle(book, course, work); return;
     default: return;
     }
+}
+
+/* Adds what the mutator has traced to pay for its cells since it told last. It tells with each 64th object, where a call makes none, and before it leaves. */
+static inline void mh_tell(mh_mutator *m, const mh_work *work) {
+    mh_add(&m->book->paid, work->paid - m->told);
+    m->told = work->paid;
+}
+static inline void mh_tell_paid(mh_mutator *m) {
+    mh_work work;
+    if (mhl_work(m, &work) == MH_OK && work.paid != m->told) mh_tell(m, &work);
 }
 
 /* The world: for one thread at a time. */
@@ -312,7 +340,7 @@ static inline mh_status mh_open(const mh_sizes *sizes, mh_world *w) {
 /* Takes one of its mutators: it is outside, with the variables as who had it last left them, or all nil. */
 static inline mh_status mh_take_mutator(mh_world *w, mh_mutator *m) {
     mh_status s = !w->at ? MH_GIVEN_BACK : m->at ? MH_TAKEN : mhl_take_mutator(w, m);
-    if (s == MH_OK) { m->book = w->book; m->made = 0; }
+    if (s == MH_OK) { m->book = w->book; m->made = 0; m->told = 0; }
     return s;
 }
 /* What lay behind a handle that was given back is the program's to free. */
@@ -320,12 +348,15 @@ static inline mh_status mh_emptied(void **at, mh_status s) {
     if (s == MH_OK) { free(*at); *at = 0; }
     return s;
 }
-/* Gives a mutator back, which leaves first. Its handle is all zero afterwards. What its variables refer to is kept, for whoever takes it next. */
-static inline mh_status mh_give_back(mh_world *w, mh_mutator *m) {
-    mh_status s = MH_BY(m, w->at ? mh_emptied(&m->at, mhl_give_back(w, m)) : MH_GIVEN_BACK);
-    if (s == MH_OK) m->book = 0;
-    return s;
+static inline mh_status mh_given(mh_world *w, mh_mutator *m) {
+    mh_status s;
+    mh_tell_paid(m);
+    s = mhl_give_back(w, m);
+    if (s == MH_OK) { m->book = 0; m->told = 0; }
+    return mh_emptied(&m->at, s);
 }
+/* Gives a mutator back, which leaves first. Its handle is all zero afterwards. What its variables refer to is kept, for whoever takes it next. */
+static inline mh_status mh_give_back(mh_world *w, mh_mutator *m) { return MH_BY(m, w->at ? mh_given(w, m) : MH_GIVEN_BACK); }
 static inline mh_status mh_statistics(mh_world *w, mh_numbers *numbers) { return w->at ? mhl_statistics(w, numbers) : MH_GIVEN_BACK; }
 /* Takes one of its tracers. */
 static inline mh_status mh_take_tracer(mh_world *w, mh_tracer *t) {
@@ -333,12 +364,12 @@ static inline mh_status mh_take_tracer(mh_world *w, mh_tracer *t) {
     if (s == MH_OK) { t->book = w->book; mhl_traced(t, &t->told); }
     return s;
 }
-/* Gives a tracer back. Its handle is all zero afterwards. */
-static inline mh_status mh_give_back_tracer(mh_world *w, mh_tracer *t) {
-    mh_status s = MH_BY(t, w->at ? mh_emptied(&t->at, mhl_give_back_tracer(w, t)) : MH_GIVEN_BACK);
+static inline mh_status mh_given_tracer(mh_tracer *t, mh_status s) {
     if (s == MH_OK) { t->book = 0; t->told = 0; }
-    return s;
+    return mh_emptied(&t->at, s);
 }
+/* Gives a tracer back. Its handle is all zero afterwards. */
+static inline mh_status mh_give_back_tracer(mh_world *w, mh_tracer *t) { return MH_BY(t, w->at ? mh_given_tracer(t, mhl_give_back_tracer(w, t)) : MH_GIVEN_BACK); }
 /* Tells the tracers that they are dismissed, for good; MH_STOPPED where a stop is under way, and nothing is told. */
 static inline mh_status mh_dismiss_step(mh_world *w) { return w->at ? mhl_dismiss_step(w) : MH_GIVEN_BACK; }
 /* Frees the heap; MH_STILL_LENT where a mutator or a tracer isn't back. The handle is all zero afterwards. */
@@ -368,6 +399,9 @@ static inline mh_status mh_last_cycle(const mh_world *w, mh_cycle *cycle) {
     cycle->swept = n[7];
     cycle->freed = n[8];
     cycle->kept = n[9];
+    cycle->mutators = n[10];
+    cycle->traced = n[11];
+    cycle->cleaned = n[12];
     return MH_OK;
 }
 
@@ -376,30 +410,41 @@ static inline mh_status mh_last_cycle(const mh_world *w, mh_cycle *cycle) {
 /* Enters the world, where no stop is under way. */
 static inline mh_status mh_enter_step(mh_mutator *m) { return MH_BY(m, mhl_enter_step(m)); }
 /* Leaves the world. What its variables refer to is kept. */
-static inline mh_status mh_leave(mh_mutator *m) { return MH_BY(m, mhl_leave(m)); }
+static inline mh_status mh_leave(mh_mutator *m) { return MH_BY(m, (mh_tell_paid(m), mhl_leave(m))); }
+static inline mh_status mh_told_unless_done(mh_mutator *m, mh_status s) {
+    if (s != MH_OK) mh_tell_paid(m);
+    return s;
+}
 /* A safe point: MH_STOPPED where the mutator left, as a stop is under way. */
-static inline mh_status mh_safe_point_step(mh_mutator *m) { return MH_BY(m, mhl_pass(m)); }
+static inline mh_status mh_safe_point_step(mh_mutator *m) { return MH_BY(m, mh_told_unless_done(m, mhl_pass(m))); }
 
 /* Notes when a cycle is seen to mark first. Each 64th object of a mutator is looked at: it gets cells for as many at most at a time, and reads the phase then. */
 static inline void mh_see_marking(mh_mutator *m) {
     mh_course course;
     uint64_t none = 0;
-    if (mh_noted(&m->book->began) || MH_BY(m, mhl_course(m, &course)) != MH_OK || !course.marking) return;
+    if (mh_noted(&m->book->began) || mhl_course(m, &course) != MH_OK || !course.marking) return;
     __atomic_compare_exchange_n(&m->book->began, &none, m->book->watch(), 0, __ATOMIC_RELEASE, __ATOMIC_RELAXED);
 }
+/* An object is counted within the call that made it, so that no other call by the handle comes between. */
 static inline mh_status mh_counted(mh_mutator *m, mh_status s) {
-    if (s == MH_OK && !(++m->made % 64u)) mh_see_marking(m);
+    if (s == MH_OK && ++m->made % 64u) return s;
+    if (s == MH_OK) mh_see_marking(m);
+    mh_tell_paid(m);
     return s;
 }
 
 /* v refers to a new object, whose fields are nil; MH_NO_CELL where no cell is free. It is a safe point too. */
-static inline mh_status mh_make_step(mh_mutator *m, uint32_t v, uint32_t value) { return mh_counted(m, MH_BY(m, mhl_make(m, v, value))); }
+static inline mh_status mh_make_step(mh_mutator *m, uint32_t v, uint32_t value) { return MH_BY(m, mh_counted(m, mhl_make(m, v, value))); }
 /* As mh_make_step, but it looks for no cell: MH_NO_CACHE where no cell of the mutator's cache is free. So it takes few steps, whatever the heap's size. */
-static inline mh_status mh_make_cached(mh_mutator *m, uint32_t v, uint32_t value) { return mh_counted(m, MH_BY(m, mhl_make_cached(m, v, value))); }
+static inline mh_status mh_make_cached(mh_mutator *m, uint32_t v, uint32_t value) { return MH_BY(m, mh_counted(m, mhl_make_cached(m, v, value))); }
+static inline mh_status mh_told_at_end(mh_mutator *m, mh_status s) {
+    if (s != MH_NOT_YET) mh_tell_paid(m);
+    return s;
+}
 /* The next step on the way to a cache with a free cell: MH_OK where the mutator has one, and MH_NOT_YET where there are more blocks to look at. It looks at no
    more than so many blocks of 64 cells. MH_NO_CELL where its steps looked at as many blocks as there are and found none, or where a cycle is done with marking:
    collect. Where the cache has no free cell yet it is a safe point too. */
-static inline mh_status mh_refill_step(mh_mutator *m, uint32_t most) { return MH_BY(m, mhl_refill_step(m, most)); }
+static inline mh_status mh_refill_step(mh_mutator *m, uint32_t most) { return MH_BY(m, mh_told_at_end(m, mhl_refill_step(m, most))); }
 
 /* Stands for no variable among the fields of mh_make_with: that field stays nil. */
 #define MH_NOTHING 0xffffffffu
@@ -409,7 +454,7 @@ static inline mh_status mh_refill_step(mh_mutator *m, uint32_t most) { return MH
    fields; else as mh_make_step. */
 static inline mh_status mh_make_with_step(mh_mutator *m, uint32_t v, uint32_t value, const uint32_t *fields, uint32_t count) {
     uint32_t none = MH_NOTHING;
-    return mh_counted(m, MH_BY(m, mhl_make_with(m, v, value, count ? fields : &none, count)));
+    return MH_BY(m, mh_counted(m, mhl_make_with(m, v, value, count ? fields : &none, count)));
 }
 /* Field i of v's object becomes w; MH_NIL where v is nil. */
 static inline mh_status mh_set(mh_mutator *m, uint32_t v, uint32_t i, uint32_t w) { return MH_BY(m, mhl_set(m, v, i, w)); }
@@ -427,12 +472,16 @@ static inline mh_status mh_value(mh_mutator *m, uint32_t v, uint32_t *out) { ret
 static inline mh_status mh_is_nil(mh_mutator *m, uint32_t v, uint32_t *out) { return MH_BY(m, mhl_is_nil(m, v, out)); }
 /* 1 where v and w refer to one object, or both to nothing, else 0. */
 static inline mh_status mh_same(mh_mutator *m, uint32_t v, uint32_t w, uint32_t *out) { return MH_BY(m, mhl_same(m, v, w, out)); }
-static inline mh_status mh_collect_step_for(mh_mutator *m, uint32_t most, uint64_t why) {
-    mh_status s = MH_BY(m, mhl_collect_step(m, most));
+static inline mh_status mh_noted_step(mh_mutator *m, mh_status s, uint64_t why) {
     mh_course course;
-    if (s == MH_NOT_YET && MH_BY(m, mhl_course(m, &course)) == MH_OK) mh_note_course(m->book, &course, why);
+    mh_work work;
+    if (s == MH_STOPPED) mh_tell_paid(m);
+    if (s != MH_NOT_YET || mhl_course(m, &course) != MH_OK || mhl_work(m, &work) != MH_OK) return s;
+    mh_tell(m, &work);
+    mh_note_course(m->book, &course, &work, why);
     return s;
 }
+static inline mh_status mh_collect_step_for(mh_mutator *m, uint32_t most, uint64_t why) { return MH_BY(m, mh_noted_step(m, mhl_collect_step(m, most), why)); }
 /* The next step of a collection of the mutator's own: at most so many roots, objects, cards of 16 cells or blocks of 64 are done in it. Blocks are cleared and
    swept in stretches (of 1 to 128, by the heap's size), and one at least. */
 static inline mh_status mh_collect_step(mh_mutator *m, uint32_t most) { return mh_collect_step_for(m, most, MH_ASKED); }
@@ -474,17 +523,17 @@ static inline mh_status mh_number(mh_mutator *m, uint32_t v, uint32_t *section, 
 
 /* A tracer: for one thread at a time. */
 
-/* One turn, which marks at most 64 objects and passes at most 1,024 cards: MH_OK where a cycle is marking, MH_IDLE where none is, MH_STOPPED where a stop is
-   under way, MH_DISMISSED and MH_FULL where no turn is to follow. */
-static inline mh_status mh_trace_turn(mh_tracer *t) {
-    mh_status s = MH_BY(t, mhl_trace_turn(t));
+static inline mh_status mh_told_turn(mh_tracer *t, mh_status s) {
     uint64_t traced;
-    if (s == MH_OK && MH_BY(t, mhl_traced(t, &traced)) == MH_OK) {
-        __atomic_fetch_add(&t->book->traced, traced - t->told, __ATOMIC_RELAXED);
+    if (s == MH_OK && mhl_traced(t, &traced) == MH_OK) {
+        mh_add(&t->book->traced, traced - t->told);
         t->told = traced;
     }
     return s;
 }
+/* One turn, which marks at most 64 objects and passes at most 1,024 cards: MH_OK where a cycle is marking, MH_IDLE where none is, MH_STOPPED where a stop is
+   under way, MH_DISMISSED and MH_FULL where no turn is to follow. */
+static inline mh_status mh_trace_turn(mh_tracer *t) { return MH_BY(t, mh_told_turn(t, mhl_trace_turn(t))); }
 
 /* The calls that wait. Each goes on until it is done, and so rests on the other threads' safe points. */
 

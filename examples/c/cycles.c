@@ -1,11 +1,13 @@
 /*
  * What is told of the last cycle: threads make objects that soon are garbage, beside a list that is kept, and tracers mark; another thread asks meanwhile, and writes
- * a line for some of the cycles that it finds. At the end one mutator collects alone, and what is told then is compared with what is known.
+ * a line for some of the cycles that it finds. At the end one mutator collects alone, and what is told then is compared with what is known. Before all this one
+ * thread in a world of its own knows each number: what is traced in a stop, which cards are dirty, and what it pays.
  * Arguments: threads, objects of each, cells, tracers.
  */
 #include "heap.h"
+#include <string.h>
 
-enum { LIST, NEW, LENGTH = 2000, LINES = 4 };
+enum { LIST, NEW, NEXT, LENGTH = 2000, LINES = 4, ALONE = 8192 };
 
 static mh_world world;
 static uint32_t threads, many, cells, tracers, working;
@@ -33,14 +35,16 @@ static void *mark_beside(void *p) {
 static double ms(uint64_t nanoseconds) { return (double)nanoseconds * 1e-6; }
 
 static void tell(const mh_cycle *c) {
-    printf("cycle %llu, as %s: %.2f ms marking beside%s, %llu traced by tracers, %.2f ms waited, %.2f ms stopped, of it %.2f sweeping; %llu freed, %llu kept\n",
+    printf("cycle %llu, as %s: %.2f ms marking beside%s, %llu traced by tracers, %llu by mutators, %llu in the stop, %llu cards cleaned in it; ",
            (unsigned long long)c->number, c->why == MH_ASKED ? "asked" : "no cell was free", ms(c->marked), c->beside ? "" : " (none)", (unsigned long long)c->tracers,
+           (unsigned long long)c->mutators, (unsigned long long)c->traced, (unsigned long long)c->cleaned);
+    printf("%.2f ms waited, %.2f ms stopped, of it %.2f sweeping; %llu freed, %llu kept\n",
            ms(c->waited), ms(c->stopped), ms(c->swept), (unsigned long long)c->freed, (unsigned long long)c->kept);
 }
 
 /* Asks until nobody works any more: each answer is a whole cycle, with a number that never falls. How many cycles were found. */
 static uint64_t watch(void) {
-    mh_cycle c = {0, 0, 0, 0, 0, 0, 0, 0, 0, 0};
+    mh_cycle c = {0, 0, 0, 0, 0, 0, 0, 0, 0, 0, 0, 0, 0};
     uint64_t last = 0, found = 0;
     while (__atomic_load_n(&working, __ATOMIC_ACQUIRE)) {
         mh_status s = mh_last_cycle(&world, &c);
@@ -78,11 +82,82 @@ static void end_alone(mh_mutator *m, uint64_t before) {
     MUST(mh_leave(m));
 }
 
+/* A collection of a thread alone: it traced each object that is kept once, and cleaned so many cards. */
+static void collect_alone(mh_world *w, mh_mutator *m, uint64_t objects, uint64_t cards) {
+    mh_cycle c;
+    MUST(mh_collect(m));
+    MUST(mh_last_cycle(w, &c));
+    wrong("whether a cycle was marking", c.beside, 0);
+    wrong("the objects that were kept", c.kept, objects);
+    wrong("the objects that were traced in the stop", c.traced, objects);
+    wrong("the cards that were cleaned in it", c.cleaned, cards);
+    wrong("the objects that were traced beside it", c.mutators + c.tracers, 0);
+}
+
+/* Stores a reference in each so manieth object of the list, what it was: how many cards of 16 cells the objects lie on. */
+static uint64_t dirty(mh_mutator *m, uint32_t each) {
+    static char seen[ALONE / 16];
+    uint64_t cards = 0;
+    uint32_t k, place;
+    memset(seen, 0, sizeof seen);
+    MUST(mh_copy(m, NEW, LIST));
+    for (k = 0; k < LENGTH; k++) {
+        MUST(mh_get(m, NEXT, NEW, 0));
+        MUST(mh_place(m, NEW, &place));
+        if (k % each == 0) {
+            MUST(mh_set(m, NEW, 0, NEXT));
+            if (!seen[place / 16]) { seen[place / 16] = 1; cards++; }
+        }
+        MUST(mh_copy(m, NEW, NEXT));
+    }
+    MUST(mh_forget(m, NEXT));
+    return cards;
+}
+
+/* What one thread is told that does all itself, without a tracer: exact numbers, and what it paid, which is what the cycles tell together. */
+static void alone(void) {
+    mh_sizes sizes = {ALONE, 1, 1, 0, 0, 0, 0};
+    mh_world w = {0};
+    mh_mutator m = {0};
+    mh_cycle c;
+    mh_work work;
+    uint64_t last, paid = 0;
+    uint32_t k;
+    MUST(mh_open(&sizes, &w));
+    MUST(mh_take_mutator(&w, &m));
+    MUST(mh_enter(&m));
+    for (k = 0; k < LENGTH; k++) {
+        MUST(mh_make(&m, NEW, k));
+        MUST(mh_set(&m, NEW, 0, LIST));
+        MUST(mh_copy(&m, LIST, NEW));
+    }
+    MUST(mh_forget(&m, NEW));
+    collect_alone(&w, &m, LENGTH, 0);
+    collect_alone(&w, &m, LENGTH, dirty(&m, 100));
+    collect_alone(&w, &m, LENGTH, dirty(&m, 1));
+    MUST(mh_last_cycle(&w, &c));
+    last = c.number;
+    for (k = 0; k < 20 * ALONE; k++) {
+        MUST(mh_make(&m, NEW, k));
+        MUST(mh_last_cycle(&w, &c));
+        if (c.number == last) continue;
+        wrong("the number of the next cycle", c.number, ++last);
+        paid += c.mutators;
+    }
+    MUST(mh_collect(&m));
+    MUST(mh_last_cycle(&w, &c));
+    MUST(mhl_work(&m, &work));
+    wrong("what the mutator paid", paid + c.mutators, work.paid);
+    if (!work.paid) wrong("what the mutator paid", 0, LENGTH);
+    MUST(mh_give_back(&w, &m));
+    MUST(mh_close(&w));
+}
+
 int main(int count_of, char **words) {
     static mh_mutator m[THREADS];
     static mh_tracer t[8];
     pthread_t acting[THREADS], marking[8];
-    mh_cycle none = {0, 77, 0, 0, 0, 0, 0, 0, 0, 0};
+    mh_cycle none = {0, 77, 0, 0, 0, 0, 0, 0, 0, 0, 0, 0, 0};
     mh_sizes sizes = {0, 1, 0, 0, 0, 0, 0};
     uint64_t found;
     uint32_t k;
@@ -90,6 +165,7 @@ int main(int count_of, char **words) {
     many = number(count_of, words, 2, 300000);
     cells = sizes.cells = number(count_of, words, 3, 16384);
     tracers = sizes.tracers = number(count_of, words, 4, 1);
+    alone();
     MUST_BE(MH_GIVEN_BACK, mh_last_cycle(&world, &none));
     MUST(mh_open(&sizes, &world));
     MUST_BE(MH_NOT_YET, mh_last_cycle(&world, &none));

@@ -1,6 +1,6 @@
 //! What is told of the cycles of a world.
 
-use crate::library::RawCourse;
+use crate::library::{RawCourse, RawWork};
 use std::sync::atomic::{AtomicBool, AtomicU64, Ordering};
 use std::sync::{Mutex, PoisonError};
 use std::time::{Duration, Instant};
@@ -38,6 +38,12 @@ pub struct Cycle {
     pub freed: u32,
     /// How many cells are in use.
     pub kept: u32,
+    /// How many objects mutators traced beside the program since the cycle before, to pay for the cells that they took.
+    pub mutators: u64,
+    /// How many objects were traced while the world stood still.
+    pub traced: u32,
+    /// How many cards of 16 cells were cleaned then, since they were dirty.
+    pub cleaned: u32,
 }
 
 const STOP: u32 = 2;
@@ -55,6 +61,7 @@ struct Course {
     stopped: Instant,
     swept: Instant,
     traced_before: u64,
+    paid_before: u64,
     last: Option<Cycle>,
 }
 
@@ -65,14 +72,26 @@ pub(crate) struct Cycles {
     seen: AtomicBool,
     /// How many objects all tracers have told as traced.
     traced: AtomicU64,
+    /// How many all mutators have, to pay for their cells.
+    paid: AtomicU64,
 }
 
 impl Cycles {
     pub fn new() -> Cycles {
         let now = Instant::now();
-        let course =
-            Course { stage: 0, why: Why::Asked, beside: false, began: None, asked: now, stopped: now, swept: now, traced_before: 0, last: None };
-        Cycles { course: Mutex::new(course), seen: AtomicBool::new(false), traced: AtomicU64::new(0) }
+        let course = Course {
+            stage: 0,
+            why: Why::Asked,
+            beside: false,
+            began: None,
+            asked: now,
+            stopped: now,
+            swept: now,
+            traced_before: 0,
+            paid_before: 0,
+            last: None,
+        };
+        Cycles { course: Mutex::new(course), seen: AtomicBool::new(false), traced: AtomicU64::new(0), paid: AtomicU64::new(0) }
     }
 
     /// The last cycle that has ended.
@@ -82,7 +101,12 @@ impl Cycles {
 
     /// A tracer has traced so many objects more.
     pub fn trace(&self, more: u64) {
-        self.traced.fetch_add(more, Ordering::Relaxed);
+        self.traced.fetch_add(more, Ordering::SeqCst);
+    }
+
+    /// A mutator has traced so many objects more to pay for its cells.
+    pub fn pay(&self, more: u64) {
+        self.paid.fetch_add(more, Ordering::SeqCst);
     }
 
     /// Whether a cycle was seen to mark.
@@ -98,7 +122,7 @@ impl Cycles {
     }
 
     /// What is noted after a step of a collection, by the mutator that has the stop.
-    pub fn note(&self, now: &RawCourse, why: Why) {
+    pub fn note(&self, now: &RawCourse, work: &RawWork, why: Why) {
         let mut course = self.course.lock().unwrap_or_else(PoisonError::into_inner);
         let before = course.stage;
         if now.stage == before {
@@ -116,7 +140,7 @@ impl Cycles {
             }
             SWEEP => course.swept = Instant::now(),
             END => {
-                course.end(now, self.traced.load(Ordering::Relaxed));
+                course.end(now, work, self.traced.load(Ordering::SeqCst), self.paid.load(Ordering::SeqCst));
                 self.seen.store(false, Ordering::Relaxed);
             }
             _ => (),
@@ -126,7 +150,7 @@ impl Cycles {
 
 impl Course {
     /// The cycle is about to end by these counts.
-    fn end(&mut self, counts: &RawCourse, traced: u64) {
+    fn end(&mut self, counts: &RawCourse, work: &RawWork, traced: u64, paid: u64) {
         let now = Instant::now();
         self.last = Some(Cycle {
             number: self.last.map_or(0, |cycle| cycle.number) + 1,
@@ -139,8 +163,12 @@ impl Course {
             swept: now - self.swept,
             freed: counts.freed,
             kept: counts.kept,
+            mutators: paid - self.paid_before,
+            traced: work.traced,
+            cleaned: work.cleaned,
         });
         self.traced_before = traced;
+        self.paid_before = paid;
         self.began = None;
     }
 }

@@ -36,6 +36,15 @@ pub(crate) struct RawCourse {
     pub kept: u32,
 }
 
+/// How much a mutator has traced and cleaned, as the library writes it.
+#[repr(C)]
+#[derive(Default)]
+pub(crate) struct RawWork {
+    pub paid: u64,
+    pub traced: u32,
+    pub cleaned: u32,
+}
+
 /// A handle: the address of what the library keeps behind it.
 #[repr(C)]
 pub(crate) struct Handle {
@@ -81,6 +90,7 @@ extern "C" {
     fn mhl_place(m: *mut Handle, v: u32, place: *mut u32) -> u32;
     fn mhl_number(m: *mut Handle, v: u32, section: *mut u32, number: *mut u32) -> u32;
     fn mhl_course(m: *mut Handle, out: *mut RawCourse) -> u32;
+    fn mhl_work(m: *mut Handle, out: *mut RawWork) -> u32;
     fn mhl_trace_turn(t: *mut Handle) -> u32;
     fn mhl_traced(t: *mut Handle, out: *mut u64) -> u32;
     fn free(at: *mut c_void);
@@ -248,6 +258,12 @@ impl Handle {
         let mut course = RawCourse::default();
         unsafe { mhl_course(self, &mut course) };
         course
+    }
+
+    pub fn work(&mut self) -> RawWork {
+        let mut work = RawWork::default();
+        unsafe { mhl_work(self, &mut work) };
+        work
     }
 
     pub fn trace_turn(&mut self) -> u32 {

@@ -38,11 +38,13 @@ pub struct Mutator {
     shared: Arc<Shared>,
     /// How many objects it has made.
     made: u64,
+    /// How many objects it has told as traced to pay for its cells.
+    told: u64,
 }
 
 impl Mutator {
     pub(crate) fn new(handle: Handle, shared: Arc<Shared>) -> Mutator {
-        Mutator { handle, shared, made: 0 }
+        Mutator { handle, shared, made: 0, told: 0 }
     }
 
     /// Enters the world, as soon as no collection is under way.
@@ -58,13 +60,29 @@ impl Mutator {
 
     /// Leaves the world. What its variables refer to is kept. A thread leaves before it waits for anything: others' collections wait for whoever is inside.
     pub fn leave(&mut self) -> Result<(), Error> {
+        self.tell();
         Error::of(self.handle.leave())
+    }
+
+    /// Tells what it has traced to pay for its cells since it told last: with each 64th object, where a stop is under way, and before it leaves.
+    fn tell(&mut self) {
+        let paid = self.handle.work().paid;
+        if paid != self.told {
+            self.shared.cycles.pay(paid - self.told);
+            self.told = paid;
+        }
+    }
+
+    /// Goes in again, where a stop made it leave.
+    fn come_back(&mut self) -> Result<(), Error> {
+        self.tell();
+        self.enter()
     }
 
     /// A safe point, at which another's collection may go on. A loop that runs long and makes nothing has one.
     pub fn safe_point(&mut self) -> Result<(), Error> {
         match self.handle.pass() {
-            STOPPED => self.enter(),
+            STOPPED => self.come_back(),
             other => Error::of(other),
         }
     }
@@ -74,7 +92,7 @@ impl Mutator {
         let mut tries = 0;
         loop {
             match make(&mut self.handle) {
-                STOPPED => self.enter()?,
+                STOPPED => self.come_back()?,
                 NO_CELL if tries < TRIES => {
                     tries += 1;
                     self.collect_for(Why::Lacked)?;
@@ -84,14 +102,22 @@ impl Mutator {
         }
     }
 
-    /// An object was made, if the call says so: with some of them it looks whether a cycle is marking.
+    /// An object was made, if the call says so: with some of them it looks whether a cycle is marking, and tells what it has traced.
     fn counts(&mut self, status: u32) -> Result<(), Error> {
         Error::of(status)?;
         self.made += 1;
-        if self.made % LOOK == 0 && !self.shared.cycles.saw_marking() && self.handle.course().marking == 1 {
-            self.shared.cycles.see_marking();
+        if self.made % LOOK == 0 {
+            self.look();
         }
         Ok(())
+    }
+
+    /// Looks whether a cycle is marking, and tells what it has traced.
+    fn look(&mut self) {
+        if !self.shared.cycles.saw_marking() && self.handle.course().marking == 1 {
+            self.shared.cycles.see_marking();
+        }
+        self.tell();
     }
 
     /// Variable v refers to a new object of this value, whose fields refer to nothing. Where no cell is free it collects. It is a safe point too.
@@ -105,7 +131,7 @@ impl Mutator {
         loop {
             match self.handle.make_cached(v, value) {
                 NO_CACHE => return Ok(false),
-                STOPPED => self.enter()?,
+                STOPPED => self.come_back()?,
                 other => return self.counts(other).map(|()| true),
             }
         }
@@ -116,8 +142,11 @@ impl Mutator {
     pub fn refill_step(&mut self, most: u32) -> Result<bool, Error> {
         match self.handle.refill_step(most) {
             NOT_YET => Ok(false),
-            STOPPED => self.enter().map(|()| false),
-            other => Error::of(other).map(|()| true),
+            STOPPED => self.come_back().map(|()| false),
+            other => {
+                self.tell();
+                Error::of(other).map(|()| true)
+            }
         }
     }
 
@@ -235,12 +264,13 @@ impl Mutator {
         loop {
             match self.handle.collect_step(STEP) {
                 NOT_YET => {
-                    self.shared.cycles.note(&self.handle.course(), why);
+                    self.tell();
+                    self.shared.cycles.note(&self.handle.course(), &self.handle.work(), why);
                     if self.handle.is_stopping() {
                         rests.rest();
                     }
                 }
-                STOPPED => return self.enter(),
+                STOPPED => return self.come_back(),
                 other => return Error::of(other),
             }
         }
@@ -253,7 +283,7 @@ impl Drop for Mutator {
         if self.enter().is_ok() {
             let _ = self.forget_all();
         }
-        self.handle.leave();
+        let _ = self.leave();
         let mut world = self.shared.lock();
         self.handle.give_back(&mut world);
     }

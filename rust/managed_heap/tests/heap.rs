@@ -84,6 +84,7 @@ fn the_last_cycle_is_told() {
     let first = world.last_cycle().unwrap();
     assert_eq!((first.number, first.why, first.beside), (1, Why::Asked, false));
     assert_eq!((first.freed, first.kept, first.tracers), (9, 1, 0));
+    assert_eq!((first.mutators, first.traced, first.cleaned), (0, 1, 0));
     assert!(first.swept <= first.stopped);
     for value in 0..4096 {
         m.make(0, value).unwrap();

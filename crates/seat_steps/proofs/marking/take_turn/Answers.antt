@@ -39,7 +39,7 @@ returns-in-Full-clause-turn g c =
       takes = (
         omega (arith, c.if-see_dismissals-ne0.false),
         subst (λ (p : Phase). VisitsWorld p v w) c.in-Full.is
-        (visits c.go_round.result c.args.heap.now.shape v (view_of c.goes_in.new.seat) w d.seat.sits.1 c.goes_in.ensures.ran e.tally.ran (OnTrue_at c.if-not-goes_in.false c.goes_in.ensures.enters) e.rounds e.few),
+            (visits c.go_round.result c.args.heap.now.shape v (view_of c.goes_in.new.seat) w d.seat.sits.1 c.goes_in.ensures.ran e.tally.ran (OnTrue_at c.if-not-goes_in.false c.goes_in.ensures.enters) e.rounds e.few),
       );
     }
 
