@@ -1,7 +1,9 @@
 //! A mutator in steps, for a thread that may not wait, and back.
 ghost use Rattle.std.specs.Arc.{arc_value};
 ghost use Rattle.std.specs.Prelude.{◌≡◌, ◌⊎◌, IfErr, IfOk, IsFalse, IsTrue};
+ghost use Rattle.gc_table.specs.Seats.{Across};
 ghost use Rattle.managed_heap.specs.Calls.{heap_of};
+ghost use Rattle.mutator_ops.specs.Few.{AtMost};
 ghost use Rattle.managed_heap.specs.declared.mutator.Place.TheVariants as places;
 ghost use Rattle.seat_steps.specs.Stepping.{heap_of_stepper, is_collecting, shares};
 ghost use Rattle.seat_steps.specs.declared.stepper.Stage.TheVariants as stages;
@@ -16,6 +18,7 @@ impl Mutator {
         ensures same { heap_of_stepper result ≡ heap_of self }
         ensures world { (arc_value result.heap ≡ arc_value self.heap) × (result.name ≡ self.name) }
         ensures owned { IsFalse (shares result) }
+        ensures rests { self.place ≡ places.Outside → result.seat ≡ self.seat }
     {
         let mut mutator = self;
         mutator.leave();
@@ -31,6 +34,7 @@ impl Mutator {
     pub fn of_steps(stepper: Stepper) -> Result<Mutator, Stepper>
         ensures ok { IfOk result (λ m. (m.place ≡ places.Outside) × (heap_of m ≡ heap_of_stepper stepper) × (arc_value m.heap ≡ arc_value stepper.heap) × (m.name ≡ stepper.name)) }
         ensures err { IfErr result (λ s. (IsTrue (is_collecting stepper.stage) ⊎ IsTrue (shares stepper)) × (s ≡ stepper)) }
+        ensures few { IfOk result (λ m. Across (AtMost 5) stepper.seat m.seat) }
     {
         if stepper.shares() {
             return Err(stepper);

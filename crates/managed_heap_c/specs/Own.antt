@@ -2,6 +2,7 @@
 use Rattle.std.specs.Prelude.{◌≡◌, ◌<◌, ◌++◌, [], ◌∷◌, IsFalse, vec_len}
 use Rattle.std.specs.Arc.{arc_value}
 use Rattle.gc_table.specs.Seats.{Across, view_of}
+use Rattle.mutator_ops.specs.Few.{AtMost}
 use Rattle.stop_world.specs.Gates.{TurnsBack}
 use Rattle.seat_steps.specs.Stepping.{heap_of_stepper, shares}
 use Rattle.seat_steps.specs.Trying.{Dismisses}
@@ -11,6 +12,7 @@ use Rattle.seat_steps.specs.declared.stepper.Stepper.{Stepper}
 use Rattle.managed_heap.specs.Calls.{heap_of}
 use Rattle.managed_heap.specs.Lending.{HasAllStill, IsBack, KeepsRest, ReadsStatistics}
 use Rattle.managed_heap.specs.declared.mutator.Mutator.{Mutator}
+use Rattle.managed_heap.specs.declared.mutator.Place.TheVariants as places
 use Rattle.managed_heap.specs.declared.world.Statistics.{Statistics}
 use Rattle.managed_heap.specs.declared.world.World.{World}
 use Rattle.managed_heap_c.specs.declared.sizes.CNumbers.{CNumbers}
@@ -42,20 +44,21 @@ LacksMutator w x = (w.mutators.items ≡ []) × (x.mutators.items ≡ []) × Kee
 abbrev pub GoesBack : Mutator → World → World → Type 0
 GoesBack m w x = IsBack m w x × KeepsAllButMutators w x
 
--- the world doesn't take the mutator, which is in steps again, and has all that it had
+-- the world doesn't take the mutator, which is in steps again, by no step where it was outside, and has all that it had
 abbrev pub StaysOut : Mutator → Stepper → World → World → Type 0
-StaysOut m t w x = (heap_of_stepper t ≡ heap_of m) × (arc_value t.heap ≡ arc_value m.heap) × (t.name ≡ m.name) × (x.mutators.items ≡ w.mutators.items) × KeepsAllButMutators w x
+StaysOut m t w x = (heap_of_stepper t ≡ heap_of m) × (arc_value t.heap ≡ arc_value m.heap) × (t.name ≡ m.name) × (x.mutators.items ≡ w.mutators.items) × KeepsAllButMutators w x × (m.place ≡ places.Outside → t.seat ≡ m.seat)
 
--- the world has a mutator back with these objects and variables
+-- the world has a mutator back with these objects and variables, which left by five steps at most
 abbrev pub TakesBack : Stepper → World → World → Type 0
-TakesBack s w x = (m : Mutator) × (heap_of m ≡ heap_of_stepper s) × (arc_value m.heap ≡ arc_value s.heap) × (m.name ≡ s.name) × GoesBack m w x
+TakesBack s w x = (m : Mutator) × (m.place ≡ places.Outside) × Across (AtMost 5) s.seat m.seat × (heap_of m ≡ heap_of_stepper s) × (arc_value m.heap ≡ arc_value s.heap) × (m.name ≡ s.name) × GoesBack m w x
 
--- the world doesn't take the mutator, which keeps its objects and variables, and has all that it had
+-- the world doesn't take the mutator, which keeps its objects and variables, by five steps at most, and has all that it had
 pub record Refuses (s t : Stepper) (w x : World) : Type 0 where
   pub same : heap_of_stepper t ≡ heap_of_stepper s
   pub of_world : (arc_value t.heap ≡ arc_value s.heap) × (t.name ≡ s.name)
   pub mutators : x.mutators.items ≡ w.mutators.items
   pub rest : KeepsAllButMutators w x
+  pub few : Across (AtMost 5) s.seat t.seat
 
 -- the world had this tracer, and has the others still
 abbrev pub LendsTracer : Tracer → World → World → Type 0

@@ -3,12 +3,14 @@ use Rattle.std.specs.Prelude.{◌≡◌, ◌<◌, ◌++◌, [], ◌∷◌, vec_l
 use Rattle.std.specs.Arc.{arc_value}
 use Rattle.gc_table.specs.Seats.{Across, view_of}
 use Rattle.stop_world.specs.Gates.{TurnsBack}
+use Rattle.mutator_ops.specs.Few.{AtMost}
 use Rattle.mutator_turns.specs.Sharing.{LeavesHeap}
 use Rattle.seat_steps.specs.Trying.{Dismisses}
 use Rattle.seat_steps.specs.declared.background.Tracer.{Tracer}
 use Rattle.seat_steps.specs.declared.stepper.Stepper.{Stepper}
 use Rattle.shared_heap.specs.Handing.{IsInSteps, IsOfSteps}
 use Rattle.shared_heap.specs.Lending.{HasAllStill, IsBack, KeepsRest, ReadsNumbers}
+use Rattle.shared_heap.specs.declared.mutator.Place.TheVariants.{Outside}
 use Rattle.shared_heap.specs.declared.mutator.SharedMutator.{SharedMutator}
 use Rattle.shared_heap.specs.declared.world.SharedStatistics.{SharedStatistics}
 use Rattle.shared_heap.specs.declared.world.SharedWorld.{SharedWorld}
@@ -34,20 +36,21 @@ LacksMutator w x = (w.mutators.items ≡ []) × (x.mutators.items ≡ []) × Kee
 abbrev pub GoesBack : SharedMutator → SharedWorld → SharedWorld → Type 0
 GoesBack m w x = IsBack m w x × KeepsAllButMutators w x
 
--- the world doesn't take the mutator, which is in steps again, and has all that it had
+-- the world doesn't take the mutator, which is in steps again, by no step where it was outside, and has all that it had
 abbrev pub StaysOut : SharedMutator → Stepper → SharedWorld → SharedWorld → Type 0
-StaysOut m t w x = Across LeavesHeap m.seat t.seat × (arc_value t.heap ≡ arc_value m.heap) × (x.mutators.items ≡ w.mutators.items) × KeepsAllButMutators w x
+StaysOut m t w x = Across LeavesHeap m.seat t.seat × (arc_value t.heap ≡ arc_value m.heap) × (x.mutators.items ≡ w.mutators.items) × KeepsAllButMutators w x × (m.place ≡ Outside → t.seat ≡ m.seat)
 
 -- the world has the mutator back; no step was taken that a plain heap sees
 abbrev pub TakesBack : Stepper → SharedWorld → SharedWorld → Type 0
 TakesBack s w x = (m : SharedMutator) × IsOfSteps s m × GoesBack m w x
 
--- the world doesn't take the mutator, which took no step that a plain heap sees, and has all that it had
+-- the world doesn't take the mutator, which took no step that a plain heap sees, and five at most, and has all that it had
 pub record Refuses (s t : Stepper) (w x : SharedWorld) : Type 0 where
   pub leaves : Across LeavesHeap s.seat t.seat
   pub of_world : arc_value t.heap ≡ arc_value s.heap
   pub mutators : x.mutators.items ≡ w.mutators.items
   pub rest : KeepsAllButMutators w x
+  pub few : Across (AtMost 5) s.seat t.seat
 
 -- the world had this tracer, and has the others still
 abbrev pub LendsTracer : Tracer → SharedWorld → SharedWorld → Type 0

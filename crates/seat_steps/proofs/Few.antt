@@ -1,5 +1,5 @@
 -- How many steps the calls of a mutator take.
-use Rattle.std.proofs.Common.{ℕ, suc, zero, ◌≤◌, ◌+◌, [], ◌∷◌, length, arith, refl, Bool, true, false}
+use Rattle.std.proofs.Common.{ℕ, suc, zero, ◌≤◌, ◌+◌, [], ◌∷◌, length, arith, refl, subst, sym, Bool, true, false}
 use Rattle.std.specs.Prelude.{◌≡◌, if◌then◌else◌}
 use Rattle.std.proofs.lemmas.List.{length-append}
 use Rattle.mark_core.specs.Seats.{used_in}
@@ -12,9 +12,12 @@ use Rattle.gc_table.specs.declared.view.Entry.{Entry}
 use Rattle.gc_table.specs.declared.view.View.{View}
 use Rattle.mutator_ops.specs.Few.{AtMost}
 use Rattle.mutator_ops.specs.Sharing.{FillsFound, TakesSteps}
-use Rattle.mutator_ops.proofs.Few.{at-most-after, at-most-events, at-most-steps}
+use Rattle.mutator_ops.proofs.Few.{at-most-after, at-most-events, at-most-none, at-most-steps}
 use Rattle.mutator_turns.specs.Clearing.{clearing_steps}
 use Rattle.mutator_turns.specs.Exchanging.{ExchangesField, ExchangesValue}
+use Rattle.seat_steps.specs.Handing.{StopsFrom}
+use Rattle.seat_steps.specs.declared.stepper.Stage.{Stage}
+use Rattle.seat_steps.specs.declared.stepper.Stage.TheVariants.{Inside, Outside}
 
 -- one card at most
 card_long : (b : Bool) (x : Entry) → length (if b then [] else x ∷ []) ≤ 1
@@ -50,3 +53,9 @@ clearing_long from (suc n) =
 
 pub cleared-few : (from n : ℕ) (v w : View) → TakesSteps (clearing_steps from n) v w → AtMost n v w
 cleared-few from n v w e = at-most-steps n v w (clearing_steps from n) e.steps_are (let long = clearing_long from n in omega (arith, long))
+
+-- who is let go of has left
+pub stopped-few : (s : Stage) (v w : View) → StopsFrom s v w → AtMost 5 v w
+stopped-few Outside v w same = subst (λ (x : View). AtMost 5 v x) (sym same) (at-most-none 5 v)
+stopped-few Inside v w left = left.1
+stopped-few s v w other = absurd other

@@ -2,6 +2,7 @@
 use Rattle.std.specs.Prelude.{◌≡◌, ◌⊎◌, IsFalse, IsTrue}
 use Rattle.std.specs.Arc.{arc_value}
 use Rattle.gc_table.specs.Seats.{Across}
+use Rattle.mutator_ops.specs.Few.{AtMost}
 use Rattle.mutator_turns.specs.Sharing.{LeavesHeap}
 use Rattle.seat_steps.specs.Stepping.{is_collecting, shares}
 use Rattle.seat_steps.specs.declared.stepper.Stage.TheVariants as stages
@@ -9,17 +10,19 @@ use Rattle.seat_steps.specs.declared.stepper.Stepper.{Stepper}
 use Rattle.shared_heap.specs.declared.mutator.Place.TheVariants.{Outside}
 use Rattle.shared_heap.specs.declared.mutator.SharedMutator.{SharedMutator}
 
--- the stepper is this mutator, outside the world; no step was taken that a plain heap sees
+-- the stepper is this mutator, outside the world; no step was taken that a plain heap sees, and none where the mutator was outside
 pub record IsInSteps (m : SharedMutator) (s : Stepper) : Type 0 where
   pub outside : s.stage ≡ stages.Outside
+  pub rests : m.place ≡ Outside → s.seat ≡ m.seat
   pub leaves : Across LeavesHeap m.seat s.seat
   pub world : arc_value s.heap ≡ arc_value m.heap
   pub name_is : s.name ≡ m.name
   pub shared : IsTrue (shares s)
 
--- the mutator is this stepper, outside the world; no step was taken that a plain heap sees
+-- the mutator is this stepper, outside the world; no step was taken that a plain heap sees, and five at most
 pub record IsOfSteps (s : Stepper) (m : SharedMutator) : Type 0 where
   pub outside : m.place ≡ Outside
+  pub few : Across (AtMost 5) s.seat m.seat
   pub leaves : Across LeavesHeap s.seat m.seat
   pub world : arc_value m.heap ≡ arc_value s.heap
   pub name_is : m.name ≡ s.name

@@ -1,9 +1,14 @@
-use Rattle.std.proofs.Common.{◌∙◌}
+use Rattle.std.proofs.Common.{◌∙◌, ap, refl, subst, sym}
+use Rattle.std.specs.Arc.{arc_value}
 use Rattle.gc_table.specs.Seats.{view_of}
-use Rattle.mutator_turns.proofs.Leaving.{leaves-join}
+use Rattle.gc_table.specs.declared.seat.HeapSeat.{HeapSeat}
+use Rattle.mutator_ops.specs.Few.{AtMost}
+use Rattle.mutator_turns.specs.Sharing.{LeavesHeap}
+use Rattle.mutator_turns.proofs.Leaving.{leaves-join, leaves-none}
 use Rattle.seat_steps.specs.declared.stepper.Stepper.{Stepper}
 use Rattle.managed_heap_c.specs.Sharing.{Refuses, StaysOut}
 use Rattle.managed_heap_c.proofs.Given.{on-err, on-ok}
+use Rattle.managed_heap_c.proofs.Made.{none-taken}
 use Rattle.managed_heap_c.proofs.sharing.take_shared.Goals as goal
 
 pub returns-in-Ok-clause-back : goal.returns-in-Ok-clause-back
@@ -17,5 +22,17 @@ returns-in-Ok-clause-refused c =
     let x = c.give_shared.new.world in
     let ok = c.in-Ok.ensures.ok in
     on-err (λ (t : Stepper). StaysOut m t w x) (λ (t : Stepper). Refuses s t w x) c.give_shared.result
-    (λ t a. record { leaves = leaves-join (view_of s.seat) (view_of m.seat) (view_of t.seat) ok.leaves a.0; of_world = a.1 ∙ ok.world; mutators = a.2; rest = a.3 })
+    (λ t a. record { leaves = leaves-join (view_of s.seat) (view_of m.seat) (view_of t.seat) ok.leaves a.0; of_world = a.1 ∙ ok.world; mutators = a.2; rest = a.3; few = subst (λ (y : HeapSeat). AtMost 5 (view_of s.seat) (view_of y)) (sym (a.4 ok.outside)) ok.few })
     c.give_shared.ensures.refused
+
+pub returns-in-Err-clause-refused : goal.returns-in-Err-clause-refused
+returns-in-Err-clause-refused c =
+    let s = c.args.stepper in
+    let same = c.in-Err.ensures.err.1 in
+    record {
+      leaves = subst (λ (t : Stepper). LeavesHeap (view_of s.seat) (view_of t.seat)) (sym same) (leaves-none (view_of s.seat));
+      of_world = ap (λ (t : Stepper). arc_value t.heap) same;
+      mutators = refl;
+      rest = (record { heap = refl; zero = refl; sizes_are = refl }, refl);
+      few = none-taken 5 s c.in-Err.stepper same;
+    }

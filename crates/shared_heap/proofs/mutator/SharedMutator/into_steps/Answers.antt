@@ -4,6 +4,8 @@ use Rattle.gc_table.specs.Seats.{view_of}
 use Rattle.gc_table.specs.declared.seat.Heap.{Heap}
 use Rattle.gc_table.specs.declared.seat.HeapSeat.{HeapSeat}
 use Rattle.mutator_turns.specs.Sharing.{LeavesHeap}
+use Rattle.shared_heap.specs.Calls.{LeavesFrom}
+use Rattle.shared_heap.specs.declared.mutator.Place.{Place}
 use Rattle.shared_heap.proofs.mutator.SharedMutator.into_steps.Goals as goal
 
 pub returns : goal.returns
@@ -13,6 +15,7 @@ returns c =
     record {
       steps = record {
         outside = e.outside;
+        rests = λ out. e.seat ∙ subst (λ (p : Place). LeavesFrom p c.args.self.seat c.leave.new.self.seat) out l.left.leaves;
         leaves = subst (λ (s : HeapSeat). LeavesHeap (view_of c.args.self.seat) (view_of s)) (sym e.seat) l.left.same.leaves;
         world = ap (λ h. arc_value h) e.heap ∙ l.world;
         name_is = e.name_is ∙ l.name;
