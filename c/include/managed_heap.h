@@ -640,10 +640,11 @@ static inline mh_status mh_abandon_step(mh_world *w, mh_mutator *m, int keeps, u
     return s == MH_OK || s == MH_FULL ? mh_give_back(w, m) : s;
 }
 
-/* Gives up a handle that no thread uses any more, as the caller says: its thread has ended, or has jumped away over the calls of this header. A collection that it
-   had begun is made to its end; its variables and slots stay as they are for who takes the mutator next, or become nil where `keeps` is 0; it leaves, and goes
-   back. The handle is all zero afterwards. MH_IN_USE: the thread was in a call of the library itself, and nothing was done; what that call did isn't known, and
-   there is no way out. MH_REFUSED: the mutator is another world's. The caller is outside by its own handle, since it may wait here. */
+/* Gives up a handle that no thread uses any more, as the caller says: its thread has ended, or has jumped away over the calls of this header. A collection
+   that it had begun is made to its end; its variables and slots stay as they are for who takes the mutator next, or become nil where `keeps` is 0 and the heap
+   isn't full for good; it leaves, and goes back. The handle is all zero afterwards. MH_IN_USE: the thread was in a call of the library itself, and nothing was
+   done; what that call did isn't known, and there is no way out. MH_REFUSED: the mutator is another world's. The caller is outside by its own handle, since it
+   may wait here. */
 static inline mh_status mh_abandon(mh_world *w, mh_mutator *m, int keeps) {
     uint32_t rests = 0, stopping;
     mh_status s;
