@@ -23,7 +23,7 @@ use Rattle.mark_core.specs.declared.kinds.Shape.{Shape}
 use Rattle.mark_core.specs.declared.kinds.Step.{Step}
 use Rattle.mark_core.specs.declared.kinds.Step.TheVariants.{NextBlock, NextOfCards, Reset, AddStat, ReadStat, Split, Join}
 use Rattle.mark_core.specs.declared.seat.SeatState.{SeatState}
-use Rattle.mark_core.specs.Numbers.{block_counter, card_counter, done_count, last_count, most_seats, most_stretch}
+use Rattle.mark_core.specs.Numbers.{block_counter, card_counter, done_count, last_count, most_seats}
 
 -- no further seat passes a test that neither a new record nor an ended one does
 others_pass : (f : SeatState → Bool) (sh : Shape) (step : Step) (seats : List SeatState) → ((k : ℕ) → f (start_seat sh k) ≡ false) → ((k : ℕ) → f (spent_seat sh k) ≡ false) → count_by f (others_after sh step seats) ≤ count_by f seats
@@ -88,9 +88,9 @@ adds_elsewhere c i s which by down t =
     let range = and_parts (nat_le last_count which) (nat_le which done_count) (and_parts _ _ t.ok.0).0 in
     no_word (words_of c.shape c.words) which (written c.shape s (AddStat which by down) (found c s (AddStat which by down))) (leb-true last_count which range.0) (leb-true which done_count range.1)
 
--- a counter that hands out blocks or cards: by how much it is raised at most, its number, its word, its end, and the seats that read it below that
+-- a counter that hands out blocks or cards: by how much it is raised, its number, its word, its end, and the seats that read it below that
 record Counter : Type 0 where
-  unit : ℕ
+  unit : Shape → ℕ
   number : ℕ
   word : Words → ℕ
   end : Shape → ℕ
@@ -98,11 +98,11 @@ record Counter : Type 0 where
 
 -- the counter of blocks
 abbrev of_blocks : Counter
-of_blocks = record { unit = most_stretch; number = block_counter; word = λ w. w.next_block; end = block_count; below = λ s. s.below_block }
+of_blocks = record { unit = λ sh. sh.stretch; number = block_counter; word = λ w. w.next_block; end = block_count; below = λ s. s.below_block }
 
 -- the counter of cards
 abbrev of_cards : Counter
-of_cards = record { unit = 1; number = card_counter; word = λ w. w.next_card; end = card_count; below = λ s. s.below_card }
+of_cards = record { unit = λ sh. 1; number = card_counter; word = λ w. w.next_card; end = card_count; below = λ s. s.below_card }
 
 -- no seat is new or spent with a reading of this counter
 abbrev IsUnreadAtFirst : Counter → Type 0
@@ -110,16 +110,16 @@ IsUnreadAtFirst q = (sh : Shape) (k : ℕ) → (q.below (start_seat sh k) ≡ fa
 
 -- before the step the counter, with a raise for each seat that has read it below its end, is past its end by 41 raises at most
 abbrev IsBounded : Counter → Core → Type 0
-IsBounded q c = q.word (words_of c.shape c.words) + q.unit * count_by q.below c.seats ≤ q.end c.shape + q.unit * 41
+IsBounded q c = q.word (words_of c.shape c.words) + q.unit c.shape * count_by q.below c.seats ≤ q.end c.shape + q.unit c.shape * 41
 
 -- after the step the counter, with a raise for each seat that has read it below its end, is past its end by 41 raises at most
 abbrev StaysBounded : Counter → Core → ℕ → SeatState → Step → Type 0
-StaysBounded q c i s step = q.word (words_left c s step) + q.unit * count_by q.below (seats_left c i s step) ≤ q.end c.shape + q.unit * 41
+StaysBounded q c i s step = q.word (words_left c s step) + q.unit c.shape * count_by q.below (seats_left c i s step) ≤ q.end c.shape + q.unit c.shape * 41
 
 -- a step that lets the counter and its seat's reading together not grow
-stays_by : (q : Counter) → IsUnreadAtFirst q → (c : Core) (i : ℕ) (s : SeatState) (step : Step) → Taken c i s step → IsBounded q c → q.word (words_left c s step) + q.unit * bit (q.below (seat_after c.shape s step (found c s step))) ≤ q.word (words_of c.shape c.words) + q.unit * bit (q.below s) → StaysBounded q c i s step
+stays_by : (q : Counter) → IsUnreadAtFirst q → (c : Core) (i : ℕ) (s : SeatState) (step : Step) → Taken c i s step → IsBounded q c → q.word (words_left c s step) + q.unit c.shape * bit (q.below (seat_after c.shape s step (found c s step))) ≤ q.word (words_of c.shape c.words) + q.unit c.shape * bit (q.below s) → StaysBounded q c i s step
 stays_by q first c i s step t bounded less =
-    bound_kept q.unit q.below c.shape step c.seats i s (seat_after c.shape s step (found c s step)) (q.word (words_of c.shape c.words)) (q.word (words_left c s step)) (q.end c.shape + q.unit * 41) (λ k. (first c.shape k).0) (λ k. (first c.shape k).1)
+    bound_kept (q.unit c.shape) q.below c.shape step c.seats i s (seat_after c.shape s step (found c s step)) (q.word (words_of c.shape c.words)) (q.word (words_left c s step)) (q.end c.shape + q.unit c.shape * 41) (λ k. (first c.shape k).0) (λ k. (first c.shape k).1)
     (within c i s step t) (own-record c i s step s t) bounded less
 
 -- a step that reads the counter
@@ -128,7 +128,7 @@ stays_read : (q : Counter) (c : Core) (i : ℕ) (s : SeatState) (which : ℕ) �
 stays_read q c i s which t bounded there reads =
     let old : ℕ = found c s (ReadStat which) in
     let same = ap q.word (words-read c i s (ReadStat which) t refl) in
-    let kept = reading_kept q.unit q.below c.seats i s (seat_after c.shape s (ReadStat which) old) (q.word (words_of c.shape c.words)) (q.end c.shape) (within c i s (ReadStat which) t) (own-record c i s (ReadStat which) s t) t.core.formed.seat_count.1 bounded
+    let kept = reading_kept (q.unit c.shape) q.below c.seats i s (seat_after c.shape s (ReadStat which) old) (q.word (words_of c.shape c.words)) (q.end c.shape) (within c i s (ReadStat which) t) (own-record c i s (ReadStat which) s t) t.core.formed.seat_count.1 bounded
     (λ e.
     ⊎_elim
     (λ a.
@@ -138,15 +138,16 @@ stays_read q c i s which t bounded there reads =
     (chosen (eqb which q.number) (nat_lt old (q.end c.shape)) (q.below s) (sym reads ∙ e))) in
     omega (arith, same, kept)
 
-blocks_by : (c : Core) (i : ℕ) (s : SeatState) (step : Step) → Taken c i s step → (words_left c s step).next_block + most_stretch * bit (seat_after c.shape s step (found c s step)).below_block ≤ (words_of c.shape c.words).next_block + most_stretch * bit s.below_block → StaysBounded of_blocks c i s step
+blocks_by : (c : Core) (i : ℕ) (s : SeatState) (step : Step) → Taken c i s step → (words_left c s step).next_block + c.shape.stretch * bit (seat_after c.shape s step (found c s step)).below_block ≤ (words_of c.shape c.words).next_block + c.shape.stretch * bit s.below_block → StaysBounded of_blocks c i s step
 blocks_by c i s step t less = stays_by of_blocks (λ sh k. (refl, refl)) c i s step t t.core.sound.sweeping.blocks_bounded less
 
-pub blocks-bounded : (c : Core) (i : ℕ) (s : SeatState) (step : Step) → Taken c i s step → (words_left c s step).next_block + most_stretch * block_readers (seats_left c i s step) ≤ block_count c.shape + most_stretch * most_seats
+pub blocks-bounded : (c : Core) (i : ℕ) (s : SeatState) (step : Step) → Taken c i s step → (words_left c s step).next_block + c.shape.stretch * block_readers (seats_left c i s step) ≤ block_count c.shape + c.shape.stretch * most_seats
 blocks-bounded c i s NextBlock t =
     let n : ℕ = (words_of c.shape c.words).next_block in
     let m : ℕ = n + c.shape.stretch in
     let room : m % 18446744073709551616 ≡ m = omega (arith, t.core.sound.sweeping.blocks_bounded, t.core.formed.shaped.cells, t.core.formed.shaped.stretch) in
-    blocks_by c i s NextBlock t (omega (arith, room, ap bit t.ok.1.1.0, t.core.formed.shaped.stretch))
+    let one = ap (λ (b : Bool). c.shape.stretch * bit b) t.ok.1.1.0 in
+    blocks_by c i s NextBlock t (omega (arith, room, one))
 blocks-bounded c i s (Reset which) t =
     let w : Words = words_of c.shape c.words in
     let less : (put_word (counter_at which) 0 w).next_block ≤ w.next_block = at_counter (λ at. (put_word at 0 w).next_block ≤ w.next_block) which (λ j h. reset_one (eqb j 4) w.next_block) (λ j. omega arith) in
@@ -156,7 +157,7 @@ blocks-bounded c i s (ReadStat which) t = stays_read of_blocks c i s which t t.c
 blocks-bounded c i s NextOfCards t = blocks_by c i s NextOfCards t (omega arith)
 blocks-bounded c i s step t =
     let same = next_block-kept c.shape s step (written c.shape s step (found c s step)) (words_of c.shape c.words) refl in
-    let reads = ap (λ (x : Bool × Bool). bit x.1) (readings-kept c.shape s step (found c s step) refl) in
+    let reads = ap (λ (x : Bool × Bool). c.shape.stretch * bit x.1) (readings-kept c.shape s step (found c s step) refl) in
     blocks_by c i s step t (omega (arith, same, reads))
 
 cards_by : (c : Core) (i : ℕ) (s : SeatState) (step : Step) → Taken c i s step → (words_left c s step).next_card + bit (seat_after c.shape s step (found c s step)).below_card ≤ (words_of c.shape c.words).next_card + bit s.below_card → StaysBounded of_cards c i s step

@@ -1,5 +1,5 @@
 -- The state in which nothing has happened meets the rule of the sweep.
-use Rattle.std.proofs.Common.{ℕ, ◌≡◌, arith, refl, false}
+use Rattle.std.proofs.Common.{ℕ, ◌≡◌, ◌*◌, ap, arith, refl, false}
 use Rattle.std.proofs.lemmas.Bool.{false≢true}
 use Rattle.mark_core.specs.Shapes.{IsShape}
 use Rattle.mark_core.specs.Layout.{words_of}
@@ -14,4 +14,5 @@ pub sweeping-starts : (sh : Shape) (n : ℕ) → IsShape sh → SweepSound sh (w
 sweeping-starts sh n z =
     let cards = count-none (λ (s : SeatState). s.below_card) (start_seats sh n) (each-seat (λ (s : SeatState). s.below_card ≡ false) sh n (λ k. refl)) in
     let blocks = count-none (λ (s : SeatState). s.below_block) (start_seats sh n) (each-seat (λ (s : SeatState). s.below_block ≡ false) sh n (λ k. refl)) in
-    record { blocks_bounded = omega (arith, blocks); cards_bounded = omega (arith, cards); roots_kept = λ e. absurd (false≢true e); fields_kept = λ e. absurd (false≢true e) }
+    let none = ap (λ (k : ℕ). sh.stretch * k) blocks in
+    record { blocks_bounded = omega (arith, none); cards_bounded = omega (arith, cards); roots_kept = λ e. absurd (false≢true e); fields_kept = λ e. absurd (false≢true e) }
