@@ -2,7 +2,7 @@
 use Rattle.std.proofs.Common.{ℕ, ◌≡◌, ◌≢◌, ◌+◌, ◌%◌, ◌<◌, ◌≤◌, List, [], ◌∷◌, ◌++◌, set, get_or, length, arith, refl, sym, ◌∙◌, subst, Bool, true, false, ◌||◌, cond, eqb, Option, None, ⊎_elim}
 use Rattle.std.proofs.lemmas.Bool.{and_parts, or_cases, or_from, cases_eq, ne_eqb, eqb-true, false≢true}
 use Rattle.std.proofs.lemmas.List.{map-set, map_push, set-get_or, get_or-set_same, get_or-set_other, length-map, length-set}
-use Rattle.mark_core.specs.Layout.{Words, words_of, block_count}
+use Rattle.mark_core.specs.Layout.{Words, words_of}
 use Rattle.mark_core.specs.Start.{start_seat, spent_seat}
 use Rattle.mark_core.specs.Views.{blocks}
 use Rattle.mark_core.specs.Steps.SweepSteps.{own_block, next_in_stretch}
