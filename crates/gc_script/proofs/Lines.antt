@@ -33,10 +33,6 @@ turned_more : (e xs : List Statement) (s : Statement) → turned e (xs ++ s ∷ 
 turned_more e [] s = refl
 turned_more e (x ∷ xs) s = turned_more (x ∷ e) xs s
 
-length-turned : (e xs : List Statement) → length (turned e xs) ≡ length e + length xs
-length-turned e [] = omega arith
-length-turned e (x ∷ xs) = let more = length-turned (x ∷ e) xs in omega arith
-
 -- one line more
 next_turned : (all : List Statement) (i : ℕ) → i < length all → turned [] (take (i + 1) all) ≡ get_or all i Blank ∷ turned [] (take i all)
 next_turned all i h = ap (turned []) (take_more all i Blank h) ∙ turned_more [] (take i all) (get_or all i Blank)
