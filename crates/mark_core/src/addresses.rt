@@ -11,7 +11,8 @@ ghost use Rattle.mark_core.specs.declared.seat.SeatState.{SeatState};
 
 use crate::bases::Bases;
 use crate::cards::BLOCK_CELLS;
-use crate::kinds::{Cell, Shape, Step};
+use crate::cell::Cell;
+use crate::kinds::{Shape, Step};
 use crate::numbers::WORD_BITS;
 use crate::passes::{Pass, pass_of};
 use crate::seat::SeatState;

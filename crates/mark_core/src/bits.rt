@@ -2,7 +2,7 @@
 ghost use Rattle.std.specs.Prelude.{◌≡◌, ◌<◌};
 ghost use Rattle.mark_core.specs.Bits.{has_flag as has_flag_of, has_bit as has_bit_of, with_bit as with_bit_of, without_bit as without_bit_of, cell_of as cell_of_word, cell_named as cell_named_of, reference_in as reference_in_word};
 
-use crate::kinds::Cell;
+use crate::cell::Cell;
 
 /// The flag above a count of seats.
 pub const FLAG: u64 = 4_294_967_296;

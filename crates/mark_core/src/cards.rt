@@ -2,7 +2,7 @@
 ghost use Rattle.std.specs.Prelude.{◌≡◌};
 ghost use Rattle.mark_core.specs.Cards.{card_of as card_of_cell, block_of_card as block_of, first_bit as first_bit_of, card_bits as card_bits_of};
 
-use crate::kinds::Cell;
+use crate::cell::Cell;
 
 /// How many cells a block has: one for each bit of a word.
 pub const BLOCK_CELLS: u32 = 64;

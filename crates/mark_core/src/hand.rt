@@ -3,7 +3,7 @@ ghost use Rattle.std.specs.Prelude.{◌≡◌};
 ghost use Rattle.mark_core.specs.Seats.{is_the as is_the_cell_number, scan_left as scan_left_of, cleaning_left as cleaning_left_of, work_in_hand as work_in_hand_of, empty_handed as empty_handed_of, in_set as in_set_of, may_scan as may_scan_of, is_unpublished as is_unpublished_of, scans as scans_of, free_in as free_in_of, used_in as used_in_of, has_used as has_used_of, is_unread as is_unread_of, has_making as has_making_of, makes as makes_of, may_store as may_store_of, is_swept as is_swept_of};
 
 use crate::cards::{BLOCK_CELLS, block_of_card};
-use crate::kinds::Cell;
+use crate::cell::Cell;
 use crate::seat::{BlockState, CacheState, Cleaning, SeatState};
 use crate::{bits, slots};
 

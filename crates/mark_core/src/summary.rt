@@ -12,7 +12,8 @@ ghost use Rattle.mark_core.specs.Closed.{sees_quiet as sees_quiet_of, is_closed 
 ghost use Rattle.mark_core.specs.Summary.{marked_cells as marked_cells_of, used_cells as used_cells_of};
 
 use crate::cards::BLOCK_CELLS;
-use crate::kinds::{Cell, Phase, Shape};
+use crate::cell::Cell;
+use crate::kinds::{Phase, Shape};
 use crate::seat::SeatState;
 use crate::standing::is_phase;
 use crate::state::CoreState;

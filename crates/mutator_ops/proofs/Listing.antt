@@ -4,7 +4,7 @@ use Rattle.std.specs.Prelude.{◌==◌}
 use Rattle.std.proofs.lemmas.Bool.{cond-false, cond-true, eq-eqb, ne_eqb}
 use Rattle.mark_core.specs.Bits.{reference_in}
 use Rattle.mark_core.specs.Steps.MutatorSteps.{seat_variable as word_in}
-use Rattle.mark_core.specs.declared.kinds.Identity.{Identity}
+use Rattle.mark_core.specs.declared.cell.Identity.{Identity}
 use Rattle.mark_core.specs.declared.kinds.Step.{Step}
 use Rattle.mark_core.specs.declared.kinds.Step.TheVariants.{ReadCat, ReadOwn, ReadValue, StoreRoot}
 use Rattle.gc_table.specs.Log.{event, events, steps_of}

@@ -8,7 +8,7 @@ use Rattle.mark_core.specs.Bits.{reference_in}
 use Rattle.mark_core.specs.Numbers.{section_variables}
 use Rattle.mark_core.specs.Seats.{free_in, has_making, may_mutate, work_in_hand}
 use Rattle.mark_core.specs.Steps.MutatorSteps.{names_last}
-use Rattle.mark_core.specs.declared.kinds.Identity.{Identity}
+use Rattle.mark_core.specs.declared.cell.Identity.{Identity}
 use Rattle.mark_core.specs.declared.kinds.Shape.{Shape}
 use Rattle.mark_core.specs.declared.kinds.Step.TheVariants.{StoreRoot}
 use Rattle.mark_core.specs.declared.seat.SeatState.{SeatState}

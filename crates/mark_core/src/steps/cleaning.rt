@@ -4,7 +4,7 @@ ghost use Rattle.mark_core.specs.Steps.ColourSteps.{seen_in as seen_in_of, clean
 
 use crate::bits;
 use crate::cards::{BLOCK_CELLS, block_of_card, card_bits};
-use crate::kinds::Cell;
+use crate::cell::Cell;
 use crate::seat::Cleaning;
 
 /// The cells left whose bit is set may be scanned, and the others leave the list, so that their card must be dirty again.

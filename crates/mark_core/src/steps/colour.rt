@@ -6,8 +6,9 @@ ghost use Rattle.mark_core.specs.Seats.{is_the as is_the_number};
 ghost use Rattle.mark_core.specs.Steps.{first_false as first_false_of};
 
 use crate::cards::{BLOCK_CELLS, card_of};
+use crate::cell::Cell;
 use crate::failing_part::first_false;
-use crate::kinds::{Cell, Shape};
+use crate::kinds::Shape;
 use crate::layout::{block_count, card_count};
 use crate::numbers::VARIABLES;
 use crate::seat::{BlockState, Cleaning, SeatState};

@@ -5,8 +5,9 @@ ghost use Rattle.mark_core.specs.Steps.{first_false as first_false_of};
 ghost use Rattle.mark_core.specs.Numbers.{section_span};
 
 use crate::cards::BLOCK_CELLS;
+use crate::cell::Cell;
 use crate::failing_part::first_false;
-use crate::kinds::{Cell, Phase, Shape};
+use crate::kinds::{Phase, Shape};
 use crate::layout::block_count;
 use crate::numbers::{SECTION_SPAN, VALUE_BOUND};
 use crate::seat::{CacheState, SeatState};

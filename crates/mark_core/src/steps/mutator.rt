@@ -10,8 +10,9 @@ ghost use Rattle.mark_core.specs.Steps.{first_false as first_false_of};
 ghost use Rattle.mark_core.specs.Numbers.{section_variables};
 
 use crate::cards::card_of;
+use crate::cell::Cell;
 use crate::failing_part::first_false;
-use crate::kinds::{Cell, Shape};
+use crate::kinds::Shape;
 use crate::numbers::VARIABLES;
 use crate::seat::{CacheState, SeatState};
 use crate::standing::{is_the, may_mutate};

@@ -7,8 +7,9 @@ ghost use Rattle.mark_core.specs.Steps.PacketSteps.{reserve_parts, reserve_effec
 ghost use Rattle.mark_core.specs.Seats.{is_the};
 ghost use Rattle.mark_core.specs.Steps.{first_false as first_false_of};
 
+use crate::cell::Cell;
 use crate::failing_part::first_false;
-use crate::kinds::{Cell, Shape};
+use crate::kinds::Shape;
 use crate::layout::pool_words;
 use crate::numbers::{DEFERRED_POOL, EMPTY_POOL, HIGH_POOL, LOW_POOL, POOLS, WORD_BITS};
 use crate::seat::SeatState;
