@@ -11,6 +11,7 @@ mod resting;
 mod seasons;
 mod sharers;
 mod sharing;
+mod stages;
 mod stepping;
 mod threads;
 

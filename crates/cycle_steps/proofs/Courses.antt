@@ -17,12 +17,12 @@ use Rattle.packet_pools.specs.Fields.{picked}
 use Rattle.packet_pools.proofs.Reading.{picked-join}
 use Rattle.gc_cycle.specs.Courses.{goes_on, phase_stored, TakesCourse}
 use Rattle.gc_cycle.specs.Events.{never}
-use Rattle.gc_cycle.specs.Finishing.{finishes, IsMove, IsPart, stays, stays_in}
+use Rattle.gc_cycle.specs.Finishing.{finishes, IsPart, stays, stays_in}
 use Rattle.gc_cycle.specs.Sorts.{pops}
-use Rattle.gc_cycle.specs.Statistics.{ChangesBy, numbers_changed}
+use Rattle.gc_cycle.specs.Statistics.{ChangesBy}
 use Rattle.gc_cycle.proofs.Changes.{by-join, changes-after}
 use Rattle.gc_cycle.proofs.Ends.Finishes.{never-both}
-use Rattle.gc_cycle.proofs.Parts.{move-finishes, part-finishes, part-stays}
+use Rattle.gc_cycle.proofs.Parts.{part-finishes, part-stays}
 use Rattle.gc_cycle.proofs.Picked.{picked-none}
 use Rattle.gc_cycle.proofs.Sequences.{none-of-steps}
 use Rattle.gc_cycle.proofs.Courses.{reset-changes}
@@ -61,16 +61,6 @@ course-part p ss v w d h k =
       moved = picked-none stays phase_stored stays-unmoved (events v w) (part-stays p v w h);
       changed = k;
       unpopped = part-unpopped p d v w h;
-    }
-
--- a move of the phase
-pub course-move : (from to : Phase) (v w : View) → IsMove from to v w → TakesCourse (to ∷ []) [] v w
-course-move from to v w m =
-    record {
-      only = only-more finishes goes_on finishes-on v w (move-finishes from to v w m);
-      moved = ap (picked phase_stored) m.events_are;
-      changed = record { ran = m.ran; all = ap numbers_changed m.events_are };
-      unpopped = ap (never pops) m.events_are;
     }
 
 -- a counter is set to 0

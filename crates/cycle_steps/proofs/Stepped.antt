@@ -16,7 +16,7 @@ use Rattle.mark_core.specs.declared.kinds.Step.{Step}
 use Rattle.mark_core.specs.declared.kinds.Step.TheVariants.{DropStep, JoinHelpStep, LeaveHelpStep, Observe, ReadPhase, ReadStat, Reset}
 use Rattle.mark_core.specs.declared.seat.Cleaning.{Cleaning}
 use Rattle.mark_core.specs.declared.seat.SeatState.{SeatState}
-use Rattle.gc_table.specs.Log.{events, Only}
+use Rattle.gc_table.specs.Log.{Only}
 use Rattle.gc_table.specs.Notes.{look}
 use Rattle.gc_table.specs.Rule.{KnowsFull}
 use Rattle.gc_table.specs.Running.{Alone, Ran}
@@ -26,9 +26,8 @@ use Rattle.gc_table.specs.declared.view.View.{View}
 use Rattle.gc_table.proofs.History.Log.{only-more}
 use Rattle.gc_table.proofs.Noticing.{alone-kept}
 use Rattle.gc_table.proofs.Running.{ran-shape, state-kept}
-use Rattle.packet_pools.specs.Counts.{count_of}
 use Rattle.packet_pools.specs.OnlyTraced.{IsNotedMarked}
-use Rattle.card_clean.specs.Drained.{FindsWork, IsNotedRoot}
+use Rattle.card_clean.specs.Drained.{IsNotedRoot}
 use Rattle.stop_world.specs.Waiting.{HasStopped, Waits}
 use Rattle.stop_world.proofs.Waits.{stopped-in, stopped-state, waits-join, waits-observe, waits-read}
 use Rattle.sweeper.specs.Freeing.{block_floor}
@@ -39,9 +38,6 @@ use Rattle.gc_cycle.specs.Finishing.{finishes, IsAloneIn, IsPart, stays_in}
 use Rattle.gc_cycle.specs.Lower.{sweeps_next}
 use Rattle.gc_cycle.specs.Mutating.{keeps_section, tries_stopping}
 use Rattle.gc_cycle.specs.Standing.{IsAlone}
-use Rattle.gc_cycle.specs.Sorts.{pops}
-use Rattle.gc_cycle.specs.RoundParts.{BringsBack, CleansLast}
-use Rattle.gc_cycle.specs.Turns.{DrainsFor}
 use Rattle.gc_cycle.proofs.Refills.Collected.{full-alone, only-drop, resumed-mutates}
 use Rattle.gc_cycle.proofs.Refills.KnownFull.{full-known}
 use Rattle.gc_cycle.proofs.SectionKept.{keeps-seat, keeps-section, tries-keep}
@@ -50,7 +46,7 @@ use Rattle.gc_cycle.proofs.Parts.{part-finishes, part-reset}
 use Rattle.gc_cycle.proofs.Ends.Rooted.{cleared}
 use Rattle.gc_cycle.proofs.Ends.Swept.{done-of, nothing_by, sweeps-quiet, sweeps-stay}
 use Rattle.gc_cycle.proofs.Ends.Spared.{finish-keeps}
-use Rattle.cycle_steps.specs.Stepping.{AwaitsStop, Drains, IsOwner, HasSwept, Keeps, MakesRound, RunsAgain, notes_root, says_marked, says_root, IsAtRoots, IsAtSweep}
+use Rattle.cycle_steps.specs.Stepping.{AwaitsStop, Drains, IsOwner, HasSwept, Keeps, RunsAgain, notes_root, says_marked, says_root, IsAtRoots, IsAtSweep}
 
 helping-kept : (sh : Shape) (s : SeatState) (step : Step) (old : ℕ) → finishes step ≡ true → (seat_after sh s step old).helping ≡ s.helping
 helping-kept sh s JoinHelpStep old e = absurd (false≢true e)
@@ -144,7 +140,7 @@ reset-roots v w k a is =
 
 -- sweeping alone
 
-pub swept-alone : (v w : View) → IsAloneIn Sweep v → Ran v w → Only is_sweeping v w → (b : Bool) (y : Option Cleaning) → w.state ≡ record v.state { below_block = b; cleaning = y } → (cleaning_left v.state.cleaning ≡ false → cleaning_left y ≡ false) → IsPart Sweep v w
+swept-alone : (v w : View) → IsAloneIn Sweep v → Ran v w → Only is_sweeping v w → (b : Bool) (y : Option Cleaning) → w.state ≡ record v.state { below_block = b; cleaning = y } → (cleaning_left v.state.cleaning ≡ false → cleaning_left y ≡ false) → IsPart Sweep v w
 swept-alone v w a r o b y e left =
     record {
       ran = r;
@@ -222,8 +218,3 @@ drains-of v k r =
 pub rooted-back : (v : View) → Drains v → RootedAlone v
 rooted-back v d =
     record { rest = d.rest; rooted = record { ready = record { drains = d.drain; next_block = d.next_block }; roots = λ i h. root-noted i v (d.roots i h) } }
-
--- after a look that found something left, a round was made
-pub makes-round : (most : ℕ) (sh : Shape) (v w x : View) → v.shape ≡ sh → Ran v w → FindsWork sh (events v w) → Ran w x → BringsBack w x → DrainsFor most w x → count_of pops (events w x) ≤ most → CleansLast w x → MakesRound most v x
-makes-round most sh v w x e r f q b d m k =
-    record { looked = w; looks = r; left = subst (λ s. FindsWork s (events v w)) (sym e) f; ran = q; brings = b; worked = d; at_most = m; cleans = k }

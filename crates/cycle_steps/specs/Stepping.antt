@@ -12,18 +12,14 @@ use Rattle.gc_table.specs.Notes.{look}
 use Rattle.gc_table.specs.Seats.{Took}
 use Rattle.gc_table.specs.declared.view.View.{View}
 use Rattle.gc_table.specs.Running.{Alone, Ran}
-use Rattle.packet_pools.specs.Counts.{count_of}
 use Rattle.packet_pools.specs.Seeking.{some_event}
-use Rattle.card_clean.specs.Drained.{FindsWork}
 use Rattle.stop_world.specs.Waiting.{IsAware}
 use Rattle.sweeper.specs.Freeing.{block_floor}
 use Rattle.gc_cycle.specs.Drained.{DrainedAlone}
 use Rattle.gc_cycle.specs.Ending.{InEach, IsCycleEnd, IsExact}
 use Rattle.gc_cycle.specs.Finishing.{IsAloneIn}
-use Rattle.gc_cycle.specs.RoundParts.{BringsBack, CleansLast}
-use Rattle.gc_cycle.specs.Sorts.{begins_exactly, pops}
+use Rattle.gc_cycle.specs.Sorts.{begins_exactly}
 use Rattle.gc_cycle.specs.Standing.{IsAlone, KeepsSeat, KeepsSection, Mutates}
-use Rattle.gc_cycle.specs.Turns.{DrainsFor}
 use Rattle.gc_cycle.specs.declared.counts.Counts.{Counts}
 
 -- the seat has a section, and isn't among helpers
@@ -109,18 +105,6 @@ pub record FindsStopped (v w : View) : Type 0 where
   pub phase : ℕ
   pub all : events v w ≡ event Observe found ∷ event ReadPhase phase ∷ []
   pub stopped : IsTrue (is_stopped found)
-
--- a look at the cards and at the count of packets found something left; and after it a round was made: first what was deferred was brought back; then so many
--- cells were popped and no more, or fewer, and at some moment nothing was left in hand and there was no packet to read from; and at last the cards were cleaned
-pub record MakesRound (most : ℕ) (v w : View) : Type 0 where
-  pub looked : View
-  pub looks : Ran v looked
-  pub left : FindsWork v.shape (events v looked)
-  pub ran : Ran looked w
-  pub brings : BringsBack looked w
-  pub worked : DrainsFor most looked w
-  pub at_most : count_of pops (events looked w) ≤ most
-  pub cleans : CleansLast looked w
 
 -- since then a drain began with no cell marked, and the seat is in it or in what follows it
 pub record IsExactSince (v w : View) : Type 0 where

@@ -1,29 +1,20 @@
-//! The steps of a collection up to its sweep: the world stops, the roots are seen to, and all is marked.
-ghost use Rattle.std.specs.Prelude.{◌≡◌, ◌≢◌, [], ◌∷◌, None, Some, ◌≤◌, length, if◌then◌else◌, IsTrue};
+//! How a collection in steps begins: the world stops, and the drain begins.
+ghost use Rattle.std.specs.Prelude.{◌≡◌, ◌≢◌, [], ◌∷◌, None, Some, ◌≤◌, length, if◌then◌else◌};
 ghost use Rattle.std.specs.Bool.{OnFalse, OnTrue};
-ghost use Rattle.mark_core.specs.declared.kinds.Phase.TheVariants.{Clear, Drain, Full, Idle};
+ghost use Rattle.mark_core.specs.declared.kinds.Phase.TheVariants.{Drain, Full, Idle};
 ghost use Rattle.mark_core.specs.declared.kinds.Step.TheVariants.{Reset};
 ghost use Rattle.mark_core.specs.Numbers.{block_counter, card_counter};
-ghost use Rattle.gc_table.specs.Log.{Only};
 ghost use Rattle.gc_table.specs.Rule.{KnowsFull};
 ghost use Rattle.gc_table.specs.Running.{Ran};
 ghost use Rattle.gc_table.specs.Seats.{Across, did, Sits, state_of, view_of};
 ghost use Rattle.gc_table.specs.declared.view.View.{View};
-ghost use Rattle.card_clean.specs.Drained.{FindsNoDirtyCard};
 ghost use Rattle.gc_cycle.specs.Collecting.{HoldsWorld};
 ghost use Rattle.gc_cycle.specs.Courses.{TakesCourse};
-ghost use Rattle.gc_cycle.specs.Events.{never};
 ghost use Rattle.gc_cycle.specs.Finishing.{IsAloneIn, IsPart};
-ghost use Rattle.gc_cycle.specs.Sorts.{pops};
 ghost use Rattle.gc_cycle.specs.Standing.{IsOut, Mutates};
-ghost use Rattle.gc_cycle.specs.Statistics.{leaves_numbers};
-ghost use Rattle.gc_cycle.specs.RoundParts.{LacksPacket};
-ghost use Rattle.cycle_steps.specs.Stepping.{AwaitsStop, AsksOnce, Drains, FindsRunning, FindsStopped, HasMarkedAll, IsExactSince, IsOwner, Keeps, MakesRound, RunsAgain, IsAtRoots};
+ghost use Rattle.cycle_steps.specs.Stepping.{AwaitsStop, AsksOnce, FindsRunning, FindsStopped, IsExactSince, IsOwner, Keeps, RunsAgain, IsAtRoots};
 
-use crate::clear_steps::{finish_clear, start_clear};
-use gc_cycle::{
-    begin_drain, clear_rest, drain_round, go_out, has_seen_full, is_drained, sees_to_roots,
-};
+use gc_cycle::{begin_drain, go_out, has_seen_full};
 use gc_table::{Heap, HeapSeat};
 use mark_core::BLOCK_COUNTER;
 use stop_world::{Raised, raise, resume};
@@ -103,57 +94,4 @@ pub fn begin_collection(heap: &Heap, seat: &mut HeapSeat) -> bool
     begin_drain(heap, seat);
     reset_blocks(heap, seat);
     true
-}
-
-/// Marks what the roots refer to, and pops no object. False comes only where no packet could be had: the deferred ones are back then, and it is to be called
-/// again.
-pub fn root_step(heap: &Heap, seat: &mut HeapSeat) -> bool
-    requires seat { Sits heap.now seat.old }
-    requires roots { IsAtRoots (view_of seat.old) }
-    ensures seat { Sits heap.now seat.new }
-    ensures part { Across (IsPart Drain) seat.old seat.new }
-    ensures unpopped { IsTrue (never pops (did seat.old seat.new)) }
-    ensures rooted { OnTrue result (Drains (view_of seat.new)) }
-    ensures not_yet { OnFalse result (IsAtRoots (view_of seat.new) × Across LacksPacket seat.old seat.new) }
-    ensures exact { (u : View) → IsExactSince u (view_of seat.old) → IsExactSince u (view_of seat.new) }
-    ensures numbers { Across (Only leaves_numbers) seat.old seat.new }
-    ensures keeps { Across Keeps seat.old seat.new }
-{
-    sees_to_roots(heap, seat)
-}
-
-/// True where all is marked: no card was found dirty, and all packets empty. Else something was left, and a round was made: it popped `most` objects, or
-/// as many as there were, and cleaned each card that was dirty then. It is to be called again.
-pub fn drain_step(heap: &Heap, seat: &mut HeapSeat, most: u32) -> bool
-    requires seat { Sits heap.now seat.old }
-    requires drains { Drains (view_of seat.old) }
-    ensures seat { Sits heap.now seat.new }
-    ensures part { Across (IsPart Drain) seat.old seat.new }
-    ensures drained { OnTrue result (HasMarkedAll (view_of seat.new) × FindsNoDirtyCard heap.now.shape (did seat.old seat.new)) }
-    ensures not_yet { OnFalse result (Drains (view_of seat.new) × Across (MakesRound most) seat.old seat.new) }
-    ensures exact { (u : View) → IsExactSince u (view_of seat.old) → IsExactSince u (view_of seat.new) }
-    ensures numbers { Across (Only leaves_numbers) seat.old seat.new }
-    ensures keeps { Across Keeps seat.old seat.new }
-{
-    if is_drained(heap, seat) {
-        return true;
-    }
-    drain_round(heap, seat, most);
-    false
-}
-
-/// Takes all marks away and begins the drain once more, so that only what is reachable now is marked.
-pub fn drain_again(heap: &Heap, seat: &mut HeapSeat)
-    requires seat { Sits heap.now seat.old }
-    requires drained { HasMarkedAll (view_of seat.old) }
-    ensures seat { Sits heap.now seat.new }
-    ensures ran { Across Ran seat.old seat.new }
-    ensures roots { IsAtRoots (view_of seat.new) }
-    ensures exact { (u : View) → Ran u (view_of seat.old) → IsExactSince u (view_of seat.new) }
-    ensures course { Across (TakesCourse (Clear ∷ Drain ∷ []) (Reset card_counter ∷ Reset block_counter ∷ [])) seat.old seat.new }
-    ensures keeps { Across Keeps seat.old seat.new }
-{
-    start_clear(heap, seat);
-    clear_rest(heap, seat);
-    finish_clear(heap, seat);
 }

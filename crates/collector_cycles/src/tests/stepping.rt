@@ -1,24 +1,25 @@
-//! A mutator collects in steps, beside another: neither of them waits. What the first doesn't reach is free again, and what it reaches is kept.
-ghost use Rattle.std.specs.Prelude.{◌≡◌, None, IfSome};
+//! A mutator collects in steps, beside another: neither of them waits. What the first doesn't reach is free again, and what it reaches is kept, whatever the
+//! size of a piece.
+ghost use Rattle.std.specs.Prelude.{◌≡◌, None};
 ghost use Rattle.std.specs.Bool.{OnFalse, OnTrue};
 ghost use Rattle.gc_table.specs.Seats.{Sits, view_of};
 ghost use Rattle.gc_cycle.specs.Collecting.{HoldsWorld};
-ghost use Rattle.cycle_steps.specs.Stepping.{AwaitsStop, Drains, HasMarkedAll, IsAtRoots};
-ghost use Rattle.test_heaps.specs.Seats.{HasEachObject};
+ghost use Rattle.cycle_steps.specs.Stepping.{AwaitsStop};
+ghost use Rattle.test_heaps.specs.Seats.{HasEachObject, IsReadyWithCache};
 
+use super::LARGE;
 use super::checks::{is_out, may_call};
 use super::collecting::make_ring;
 use super::objects::{chain, free_cells, walk};
 use super::seasons::begin;
-use alloc_cache::Cache;
+use super::stages::{Collected, Drained, Marked, collects_in_steps};
+use alloc_cache::{Cache, retire};
 use cache_refills::{Pass, try_enter, try_safe_point};
-use cycle_steps::{
-    ask_to_stop, begin_collection, drain_again, drain_step, end_collection, finds_stopped,
-    root_step,
-};
+use cycle_steps::{ask_to_stop, finds_stopped};
 use gc_cycle::Counts;
 use gc_table::{Heap, HeapSeat};
-use test_heaps::{SMALL, next_seat, open};
+use mutator_ops::set;
+use test_heaps::{SMALL, next_seat, open, take};
 
 /// What a seat outside is told that tries once to enter.
 fn tries_entering(heap: &Heap, seat: &mut HeapSeat) -> Option<Pass>
@@ -75,69 +76,38 @@ fn stops(heap: &Heap, seat: &mut HeapSeat) -> bool
     finds_stopped(heap, seat)
 }
 
-/// Begins to mark: false where the heap is full.
-fn begins(heap: &Heap, seat: &mut HeapSeat) -> bool
-    requires { HasEachObject heap.now seat.old × HoldsWorld (view_of seat.old) }
-    ensures { OnTrue result (HasEachObject heap.now seat.new × IsAtRoots (view_of seat.new)) }
-{
-    begin_collection(heap, seat)
-}
-
-/// Sees to the roots, in at most 100 steps.
-fn sees_roots(heap: &Heap, seat: &mut HeapSeat) -> bool
-    requires { HasEachObject heap.now seat.old × IsAtRoots (view_of seat.old) }
-    ensures { OnTrue result (HasEachObject heap.now seat.new × Drains (view_of seat.new)) }
-{
-    for _step in 0..100 {
-        if root_step(heap, seat) {
-            return true;
-        }
-    }
-    false
-}
-
-/// Drains, one object a step, in at most 1,000 steps.
-fn drains(heap: &Heap, seat: &mut HeapSeat) -> bool
-    requires { HasEachObject heap.now seat.old × Drains (view_of seat.old) }
-    ensures { OnTrue result (HasEachObject heap.now seat.new × HasMarkedAll (view_of seat.new)) }
-{
-    for _step in 0..1_000 {
-        if drain_step(heap, seat, 1) {
-            return true;
-        }
-    }
-    false
-}
-
-/// Takes all marks away, and marks once more.
-fn drains_again(heap: &Heap, seat: &mut HeapSeat) -> bool
-    requires { HasEachObject heap.now seat.old × HasMarkedAll (view_of seat.old) }
-    ensures { OnTrue result (HasEachObject heap.now seat.new × HasMarkedAll (view_of seat.new)) }
-{
-    drain_again(heap, seat);
-    sees_roots(heap, seat) && drains(heap, seat)
-}
-
-/// Collects in the stop, and marks twice: what was found.
-fn collects_in_steps(heap: &Heap, seat: &mut HeapSeat) -> Option<Counts>
-    requires { HasEachObject heap.now seat.old × HoldsWorld (view_of seat.old) }
-    ensures { IfSome result (λ counts. HasEachObject heap.now seat.new) }
-{
-    if !begins(heap, seat) || !sees_roots(heap, seat) || !drains(heap, seat) {
-        return None;
-    }
-    if !drains_again(heap, seat) {
-        return None;
-    }
-    Some(end_collection(heap, seat))
-}
-
 /// Reads the phase, as a mutator does before it stores.
 fn looks(heap: &Heap, seat: &mut HeapSeat)
     requires { HasEachObject heap.now seat.old }
     ensures { HasEachObject heap.now seat.new }
 {
     heap.read_phase(seat);
+}
+
+/// The head of the chain refers to itself by field 1, too.
+fn ties_head(heap: &Heap, seat: &mut HeapSeat, cache: &Cache)
+    requires fills { IsReadyWithCache heap.now seat.old cache.now }
+    ensures { IsReadyWithCache heap.now seat.new cache.now }
+{
+    if heap.shape().fields > 1 {
+        set(heap, seat, 0, 1, 0);
+    }
+}
+
+/// Makes a ring that no variable names and a chain of three objects, of which the first was stored in last, so that its card is dirty.
+fn makes_objects(heap: &Heap, seat: &mut HeapSeat) -> bool
+    requires { HasEachObject heap.now seat.old }
+    ensures { HasEachObject heap.now seat.new }
+{
+    if !make_ring(heap, seat) || chain(heap, seat, 3) != 3 {
+        return false;
+    }
+    let Some(cache) = take(heap, seat) else {
+        return false;
+    };
+    ties_head(heap, seat, &cache);
+    retire(heap, seat, cache);
+    true
 }
 
 /// What two seats were told while one collected, and what is left.
@@ -147,16 +117,16 @@ struct Told {
     point: Option<Pass>,
     during: Option<Pass>,
     after: Option<Pass>,
-    counts: Counts,
+    collected: Collected,
     chain: (u32, u64),
     free: u32,
 }
 
-/// One seat collects in steps, while the other comes to a safe point, and tries to enter.
-fn collects_beside(heap: &Heap, zero: &mut HeapSeat, one: &mut HeapSeat) -> Option<Told>
+/// One seat collects in pieces of so many, while the other comes to a safe point, and tries to enter.
+fn collects_beside(heap: &Heap, zero: &mut HeapSeat, one: &mut HeapSeat, most: u32) -> Option<Told>
     requires { Sits heap.now zero.old × HasEachObject heap.now one.old }
 {
-    if !make_ring(heap, one) || chain(heap, one, 3) != 3 {
+    if !makes_objects(heap, one) {
         return None;
     }
     let before = tries_entering(heap, zero);
@@ -168,7 +138,7 @@ fn collects_beside(heap: &Heap, zero: &mut HeapSeat, one: &mut HeapSeat) -> Opti
     if !stops(heap, one) {
         return None;
     }
-    let counts = collects_in_steps(heap, one)?;
+    let collected = collects_in_steps(heap, one, most)?;
     let after = tries_entering(heap, zero);
     looks(heap, one);
     let chain = walk(heap, one)?;
@@ -178,11 +148,29 @@ fn collects_beside(heap: &Heap, zero: &mut HeapSeat, one: &mut HeapSeat) -> Opti
         point,
         during,
         after,
-        counts,
+        collected,
         chain,
         free,
     })
 }
+
+/// What was marked where so many pieces that saw to roots were full, so many cards were cleaned, and so many pieces of the last look were full: each of three
+/// objects was popped once.
+fn marked(roots: u32, cleaned: u32, looks: u32) -> Marked {
+    let drained = Drained {
+        popped: 3,
+        cleaned,
+        looks,
+    };
+    Marked { roots, drained }
+}
+
+/// Three objects are in use, and two were freed.
+const FOUND: Counts = Counts {
+    marked: 3,
+    freed: 2,
+    rescanned: 0,
+};
 
 #[test]
 fn a_collection_in_steps_frees_a_ring(rt: HostRuntime) {
@@ -193,19 +181,70 @@ fn a_collection_in_steps_frees_a_ring(rt: HostRuntime) {
     let mut one = next_seat(&heap, &mut seats, 1);
     let begun = begin(&rt, &heap, &mut zero, &mut one);
     assert!(&rt; begun);
-    let Some(told) = collects_beside(&heap, &mut zero, &mut one) else {
+    let Some(told) = collects_beside(&heap, &mut zero, &mut one, 1) else {
         panic!(&rt; "no collection")
     };
     assert!(&rt; told.before == Some(Pass::Going));
     assert!(&rt; told.point == Some(Pass::Out));
     assert!(&rt; told.during == Some(Pass::Out));
     assert!(&rt; told.after == Some(Pass::Going));
-    let counts = Counts {
-        marked: 3,
-        freed: 2,
-        rescanned: 0,
+    let collected = Collected {
+        first: marked(64, 1, 4),
+        cleared: 1,
+        again: marked(64, 0, 4),
+        swept: 1,
+        counted: 1,
+        found: FOUND,
     };
-    assert!(&rt; told.counts == counts);
+    assert!(&rt; told.collected == collected);
     assert!(&rt; told.chain == (3, 3));
     assert!(&rt; told.free == 61);
+}
+
+#[test]
+fn a_collection_goes_two_at_a_time(rt: HostRuntime) {
+    let Some((heap, mut seats)) = open(rt.alloc(), LARGE, 2) else {
+        panic!(&rt; "memory")
+    };
+    let mut zero = next_seat(&heap, &mut seats, 0);
+    let mut one = next_seat(&heap, &mut seats, 1);
+    let begun = begin(&rt, &heap, &mut zero, &mut one);
+    assert!(&rt; begun);
+    let Some(told) = collects_beside(&heap, &mut zero, &mut one, 2) else {
+        panic!(&rt; "no collection")
+    };
+    let collected = Collected {
+        first: marked(32, 1, 20),
+        cleared: 5,
+        again: marked(32, 0, 20),
+        swept: 5,
+        counted: 5,
+        found: FOUND,
+    };
+    assert!(&rt; told.collected == collected);
+    assert!(&rt; told.chain == (3, 3));
+}
+
+#[test]
+fn a_collection_goes_three_at_a_time(rt: HostRuntime) {
+    let Some((heap, mut seats)) = open(rt.alloc(), LARGE, 2) else {
+        panic!(&rt; "memory")
+    };
+    let mut zero = next_seat(&heap, &mut seats, 0);
+    let mut one = next_seat(&heap, &mut seats, 1);
+    let begun = begin(&rt, &heap, &mut zero, &mut one);
+    assert!(&rt; begun);
+    let Some(told) = collects_beside(&heap, &mut zero, &mut one, 3) else {
+        panic!(&rt; "no collection")
+    };
+    let collected = Collected {
+        first: marked(21, 1, 13),
+        cleared: 3,
+        again: marked(21, 0, 13),
+        swept: 3,
+        counted: 3,
+        found: FOUND,
+    };
+    assert!(&rt; told.collected == collected);
+    assert!(&rt; told.chain == (3, 3));
 }
