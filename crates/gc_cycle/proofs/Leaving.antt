@@ -5,7 +5,6 @@ use Rattle.mark_core.specs.declared.kinds.Step.{Step}
 use Rattle.mark_core.specs.declared.kinds.Step.TheVariants.{AddStat, Reset}
 use Rattle.packet_pools.specs.OnlyTraced.{traces_cells}
 use Rattle.stop_world.specs.Waiting.{watches}
-use Rattle.sweeper.specs.Sweepers.{is_sweeping}
 use Rattle.gc_cycle.specs.Lower.{sweeps_next, traces_or_cleans}
 use Rattle.gc_cycle.specs.Statistics.{leaves_numbers}
 
@@ -23,11 +22,6 @@ pub sweeps-leave : (step : Step) → sweeps_next step ≡ true → leaves_number
 sweeps-leave (AddStat which by down) e = absurd (false≢true e)
 sweeps-leave (Reset which) e = absurd (false≢true e)
 sweeps-leave step e = refl
-
-pub sweeping-leaves : (step : Step) → is_sweeping step ≡ true → leaves_numbers step ≡ true
-sweeping-leaves (AddStat which by down) e = absurd (false≢true e)
-sweeping-leaves (Reset which) e = absurd (false≢true e)
-sweeping-leaves step e = refl
 
 pub watches-leave : (step : Step) → watches step ≡ true → leaves_numbers step ≡ true
 watches-leave (AddStat which by down) e = absurd (false≢true e)

@@ -1,5 +1,5 @@
 -- How much is done at a time, put together out of calls.
-use Rattle.std.proofs.Common.{ℕ, ◌≡◌, ◌≤◌, List, [], ◌∷◌, arith, refl, sym, ap, ◌∙◌, subst, true, ⊎_elim}
+use Rattle.std.proofs.Common.{ℕ, ◌≡◌, List, [], ◌∷◌, arith, refl, sym, ap, ◌∙◌, subst, true, ⊎_elim}
 use Rattle.std.specs.Prelude.{nat_le}
 use Rattle.std.proofs.lemmas.Bool.{le-leb, leb-true, or_cases, or_left, or_right}
 use Rattle.mark_core.specs.declared.kinds.Shape.{Shape}
@@ -24,7 +24,7 @@ use Rattle.gc_cycle.specs.Roots.{roots_scanned}
 use Rattle.gc_cycle.specs.Sorts.{joins, pops}
 use Rattle.gc_cycle.specs.RoundParts.{BringsBack}
 use Rattle.gc_cycle.specs.Turns.{DrainsFor, HelpsBetween, HelpsInTurns, HelpsOnce, SeesToRoots, StaysApart, help_quota}
-use Rattle.gc_cycle.proofs.Stops.Admitted.{count-none, count-run, never-join}
+use Rattle.gc_cycle.proofs.Stops.Admitted.{count-run, never-join}
 use Rattle.gc_cycle.proofs.Longer.{earlier-moment, later-moment, packet-longer, packet-widens, roots-left, roots-right}
 use Rattle.gc_cycle.proofs.Searched.{work-longer, work-widens}
 use Rattle.gc_cycle.proofs.Sequences.{this-moment}
@@ -58,16 +58,6 @@ traced-within quota r u v w x a b d t = drained-within quota u v w x a b d (trac
 -- what was deferred was brought back, and then more was done
 pub brings-back : (sh : Shape) (n : ℕ) (v w x : View) → v.shape ≡ sh → Ran v w → Recycled sh n (events v w) → Ran w x → BringsBack v x
 brings-back sh n v w x e a r b = record { brought = w; first = a; count = n; brings = subst (λ (s : Shape). Recycled s n (events v w)) (sym e) r; last = b }
-
--- among calls that pop no cell a trace pops as many as it does
-pub pops-within : (quota : ℕ) (r : Traced) (u v w x : View) → Ran u v → Ran v w → Ran w x → never pops (events u v) ≡ true → EndsTrace quota r v w → r.done ≤ quota → never pops (events w x) ≡ true → count_of pops (events u x) ≤ quota
-pops-within quota r u v w x a b d none t most later =
-    let first = count-run pops u v x a (ran-join v w x b d) in
-    let second = count-run pops v w x b d in
-    let before = count-none pops (events u v) none in
-    let after = count-none pops (events w x) later in
-    let done = t.done in
-    omega (arith, first, second, before, after, done, most)
 
 -- a scan of a section's roots, by its answer
 pub roots-scanned : (section : ℕ) (r : RootScan) (v w : View) → ScansRoots section r v w → SeesToRoots section v w

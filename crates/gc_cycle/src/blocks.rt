@@ -16,25 +16,23 @@ ghost use Rattle.sweeper.specs.Sweepers.{is_sweeping};
 ghost use Rattle.gc_cycle.specs.Finishing.{IsAloneIn, IsPart};
 ghost use Rattle.gc_cycle.specs.Lower.{sweeps_next};
 ghost use Rattle.gc_cycle.specs.Sorts.{draws_block, sees_last_block};
-ghost use Rattle.gc_cycle.specs.Statistics.{leaves_numbers};
 
 use gc_table::{Heap, HeapSeat};
 
 /// Clears the marks of every block.
-pub fn clear_rest(heap: &Heap, seat: &mut HeapSeat)
+pub(crate) fn clear_rest(heap: &Heap, seat: &mut HeapSeat)
     requires seat { Sits heap.now seat.old }
     requires alone { IsAloneIn Clear (view_of seat.old) }
     ensures seat { Sits heap.now seat.new }
     ensures part { Across (IsPart Clear) seat.old seat.new }
     ensures end { block_count heap.now.shape ≤ block_floor (view_of seat.new) }
-    ensures numbers { Across (Only leaves_numbers) seat.old seat.new }
     ensures rescanned { rescanned_in (view_of seat.old) (did seat.old seat.new) ≡ 0 }
 {
     sweeper::clear_rest(heap, seat);
 }
 
 /// Sweeps every block that is left: how many cells were freed.
-pub fn sweep_rest(heap: &Heap, seat: &mut HeapSeat) -> u32
+pub(crate) fn sweep_rest(heap: &Heap, seat: &mut HeapSeat) -> u32
     requires seat { Sits heap.now seat.old }
     requires sweeps { IsTrue (state_of seat.old).knows × Known (view_of seat.old) the_phase (phase_number Sweep) × ((state_of seat.old).block ≡ None) }
     ensures seat { Sits heap.now seat.new }

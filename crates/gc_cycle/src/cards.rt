@@ -34,7 +34,6 @@ pub(crate) fn clean_dirty(heap: &Heap, seat: &mut HeapSeat) -> u32
     ensures traced { Across HasTraced seat.old seat.new }
     ensures rescanned { rescanned_in (view_of seat.old) (did seat.old seat.new) ≡ result }
     ensures cleans { CleansDirty heap.now.shape result (did seat.old seat.new) }
-    ensures unpopped { IsTrue (never pops (did seat.old seat.new)) }
 {
     card_clean::clean_dirty(heap, seat)
 }
@@ -118,7 +117,7 @@ pub fn clean_between(heap: &Heap, seat: &mut HeapSeat, first: u32, end: u32)
 }
 
 /// Whether the drain is at its end, where all roots are seen to.
-pub fn is_drained(heap: &Heap, seat: &mut HeapSeat) -> bool
+pub(crate) fn is_drained(heap: &Heap, seat: &mut HeapSeat) -> bool
     requires seat { Sits heap.now seat.old × RootedAlone (view_of seat.old) }
     ensures seat { Sits heap.now seat.new × RootedAlone (view_of seat.new) }
     ensures traced { Across HasTraced seat.old seat.new }

@@ -1,12 +1,11 @@
 //! The drain: what the mutators left is marked, first with the helpers and then alone.
-ghost use Rattle.std.specs.Prelude.{ℕ, ◌≡◌, ◌<◌, ◌≤◌, ◌+◌, ◌⊎◌, [], ◌∷◌, min, IsTrue};
+ghost use Rattle.std.specs.Prelude.{ℕ, ◌≡◌, ◌<◌, ◌+◌, ◌⊎◌, [], ◌∷◌, min, IsTrue};
 ghost use Rattle.mark_core.specs.Numbers.{card_counter, empty_offset};
 ghost use Rattle.mark_core.specs.Seats.{phase_number};
 ghost use Rattle.mark_core.specs.declared.kinds.Phase.{Phase};
 ghost use Rattle.mark_core.specs.declared.kinds.Phase.TheVariants.{Idle, Marking, Drain, Sweep};
 ghost use Rattle.mark_core.specs.declared.kinds.Step.TheVariants.{Reset, StorePhase};
 ghost use Rattle.gc_table.specs.Seats.{Across, did, Sits, state_of, view_of};
-ghost use Rattle.packet_pools.specs.Counts.{count_of};
 ghost use Rattle.packet_pools.specs.Seeking.{some_event};
 ghost use Rattle.gc_table.specs.Log.{event, events};
 ghost use Rattle.gc_table.specs.Running.{Ran};
@@ -15,7 +14,7 @@ ghost use Rattle.gc_cycle.specs.DrainRounds.{BringsAtLast, DrainsAlone, DrainsTo
 ghost use Rattle.gc_cycle.specs.Drained.{DrainedAlone};
 ghost use Rattle.gc_cycle.specs.Finishing.{DrainsInStop, IsAloneIn, IsMove, most};
 ghost use Rattle.gc_cycle.specs.Lower.{HasTraced};
-ghost use Rattle.gc_cycle.specs.Sorts.{pops, sees_all_empty as says_all_empty};
+ghost use Rattle.gc_cycle.specs.Sorts.{sees_all_empty as says_all_empty};
 ghost use Rattle.gc_cycle.specs.RoundParts.{BringsBack, CleansLast};
 ghost use Rattle.gc_cycle.specs.Turns.{DrainsFor, SeesToRoots, round_quota};
 
@@ -47,7 +46,7 @@ pub fn begin_drain(heap: &Heap, seat: &mut HeapSeat)
 }
 
 /// One round, alone or beside helpers: what was deferred, so many objects of the packets, and all cards. How many objects were scanned again.
-pub fn drain_round(heap: &Heap, seat: &mut HeapSeat, quota: u32) -> u32
+fn drain_round(heap: &Heap, seat: &mut HeapSeat, quota: u32) -> u32
     requires seat { Sits heap.now seat.old }
     requires drains { DrainsInStop (view_of seat.old) }
     ensures seat { Sits heap.now seat.new }
@@ -55,7 +54,6 @@ pub fn drain_round(heap: &Heap, seat: &mut HeapSeat, quota: u32) -> u32
     ensures rescanned { rescanned_in (view_of seat.old) (did seat.old seat.new) ≡ result }
     ensures worked { Across (DrainsFor quota) seat.old seat.new }
     ensures brings { Across BringsBack seat.old seat.new }
-    ensures most { count_of pops (did seat.old seat.new) ≤ quota }
     ensures cleans { Across CleansLast seat.old seat.new }
 {
     recycle_deferred(heap, seat);

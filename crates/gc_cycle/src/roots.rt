@@ -74,17 +74,14 @@ pub fn sees_to_some(heap: &Heap, seat: &mut HeapSeat, from: u32, end: u32) -> bo
 
 /// Marks what the roots of all sections refer to, where a packet can be had for it. Where none can, what was deferred is brought back, which is all
 /// that can keep packets from a seat that is alone.
-pub fn sees_to_roots(heap: &Heap, seat: &mut HeapSeat) -> bool
+fn sees_to_roots(heap: &Heap, seat: &mut HeapSeat) -> bool
     requires seat { Sits heap.now seat.old }
     requires alone { IsAloneIn Drain (view_of seat.old) × (look the_next_block (view_of seat.old).known ≡ Some 0) }
     ensures seat { Sits heap.now seat.new }
     ensures part { Across (IsPart Drain) seat.old seat.new }
     ensures next { look the_next_block (view_of seat.new).known ≡ Some 0 }
-    ensures numbers { Across (Only leaves_numbers) seat.old seat.new }
     ensures rescanned { rescanned_in (view_of seat.old) (did seat.old seat.new) ≡ 0 }
-    ensures unpopped { IsTrue (never pops (did seat.old seat.new)) }
     ensures rooted { IsTrue result → RootedAlone (view_of seat.new) }
-    ensures lacks { IsFalse result → Across LacksPacket seat.old seat.new }
 {
     let end = count_roots(heap, seat);
     sees_to_some(heap, seat, 0, end)

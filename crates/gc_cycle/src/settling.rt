@@ -46,7 +46,6 @@ fn count_published(heap: &Heap, seat: &mut HeapSeat) -> u32
     requires alone { IsAloneIn Idle (view_of seat.old) }
     ensures seat { Sits heap.now seat.new }
     ensures part { Across (IsPart Idle) seat.old seat.new }
-    ensures numbers { Across (Only leaves_numbers) seat.old seat.new }
     ensures noted { AllocsNoted (block_count heap.now.shape) (view_of seat.new) }
     ensures count { result ≡ ones_noted (block_count heap.now.shape) (view_of seat.new) }
     ensures bound { result ≤ heap.now.shape.cells }
@@ -116,12 +115,11 @@ pub fn set_numbers(
 }
 
 /// Ends the count of a cycle: the cells in use are counted, and the numbers are set that pace the next one.
-pub fn settle(heap: &Heap, seat: &mut HeapSeat, rescanned: u32, freed: u32) -> Counts
+pub(crate) fn settle(heap: &Heap, seat: &mut HeapSeat, rescanned: u32, freed: u32) -> Counts
     requires seat { Sits heap.now seat.old }
     requires alone { IsAloneIn Idle (view_of seat.old) }
     ensures seat { Sits heap.now seat.new }
     ensures part { Across (IsPart Idle) seat.old seat.new }
-    ensures numbers { Across (ChangesBy (sets_numbers heap.now.shape result)) seat.old seat.new }
     ensures counts { (result.rescanned ≡ rescanned) × (result.freed ≡ freed) }
     ensures end { InEach (IsCycleEnd result) (view_of seat.new) }
 {

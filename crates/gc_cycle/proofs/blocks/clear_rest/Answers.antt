@@ -2,11 +2,9 @@ use Rattle.mark_core.specs.Layout.{block_count}
 use Rattle.gc_table.specs.Log.{events}
 use Rattle.gc_table.specs.Seats.{view_of}
 use Rattle.gc_table.specs.declared.view.View.{View}
-use Rattle.gc_table.proofs.History.Log.{only-more}
 use Rattle.sweeper.specs.Sweepers.{is_clearing}
 use Rattle.card_clean.specs.Leaving.{rescans}
-use Rattle.gc_cycle.specs.Statistics.{leaves_numbers}
-use Rattle.gc_cycle.proofs.ClearedBlocks.{cleared-part, clearing-leaves, clearing-rescans, may-clear}
+use Rattle.gc_cycle.proofs.ClearedBlocks.{cleared-part, clearing-rescans, may-clear}
 use Rattle.gc_cycle.proofs.Ends.Swept.{floor-above}
 use Rattle.gc_cycle.proofs.Sequences.{total-none}
 use Rattle.gc_cycle.proofs.blocks.clear_rest.Goals as goal
@@ -25,6 +23,3 @@ pub returns-clause-rescanned : goal.returns-clause-rescanned
 returns-clause-rescanned c =
     let v : View = view_of c.args.seat.now in
     total-none rescans is_clearing clearing-rescans (events v (view_of c.clear_rest.new.seat)) v c.clear_rest.ensures.only
-
-pub returns-clause-numbers : goal.returns-clause-numbers
-returns-clause-numbers c = only-more is_clearing leaves_numbers clearing-leaves (view_of c.args.seat.now) (view_of c.clear_rest.new.seat) c.clear_rest.ensures.only

@@ -8,7 +8,7 @@ use Rattle.gc_table.specs.declared.view.View.{View}
 use Rattle.gc_cycle.specs.Standing.{is_at_rest}
 use Rattle.gc_cycle.proofs.Longer.{has-traced}
 use Rattle.gc_cycle.proofs.Traced.{drains-on, drains-rest, drains-trace, rescans-last}
-use Rattle.gc_cycle.proofs.Turns.{brings-back, pops-within, traced-within}
+use Rattle.gc_cycle.proofs.Turns.{brings-back, traced-within}
 use Rattle.gc_cycle.proofs.draining.drain_round.Goals as goal
 
 pub recycle_deferred-requires-clause-seat : goal.recycle_deferred-requires-clause-seat
@@ -69,8 +69,3 @@ returns-clause-brings c =
     let y : View = view_of c.clean_dirty.new.seat in
     let r = c.recycle_deferred.ensures in
     brings-back c.args.heap.now.shape c.recycle_deferred.result v w y c.requires.seat.1 r.traced.ran r.recycled (ran-join w x y c.trace.ensures.traced.ran c.clean_dirty.ensures.traced.ran)
-
-pub returns-clause-most : goal.returns-clause-most
-returns-clause-most c =
-    pops-within c.args.quota c.trace.result (view_of c.args.seat.now) (view_of c.recycle_deferred.new.seat) (view_of c.trace.new.seat) (view_of c.clean_dirty.new.seat)
-    c.recycle_deferred.ensures.traced.ran c.trace.ensures.traced.ran c.clean_dirty.ensures.traced.ran c.recycle_deferred.ensures.unpopped c.trace.ensures.ends c.trace.ensures.most c.clean_dirty.ensures.unpopped
