@@ -2,7 +2,7 @@
 
 use crate::crowd::{FOUND, MADE, Tally};
 use shared_heap::{Refused, SharedMutator};
-use shared_structures::SharedQueue;
+use example_structures::SharedQueue;
 use std::sync::Wait;
 
 /// Puts the numbers below `rounds` in, and after each takes one out, which is there: no thread has taken more than it put in.

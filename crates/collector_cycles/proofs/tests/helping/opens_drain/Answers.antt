@@ -1,5 +1,0 @@
-use Rattle.std.proofs.Common.{inr}
-use Rattle.collector_cycles.proofs.tests.helping.opens_drain.Goals as goal
-
-pub drains-requires-clause-begins : goal.drains-requires-clause-begins
-drains-requires-clause-begins c = inr c.requires.1

@@ -1,5 +1,0 @@
-use Rattle.test_heaps.specs.Seats.{HasEachObject}
-use Rattle.collector_cycles.proofs.tests.paying.make_chain.Given as goal
-
-abbrev pub invariant-loop-block : goal.invariant-loop-block
-invariant-loop-block l = HasEachObject l.heap l.seat

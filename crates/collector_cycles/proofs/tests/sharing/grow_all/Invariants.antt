@@ -1,5 +1,0 @@
-use Rattle.test_heaps.specs.Seats.{IsReadyWithCache}
-use Rattle.collector_cycles.proofs.tests.sharing.grow_all.Given as goal
-
-abbrev pub invariant-loop-n : goal.invariant-loop-n
-invariant-loop-n l = IsReadyWithCache l.heap l.seat l.cache

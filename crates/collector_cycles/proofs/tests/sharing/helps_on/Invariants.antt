@@ -1,5 +1,0 @@
-use Rattle.gc_table.specs.Seats.{Sits}
-use Rattle.collector_cycles.proofs.tests.sharing.helps_on.Given as goal
-
-abbrev pub invariant-loop-turn : goal.invariant-loop-turn
-invariant-loop-turn l = Sits l.heap l.seat

@@ -1,5 +1,0 @@
-use Rattle.test_heaps.specs.Seats.{HasEachObject}
-use Rattle.collector_cycles.proofs.tests.sharing.make_chains.Given as goal
-
-abbrev pub invariant-loop-block : goal.invariant-loop-block
-invariant-loop-block l = HasEachObject l.heap l.seat

@@ -1,7 +1,0 @@
-use Rattle.gc_table.specs.Seats.{view_of}
-use Rattle.cycle_steps.specs.Pieces.{IsAtClear}
-use Rattle.test_heaps.specs.Seats.{HasEachObject}
-use Rattle.collector_cycles.proofs.tests.stages.clears.Given as goal
-
-abbrev pub invariant-loop-full : goal.invariant-loop-full
-invariant-loop-full l = HasEachObject l.heap l.seat × IsAtClear (view_of l.seat)

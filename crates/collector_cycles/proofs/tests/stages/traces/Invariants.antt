@@ -1,7 +1,0 @@
-use Rattle.gc_table.specs.Seats.{view_of}
-use Rattle.cycle_steps.specs.Stepping.{Drains}
-use Rattle.test_heaps.specs.Seats.{HasEachObject}
-use Rattle.collector_cycles.proofs.tests.stages.traces.Given as goal
-
-abbrev pub invariant-loop-piece : goal.invariant-loop-piece
-invariant-loop-piece l = HasEachObject l.heap l.seat × Drains (view_of l.seat)

@@ -1,0 +1,17 @@
+use Rattle.std.proofs.Common.{sym}
+use Rattle.example_structures.specs.Changes.{ChangesNone, IsTold}
+use Rattle.example_structures.proofs.Called.{variable-none, variable-told}
+use Rattle.example_structures.proofs.Refused.{act-none, act-told, either-way}
+use Rattle.example_structures.proofs.calls.forget.Goals as goal
+
+pub returns-clause-none : goal.returns-clause-none
+returns-clause-none c =
+    let x = c.args.m.now in
+    let y = c.forget-done.new.self in
+    either-way c.forget-done.result (ChangesNone x y) _ _ c.forget-done.ensures.done c.forget-done.ensures.refused (λ _ s. variable-none x y c.args.v _ s.does) (λ e r. act-none x y e _ r)
+
+pub returns-clause-told : goal.returns-clause-told
+returns-clause-told c = λ other.
+    let x = c.args.m.now in
+    let y = c.forget-done.new.self in
+    either-way c.forget-done.result (IsTold 21 x → IsTold 21 y) _ _ c.forget-done.ensures.done c.forget-done.ensures.refused (λ _ s. variable-told x y 21 c.args.v _ (λ e. other (sym e)) s.does) (λ e r. act-told x y 21 e _ r)

@@ -1,0 +1,24 @@
+use Rattle.std.proofs.Common.{◌≡◌, arith}
+use Rattle.std.specs.Prelude.{if◌then◌else◌}
+use Rattle.shared_heap.specs.declared.mutator.Place.TheVariants.{Inside}
+use Rattle.example_structures.specs.Queues.{Moves}
+use Rattle.example_structures.specs.Refusing.{GivenUp}
+use Rattle.example_structures.proofs.Called.{exchanged-told}
+use Rattle.example_structures.proofs.Counted.{none-moves, put-moves}
+use Rattle.example_structures.proofs.Refused.{want-inside, want-none, when-err, when-ok}
+use Rattle.example_structures.proofs.queue.SharedQueue.come_behind.Goals as goal
+
+pub returns-clause-put : goal.returns-clause-put
+returns-clause-put c =
+    let x = c.args.m.now in
+    let y = c.exchange.new.self in
+    let q = c.args.self.queue in
+    when-ok c.exchange.result _ (λ won. (y.place ≡ Inside) × Moves q (if won then 1 else 0) 0 x y) c.exchange.ensures.done (λ won s. (s.inside, put-moves x y q won (exchanged-told x y 22 0 21 20 won c.requires.told s.does)))
+
+pub returns-clause-refused : goal.returns-clause-refused
+returns-clause-refused c =
+    let x = c.args.m.now in
+    let y = c.exchange.new.self in
+    let q = c.args.self.queue in
+    when-err c.exchange.result _ (λ e. GivenUp e y × Moves q 0 0 x y) c.exchange.ensures.refused
+    (λ e r. ((want-inside x y e _ 22 c.requires.inside (omega arith, omega (arith, c.requires.wide), omega arith, omega arith) r).1, none-moves x y q (want-none x y e _ 22 r)))

@@ -1,0 +1,25 @@
+use Rattle.std.proofs.Common.{◌≡◌, ◌<◌, arith}
+use Rattle.std.specs.Prelude.{if◌then◌else◌}
+use Rattle.shared_heap.specs.declared.mutator.Place.TheVariants.{Inside}
+use Rattle.example_structures.specs.Queues.{Moves}
+use Rattle.example_structures.specs.Refusing.{GivenUp}
+use Rattle.example_structures.proofs.Called.{exchanged-told}
+use Rattle.example_structures.proofs.Counted.{none-moves, taken-moves}
+use Rattle.example_structures.proofs.Refused.{want-inside, want-none, when-err, when-ok}
+use Rattle.example_structures.proofs.queue.SharedQueue.come_first.Goals as goal
+
+pub returns-clause-taken : goal.returns-clause-taken
+returns-clause-taken c =
+    let x = c.args.m.now in
+    let y = c.exchange.new.self in
+    let q = c.args.self.queue in
+    when-ok c.exchange.result _ (λ won. (y.place ≡ Inside) × Moves q 0 (if won then 1 else 0) x y) c.exchange.ensures.done (λ won s. (s.inside, taken-moves x y q won (exchanged-told x y q 0 21 23 won c.requires.told s.does)))
+
+pub returns-clause-refused : goal.returns-clause-refused
+returns-clause-refused c =
+    let x = c.args.m.now in
+    let y = c.exchange.new.self in
+    let q = c.args.self.queue in
+    let low : q < 20 = c.args.self.caller in
+    when-err c.exchange.result _ (λ e. GivenUp e y × Moves q 0 0 x y) c.exchange.ensures.refused
+    (λ e r. ((want-inside x y e _ q c.requires.inside (omega arith, omega (arith, c.requires.wide), omega arith, omega arith) r).1, none-moves x y q (want-none x y e _ q r)))

@@ -1,0 +1,144 @@
+//! What the structures do with a mutator that is inside.
+//!
+//! The numbers of the variables are in range, and the world's objects have as many references as are used. So most of it can't be refused. Each call says that it
+//! changed no object, and that the mutator's log tells what variable `SEEN` refers to, where it told so before: by this an exchange that expects it says whether it
+//! was won.
+ghost use Rattle.std.specs.Arc.{arc_value};
+ghost use Rattle.std.specs.Prelude.{◌≡◌, ℕ, ◌<◌, ◌≢◌, IfErr, IfOk, IsFalse, IsTrue};
+ghost use Rattle.mark_core.specs.Steps.MutatorSteps.{seat_variable as word_in};
+ghost use Rattle.gc_table.specs.Seats.{state_of};
+ghost use Rattle.shared_heap.specs.Calls.{field_count_of};
+ghost use Rattle.shared_heap.specs.declared.mutator.Place.TheVariants.{Inside};
+ghost use Rattle.example_structures.specs.Changes.{ChangesNone, IsTold};
+ghost use Rattle.example_structures.specs.Making.{Lays};
+ghost use Rattle.example_structures.specs.Refusing.{GivenUp};
+
+use crate::hands::{OWN, SEEN};
+use shared_heap::{Refused, SharedMutator};
+use std::sync::Wait;
+
+/// Variable w becomes what reference i of variable v's object is found to refer to, or refers to nothing where v does.
+pub(crate) fn get(m: &mut SharedMutator, w: u8, v: u8, i: u8)
+    requires inside { m.old.place ≡ Inside }
+    requires range { (w < 32) × (v < 32) × (i < field_count_of m.old) }
+    requires other { w ≢ 21 }
+    ensures inside { m.new.place ≡ Inside }
+    ensures none { ChangesNone m.old m.new }
+    ensures told { IsTold 21 m.old → IsTold 21 m.new }
+    ensures world { arc_value m.new.heap ≡ arc_value m.old.heap }
+{
+    let _done = m.get(w, v, i);
+}
+
+/// Variable `SEEN` becomes that.
+pub(crate) fn see(m: &mut SharedMutator, v: u8, i: u8)
+    requires inside { m.old.place ≡ Inside }
+    requires range { (v < 32) × (i < field_count_of m.old) }
+    ensures inside { m.new.place ≡ Inside }
+    ensures none { ChangesNone m.old m.new }
+    ensures told { IsTold 21 m.new }
+    ensures world { arc_value m.new.heap ≡ arc_value m.old.heap }
+{
+    let _done = m.get(SEEN, v, i);
+}
+
+/// Variable w becomes what variable v is.
+pub(crate) fn copy(m: &mut SharedMutator, w: u8, v: u8)
+    requires inside { m.old.place ≡ Inside }
+    requires range { (w < 32) × (v < 32) }
+    requires other { w ≢ 21 }
+    ensures inside { m.new.place ≡ Inside }
+    ensures none { ChangesNone m.old m.new }
+    ensures told { IsTold 21 m.old → IsTold 21 m.new }
+    ensures world { arc_value m.new.heap ≡ arc_value m.old.heap }
+{
+    let _done = m.copy(w, v);
+}
+
+/// Variable v refers to nothing any more.
+pub(crate) fn forget(m: &mut SharedMutator, v: u8)
+    requires inside { m.old.place ≡ Inside }
+    requires range { v < 32 }
+    ensures inside { m.new.place ≡ Inside }
+    ensures none { ChangesNone m.old m.new }
+    ensures told { v ≢ 21 → IsTold 21 m.old → IsTold 21 m.new }
+    ensures world { arc_value m.new.heap ≡ arc_value m.old.heap }
+{
+    let _done = m.forget(v);
+}
+
+/// Makes an object with this value, to which variable v refers. It is a safe point.
+pub(crate) fn make<R: Wait>(rt: &R, m: &mut SharedMutator, v: u8, value: u32) -> Result<(), Refused>
+    requires inside { m.old.place ≡ Inside }
+    requires range { v < 32 }
+    requires other { v ≢ 21 }
+    ensures inside { IfOk result (λ _. m.new.place ≡ Inside) }
+    ensures refused { IfErr result (λ e. GivenUp e m.new) }
+    ensures none { ChangesNone m.old m.new }
+    ensures told { IfOk result (λ _. IsTold 21 m.old → IsTold 21 m.new) }
+    ensures some { IfOk result (λ _. 0 < word_in (state_of m.new.seat) v) }
+    ensures others { IfOk result (λ _. (u : ℕ) → u ≢ v → word_in (state_of m.new.seat) u ≡ word_in (state_of m.old.seat) u) }
+    ensures world { arc_value m.new.heap ≡ arc_value m.old.heap }
+{
+    match m.make(rt, v, value) {
+        Ok(_) => Ok(()),
+        Err(e) => Err(e),
+    }
+}
+
+/// A safe point.
+pub(crate) fn pass<R: Wait>(rt: &R, m: &mut SharedMutator) -> Result<(), Refused>
+    requires inside { m.old.place ≡ Inside }
+    ensures inside { IfOk result (λ _. m.new.place ≡ Inside) }
+    ensures refused { IfErr result (λ e. GivenUp e m.new) }
+    ensures none { ChangesNone m.old m.new }
+    ensures world { arc_value m.new.heap ≡ arc_value m.old.heap }
+{
+    m.safe_point(rt)
+}
+
+/// The value of variable v's object. Nil where it refers to nothing.
+pub(crate) fn value(m: &mut SharedMutator, v: u8) -> Result<u64, Refused>
+    requires inside { m.old.place ≡ Inside }
+    requires range { v < 32 }
+    ensures inside { m.new.place ≡ Inside }
+    ensures refused { IfErr result (λ e. GivenUp e m.new) }
+    ensures none { ChangesNone m.old m.new }
+    ensures told { IsTold 21 m.old → IsTold 21 m.new }
+    ensures world { arc_value m.new.heap ≡ arc_value m.old.heap }
+{
+    m.value(v)
+}
+
+/// Whether variable v refers to nothing.
+pub(crate) fn is_nil(m: &SharedMutator, v: u8) -> bool
+    requires inside { m.now.place ≡ Inside }
+    requires range { v < 32 }
+    ensures nil { IsTrue result → word_in (state_of m.now.seat) v ≡ 0 }
+    ensures some { IsFalse result → word_in (state_of m.now.seat) v ≡ 0 → ⊥ }
+{
+    m.is_nil(v).unwrap_or(true)
+}
+
+/// Whether variables v and w refer to one object, or both to nothing.
+pub(crate) fn same(m: &SharedMutator, v: u8, w: u8) -> bool
+    requires inside { m.now.place ≡ Inside }
+    requires range { (v < 32) × (w < 32) }
+    ensures one { IsTrue result → word_in (state_of m.now.seat) v ≡ word_in (state_of m.now.seat) w }
+    ensures two { IsFalse result → word_in (state_of m.now.seat) v ≡ word_in (state_of m.now.seat) w → ⊥ }
+{
+    m.same(v, w).unwrap_or(true)
+}
+
+/// Reference i of variable v's object, which was made in this call, becomes what variable `OWN` refers to.
+pub(crate) fn lay(m: &mut SharedMutator, v: u8, i: u8)
+    requires inside { m.old.place ≡ Inside }
+    requires range { (v < 32) × (i < field_count_of m.old) }
+    requires some { 0 < word_in (state_of m.old.seat) v }
+    ensures inside { m.new.place ≡ Inside }
+    ensures lays { Lays v 1 m.old m.new }
+    ensures some { 0 < word_in (state_of m.new.seat) v }
+    ensures world { arc_value m.new.heap ≡ arc_value m.old.heap }
+{
+    let _done = m.set(v, i, OWN);
+}

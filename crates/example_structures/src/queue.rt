@@ -1,0 +1,292 @@
+//! A queue of several producers and consumers: that of Michael and Scott (PODC 1996).
+//!
+//! The queue is an object with two references, to the first node and to the last. A node's value is the number that was put in; its reference 0 is the next node,
+//! and its reference 1 the object that was put in. The first node is always one whose number was taken, or that the queue began with: so the queue is never
+//! without a node, and producers and consumers work at its two ends.
+//!
+//! A node is put in by one exchange of the last node's reference, which must be nil, and taken out by one exchange of the queue's first. The queue's last follows:
+//! where it lags behind, whoever finds it so moves it on. What a taken node had is read before the exchange: until that is won no other changes it.
+ghost use Rattle.std.specs.Arc.{arc_value};
+ghost use Rattle.std.specs.Prelude.{◌≡◌, ◌<◌, ◌≤◌, IfErr, IfNone, IfOk, IfSome, ◌⊎◌, if◌then◌else◌};
+ghost use Rattle.shared_heap.specs.Calls.{field_count_of};
+ghost use Rattle.shared_heap.specs.declared.mutator.Place.TheVariants.{Inside};
+ghost use Rattle.example_structures.specs.Changes.{IsTold};
+ghost use Rattle.example_structures.specs.Making.{Lays};
+ghost use Rattle.example_structures.specs.Queues.{Moves, taken_by};
+ghost use Rattle.example_structures.specs.Looks.{taken_by_look};
+ghost use Rattle.example_structures.specs.Refusing.{GivenUp, IsFor, IsRefused};
+
+use crate::calls::{copy, forget, get, is_nil, lay, make, pass, same, see, value};
+use crate::hands::{CALLERS, OWN, SEEN, begin};
+use shared_heap::{Refused, SharedMutator};
+use std::sync::Wait;
+
+/// The references of a queue: to its first node and to its last.
+const FIRST: u8 = 0;
+
+const LAST: u8 = 1;
+
+/// The references of a node: to the next node, and to the object that was put in.
+const NEXT: u8 = 0;
+
+const ITEM: u8 = 1;
+
+/// The variables beside the node that is put in, and what is seen: the last node, the one behind the first, and its object.
+const TAIL: u8 = 22;
+
+const BEHIND: u8 = 23;
+
+const OBJECT: u8 = 24;
+
+/// What one look at the queue came to.
+#[derive(Drop)]
+enum Look {
+    /// The first was taken, with this number.
+    Taken(u64),
+    /// There was none.
+    Empty,
+    /// Another thread was faster, or the last node lagged behind.
+    Again,
+}
+
+/// The queue that a variable refers to. Its objects want two references at least. The queue's own value is the caller's.
+#[derive(Clone, Copy, Debug, PartialEq, Eq, Drop)]
+pub struct SharedQueue {
+    queue: u8,
+    ghost caller: { queue < 20 },
+}
+
+impl SharedQueue {
+    /// The queue of this variable. None where that isn't one of the caller's, 0 to 19.
+    pub fn at(queue: u8) -> Option<SharedQueue>
+        ensures some { IfSome result (λ q. (q.queue ≡ queue) × (queue < 20)) }
+        ensures none { IfNone result (20 ≤ queue) }
+    {
+        if queue >= CALLERS {
+            return None;
+        }
+        Some(SharedQueue { queue })
+    }
+
+    /// Makes an empty queue, to which the variable refers from then on.
+    pub fn make<R: Wait>(self, rt: &R, m: &mut SharedMutator) -> Result<(), Refused>
+        ensures made { IfOk result (λ _. (m.new.place ≡ Inside) × Lays self.queue 2 m.old m.new) }
+        ensures refused { IfErr result (λ e. IsRefused e (IsFor self.queue 2 m.old) m.old m.new × Lays self.queue 0 m.old m.new) }
+        ensures world { arc_value m.new.heap ≡ arc_value m.old.heap }
+    {
+        begin(m, self.queue, 2)?;
+        make(rt, m, OWN, 0)?;
+        make(rt, m, self.queue, 0)?;
+        lay(m, self.queue, FIRST);
+        lay(m, self.queue, LAST);
+        forget(m, OWN);
+        Ok(())
+    }
+
+    /// Puts in a number, and the object of variable `item`, if it refers to one. It is a safe point.
+    pub fn put<R: Wait>(
+        self,
+        rt: &R,
+        m: &mut SharedMutator,
+        item: u8,
+        number: u32,
+    ) -> Result<(), Refused>
+        ensures put { IfOk result (λ _. (m.new.place ≡ Inside) × Moves self.queue 1 0 m.old m.new) }
+        ensures refused { IfErr result (λ e. IsRefused e (IsFor item 2 m.old) m.old m.new × Moves self.queue 0 0 m.old m.new) }
+        ensures world { arc_value m.new.heap ≡ arc_value m.old.heap }
+    {
+        begin(m, item, 2)?;
+        make(rt, m, OWN, number)?;
+        self.keep(m, OWN, item);
+        let mut is_in = false;
+        for _round in rt.forever() {
+            if is_in {
+                break;
+            }
+            is_in = self.try_put(rt, m)?;
+        }
+        forget(m, OWN);
+        Ok(())
+    }
+
+    /// The node in hand comes behind the last, if that is found to be last: true where it was. Else it is a safe point.
+    fn try_put<R: Wait>(self, rt: &R, m: &mut SharedMutator) -> Result<bool, Refused>
+        requires inside { m.old.place ≡ Inside }
+        requires wide { 2 ≤ field_count_of m.old }
+        ensures put { IfOk result (λ won. (m.new.place ≡ Inside) × Moves self.queue (if won then 1 else 0) 0 m.old m.new) }
+        ensures refused { IfErr result (λ e. GivenUp e m.new × Moves self.queue 0 0 m.old m.new) }
+        ensures world { arc_value m.new.heap ≡ arc_value m.old.heap }
+    {
+        if self.append(m)? {
+            return Ok(true);
+        }
+        pass(rt, m)?;
+        Ok(false)
+    }
+
+    /// The node in hand comes behind the last, if that is found to be last: true where it was. Else the queue's last moves on.
+    fn append(self, m: &mut SharedMutator) -> Result<bool, Refused>
+        requires inside { m.old.place ≡ Inside }
+        requires wide { 2 ≤ field_count_of m.old }
+        ensures put { IfOk result (λ won. (m.new.place ≡ Inside) × Moves self.queue (if won then 1 else 0) 0 m.old m.new) }
+        ensures refused { IfErr result (λ e. GivenUp e m.new × Moves self.queue 0 0 m.old m.new) }
+        ensures world { arc_value m.new.heap ≡ arc_value m.old.heap }
+    {
+        get(m, TAIL, self.queue, LAST);
+        see(m, TAIL, NEXT);
+        if is_nil(m, SEEN) {
+            return self.link(m);
+        }
+        self.follow(m, SEEN);
+        forget(m, SEEN);
+        forget(m, TAIL);
+        Ok(false)
+    }
+
+    /// The node in hand comes behind the last, behind which nothing was seen, if no other does first: true where it did, and then the queue's last moves on.
+    fn link(self, m: &mut SharedMutator) -> Result<bool, Refused>
+        requires inside { m.old.place ≡ Inside }
+        requires wide { 2 ≤ field_count_of m.old }
+        requires told { IsTold 21 m.old }
+        ensures put { IfOk result (λ won. (m.new.place ≡ Inside) × Moves self.queue (if won then 1 else 0) 0 m.old m.new) }
+        ensures refused { IfErr result (λ e. GivenUp e m.new × Moves self.queue 0 0 m.old m.new) }
+        ensures world { arc_value m.new.heap ≡ arc_value m.old.heap }
+    {
+        let won = self.come_behind(m)?;
+        if won {
+            self.follow(m, OWN);
+        }
+        forget(m, TAIL);
+        Ok(won)
+    }
+
+    /// One exchange, by which the node in hand comes behind the last: true where it was won. Nil where no last one was found.
+    fn come_behind(self, m: &mut SharedMutator) -> Result<bool, Refused>
+        requires inside { m.old.place ≡ Inside }
+        requires wide { 2 ≤ field_count_of m.old }
+        requires told { IsTold 21 m.old }
+        ensures put { IfOk result (λ won. (m.new.place ≡ Inside) × Moves self.queue (if won then 1 else 0) 0 m.old m.new) }
+        ensures refused { IfErr result (λ e. GivenUp e m.new × Moves self.queue 0 0 m.old m.new) }
+        ensures world { arc_value m.new.heap ≡ arc_value m.old.heap }
+    {
+        m.exchange(TAIL, NEXT, SEEN, OWN)
+    }
+
+    /// The queue's last moves on to what this variable refers to, if no other moved it.
+    fn follow(self, m: &mut SharedMutator, to: u8)
+        requires inside { m.old.place ≡ Inside }
+        requires wide { (to < 32) × (2 ≤ field_count_of m.old) }
+        ensures inside { m.new.place ≡ Inside }
+        ensures moves { Moves self.queue 0 0 m.old m.new }
+        ensures world { arc_value m.new.heap ≡ arc_value m.old.heap }
+    {
+        let _moved = m.exchange(self.queue, LAST, TAIL, to);
+    }
+
+    /// What a node in hand keeps beside its number becomes what this variable refers to.
+    fn keep(self, m: &mut SharedMutator, node: u8, item: u8)
+        requires inside { m.old.place ≡ Inside }
+        requires wide { (item < 32) × (2 ≤ field_count_of m.old) }
+        requires node { (node ≡ 20) ⊎ (node ≡ 23) }
+        ensures inside { m.new.place ≡ Inside }
+        ensures moves { Moves self.queue 0 0 m.old m.new }
+        ensures world { arc_value m.new.heap ≡ arc_value m.old.heap }
+    {
+        let _done = m.set(node, ITEM, item);
+    }
+
+    /// Takes the first out: its number. Variable `item` refers to its object, if it has one. None where the queue was empty at some moment of the call.
+    pub fn take<R: Wait>(
+        self,
+        rt: &R,
+        m: &mut SharedMutator,
+        item: u8,
+    ) -> Result<Option<u64>, Refused>
+        ensures taken { IfOk result (λ some. (m.new.place ≡ Inside) × Moves self.queue 0 (taken_by some) m.old m.new) }
+        ensures refused { IfErr result (λ e. IsRefused e (IsFor item 2 m.old) m.old m.new × Moves self.queue 0 0 m.old m.new) }
+        ensures world { arc_value m.new.heap ≡ arc_value m.old.heap }
+    {
+        begin(m, item, 2)?;
+        for _round in rt.forever() {
+            match self.look(m, item)? {
+                Look::Taken(number) => return Ok(Some(number)),
+                Look::Empty => return Ok(None),
+                Look::Again => pass(rt, m)?,
+            }
+        }
+        Ok(None)
+    }
+
+    /// One look at the queue, which takes the first out if it can. Afterwards no variable keeps a node, and with it all that came behind it.
+    fn look(self, m: &mut SharedMutator, item: u8) -> Result<Look, Refused>
+        requires inside { m.old.place ≡ Inside }
+        requires wide { IsFor item 2 m.old }
+        ensures taken { IfOk result (λ look. (m.new.place ≡ Inside) × Moves self.queue 0 (taken_by_look look) m.old m.new) }
+        ensures refused { IfErr result (λ e. GivenUp e m.new × Moves self.queue 0 0 m.old m.new) }
+        ensures world { arc_value m.new.heap ≡ arc_value m.old.heap }
+    {
+        see(m, self.queue, FIRST);
+        get(m, TAIL, self.queue, LAST);
+        get(m, BEHIND, SEEN, NEXT);
+        let look = if same(m, SEEN, TAIL) {
+            self.look_behind(m)?
+        } else {
+            self.try_take(m, item)?
+        };
+        forget(m, SEEN);
+        forget(m, TAIL);
+        forget(m, BEHIND);
+        forget(m, OBJECT);
+        Ok(look)
+    }
+
+    /// The first node was the last one too: the queue is empty, or its last lags behind and moves on.
+    fn look_behind(self, m: &mut SharedMutator) -> Result<Look, Refused>
+        requires inside { m.old.place ≡ Inside }
+        requires wide { 2 ≤ field_count_of m.old }
+        ensures taken { IfOk result (λ look. (m.new.place ≡ Inside) × Moves self.queue 0 (taken_by_look look) m.old m.new) }
+        ensures refused { IfErr result (λ e. GivenUp e m.new × Moves self.queue 0 0 m.old m.new) }
+        ensures world { arc_value m.new.heap ≡ arc_value m.old.heap }
+    {
+        if is_nil(m, SEEN) {
+            return Err(Refused::Nil);
+        }
+        if is_nil(m, BEHIND) {
+            return Ok(Look::Empty);
+        }
+        self.follow(m, BEHIND);
+        Ok(Look::Again)
+    }
+
+    /// The node behind the first becomes the first, if no other thread was faster: then its number is taken, and its object, which it lets go of.
+    fn try_take(self, m: &mut SharedMutator, item: u8) -> Result<Look, Refused>
+        requires inside { m.old.place ≡ Inside }
+        requires wide { IsFor item 2 m.old }
+        requires told { IsTold 21 m.old }
+        ensures taken { IfOk result (λ look. (m.new.place ≡ Inside) × Moves self.queue 0 (taken_by_look look) m.old m.new) }
+        ensures refused { IfErr result (λ e. GivenUp e m.new × Moves self.queue 0 0 m.old m.new) }
+        ensures world { arc_value m.new.heap ≡ arc_value m.old.heap }
+    {
+        let number = value(m, BEHIND)?;
+        get(m, OBJECT, BEHIND, ITEM);
+        if !self.come_first(m)? {
+            return Ok(Look::Again);
+        }
+        copy(m, item, OBJECT);
+        forget(m, OBJECT);
+        self.keep(m, BEHIND, OBJECT);
+        Ok(Look::Taken(number))
+    }
+
+    /// One exchange, by which the node behind the first becomes the first: true where it was won.
+    fn come_first(self, m: &mut SharedMutator) -> Result<bool, Refused>
+        requires inside { m.old.place ≡ Inside }
+        requires wide { 2 ≤ field_count_of m.old }
+        requires told { IsTold 21 m.old }
+        ensures taken { IfOk result (λ won. (m.new.place ≡ Inside) × Moves self.queue 0 (if won then 1 else 0) m.old m.new) }
+        ensures refused { IfErr result (λ e. GivenUp e m.new × Moves self.queue 0 0 m.old m.new) }
+        ensures world { arc_value m.new.heap ≡ arc_value m.old.heap }
+    {
+        m.exchange(self.queue, FIRST, SEEN, BEHIND)
+    }
+}

@@ -1,5 +1,0 @@
-use Rattle.test_heaps.specs.Seats.{IsReadyWithCache}
-use Rattle.operation_cycles.proofs.tests.blocks.fill.Given as goal
-
-abbrev pub invariant-loop-n : goal.invariant-loop-n
-invariant-loop-n l = IsReadyWithCache l.heap l.seat l.cache

@@ -1,5 +1,0 @@
-use Rattle.test_heaps.specs.Seats.{IsReadyWithCache}
-use Rattle.operation_cycles.proofs.tests.threads.stores_on.Given as goal
-
-abbrev pub invariant-loop-turn : goal.invariant-loop-turn
-invariant-loop-turn l = IsReadyWithCache l.heap l.seat l.cache

@@ -1,0 +1,5 @@
+use Rattle.test_heaps.specs.Seats.{HasEachObject}
+use Rattle.test_collector.proofs.tests.sharing.make_chains.Given as goal
+
+abbrev pub invariant-loop-block : goal.invariant-loop-block
+invariant-loop-block l = HasEachObject l.heap l.seat

@@ -1,0 +1,5 @@
+use Rattle.test_heaps.specs.Seats.{IsReadyWithCache}
+use Rattle.test_collector.proofs.tests.threads.litter.Given as goal
+
+abbrev pub invariant-loop-n : goal.invariant-loop-n
+invariant-loop-n l = IsReadyWithCache l.heap l.seat l.cache

@@ -1,0 +1,247 @@
+//! While one thread marks, another moves the only reference to an object from one that waits for its scan to one that was scanned. This is the order in which a
+//! collector without a barrier loses an object:
+//!
+//! ```text
+//! a thread marks                    a thread stores
+//! scans the roots, A and B
+//! scans B
+//!                                   stores C, which A alone refers to, in B
+//!                                   stores nil in A
+//! scans A
+//! ends the cycle
+//! ```
+//!
+//! Now B alone refers to C, and was scanned before it did. The store dirtied the card of B, so that it is scanned once more before the cycle ends.
+ghost use Rattle.std.specs.Prelude.{◌<◌, IsTrue};
+ghost use Rattle.test_collector.specs.Seats.{IsSharerWithCache};
+ghost use Rattle.test_heaps.specs.Seats.{HasEachObject};
+
+use super::checks::{is_out, may_call};
+use super::hiding::passes;
+use super::seasons::{begin, joins, marks};
+use super::sharers::{makes, may_share, refills_sharer, takes_block};
+use alloc_cache::{Cache, retire};
+use gc_cycle::{go_in, go_out};
+use gc_table::{Heap, HeapSeat};
+use mark_core::{Phase, Shape};
+use mutator_ops::{share_follow, share_forget, share_set, share_value_of};
+use std::sync::Wait;
+use std::sync::atomic::{AtomicU64, Ordering};
+use std::thread::{Threads, join_mut, yield_now};
+use test_heaps::{SMALL, marks_as_mutator, next_seat, open};
+use tracer::{scan_roots, trace};
+
+/// One block, and two sections besides the catalogue's, which share their objects.
+const SHARED: Shape = Shape {
+    sections: 3,
+    sharing: true,
+    ..SMALL
+};
+
+/// The variables of A, of B, of C, and of nothing. Of the first two the roots' scan finds A before B, and a packet is a stack: so B is scanned first.
+const A: u8 = 0;
+
+const B: u8 = 1;
+
+const C: u8 = 2;
+
+const NIL: u8 = 3;
+
+/// Waits until so many steps were done: whether they were. It gives up after some seconds.
+fn comes_to(done: &AtomicU64, steps: u64) -> bool {
+    for _look in 0..10_000_000u32 {
+        if done.load(Ordering::SeqCst) >= steps {
+            return true;
+        }
+        yield_now();
+    }
+    false
+}
+
+/// Makes A with value 7, B with value 8, and C with value 9, to which field 0 of A alone refers. No card is dirtied, since none of them was published.
+fn make_three(heap: &Heap, seat: &mut HeapSeat, cache: &mut Cache) -> bool
+    requires cache { IsSharerWithCache heap.now seat.old cache.old }
+    requires fields { 0 < heap.now.shape.fields }
+    ensures { IsSharerWithCache heap.now seat.new cache.new }
+{
+    let a = makes(heap, seat, cache, A, 7);
+    let b = makes(heap, seat, cache, B, 8);
+    let c = makes(heap, seat, cache, C, 9);
+    share_set(heap, seat, A, 0, C);
+    share_forget(heap, seat, C);
+    a && b && c
+}
+
+/// Makes the three in a block, which is published: whether they were made.
+fn makes_three(heap: &Heap, seat: &mut HeapSeat) -> bool
+    requires { HasEachObject heap.now seat.old }
+    ensures { HasEachObject heap.now seat.new }
+{
+    if heap.shape().fields == 0 {
+        return false;
+    }
+    let Some(mut cache) = takes_block(heap, seat) else {
+        return false;
+    };
+    let made = make_three(heap, seat, &mut cache);
+    retire(heap, seat, cache);
+    made
+}
+
+/// Scans the roots of section 1: whether the seat marks.
+fn scans(heap: &Heap, seat: &mut HeapSeat) -> bool
+    requires { HasEachObject heap.now seat.old }
+    ensures { HasEachObject heap.now seat.new }
+{
+    if heap.shape().sections < 2 || !marks_as_mutator(heap, seat) {
+        return false;
+    }
+    scan_roots(heap, seat, 1);
+    true
+}
+
+/// Scans so many objects at most: how many it scanned.
+fn traces(heap: &Heap, seat: &mut HeapSeat, most: u32) -> u32
+    requires { HasEachObject heap.now seat.old }
+    ensures { HasEachObject heap.now seat.new }
+{
+    if !marks_as_mutator(heap, seat) {
+        return 0;
+    }
+    trace(heap, seat, most).done
+}
+
+/// Finds C in A, stores it in B, and lets A and the variable go of it.
+fn move_reference(heap: &Heap, seat: &mut HeapSeat) -> bool
+    requires { HasEachObject heap.now seat.old }
+    ensures { HasEachObject heap.now seat.new }
+{
+    if !may_share(heap, seat) || heap.shape().fields == 0 || seat.state().env[A as usize] == 0 {
+        return false;
+    }
+    share_follow(heap, seat, C, A, 0);
+    share_set(heap, seat, B, 0, C);
+    share_set(heap, seat, A, 0, NIL);
+    share_forget(heap, seat, C);
+    true
+}
+
+/// Once the other thread has scanned B, moves the reference, and leaves: whether it was moved.
+fn stores(heap: &Heap, seat: &mut HeapSeat, done: &AtomicU64) -> bool
+    requires { HasEachObject heap.now seat.old }
+    ensures { HasEachObject heap.now seat.new }
+{
+    let moved = comes_to(done, 1) && move_reference(heap, seat);
+    if may_call(heap, seat) && seat.state().cache.is_none() {
+        go_out(heap, seat, 0);
+    }
+    done.fetch_add(1, Ordering::SeqCst);
+    moved
+}
+
+/// Begins a cycle, passes over the cards, which are clean, and scans the roots and one object: whether that was so.
+fn scans_one(heap: &Heap, seat: &mut HeapSeat) -> bool
+    requires { HasEachObject heap.now seat.old }
+    ensures { HasEachObject heap.now seat.new }
+{
+    marks(heap, seat) && passes(heap, seat) && scans(heap, seat) && traces(heap, seat, 1) == 1
+}
+
+/// Fills the cache with objects of value 1: how many these were.
+fn fill(heap: &Heap, seat: &mut HeapSeat, cache: &mut Cache) -> u32
+    requires { IsSharerWithCache heap.now seat.old cache.old }
+    ensures { IsSharerWithCache heap.now seat.new cache.new }
+{
+    let mut made = 0u32;
+    for _cell in 0..64 {
+        if makes(heap, seat, cache, 5, 1) {
+            made = made.wrapping_add(1);
+        }
+    }
+    made
+}
+
+/// Ends the cycle, since nothing is left to trace, and makes objects in all cells that are free then: how many these are.
+fn ends_cycle<R: Wait>(rt: &R, heap: &Heap, seat: &mut HeapSeat) -> Option<u32>
+    requires { HasEachObject heap.now seat.old }
+    ensures { HasEachObject heap.now seat.new }
+{
+    let mut cache = refills_sharer(rt, heap, seat)?;
+    let made = fill(heap, seat, &mut cache);
+    retire(heap, seat, cache);
+    if heap.read_phase(seat) == Phase::Idle {
+        Some(made)
+    } else {
+        None
+    }
+}
+
+/// Scans B, waits until the other thread has moved the reference, scans A, and ends the cycle: how many cells were free then.
+fn marks_beside<R: Wait>(rt: &R, heap: &Heap, seat: &mut HeapSeat, done: &AtomicU64) -> Option<u32>
+    requires { HasEachObject heap.now seat.old }
+    ensures { HasEachObject heap.now seat.new }
+{
+    let scanned = scans_one(heap, seat);
+    done.fetch_add(1, Ordering::SeqCst);
+    if !scanned || !comes_to(done, 2) || traces(heap, seat, 1) != 1 {
+        return None;
+    }
+    ends_cycle(rt, heap, seat)
+}
+
+/// The value of the object that field 0 of B refers to, for a mutator that comes back.
+fn finds_moved<R: Wait>(rt: &R, heap: &Heap, seat: &mut HeapSeat) -> Option<u64>
+    requires { HasEachObject heap.now seat.old }
+{
+    if !is_out(heap, seat) || seat.state().section.is_none() {
+        return None;
+    }
+    go_in(rt, heap, seat);
+    heap.read_phase(seat);
+    if !may_share(heap, seat) || heap.shape().fields == 0 || seat.state().env[B as usize] == 0 {
+        return None;
+    }
+    share_follow(heap, seat, C, B, 0);
+    share_value_of(heap, seat, C)
+}
+
+/// How many cells were free at the end of the cycle, and the value of C then.
+fn keeps_moved<R: Threads + Wait + Sync>(
+    rt: &R,
+    heap: &Heap,
+    one: &mut HeapSeat,
+    two: &mut HeapSeat,
+) -> Option<(u32, u64)>
+    requires { HasEachObject heap.now one.old × HasEachObject heap.now two.old }
+{
+    if !makes_three(heap, one) {
+        return None;
+    }
+    let done = AtomicU64::new(0);
+    let (moved, free) = join_mut(
+        rt,
+        &mut || stores(heap, one, &done),
+        &mut || marks_beside(rt, heap, two, &done),
+    );
+    if !moved {
+        return None;
+    }
+    let free = free?;
+    let value = finds_moved(rt, heap, one)?;
+    Some((free, value))
+}
+
+#[test]
+fn a_moved_object_is_kept(rt: HostRuntime) {
+    let Some((heap, mut seats)) = open(rt.alloc(), SHARED, 3) else {
+        panic!(&rt; "memory")
+    };
+    let mut zero = next_seat(&heap, &mut seats, 0);
+    let mut one = next_seat(&heap, &mut seats, 1);
+    let mut two = next_seat(&heap, &mut seats, 2);
+    let begun = begin(&rt, &heap, &mut zero, &mut one);
+    assert!(&rt; begun);
+    let joined = joins(&heap, &mut two, 2);
+    assert!(&rt; joined);
+    assert!(&rt; keeps_moved(&rt, &heap, &mut one, &mut two) == Some((61, 9)));
+}

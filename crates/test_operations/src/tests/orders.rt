@@ -1,0 +1,87 @@
+//! Packets of four entries lie in two pools: one with a single object is low, and one with two is high.
+ghost use Rattle.std.specs.Prelude.{◌<◌};
+ghost use Rattle.std.specs.Bool.{OnTrue};
+ghost use Rattle.gc_table.specs.SeatRecords.{At, inside};
+ghost use Rattle.test_operations.specs.Seats.{IsReadyMutator};
+
+use super::DEEP;
+use super::objects::{gives_up, make_three, publish, take};
+use super::seasons::begin;
+use super::tracing::{scans, traces};
+use gc_table::{Heap, HeapSeat};
+use packet_pools::{give, take_input, take_output};
+use test_heaps::{make, next_seat, open};
+
+/// Two objects are put in one packet, and a third in the other.
+fn fills_both(heap: &Heap, seat: &mut HeapSeat) -> bool
+    requires { IsReadyMutator heap.now seat.old × (1 < heap.now.shape.fields) }
+    ensures { OnTrue result (IsReadyMutator heap.now seat.new) }
+{
+    let Some(mut cache) = take(heap, seat) else {
+        return false;
+    };
+    make_three(heap, seat, &mut cache);
+    publish(heap, seat, &mut cache);
+    scans(heap, seat, &cache);
+    traces(heap, seat, &cache, 1);
+    make(heap, seat, &mut cache, 3, 10);
+    scans(heap, seat, &cache);
+    gives_up(heap, seat, cache);
+    true
+}
+
+/// The lengths of the two packets, in the order in which they are taken to read from.
+fn read_in_order(heap: &Heap, seat: &mut HeapSeat, k: u32) -> Option<(u32, u32)>
+    requires { At heap.now inside k seat.old }
+{
+    let first = take_input(heap, seat)?;
+    let Some(second) = take_input(heap, seat) else {
+        give(heap, seat, first, false);
+        return None;
+    };
+    let lengths = (first.length(), second.length());
+    give(heap, seat, second, false);
+    give(heap, seat, first, false);
+    Some(lengths)
+}
+
+/// The lengths of the two packets, in the order in which they are taken to be filled.
+fn filled_in_order(heap: &Heap, seat: &mut HeapSeat, k: u32) -> Option<(u32, u32)>
+    requires { At heap.now inside k seat.old }
+{
+    let first = take_output(heap, seat)?;
+    let Some(second) = take_output(heap, seat) else {
+        give(heap, seat, first, false);
+        return None;
+    };
+    let lengths = (first.length(), second.length());
+    give(heap, seat, second, false);
+    give(heap, seat, first, false);
+    Some(lengths)
+}
+
+#[test]
+fn the_fuller_packet_is_read_first(rt: HostRuntime) {
+    let Some((heap, mut seats)) = open(rt.alloc(), DEEP, 3) else {
+        panic!(&rt; "memory")
+    };
+    let mut zero = next_seat(&heap, &mut seats, 0);
+    let mut one = next_seat(&heap, &mut seats, 1);
+    let begun = begin(&rt, &heap, &mut zero, &mut one);
+    assert!(&rt; begun);
+    assert!(&rt; fills_both(&heap, &mut one));
+    assert!(&rt; read_in_order(&heap, &mut zero, 0) == Some((2, 1)));
+}
+
+#[test]
+fn the_emptier_packet_is_filled_first(rt: HostRuntime) {
+    let Some((heap, mut seats)) = open(rt.alloc(), DEEP, 3) else {
+        panic!(&rt; "memory")
+    };
+    let mut zero = next_seat(&heap, &mut seats, 0);
+    let mut one = next_seat(&heap, &mut seats, 1);
+    let begun = begin(&rt, &heap, &mut zero, &mut one);
+    assert!(&rt; begun);
+    assert!(&rt; fills_both(&heap, &mut one));
+    assert!(&rt; filled_in_order(&heap, &mut zero, 0) == Some((1, 2)));
+}

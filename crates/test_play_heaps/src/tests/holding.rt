@@ -1,0 +1,17 @@
+//! Cases with further options.
+use test_cases::first_unlike;
+use std::process::Abort;
+use std::sync::Wait;
+use std::test::Fail;
+use std::thread::Threads;
+
+/// Fails where one of the cases isn't answered so, with these words behind its own.
+pub fn all_hold_with<R: Abort + AllocGlobal + Threads + Wait + Sync>(
+    rt: &R,
+    cases: &str,
+    more: &str,
+) -> Result<(), Fail> {
+    let unlike = first_unlike(rt, cases, more)?.unwrap_or("");
+    assert!(rt; unlike.is_empty(), "{more}: {unlike}");
+    Ok(())
+}

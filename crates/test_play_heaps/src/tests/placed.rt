@@ -1,0 +1,87 @@
+//! Where objects lie: cells are used again, but not while their object is reachable.
+use test_cases::{answer_of, sure};
+use std::alloc::Global;
+use std::test::Fail;
+
+/// How many objects stay reachable, a script that makes 130 objects in 64 cells, and the text before their cells.
+const ROWS: &str = "$ 0
+gcscript 1
+warehouse
+repeat 130
+new x 1
+end
+=> warehouse 1
+dropped 0
+survivors 1
+1 129 1
+placed 130
+$ 1
+gcscript 1
+warehouse
+new k 2
+repeat 129
+new x 1
+end
+=> warehouse 1
+dropped 0
+survivors 2
+1 0 2
+1 129 1
+placed 130
+$ 2
+gcscript 1
+warehouse
+new k 2
+new l 3
+set k 0 l
+nil l
+repeat 128
+new x 1
+end
+=> warehouse 1
+dropped 0
+survivors 3
+1 0 2
+1 1 3
+1 129 1
+placed 130
+";
+
+/// The cells of the objects, in order, from the lines that name them.
+fn cells_of(alloc: Global, lines: &str) -> Result<Vec<u32>, Fail> {
+    let mut cells = Vec::new(alloc);
+    for line in lines.lines() {
+        let start = format!(in alloc; "1 {} ", cells.len())?;
+        let cell = line.strip_prefix(start.as_str()).ok_or("number")?;
+        cells.push(cell.parse::<u32>()?)?;
+    }
+    Ok(cells)
+}
+
+/// Whether no cell lies past the heap, is used by two objects in turn, or is that of one of the first `kept` objects.
+fn may_lie(cells: &[u32], kept: usize) -> bool {
+    let mut last = 64;
+    let mut may = cells.len() == 130;
+    for (i, cell) in cells.iter().enumerate() {
+        let front = cells.get(..i.min(kept)).unwrap_or(&[]);
+        may = may && *cell < 64 && *cell != last && !front.contains(cell);
+        last = *cell;
+    }
+    may
+}
+
+#[test]
+fn reuses_cells(rt: HostRuntime) -> Result<(), Fail> {
+    for row in ROWS.split("$ ").skip(1) {
+        let (kept, rest) = row.split_once('\n').ok_or("kept")?;
+        let (script, front) = rest.split_once("=> ").ok_or("script")?;
+        let (status, text) = answer_of(&rt, "run --cells 64 --place", &sure(script.as_bytes()))?;
+        let lines = str::from_utf8(text.as_slice())?
+            .strip_prefix(front)
+            .ok_or("front")?;
+        let cells = cells_of(rt.alloc(), lines)?;
+        let may = may_lie(cells.as_slice(), kept.parse::<usize>()?);
+        assert!(rt; status == 0 && may, "{row}");
+    }
+    Ok(())
+}

@@ -1,0 +1,159 @@
+//! Each command under every disturbance: each read and each write that fails, reads and writes in parts, sinks with every room.
+use crate::tests::commands::COMMANDS;
+use crate::tests::faults::FAULTS;
+use test_cases::{Case, Outside, answer_of, case_of, sure};
+use std::alloc::Global;
+use std::process::Abort;
+use std::sync::Wait;
+use std::test::Fail;
+use std::thread::Threads;
+
+/// The sizes of the pieces of the text.
+fn sizes_of(alloc: Global, case: &Case<'_>) -> Result<Vec<usize>, Fail> {
+    let mut sizes = Vec::new(alloc);
+    if case.sizes.is_empty() {
+        for line in case.text.lines() {
+            sizes.push(line.len().saturating_add(1))?;
+        }
+    } else {
+        for size in case.sizes.split(' ') {
+            sizes.push(size.parse::<usize>()?)?;
+        }
+    }
+    Ok(sizes)
+}
+
+/// How many bytes are written before each write and after the last, where a write takes at most `part`.
+fn ends_of(alloc: Global, case: &Case<'_>, part: usize) -> Result<Vec<usize>, Fail> {
+    let mut ends = [0usize].to_vec(alloc)?;
+    let mut end = 0usize;
+    for size in sizes_of(alloc, case)?.iter() {
+        let last = end.saturating_add(*size);
+        for _ in 0..*size {
+            if end < last {
+                end = end.saturating_add(part).min(last);
+                ends.push(end)?;
+            }
+        }
+    }
+    Ok(ends)
+}
+
+/// Fails where the case so disturbed doesn't end with this status and this prefix of its text.
+fn ends_with<R: Abort + AllocGlobal + Threads + Wait + Sync>(
+    rt: &R,
+    case: &Case<'_>,
+    outside: &Outside<'_>,
+    status: u8,
+    end: usize,
+) -> Result<(), Fail> {
+    let (found, written) = answer_of(rt, case.words, outside)?;
+    assert!(rt;
+        found == status && case.text.as_bytes().get(..end) == Some(written.as_slice()),
+        "{}: {outside:?}",
+        case.words
+    );
+    Ok(())
+}
+
+/// A read that fails is told, and nothing is written. One more read than there are fails nowhere.
+fn fails_to_read<R: Abort + AllocGlobal + Threads + Wait + Sync>(
+    rt: &R,
+    case: &Case<'_>,
+    part: usize,
+) -> Result<(), Fail> {
+    let reads = if case.status == 1
+        || case.words.starts_with("gen")
+        || case.words.starts_with("load")
+    {
+        0
+    } else {
+        case.source.len().div_ceil(part.max(1)).saturating_add(1)
+    };
+    let mut call = 0u32;
+    for read in 0..=reads {
+        call = call.saturating_add(1);
+        let outside = Outside {
+            per_read: part,
+            reads: &[call],
+            ..sure(case.source.as_bytes())
+        };
+        if read < reads {
+            ends_with(rt, case, &outside, 4, 0)?;
+        } else {
+            ends_with(rt, case, &outside, case.status, case.text.len())?;
+        }
+    }
+    Ok(())
+}
+
+/// A write that fails is told, and what the writes before it took is written. One more write than there are fails nowhere.
+fn fails_to_write<R: Abort + AllocGlobal + Threads + Wait + Sync>(
+    rt: &R,
+    case: &Case<'_>,
+    part: usize,
+) -> Result<(), Fail> {
+    let ends = ends_of(rt.alloc(), case, part)?;
+    assert!(rt; ends.last() == Some(&case.text.len()), "{}", case.words);
+    let mut call = 0u32;
+    for end in ends.iter() {
+        call = call.saturating_add(1);
+        let outside = Outside {
+            per_write: part,
+            writes: &[call],
+            ..sure(case.source.as_bytes())
+        };
+        let status = if *end < case.text.len() {
+            5
+        } else {
+            case.status
+        };
+        ends_with(rt, case, &outside, status, *end)?;
+    }
+    Ok(())
+}
+
+/// A sink without room for the whole text has as much of it as there is room for.
+fn lacks_room<R: Abort + AllocGlobal + Threads + Wait + Sync>(
+    rt: &R,
+    case: &Case<'_>,
+) -> Result<(), Fail> {
+    for room in 0..=case.text.len() {
+        let outside = Outside {
+            room,
+            ..sure(case.source.as_bytes())
+        };
+        let status = if room < case.text.len() {
+            5
+        } else {
+            case.status
+        };
+        ends_with(rt, case, &outside, status, room)?;
+    }
+    Ok(())
+}
+
+fn is_disturbed<R: Abort + AllocGlobal + Threads + Wait + Sync>(
+    rt: &R,
+    told: &str,
+) -> Result<(), Fail> {
+    let case = case_of(rt.alloc(), told)?;
+    for part in [1, 4, 4_096] {
+        fails_to_read(rt, &case, part)?;
+        fails_to_write(rt, &case, part)?;
+    }
+    lacks_room(rt, &case)
+}
+
+#[test]
+fn disturbs_commands(rt: HostRuntime) -> Result<(), Fail> {
+    for told in COMMANDS.split("$ ").skip(1) {
+        is_disturbed(&rt, told)?;
+    }
+    for row in FAULTS.split("$ ").skip(1) {
+        let (script, fault) = row.split_once("=> ").ok_or("row")?;
+        let told = format!(in rt.alloc(); "run\n{script}=> 2\n{fault}")?;
+        is_disturbed(&rt, told.as_str())?;
+    }
+    Ok(())
+}

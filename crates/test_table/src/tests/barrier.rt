@@ -1,0 +1,172 @@
+//! A mutator stores a reference in an object, and then dirties the object's card, unless nobody else can know the object.
+ghost use Rattle.std.specs.Prelude.{◌≡◌, ◌<◌, is_none, true};
+ghost use Rattle.std.specs.Bool.{OnTrue};
+ghost use Rattle.gc_table.specs.Seats.{state_of};
+ghost use Rattle.test_table.specs.Owned.{SeatHasOwn, may_link as may_link_of};
+ghost use Rattle.gc_table.specs.SeatRecords.{resting};
+ghost use Rattle.test_table.specs.Ready.{Ready};
+ghost use Rattle.test_heaps.specs.Seats.{New};
+
+use super::blocks::{publish, take_block};
+use super::cells::make_cell;
+use super::checks::takes_part;
+use super::claims::release;
+use super::seasons::begin;
+use super::seats::{close, open_two};
+use super::world::leave;
+use gc_table::{Heap, HeapSeat, Words};
+use mark_core::{CARD_CELLS, Phase, Shape, VARIABLES};
+use std::alloc::Global;
+use std::sync::Wait;
+use test_heaps::{SMALL, is_marking, may_mutate};
+
+fn may_link(shape: &Shape, seat: &HeapSeat, v: u8, i: u8, w: u8) -> bool
+    ensures { result ≡ may_link_of shape.now (state_of seat.now) v i w }
+{
+    let s = seat.state();
+    (v < VARIABLES && u32::from(i) < shape.fields && w < VARIABLES && may_mutate(seat))
+        && (s.owes.is_none() && !s.spent && !shape.sharing)
+}
+
+/// Stores variable w in field i of variable 0's object: true where the seat owed no card, and has read that marking is under way.
+fn link(heap: &Heap, seat: &mut HeapSeat, i: u8, w: u8) -> bool
+    requires { Ready heap.now seat.old × SeatHasOwn seat.old 0 }
+    ensures { Ready heap.now seat.new × SeatHasOwn seat.new 0 }
+{
+    let shape = heap.shape();
+    if may_link(&shape, seat, 0, i, w) && is_marking(seat) {
+        heap.store_field(seat, 0, i, Some(w));
+        true
+    } else {
+        false
+    }
+}
+
+/// The card that the seat owes.
+fn owed(seat: &HeapSeat) -> Option<u32>
+    ensures { result ≡ (state_of seat.now).owes }
+{
+    seat.state().owes
+}
+
+/// Dirties the card that the seat owes: true where it owed one, and owes none now.
+fn dirty_owed(heap: &Heap, seat: &mut HeapSeat) -> bool
+    requires { Ready heap.now seat.old × SeatHasOwn seat.old 0 }
+    ensures ready { Ready heap.now seat.new × SeatHasOwn seat.new 0 }
+    ensures paid { OnTrue result (is_none (state_of seat.new).owes ≡ true) }
+{
+    let Some(card) = owed(seat) else {
+        return false;
+    };
+    if card < heap.shape().cells / CARD_CELLS && takes_part(seat) {
+        heap.dirty_card(seat, card);
+        true
+    } else {
+        false
+    }
+}
+
+/// Whether the first card is dirty.
+fn is_dirty(heap: &Heap, seat: &mut HeapSeat) -> Option<bool>
+    requires { Ready heap.now seat.old × SeatHasOwn seat.old 0 }
+    ensures { Ready heap.now seat.new × SeatHasOwn seat.new 0 }
+{
+    if heap.shape().cells >= CARD_CELLS {
+        Some(heap.read_card(seat, 0))
+    } else {
+        None
+    }
+}
+
+/// The whole barrier: the field is stored, and then its card is dirtied, so that no card is owed.
+fn store(heap: &Heap, seat: &mut HeapSeat, i: u8, w: u8) -> bool
+    requires { Ready heap.now seat.old × SeatHasOwn seat.old 0 }
+    ensures ready { Ready heap.now seat.new × SeatHasOwn seat.new 0 }
+    ensures paid { OnTrue result (is_none (state_of seat.new).owes ≡ true) }
+{
+    link(heap, seat, i, w) && dirty_owed(heap, seat)
+}
+
+/// An object that isn't published owes no card.
+fn links_new(heap: &Heap, seat: &mut HeapSeat) -> bool
+    requires { Ready heap.now seat.old × SeatHasOwn seat.old 0 }
+    ensures { Ready heap.now seat.new × SeatHasOwn seat.new 0 }
+{
+    link(heap, seat, 0, 1) && owed(seat).is_none() && is_dirty(heap, seat) == Some(false)
+}
+
+/// Publishes the two cells.
+fn publish_both(heap: &Heap, seat: &mut HeapSeat) -> bool
+    requires { Ready heap.now seat.old × SeatHasOwn seat.old 0 }
+    ensures { Ready heap.now seat.new × SeatHasOwn seat.new 0 }
+{
+    publish(heap, seat) == Some(0)
+}
+
+/// One that is published owes its card, which is clean until it is dirtied.
+fn links_published(heap: &Heap, seat: &mut HeapSeat) -> bool
+    requires { Ready heap.now seat.old × SeatHasOwn seat.old 0 }
+    ensures { Ready heap.now seat.new × SeatHasOwn seat.new 0 }
+{
+    link(heap, seat, 0, 1)
+        && owed(seat) == Some(0)
+        && is_dirty(heap, seat) == Some(false)
+        && dirty_owed(heap, seat)
+        && is_dirty(heap, seat) == Some(true)
+}
+
+/// The barrier before and after two cells are published: what each store owes, and when a card is dirty.
+fn links(heap: &Heap, seat: &mut HeapSeat) -> bool
+    requires { Ready heap.now seat.old × SeatHasOwn seat.old 0 }
+    ensures { Ready heap.now seat.new }
+{
+    links_new(heap, seat)
+        && publish_both(heap, seat)
+        && links_published(heap, seat)
+        && store(heap, seat, 0, 1)
+        && release(heap, seat)
+}
+
+fn stores<R: Wait>(rt: &R, heap: &Heap, zero: &mut HeapSeat, one: &mut HeapSeat) -> bool
+    requires zero { New heap.now resting 0 zero.old × (0 < heap.now.shape.sections) }
+    requires one { Ready heap.now one.old }
+    ensures { OnTrue result (Ready heap.now zero.new × Ready heap.now one.new) }
+{
+    if !begin(rt, heap, zero, one) || !take_block(heap, one, 0) || !make_cell(heap, one, 1, 8, 1) {
+        return false;
+    }
+    if !make_cell(heap, one, 0, 7, 0) {
+        return false;
+    }
+    links(heap, one) && leave(heap, zero) && leave(heap, one)
+}
+
+fn stored<R: Wait>(rt: &R, alloc: Global) -> Option<Words> {
+    let (heap, mut zero, mut one) = open_two(alloc, SMALL)?;
+    if stores(rt, &heap, &mut zero, &mut one) {
+        close(alloc, heap, zero, one)
+    } else {
+        None
+    }
+}
+
+#[test]
+fn owed_card(rt: HostRuntime) {
+    let Some(words) = stored(&rt, rt.alloc()) else {
+        panic!(&rt; "a step")
+    };
+    assert!(&rt; words.phase == Phase::Marking && words.named == 0, "phase");
+    assert!(&rt;
+        words.alloc.len() == 1 && words.alloc[0] == 3,
+        "allocation bits"
+    );
+    assert!(&rt;
+        words.roots.len() == 64 && words.roots[32] == 1 && words.roots[33] == 2,
+        "roots"
+    );
+    assert!(&rt;
+        words.values.len() == 64 && words.values[0] == 7 && words.values[1] == 8,
+        "values"
+    );
+    assert!(&rt; words.fields.len() == 256 && words.fields[0] == 2, "fields");
+}
