@@ -22,10 +22,10 @@ use Rattle.gc_table.specs.Seats.{view_of}
 use Rattle.gc_table.specs.declared.seat.HeapSeat.{HeapSeat}
 use Rattle.gc_table.specs.declared.view.Entry.{Entry}
 use Rattle.gc_table.specs.declared.words.Words.{Words}
-use Rattle.shared_runs.specs.Agreement.{AgreesWith}
-use Rattle.shared_runs.specs.Laws.{world_after, world_of, world_run}
-use Rattle.shared_runs.specs.World.{World, WorldObject, object_of, section_of, start_section, start_world, world_by}
-use Rattle.shared_runs.proofs.Kept.{agrees-kept, agrees-starts}
+use Rattle.heap_runs.specs.Agreement.{AgreesWith}
+use Rattle.heap_runs.specs.Laws.{world_after, world_of, world_run}
+use Rattle.heap_runs.specs.World.{World, WorldObject, object_of, section_of, start_section, start_world, world_by}
+use Rattle.heap_runs.proofs.Kept.{agrees-kept, agrees-starts}
 use Rattle.heap_runs.specs.Runs.{AreAllowed}
 use Rattle.heap_runs.specs.Single.{CounterTold, HasOne, all_won, leaves_values, made_count, makes_object, raises, won_count}
 use Rattle.heap_runs.proofs.Lending.{all_split}

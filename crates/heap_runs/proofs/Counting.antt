@@ -11,11 +11,11 @@ use Rattle.mark_core.specs.declared.kinds.Step.{Step}
 use Rattle.mark_core.specs.declared.kinds.Step.TheVariants.{ExchangeValue}
 use Rattle.mark_core.specs.declared.seat.SeatState.{SeatState}
 use Rattle.gc_table.specs.Entries.{won}
-use Rattle.shared_runs.specs.Laws.{FindsValue, StoresIn, StoresOf, TellsOf, found_of, world_after, world_of}
-use Rattle.shared_runs.specs.World.{World, WorldObject, is_same, object_of, own_section, variable_of, with_exchanged_value, with_object, with_value, world_by}
-use Rattle.shared_runs.proofs.Forgetting.{none-forgotten, same-is}
-use Rattle.shared_runs.proofs.Heap.{object-changed}
-use Rattle.shared_runs.proofs.Telling.{tells-once}
+use Rattle.heap_runs.specs.Laws.{FindsValue, StoresIn, StoresOf, TellsOf, found_of, world_after, world_of}
+use Rattle.heap_runs.specs.World.{World, WorldObject, is_same, object_of, own_section, variable_of, with_exchanged_value, with_object, with_value, world_by}
+use Rattle.heap_runs.proofs.Forgetting.{none-forgotten, same-is}
+use Rattle.heap_runs.proofs.Heap.{object-changed}
+use Rattle.heap_runs.proofs.Telling.{tells-once}
 use Rattle.heap_runs.specs.Counting.{IsRaise, RaisesCounted, WinsTold, has_value, wins_in}
 use Rattle.heap_runs.proofs.Sharing.{world-first}
 

@@ -11,11 +11,11 @@ use Rattle.mark_core.proofs.Core.{acts}
 use Rattle.mark_core.proofs.Writing.Ranges.{IsPlace}
 use Rattle.mark_core.proofs.Notes.NotesKept.{word-found}
 use Rattle.gc_table.proofs.State.StateSteps.{some-same}
-use Rattle.shared_runs.specs.Agreement.{AgreesWith}
-use Rattle.shared_runs.specs.Laws.{TellsIn, TellsOf, found_of}
-use Rattle.shared_runs.specs.World.{World}
-use Rattle.shared_runs.proofs.Kept.{runs-agree}
-use Rattle.shared_runs.proofs.Telling.{tells-once}
+use Rattle.heap_runs.specs.Agreement.{AgreesWith}
+use Rattle.heap_runs.specs.Laws.{TellsIn, TellsOf, found_of}
+use Rattle.heap_runs.specs.World.{World}
+use Rattle.heap_runs.proofs.Kept.{runs-agree}
+use Rattle.heap_runs.proofs.Telling.{tells-once}
 use Rattle.heap_runs.specs.Finding.{StepsFind, heap_found}
 
 pub steps-find : StepsFind

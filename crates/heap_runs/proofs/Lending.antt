@@ -19,10 +19,10 @@ use Rattle.mark_core.proofs.Blocks.BlocksTaken.{Taken}
 use Rattle.gc_table.specs.Log.{all_steps}
 use Rattle.gc_table.specs.Past.{adds, entries_of, log_from}
 use Rattle.gc_table.specs.declared.view.Entry.{Entry}
-use Rattle.shared_runs.specs.Laws.{world_after, world_of, world_run}
-use Rattle.shared_runs.specs.World.{World, WorldObject, WorldSection, in_section, own_section, replaced, section_of, start_section, start_world, variable_of, with_new, with_object, with_part, with_register, with_variable, world_by}
-use Rattle.shared_runs.proofs.Heap.{section-other, view-kept}
-use Rattle.shared_runs.proofs.Seats.{Mutates, mutates}
+use Rattle.heap_runs.specs.Laws.{world_after, world_of, world_run}
+use Rattle.heap_runs.specs.World.{World, WorldObject, WorldSection, in_section, own_section, replaced, section_of, start_section, start_world, variable_of, with_new, with_object, with_part, with_register, with_variable, world_by}
+use Rattle.heap_runs.proofs.Heap.{section-other, view-kept}
+use Rattle.heap_runs.proofs.Seats.{Mutates, mutates}
 use Rattle.heap_runs.specs.Lending.{OneObjectLent, leaves_variable, stores_once}
 use Rattle.heap_runs.specs.Runs.{AreAllowed}
 use Rattle.heap_runs.proofs.Sharing.{Sound, later-sound, world-first}

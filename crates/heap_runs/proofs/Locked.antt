@@ -16,10 +16,10 @@ use Rattle.mark_core.proofs.Pool.PoolsKept.{shape-kept}
 use Rattle.gc_table.specs.Log.{all_steps}
 use Rattle.gc_table.specs.Past.{adds, entries_of, log_from}
 use Rattle.gc_table.specs.declared.view.Entry.{Entry}
-use Rattle.shared_runs.specs.Agreement.{AgreesWith}
-use Rattle.shared_runs.specs.Laws.{world_after}
-use Rattle.shared_runs.specs.World.{World, start_world}
-use Rattle.shared_runs.proofs.Kept.{agrees-kept, agrees-starts}
+use Rattle.heap_runs.specs.Agreement.{AgreesWith}
+use Rattle.heap_runs.specs.Laws.{world_after}
+use Rattle.heap_runs.specs.World.{World, start_world}
+use Rattle.heap_runs.proofs.Kept.{agrees-kept, agrees-starts}
 use Rattle.heap_runs.specs.Runs.{AreAllowed}
 use Rattle.heap_runs.specs.Single.{LockHeld, is_inside, leaves_values, makes_object, takes_turn, takes_turns, turned}
 use Rattle.heap_runs.proofs.Counted.{Bound, bound_rest, bound_starts, log_each, logged_all, other_adds, own_adds, single_event, single_starts}

@@ -36,13 +36,13 @@ use Rattle.gc_table.specs.declared.words.Words.{Words}
 use Rattle.gc_table.proofs.History.Past.{run-first, run-sound}
 use Rattle.gc_table.proofs.State.StateStart.{told-starts}
 use Rattle.gc_table.proofs.Told.SeasonsKept.{in-turn, season_in}
-use Rattle.shared_runs.specs.Agreement.{AgreesWith}
-use Rattle.shared_runs.specs.Laws.{world_after, world_of}
-use Rattle.shared_runs.specs.World.{World, WorldSection, in_section, name_at, referred, section_of, start_world, variable_of, with_variable, world_by}
-use Rattle.shared_runs.proofs.Heap.{section-same}
-use Rattle.shared_runs.proofs.Kept.{agrees-kept, agrees-starts}
-use Rattle.shared_runs.proofs.Reading.{cat-found}
-use Rattle.shared_runs.proofs.Seats.{Mutates, mutates}
+use Rattle.heap_runs.specs.Agreement.{AgreesWith}
+use Rattle.heap_runs.specs.Laws.{world_after, world_of}
+use Rattle.heap_runs.specs.World.{World, WorldSection, in_section, name_at, referred, section_of, start_world, variable_of, with_variable, world_by}
+use Rattle.heap_runs.proofs.Heap.{section-same}
+use Rattle.heap_runs.proofs.Kept.{agrees-kept, agrees-starts}
+use Rattle.heap_runs.proofs.Reading.{cat-found}
+use Rattle.heap_runs.proofs.Seats.{Mutates, mutates}
 use Rattle.heap_runs.specs.Lending.{leaves_variable, stores_once}
 use Rattle.heap_runs.specs.Rooted.{FindsSome, RootFound, fills_first, fills_variable, moves_season, season_count}
 use Rattle.heap_runs.specs.Runs.{AreAllowed}

@@ -6,11 +6,11 @@ use Rattle.mark_core.specs.Steps.{Core, after_event, failing_part, run_of, start
 use Rattle.mark_core.specs.declared.kinds.Event.{Event}
 use Rattle.gc_table.proofs.History.Past.{run-first}
 use Rattle.gc_table.proofs.History.Ran.{closed-ran}
-use Rattle.shared_runs.specs.Agreement.{AgreesWith}
-use Rattle.shared_runs.specs.Laws.{TellsOf, world_after, world_run}
-use Rattle.shared_runs.specs.World.{World, start_world}
-use Rattle.shared_runs.proofs.Kept.{agrees-kept, agrees-starts}
-use Rattle.shared_runs.proofs.Telling.{tells-once}
+use Rattle.heap_runs.specs.Agreement.{AgreesWith}
+use Rattle.heap_runs.specs.Laws.{TellsOf, world_after, world_run}
+use Rattle.heap_runs.specs.World.{World, start_world}
+use Rattle.heap_runs.proofs.Kept.{agrees-kept, agrees-starts}
+use Rattle.heap_runs.proofs.Telling.{tells-once}
 use Rattle.heap_runs.specs.Runs.{AreAllowed}
 use Rattle.heap_runs.specs.Sharing.{ThreadsShareOneHeap}
 use Rattle.heap_runs.proofs.Threads.{allowed}

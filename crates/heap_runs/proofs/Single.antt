@@ -13,12 +13,12 @@ use Rattle.mark_core.specs.declared.kinds.Step.TheVariants.{ExchangeField, Excha
 use Rattle.mark_core.specs.declared.seat.SeatState.{SeatState}
 use Rattle.mark_core.proofs.Acting.{found}
 use Rattle.mark_core.proofs.Blocks.BlocksTaken.{Taken}
-use Rattle.shared_runs.specs.Agreement.{AgreesWith}
-use Rattle.shared_runs.specs.Laws.{FindsValue}
-use Rattle.shared_runs.specs.World.{World, WorldObject, WorldSection, in_section, object_of, own_section, replaced, section_of, variable_of, with_exchanged, with_exchanged_value, with_new, with_object, with_part, with_reference, with_register, with_value, with_variable, stored, world_by}
-use Rattle.shared_runs.proofs.ExchangesFind.{finds-value}
-use Rattle.shared_runs.proofs.Heap.{section-other, section-same, view-kept}
-use Rattle.shared_runs.proofs.Seats.{Mutates, mutates}
+use Rattle.heap_runs.specs.Agreement.{AgreesWith}
+use Rattle.heap_runs.specs.Laws.{FindsValue}
+use Rattle.heap_runs.specs.World.{World, WorldObject, WorldSection, in_section, object_of, own_section, replaced, section_of, variable_of, with_exchanged, with_exchanged_value, with_new, with_object, with_part, with_reference, with_register, with_value, with_variable, stored, world_by}
+use Rattle.heap_runs.proofs.ExchangesFind.{finds-value}
+use Rattle.heap_runs.proofs.Heap.{section-other, section-same, view-kept}
+use Rattle.heap_runs.proofs.Seats.{Mutates, mutates}
 use Rattle.heap_runs.specs.Single.{leaves_values, makes_object}
 
 -- what a change leaves of each section it leaves of the heap

@@ -8,9 +8,9 @@ use Rattle.mark_core.specs.declared.kinds.Step.{Step}
 use Rattle.mark_core.specs.declared.kinds.Step.TheVariants.{ExchangeValue}
 use Rattle.mark_core.specs.declared.seat.SeatState.{SeatState}
 use Rattle.gc_table.specs.Entries.{won}
-use Rattle.shared_runs.specs.Agreement.{AgreesWith}
-use Rattle.shared_runs.specs.Laws.{StoresOf, found_of, world_after, world_run}
-use Rattle.shared_runs.specs.World.{World, WorldObject, is_same, object_of, own_section, variable_of}
+use Rattle.heap_runs.specs.Agreement.{AgreesWith}
+use Rattle.heap_runs.specs.Laws.{StoresOf, found_of, world_after, world_run}
+use Rattle.heap_runs.specs.World.{World, WorldObject, is_same, object_of, own_section, variable_of}
 use Rattle.heap_runs.specs.Runs.{AreAllowed}
 
 -- an exchange of a number for the next

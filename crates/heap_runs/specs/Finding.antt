@@ -4,9 +4,9 @@ use Rattle.mark_core.specs.Steps.{start_core}
 use Rattle.mark_core.specs.declared.kinds.Step.{Step}
 use Rattle.gc_table.specs.Taking.{Finds}
 use Rattle.gc_table.specs.declared.view.View.{View}
-use Rattle.shared_runs.specs.Agreement.{AgreesWith}
-use Rattle.shared_runs.specs.Laws.{TellsIn, world_run}
-use Rattle.shared_runs.specs.World.{World, start_world}
+use Rattle.heap_runs.specs.Agreement.{AgreesWith}
+use Rattle.heap_runs.specs.Laws.{TellsIn, world_run}
+use Rattle.heap_runs.specs.World.{World, start_world}
 
 -- the plain heap of all sections that the events before the step have made
 abbrev pub heap_found : (step : Step) (n : ℕ) (v : View) → Finds step n v → World

@@ -12,7 +12,7 @@ use Rattle.gc_table.specs.Seats.{view_of}
 use Rattle.gc_table.specs.declared.seat.HeapSeat.{HeapSeat}
 use Rattle.gc_table.specs.declared.view.Entry.{Entry}
 use Rattle.gc_table.specs.declared.words.Words.{Words}
-use Rattle.shared_runs.specs.World.{variable_of}
+use Rattle.heap_runs.specs.World.{variable_of}
 use Rattle.heap_runs.specs.Sharing.{heap_after_events}
 
 -- the step leaves variable v of its seat's section

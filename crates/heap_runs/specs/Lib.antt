@@ -1,3 +1,6 @@
+pub mod World
+pub mod Agreement
+pub mod Laws
 pub mod Runs
 pub mod Threads
 pub mod Sharing

@@ -14,9 +14,9 @@ use Rattle.gc_table.specs.Seats.{state_of, view_of}
 use Rattle.gc_table.specs.declared.seat.HeapSeat.{HeapSeat}
 use Rattle.gc_table.specs.declared.view.Entry.{Entry}
 use Rattle.gc_table.specs.declared.words.Words.{Words}
-use Rattle.shared_runs.specs.Agreement.{AgreesWith}
-use Rattle.shared_runs.specs.Laws.{TellsOf}
-use Rattle.shared_runs.specs.World.{variable_of}
+use Rattle.heap_runs.specs.Agreement.{AgreesWith}
+use Rattle.heap_runs.specs.Laws.{TellsOf}
+use Rattle.heap_runs.specs.World.{variable_of}
 use Rattle.heap_runs.specs.Lending.{leaves_variable, stores_once}
 use Rattle.heap_runs.specs.Runs.{core_after}
 use Rattle.heap_runs.specs.Sharing.{heap_after_events}

@@ -7,9 +7,9 @@ use Rattle.gc_table.specs.Ends.{IsEnd}
 use Rattle.gc_table.specs.Laws.{IsRunOf}
 use Rattle.gc_table.specs.declared.seat.HeapSeat.{HeapSeat}
 use Rattle.gc_table.specs.declared.words.Words.{Words}
-use Rattle.shared_runs.specs.Agreement.{AgreesWith}
-use Rattle.shared_runs.specs.Laws.{TellsOf, world_run}
-use Rattle.shared_runs.specs.World.{World, start_world}
+use Rattle.heap_runs.specs.Agreement.{AgreesWith}
+use Rattle.heap_runs.specs.Laws.{TellsOf, world_run}
+use Rattle.heap_runs.specs.World.{World, start_world}
 use Rattle.heap_runs.specs.Runs.{core_after}
 
 -- the plain heap of all sections after the first k events

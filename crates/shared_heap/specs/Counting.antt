@@ -7,7 +7,7 @@ use Rattle.gc_table.specs.Past.{log_of}
 use Rattle.gc_table.specs.Seats.{view_of}
 use Rattle.gc_table.specs.declared.view.Entry.{Entry}
 use Rattle.gc_table.specs.declared.words.Words.{Words}
-use Rattle.shared_runs.specs.World.{WorldObject, object_of}
+use Rattle.heap_runs.specs.World.{WorldObject, object_of}
 use Rattle.heap_runs.specs.Sharing.{heap_after_events}
 use Rattle.heap_runs.specs.Single.{is_inside, leaves_values, made_count, raises, takes_turns, won_count}
 use Rattle.seat_steps.specs.declared.background.Tracer.{Tracer}

@@ -11,8 +11,8 @@ use Rattle.gc_table.specs.Past.{log_of}
 use Rattle.gc_table.specs.Seats.{view_of}
 use Rattle.gc_table.specs.declared.seat.HeapSeat.{HeapSeat}
 use Rattle.gc_table.specs.declared.words.Words.{Words}
-use Rattle.shared_runs.specs.Agreement.{AgreesWith}
-use Rattle.shared_runs.specs.Laws.{TellsOf}
+use Rattle.heap_runs.specs.Agreement.{AgreesWith}
+use Rattle.heap_runs.specs.Laws.{TellsOf}
 use Rattle.heap_runs.specs.Rooted.{FindsSome, IsKept}
 use Rattle.heap_runs.specs.Runs.{core_after}
 use Rattle.heap_runs.specs.Sharing.{heap_after_events}

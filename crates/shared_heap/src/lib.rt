@@ -14,7 +14,7 @@
 //! # What a mutator is told
 //!
 //! A call is told by the *steps* that it takes, each an atomic operation on one word, and by what they found. There is one order of all steps of all
-//! mutators, in which each mutator's come in its own order, and which a plain heap explains that forgets nothing: the crate `shared_runs` proves this of every run.
+//! mutators, in which each mutator's come in its own order, and which a plain heap explains that forgets nothing: the crate `heap_runs` proves this of every run.
 //! It is sequential consistency: what a thread learns of another outside the heap says nothing about that order.
 //!
 //! # Where things are

@@ -9,6 +9,7 @@ mod helped;
 mod overflow;
 mod precise;
 mod shared;
+mod sharing;
 mod stretches;
 
 use mark_core::{

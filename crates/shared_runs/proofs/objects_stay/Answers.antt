@@ -1,5 +1,0 @@
-use Rattle.shared_runs.proofs.Winning.{objects-stay}
-use Rattle.shared_runs.proofs.objects_stay.Goals as goal
-
-pub returns : goal.returns
-returns c = objects-stay

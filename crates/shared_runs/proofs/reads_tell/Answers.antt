@@ -1,5 +1,0 @@
-use Rattle.shared_runs.proofs.Telling.{reads-tell}
-use Rattle.shared_runs.proofs.reads_tell.Goals as goal
-
-pub returns : goal.returns
-returns c = reads-tell

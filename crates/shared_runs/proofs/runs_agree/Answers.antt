@@ -1,5 +1,0 @@
-use Rattle.shared_runs.proofs.Kept.{runs-agree}
-use Rattle.shared_runs.proofs.runs_agree.Goals as goal
-
-pub returns : goal.returns
-returns c = runs-agree

@@ -1,5 +1,0 @@
-use Rattle.shared_runs.proofs.Unshared.{unshared-stores}
-use Rattle.shared_runs.proofs.unshared_stores.Goals as goal
-
-pub returns : goal.returns
-returns c = unshared-stores

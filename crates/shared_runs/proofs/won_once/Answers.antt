@@ -1,5 +1,0 @@
-use Rattle.shared_runs.proofs.Winning.{won-once}
-use Rattle.shared_runs.proofs.won_once.Goals as goal
-
-pub returns : goal.returns
-returns c = won-once
