@@ -3,8 +3,8 @@
 use crate::mix::{fill, mix};
 use crate::pairs::pairs;
 use crate::words::{Asked, Structure};
-use shared_heap::{Refused, SharedMutator, SharedSizes, SharedWorld, Tracer};
 use example_structures::{SharedMap, SharedQueue};
+use shared_heap::{Refused, SharedMutator, SharedSizes, SharedWorld, Tracer};
 use std::alloc::Global;
 use std::sync::Wait;
 use std::thread::{Threads, for_each_mut, join_mut};

@@ -2,8 +2,8 @@
 
 use crate::crowd::{FOUND, MADE, Tally};
 use crate::words::Asked;
-use shared_heap::{Refused, SharedMutator};
 use example_structures::SharedMap;
+use shared_heap::{Refused, SharedMutator};
 use std::sync::Wait;
 
 /// How many keys there are. A thread's keys are its number, that and the number of threads, and so on, so that what it finds doesn't depend on the others; the

@@ -1,8 +1,8 @@
 //! What a thread does with a queue: it puts a number in and takes one out, by turns.
 
 use crate::crowd::{FOUND, MADE, Tally};
-use shared_heap::{Refused, SharedMutator};
 use example_structures::SharedQueue;
+use shared_heap::{Refused, SharedMutator};
 use std::sync::Wait;
 
 /// Puts the numbers below `rounds` in, and after each takes one out, which is there: no thread has taken more than it put in.

@@ -6,8 +6,8 @@ use Rattle.std.specs.Str.{bytes_eq}
 use Rattle.script_lines.specs.ScriptText.{number_of}
 use Rattle.command_words.specs.Words.{Options, Setting, Command, Run, Gen, Load, Convert, Schedule, Dump, Undump, Census, Batch, command, by_name, settings, allowing, given, chosen, number_in, is_set, cells, workers, tracers, packets, entries, runners, options, number, size, run, gen, load, dump_command, batch_command, play_names, made_names}
 use Rattle.command_words.specs.Commands.{IsCommandInRange, command_of, options_of}
-use Rattle.play_contract.specs.Playing.{AreInRange}
-use Rattle.play_contract.specs.declared.options.Options.{Options as PlayOptions}
+use Rattle.play_end.specs.Answers.{AreInRange}
+use Rattle.play_end.specs.declared.options.Options.{Options as PlayOptions}
 use Rattle.command_words.specs.declared.asked.Asked.{Asked}
 use Rattle.command_words.specs.declared.asked.Asked.TheVariants as asked
 

@@ -1,8 +1,8 @@
 -- What the values of the code mean.
 use Rattle.std.specs.Prelude.{◌≤◌}
 use Rattle.command_words.specs.Words.{Options, Command, Run, Gen, Load, Convert, Schedule, Dump, Undump, Census, Batch}
-use Rattle.play_contract.specs.declared.options.Options.{Options as PlayOptions}
-use Rattle.play_contract.specs.Playing.{AreInRange}
+use Rattle.play_end.specs.declared.options.Options.{Options as PlayOptions}
+use Rattle.play_end.specs.Answers.{AreInRange}
 use Rattle.command_words.specs.declared.asked.Asked.{Asked}
 use Rattle.command_words.specs.declared.asked.Asked.TheVariants as asked
 

@@ -1,5 +1,5 @@
 //! What the command line asks for.
-use play_contract::Options;
+use play_end::Options;
 
 /// A command that the program has.
 #[derive(Clone, Copy, Debug, PartialEq, Eq)]

@@ -9,7 +9,7 @@ ghost use Rattle.command_words.specs.Parsing.{IsAsked, IsToldFlag, MatchesTell, 
 use crate::asked::Asked;
 use crate::number::number_in;
 use clap::ArgMatches;
-use play_contract::Options;
+use play_end::Options;
 
 /// The number that is given for an option, where it is in the range, or without one the default.
 fn chosen(

@@ -2,9 +2,9 @@
 use Rattle.std.specs.Prelude.{ℕ, ◌-◌, ◌⊎◌, List, Result, Ok, Err}
 use Rattle.mark_core.specs.declared.kinds.Shape.{Shape}
 use Rattle.plain_heap.specs.Sections.{Sections, seasons}
-use Rattle.play_contract.specs.declared.error.PlayError.{PlayError}
-use Rattle.play_contract.specs.declared.error.PlayError.TheVariants as errors
-use Rattle.play_contract.specs.Playing.{IsReport, PlayAnswers}
+use Rattle.play_end.specs.declared.error.PlayError.{PlayError}
+use Rattle.play_end.specs.declared.error.PlayError.TheVariants as errors
+use Rattle.play_end.specs.Answers.{IsReport, PlayAnswers}
 use Rattle.play_report.specs.declared.report.Positions.{Positions}
 use Rattle.play_report.specs.declared.report.Report.{Report}
 use Rattle.gc_table.specs.declared.seat.HeapSeat.{HeapSeat}

@@ -4,7 +4,7 @@ use Rattle.std.specs.List.{list_any}
 use Rattle.mark_core.specs.Shapes.{usual_stretch}
 use Rattle.mark_core.specs.declared.kinds.Shape.{Shape}
 use Rattle.plain_heap.specs.Sections.{Sections, joined, parts_of, seasons, lends}
-use Rattle.play_contract.specs.declared.options.Options.{Options}
+use Rattle.play_end.specs.declared.options.Options.{Options}
 
 -- the sections of a script that was read
 pub record IsPlayable (s : Sections) : Type 0 where

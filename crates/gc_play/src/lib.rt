@@ -50,7 +50,7 @@ mod tracers;
 mod workers;
 
 pub use gate::OpenGate;
-pub use play_contract::{Options, PlayError};
+pub use play_end::{Options, PlayError};
 pub use playing::{play, play_final};
 pub use tracers::run_tracer;
 pub use warehouse::Gate;

@@ -2,7 +2,7 @@
 ghost use Rattle.std.specs.Prelude.{◌≡◌, ◌+◌, ◌≤◌, [], IfOk, length, vec_len};
 ghost use Rattle.plain_heap.specs.Sections.{seasons};
 ghost use Rattle.mark_core.specs.Shapes.{IsShape};
-ghost use Rattle.play_contract.specs.Playing.{AreInRange, PlayAnswers};
+ghost use Rattle.play_end.specs.Answers.{AreInRange, PlayAnswers};
 ghost use Rattle.gc_play.specs.declared.season.Ended.TheVariants as ends;
 ghost use Rattle.gc_play.specs.Crews.{IsCrew, IsSeatLeftBy, IsMadeForScript, IsNewSeatOfPlay, Numbered, PlayEnds, AreSaid, KnowsEnd, SettlesEnd};
 ghost use Rattle.gc_play.specs.Answers.{EndsIn, FinalAnswers, FinalEnds};
@@ -17,8 +17,7 @@ use gc_script::Script;
 use gc_table::{Heap, HeapSeat, Words};
 use mark_core::{Shape, usual_stretch};
 use plain_heap::OutOfMemory;
-use play_contract::{Options, PlayError};
-use play_end::{Played, close_full, close_played};
+use play_end::{Options, PlayError, Played, close_full, close_played};
 use play_report::{Part, Report};
 use std::alloc::Global;
 use std::sync::Wait;

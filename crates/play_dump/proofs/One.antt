@@ -12,7 +12,7 @@ use Rattle.plain_heap.specs.PlainRun.{last_heap}
 use Rattle.plain_heap.specs.Paths.{Name, Names, name_of}
 use Rattle.gc_table.proofs.Stands.StandsNamed.{names-one}
 use Rattle.heap_dump.specs.Final.{Object, DumpedHeap, object, blank}
-use Rattle.play_contract.proofs.InOrder.{same-names}
+use Rattle.play_end.proofs.InOrder.{same-names}
 use Rattle.play_dump.specs.Final.{name_in, survivor_in, IsNumberOf, IsFinalHeap}
 use Rattle.play_dump.specs.Laws.{OneFinalHeap}
 use Rattle.play_dump.proofs.Legal.{record-value, record-object, records-apart, name-at}

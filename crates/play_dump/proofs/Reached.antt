@@ -15,7 +15,7 @@ use Rattle.play_report.specs.Report.{survivor_of}
 use Rattle.play_report.specs.declared.report.Part.{Part}
 use Rattle.play_report.specs.declared.report.Report.{Report}
 use Rattle.play_report.specs.declared.report.Survivor.{Survivor}
-use Rattle.play_contract.specs.Playing.{places_of}
+use Rattle.play_end.specs.Answers.{places_of}
 use Rattle.gc_table.specs.declared.view.Meaning.{Meaning}
 use Rattle.gc_table.specs.declared.view.Place.{Place}
 use Rattle.gc_table.specs.declared.view.SectionState.{SectionState}
@@ -30,14 +30,14 @@ use Rattle.play_end.specs.Ended.{IsStateOf, IsUsed, AreCellsOfPlaces}
 use Rattle.play_end.proofs.EndClosed.{element-at, end-count, end-position, end-positions, own-section, played-state}
 use Rattle.play_end.proofs.EndFilled.{halves}
 use Rattle.play_end.proofs.EndHeaps.{reached-run, reached-stand}
-use Rattle.play_contract.proofs.Members.{map-from, map-to}
+use Rattle.play_end.proofs.Members.{map-from, map-to}
 use Rattle.play_end.proofs.EndListed.{the_words}
 use Rattle.play_end.proofs.EndPlaced.{last-done, lies-in}
-use Rattle.play_contract.proofs.SectionLists.{got, contains_got}
+use Rattle.play_end.proofs.SectionLists.{got, contains_got}
 use Rattle.play_dump.specs.Ending.{IsEndOf}
 use Rattle.play_dump.specs.Telling.{IsSurvivor, cell_of_survivor, ArePlaced}
 use Rattle.play_dump.proofs.Lists.{image-at, few-images}
-use Rattle.play_contract.proofs.LastHeaps.{reached-object}
+use Rattle.play_end.proofs.LastHeaps.{reached-object}
 
 -- the name of a survivor
 abbrev pub named : Survivor → Name

@@ -16,8 +16,8 @@ use Rattle.plain_heap.specs.PlainRun.{heap_from, heap_after_parts, last_heap, la
 use Rattle.plain_heap.specs.Paths.{Names, IsHeld, RefersTo}
 use Rattle.gc_table.proofs.Stands.StandsNamed.{names-one}
 use Rattle.heap_dump.specs.Final.{DumpedHeap, object}
-use Rattle.play_contract.proofs.LastHeaps.{last-section, object-there}
-use Rattle.play_contract.proofs.SectionLists.{of-section}
+use Rattle.play_end.proofs.LastHeaps.{last-section, object-there}
+use Rattle.play_end.proofs.SectionLists.{of-section}
 use Rattle.play_dump.specs.Final.{name_in, IsNumberOf, IsFinalHeap}
 use Rattle.play_dump.proofs.Legal.{records-apart}
 

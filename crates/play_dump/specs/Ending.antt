@@ -5,7 +5,7 @@ use Rattle.plain_heap.specs.Sections.{Sections}
 use Rattle.gc_table.specs.declared.seat.HeapSeat.{HeapSeat}
 use Rattle.gc_table.specs.declared.words.Words.{Words}
 use Rattle.play_report.specs.declared.report.Report.{Report}
-use Rattle.play_contract.specs.Playing.{IsReport}
+use Rattle.play_end.specs.Answers.{IsReport}
 use Rattle.play_end.specs.Closed.{IsClosed, PlayedAll}
 use Rattle.play_end.specs.Reported.{AreParts}
 

@@ -2,7 +2,7 @@
 use Rattle.std.specs.Prelude.{ℕ, zero, suc, ◌≡◌, ◌+◌, ◌*◌, ◌<◌, ◌≤◌, List, length, Some, slice_get, slice_index}
 use Rattle.play_report.specs.declared.report.Report.{Report}
 use Rattle.play_report.specs.declared.report.Survivor.{Survivor}
-use Rattle.play_contract.specs.Playing.{places_of}
+use Rattle.play_end.specs.Answers.{places_of}
 use Rattle.plain_heap.specs.Placement.{cells_of}
 use Rattle.gc_table.specs.declared.words.Words.{Words}
 use Rattle.heap_dump.specs.declared.final_heap.FinalRecord.{FinalRecord}

@@ -1,7 +1,7 @@
 //! For each cell the number of the record of the object in it.
 ghost use Rattle.std.specs.Prelude.{◌≡◌, ◌<◌, ◌≤◌, IfOk, length, vec_len};
 ghost use Rattle.plain_heap.specs.Placement.{cells_of};
-ghost use Rattle.play_contract.specs.Playing.{places_of};
+ghost use Rattle.play_end.specs.Answers.{places_of};
 ghost use Rattle.play_dump.specs.Telling.{ArePlaced, AreNumbers, cell_of_survivor};
 
 use play_report::{Report, Survivor};

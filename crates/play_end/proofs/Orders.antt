@@ -8,7 +8,7 @@ use Rattle.std.specs.Prelude.{count_by, slice_get}
 use Rattle.plain_heap.specs.Sections.{Execution, Sections, section_numbers, IsNext}
 use Rattle.plain_heap.specs.Placement.{AreOfTurn, position}
 use Rattle.play_report.specs.Order.{done_in, TakesFreeCell}
-use Rattle.play_contract.proofs.SectionLists.{map-at}
+use Rattle.play_end.proofs.SectionLists.{map-at}
 use Rattle.play_end.proofs.Doing.{got-left, got-first}
 
 -- the next command of section w, after these of each section, is in its turn and takes a free cell

@@ -10,7 +10,7 @@ use Rattle.plain_heap.specs.Placement.{position}
 use Rattle.plain_heap.proofs.Counted.{section-count}
 use Rattle.plain_heap.proofs.Turns.{at-start}
 use Rattle.play_report.specs.Order.{done_in}
-use Rattle.play_contract.proofs.SectionLists.{map-at}
+use Rattle.play_end.proofs.SectionLists.{map-at}
 use Rattle.gc_table.specs.declared.view.SectionState.{SectionState}
 use Rattle.gc_table.specs.Rule.{Leads}
 use Rattle.gc_table.specs.Sections.{start_section}

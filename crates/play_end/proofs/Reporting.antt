@@ -29,7 +29,7 @@ use Rattle.gc_table.specs.Seats.{view_of}
 use Rattle.play_end.specs.Done.{HasSaid}
 use Rattle.play_end.specs.Ended.{AreCommandsInRange}
 use Rattle.play_end.specs.Closed.{IsClosed, PlayedAll, ArePlacesOf, EndsWell, SeatsStopped, ArePositionsFilled}
-use Rattle.play_contract.specs.Playing.{places_of, IsReport}
+use Rattle.play_end.specs.Answers.{places_of, IsReport}
 use Rattle.play_end.specs.Reported.{AreSurvivorsPlaced, AreParts, ListsWords, IsShort}
 use Rattle.play_end.proofs.EndClosed.{element-at, ends-well}
 use Rattle.play_end.proofs.FullClosed.{ends-full}

@@ -12,7 +12,7 @@ use Rattle.plain_heap.specs.Paths.{Name, IsReachable}
 use Rattle.plain_heap.specs.Placement.{LiesIn, position}
 use Rattle.plain_heap.proofs.TurnEnds.{last-end}
 use Rattle.play_report.specs.Order.{heaps_done}
-use Rattle.play_contract.proofs.SectionLists.{of-section}
+use Rattle.play_end.proofs.SectionLists.{of-section}
 use Rattle.gc_table.specs.declared.view.Meaning.{Meaning}
 use Rattle.gc_table.specs.declared.view.Place.{Place}
 use Rattle.gc_table.specs.declared.view.PlainStep.{PlainStep}

@@ -35,7 +35,7 @@ use Rattle.mark_core.specs.declared.kinds.Phase.TheVariants.{Full}
 use Rattle.gc_table.specs.declared.seat.HeapSeat.{HeapSeat}
 use Rattle.gc_table.specs.declared.words.Words.{Words}
 use Rattle.play_report.specs.declared.report.Report.{Report}
-use Rattle.play_contract.specs.Playing.{IsReport}
+use Rattle.play_end.specs.Answers.{IsReport}
 use Rattle.play_end.specs.Reported.{AreParts, ListsWords, IsShort}
 use Rattle.play_end.specs.Closed.{IsClosed, PlayedAll, EndsWell, SeatsStopped, ArePositionsFilled}
 use Rattle.gc_table.specs.TableState.{TableState, start_state}

@@ -12,7 +12,7 @@ use Rattle.plain_heap.specs.PlainRun.{last_heaps}
 use Rattle.plain_heap.specs.Paths.{Name, IsReachable}
 use Rattle.plain_heap.specs.Placement.{LiesIn}
 use Rattle.play_report.specs.declared.report.Positions.{Positions}
-use Rattle.play_contract.specs.Playing.{places_of}
+use Rattle.play_end.specs.Answers.{places_of}
 use Rattle.play_end.specs.Closed.{CellHasIdentity}
 use Rattle.play_end.specs.Done.{HasSaid}
 use Rattle.play_end.specs.Ended.{AreListed}

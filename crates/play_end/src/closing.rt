@@ -6,7 +6,7 @@ ghost use Rattle.gc_table.specs.Rule.{KnowsFull};
 ghost use Rattle.gc_table.specs.Seats.{IsOutside, Sits, state_of, view_of};
 ghost use Rattle.plain_heap.specs.Placement.{IsFilled};
 ghost use Rattle.play_end.specs.Closed.{AreSeated, PlayedAll, SeatsStopped};
-ghost use Rattle.play_contract.specs.Playing.{IsReport};
+ghost use Rattle.play_end.specs.Answers.{IsReport};
 ghost use Rattle.gc_table.specs.Ends.{IsEnd};
 ghost use Rattle.gc_table.specs.declared.words.Words.{Words};
 ghost use Rattle.play_end.specs.Reported.{AreSurvivorsPlaced, AreParts, AreStored};

@@ -1,7 +1,7 @@
 -- Which words ask for `run`.
 use Rattle.std.proofs.Common.{◌≡◌, ℕ, List}
 use Rattle.std.specs.Prelude.{Option, Some, None, option_map}
-use Rattle.play_contract.specs.declared.options.Options.{Options}
+use Rattle.play_end.specs.declared.options.Options.{Options}
 use Rattle.command_words.specs.Words.{Run}
 use Rattle.command_words.specs.Commands.{command_of, options_of}
 use Rattle.command_words.specs.declared.asked.Asked.{Asked}

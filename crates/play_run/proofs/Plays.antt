@@ -10,9 +10,9 @@ use Rattle.play_report.specs.declared.report.Report.{Report}
 use Rattle.play_report.specs.declared.report.Positions.{Positions}
 use Rattle.play_run.specs.Ending.{IsStopAnswer}
 use Rattle.play_run.specs.RunAnswers.{PlaysTo}
-use Rattle.play_contract.specs.Playing.{IsReport, PlayAnswers, places_of}
-use Rattle.play_contract.specs.declared.error.PlayError.{PlayError}
-use Rattle.play_contract.specs.declared.error.PlayError.TheVariants as errors
+use Rattle.play_end.specs.Answers.{IsReport, PlayAnswers, places_of}
+use Rattle.play_end.specs.declared.error.PlayError.{PlayError}
+use Rattle.play_end.specs.declared.error.PlayError.TheVariants as errors
 use Rattle.command_words.specs.Words.{Options}
 
 if_asked : (place : Bool) (P : Type 0) → P → MatchBool place P (Unit {0})

@@ -4,8 +4,8 @@ use Rattle.std.specs.Io.KnownBytes.{Keeps}
 use Rattle.gc_script.specs.Faults.{Fault}
 use Rattle.play_report.specs.Causes.{Rose}
 use Rattle.play_report.specs.Text.{fault_text, full_text}
-use Rattle.play_contract.specs.declared.error.PlayError.{PlayError}
-use Rattle.play_contract.specs.declared.error.PlayError.TheVariants as errors
+use Rattle.play_end.specs.declared.error.PlayError.{PlayError}
+use Rattle.play_end.specs.declared.error.PlayError.TheVariants as errors
 use Rattle.play_run.specs.Promise.{WritesSome, WritesFront}
 use Rattle.play_run.specs.declared.status.Status.{Status}
 use Rattle.play_run.specs.declared.status.Status.TheVariants as ends

@@ -3,7 +3,7 @@ use Rattle.std.specs.Prelude.{ℕ, ◌≡◌, ◌⊎◌, List, Option, Some, Non
 use Rattle.gc_script.specs.Faults.{Fault}
 use Rattle.gc_script.specs.Script.{Script, script}
 use Rattle.play_report.specs.Text.{IsReportText, IsFullText, fault_text, usage_text}
-use Rattle.play_contract.specs.declared.options.Options.{Options as PlayOptions}
+use Rattle.play_end.specs.declared.options.Options.{Options as PlayOptions}
 use Rattle.command_words.specs.Words.{Command, Options, Run}
 use Rattle.command_words.specs.declared.asked.Asked.{Asked}
 use Rattle.command_words.specs.declared.asked.Asked.TheVariants as asks

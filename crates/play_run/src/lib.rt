@@ -6,7 +6,7 @@
 //! - `status`: how the program ends. `settling`: hands on what a gathering sink still has.
 //!
 //! The other commands are in the crate `play_words`; the program `play_script` has `run` alone. A script is played by `play` of the crate `gc_play`, of which
-//! no more is known here than `PlayAnswers` of `play_contract`.
+//! no more is known here than `PlayAnswers` of `play_end`.
 #![tactic(auto)]
 
 mod fault;

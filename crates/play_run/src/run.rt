@@ -4,7 +4,7 @@ ghost use Rattle.play_run.specs.RunAnswers.{IsRunAnswer, PlaysTo};
 ghost use Rattle.command_words.specs.Commands.{options_of};
 ghost use Rattle.play_run.specs.Ending.{CommandEnds, TextEnds, number_of_status};
 ghost use Rattle.play_run.specs.Promise.{HasItsText, OfSource};
-ghost use Rattle.play_contract.specs.Playing.{AreInRange};
+ghost use Rattle.play_end.specs.Answers.{AreInRange};
 ghost use Rattle.play_run.specs.Reading.{IsSpent, TakesAtMost};
 ghost use Rattle.play_report.specs.Causes.{AcrossSink};
 
@@ -14,7 +14,7 @@ use crate::status::Status;
 use crate::stopped::tell_stop;
 use gc_play::{Gate, play};
 use gc_script::{Script, ScriptError, read};
-use play_contract::Options;
+use play_end::Options;
 use play_report::{Sink, Source, write_report};
 use std::alloc::Global;
 use std::sync::Wait;

@@ -3,7 +3,7 @@ ghost use Rattle.play_run.specs.Ending.{IsStopAnswer, TextEnds};
 ghost use Rattle.play_report.specs.Causes.{AcrossSink};
 
 use crate::status::Status;
-use play_contract::PlayError;
+use play_end::PlayError;
 use play_report::{Sink, write_full};
 
 /// Writes how far a play came that found too few cells. Where memory ran out, it writes nothing.

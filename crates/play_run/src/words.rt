@@ -2,7 +2,7 @@
 ghost use Rattle.std.specs.Prelude.{◌≡◌, IfSome, map};
 ghost use Rattle.std.specs.String.{string_bytes};
 ghost use Rattle.command_words.specs.Commands.{IsCommandInRange};
-ghost use Rattle.play_contract.specs.Playing.{AreInRange};
+ghost use Rattle.play_end.specs.Answers.{AreInRange};
 ghost use Rattle.play_report.specs.Causes.{AcrossSink};
 ghost use Rattle.play_run.specs.Ending.{CommandEnds};
 ghost use Rattle.play_run.specs.Given.{words_behind};
@@ -15,7 +15,7 @@ use crate::source::SCRIPT;
 use crate::status::Status;
 use command_words::{Asked, command_of};
 use gc_play::Gate;
-use play_contract::Options;
+use play_end::Options;
 use play_report::{Sink, Source, write_usage};
 use std::alloc::Global;
 use std::env::Args;

@@ -7,7 +7,7 @@ use Rattle.gc_script.specs.Script.{Script, script}
 use Rattle.heap_dump.specs.Spelling.{dump}
 use Rattle.load_gen.specs.Generated.{generated}
 use Rattle.play_report.specs.Text.{IsReportText}
-use Rattle.play_contract.proofs.OneReport.{one-text, one-load-text}
+use Rattle.play_end.proofs.OneReport.{one-text, one-load-text}
 use Rattle.play_dump.proofs.One.{one-final}
 use Rattle.command_words.specs.Words.{Options}
 use Rattle.play_words.specs.Loading.{LoadsTo}

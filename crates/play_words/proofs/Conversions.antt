@@ -7,7 +7,7 @@ use Rattle.gc_script.specs.Script.{Script, script}
 use Rattle.gc_script.specs.Convert.{Conversion, convert, converted, converted_text, without_lines}
 use Rattle.gc_script.proofs.Meaning.{keeps_meaning}
 use Rattle.play_report.specs.Text.{IsReportText, IsFullText}
-use Rattle.play_contract.proofs.OneReport.{one-text}
+use Rattle.play_end.proofs.OneReport.{one-text}
 use Rattle.command_words.specs.Words.{Options}
 use Rattle.play_words.specs.Converting.{ConvertsTo}
 use Rattle.play_run.specs.RunAnswers.{PlaysTo, RunAnswersTo, IsRunAnswer}

@@ -15,7 +15,7 @@ use Rattle.plain_heap.specs.Placement.{cells_of}
 use Rattle.play_report.specs.Report.{Outcome, outcome_of, survivor_of}
 use Rattle.play_report.specs.Text.{outcome, outcomes, placed_count, printed_count}
 use Rattle.play_report.specs.declared.report.Report.{Report}
-use Rattle.play_contract.specs.Playing.{IsReport, places_of}
+use Rattle.play_end.specs.Answers.{IsReport, places_of}
 use Rattle.plain_heap.proofs.Counted.{section-at, section-count}
 use Rattle.plain_heap.proofs.Steps.{section_from}
 

@@ -11,7 +11,7 @@ use Rattle.play_report.specs.Order.{IsPlaced}
 use Rattle.play_report.specs.Report.{Outcome, outcome_of, survivor_of}
 use Rattle.play_report.specs.Text.{named_text, brief_text, load_text, outcomes, placed_count, printed_count, total_value, IsLoadText}
 use Rattle.play_report.specs.declared.report.Report.{Report}
-use Rattle.play_contract.specs.Playing.{IsReport, places_of}
+use Rattle.play_end.specs.Answers.{IsReport, places_of}
 use Rattle.plain_heap.proofs.Counted.{section-at}
 use Rattle.gc_script.specs.Script.{Script}
 use Rattle.command_words.specs.Words.{Options}

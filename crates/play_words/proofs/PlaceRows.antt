@@ -8,7 +8,7 @@ use Rattle.play_report.specs.Order.{IsPlaced}
 use Rattle.plain_heap.proofs.Found.{found}
 use Rattle.plain_heap.proofs.Search.{searched}
 use Rattle.gc_script.specs.Script.{script}
-use Rattle.play_contract.proofs.FreeCells.{cells-free}
+use Rattle.play_end.proofs.FreeCells.{cells-free}
 use Rattle.play_words.proofs.Computed.{sections_in}
 
 abbrev next_of : Sections → ℕ → ℕ → ℕ → Execution

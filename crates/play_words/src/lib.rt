@@ -8,7 +8,7 @@
 //! - `lines`: writes a text line by line.
 //!
 //! The words are read by the crate `command_words`. A script is played by `play` of the crate `gc_play`, of which the commands
-//! know no more than `PlayAnswers` of `play_contract`, and for a dump by `play_final`, of which they know `FinalAnswers` besides. The program itself, `gcplay`,
+//! know no more than `PlayAnswers` of `play_end`, and for a dump by `play_final`, of which they know `FinalAnswers` besides. The program itself, `gcplay`,
 //! hands in its words, its standard input and its standard output.
 #![tactic(auto)]
 

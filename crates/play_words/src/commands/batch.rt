@@ -4,7 +4,7 @@
 ghost use Rattle.std.specs.Prelude.{◌≢◌, ◌≤◌, IfSome, Ok};
 ghost use Rattle.job_pool.specs.Batch.{batch_fault_of};
 ghost use Rattle.command_words.specs.Commands.{options_of};
-ghost use Rattle.play_contract.specs.Playing.{AreInRange};
+ghost use Rattle.play_end.specs.Answers.{AreInRange};
 ghost use Rattle.play_words.specs.Batching.{IsBatchAnswer, IsBatchFault, BatchesTo};
 ghost use Rattle.play_run.specs.Ending.{CommandEnds, TextEnds, number_of_status};
 ghost use Rattle.play_run.specs.Promise.{HasItsText, OfSource};
@@ -15,7 +15,7 @@ mod player;
 mod text;
 
 use job_pool::{Batch, BatchError, read_batch, run_jobs};
-use play_contract::Options;
+use play_end::Options;
 use play_report::{Sink, Source};
 use play_run::{BATCH, Status, Unread, read_source};
 use player::ScriptPlayer;

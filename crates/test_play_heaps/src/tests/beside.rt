@@ -5,7 +5,7 @@ use crate::tests::signal::Signal;
 use gc_play::{Gate, play};
 use gc_script::{Section, read};
 use gc_table::HeapSeat;
-use play_contract::{Options, USUAL};
+use play_end::{Options, USUAL};
 use std::process::Abort;
 use std::sync::Wait;
 use std::sync::atomic::AtomicU64;

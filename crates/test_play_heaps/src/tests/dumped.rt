@@ -2,12 +2,12 @@
 use crate::tests::graph::{Graph, graph_of};
 use gc_script::read;
 use load_gen::generate;
-use test_cases::{answer_of, sure};
 use std::alloc::{AllocError, Global};
 use std::process::Abort;
 use std::sync::Wait;
 use std::test::Fail;
 use std::thread::Threads;
+use test_cases::{answer_of, sure};
 
 /// Numbers as a dump has them.
 fn push_numbers(dump: &mut Vec<u8>, numbers: &[u32]) -> Result<(), AllocError> {

@@ -2,7 +2,7 @@
 use gc_play::{OpenGate, play_final};
 use gc_script::read;
 use mark_core::Phase;
-use play_contract::{Options, USUAL};
+use play_end::{Options, USUAL};
 use std::test::Fail;
 
 /// Three objects stay reachable, and one of each warehouse doesn't.

@@ -4,12 +4,12 @@ ghost use Rattle.std.specs.Prelude.{◌≡◌, IfOk};
 use gc_play::OpenGate;
 use play_report::{GatheredSink, MemorySink, SureSource, write_all};
 use play_words::{play_words, settle};
-use test_cases::expanded;
 use std::alloc::Global;
 use std::process::Abort;
 use std::sync::Wait;
 use std::test::Fail;
 use std::thread::Threads;
+use test_cases::expanded;
 
 /// A sink that gathers over one that has room, takes so many bytes a call and fails in this call.
 fn gathering(alloc: Global, per_call: usize, failing: u32) -> Result<GatheredSink<MemorySink>, Fail>

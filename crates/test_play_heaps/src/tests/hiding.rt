@@ -10,15 +10,15 @@ use crate::tests::signal::Signal;
 use gc_play::{Gate, OpenGate, play};
 use gc_script::{Section, read};
 use gc_table::HeapSeat;
-use play_contract::{Options, USUAL};
+use play_end::{Options, USUAL};
 use play_report::{MemorySink, write_report};
-use test_cases::expanded;
 use std::process::Abort;
 use std::sync::Wait;
 use std::sync::atomic::AtomicU64;
 use std::sync::atomic::Ordering::SeqCst;
 use std::test::Fail;
 use std::thread::Threads;
+use test_cases::expanded;
 
 /// What the warehouses do after the chain was made and the heap collected.
 const HIDE: &str = "season

@@ -1,9 +1,9 @@
 //! Cases with further options.
-use test_cases::first_unlike;
 use std::process::Abort;
 use std::sync::Wait;
 use std::test::Fail;
 use std::thread::Threads;
+use test_cases::first_unlike;
 
 /// Fails where one of the cases isn't answered so, with these words behind its own.
 pub fn all_hold_with<R: Abort + AllocGlobal + Threads + Wait + Sync>(

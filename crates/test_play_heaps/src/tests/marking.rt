@@ -9,12 +9,12 @@ use gc_play::{Gate, play};
 use gc_script::{Section, read};
 use gc_table::HeapSeat;
 use mark_core::Phase;
-use play_contract::{Options, USUAL};
-use test_cases::expanded;
+use play_end::{Options, USUAL};
 use std::sync::Wait;
 use std::sync::atomic::AtomicU64;
 use std::sync::atomic::Ordering::SeqCst;
 use std::test::Fail;
+use test_cases::expanded;
 
 /// A chain whose objects fill seven cells of eight, with an object behind it, and a collection.
 pub const CHAIN: &str = "gcscript 3

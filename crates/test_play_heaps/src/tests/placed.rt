@@ -1,7 +1,7 @@
 //! Where objects lie: cells are used again, but not while their object is reachable.
-use test_cases::{answer_of, sure};
 use std::alloc::Global;
 use std::test::Fail;
+use test_cases::{answer_of, sure};
 
 /// How many objects stay reachable, a script that makes 130 objects in 64 cells, and the text before their cells.
 const ROWS: &str = "$ 0

@@ -1,10 +1,10 @@
 //! One heap that eight warehouses share.
 use gc_play::{OpenGate, play};
 use gc_script::read;
-use play_contract::{Options, USUAL};
+use play_end::{Options, USUAL};
 use play_report::{MemorySink, write_report};
-use test_cases::expanded;
 use std::test::Fail;
+use test_cases::expanded;
 
 /// Each warehouse keeps its first two objects and the last of fifty more, so most of the 64 cells are used again and again.
 const WAREHOUSE: &str = "warehouse

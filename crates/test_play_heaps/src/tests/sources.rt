@@ -2,8 +2,8 @@
 use gc_play::OpenGate;
 use play_report::{CountSink, SureSource};
 use play_words::play_words;
-use test_cases::{Outside, answer_of, sure};
 use std::test::Fail;
+use test_cases::{Outside, answer_of, sure};
 
 const SCRIPT: &str = "gcscript 1\nwarehouse\nnew x 5\nsay a x\n";
 

@@ -2,7 +2,7 @@
 use gc_play::{Gate, play};
 use gc_script::{Section, read};
 use gc_table::HeapSeat;
-use play_contract::{Options, USUAL};
+use play_end::{Options, USUAL};
 use std::sync::atomic::AtomicUsize;
 use std::sync::atomic::Ordering::SeqCst;
 use std::test::Fail;

@@ -7,11 +7,11 @@ use crate::tests::converts::CONVERTS;
 use crate::tests::long::LONG;
 use crate::tests::others::OTHERS;
 use crate::tests::played::PLAYED;
-use test_cases::first_unlike;
 use std::process::Abort;
 use std::sync::Wait;
 use std::test::Fail;
 use std::thread::Threads;
+use test_cases::first_unlike;
 
 /// Fails where one of the cases isn't answered so.
 pub fn all_hold<R: Abort + AllocGlobal + Threads + Wait + Sync>(

@@ -1,12 +1,12 @@
 //! Each command under every disturbance: each read and each write that fails, reads and writes in parts, sinks with every room.
 use crate::tests::commands::COMMANDS;
 use crate::tests::faults::FAULTS;
-use test_cases::{Case, Outside, answer_of, case_of, sure};
 use std::alloc::Global;
 use std::process::Abort;
 use std::sync::Wait;
 use std::test::Fail;
 use std::thread::Threads;
+use test_cases::{Case, Outside, answer_of, case_of, sure};
 
 /// The sizes of the pieces of the text.
 fn sizes_of(alloc: Global, case: &Case<'_>) -> Result<Vec<usize>, Fail> {

@@ -3,8 +3,8 @@
 //! Each has keys of its own, in chains that have those of the others too, and all have some keys in common, under which they count together.
 
 use super::crew::{FOUND, MADE, ROOT, SHARED, Tally, Worker, come, gather, hire, trace};
-use shared_heap::{Refused, SharedMutator, SharedSizes, SharedWorld};
 use example_structures::SharedMap;
+use shared_heap::{Refused, SharedMutator, SharedSizes, SharedWorld};
 use std::alloc::Global;
 use std::sync::Wait;
 use std::thread::{Threads, for_each_mut, join_mut};

@@ -1,8 +1,8 @@
 //! Four threads that put into one queue and take out of it.
 
 use super::crew::{FOUND, MADE, ROOT, SHARED, Tally, Worker, come, gather, hire, trace};
-use shared_heap::{Refused, SharedMutator, SharedSizes, SharedWorld};
 use example_structures::SharedQueue;
+use shared_heap::{Refused, SharedMutator, SharedSizes, SharedWorld};
 use std::alloc::Global;
 use std::sync::Wait;
 use std::thread::{Threads, for_each_mut, join_mut};

@@ -4,8 +4,8 @@ use super::crew::{
     LOOKS, ROOT, SHARED, Tally, Worker, come, gather, hire, lower, raise_below, trace,
 };
 use super::queue::{Next, give, make_queue, take};
-use shared_heap::{Refused, SharedMutator, SharedSizes, SharedWorld};
 use example_structures::SharedQueue;
+use shared_heap::{Refused, SharedMutator, SharedSizes, SharedWorld};
 use std::alloc::Global;
 use std::sync::Wait;
 use std::thread::{Threads, for_each_mut, join_mut, yield_now};

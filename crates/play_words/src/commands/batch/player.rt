@@ -1,9 +1,9 @@
 //! Plays a job of a batch: its script, as `run` plays one, with the text in memory.
-ghost use Rattle.play_contract.specs.Playing.{AreInRange};
+ghost use Rattle.play_end.specs.Answers.{AreInRange};
 
 use gc_play::OpenGate;
 use job_pool::{Job, Player, Text};
-use play_contract::Options;
+use play_end::Options;
 use play_report::{Failed, Sink};
 use play_run::{Status, play_bytes};
 use std::alloc::Global;

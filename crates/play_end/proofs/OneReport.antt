@@ -8,10 +8,10 @@ use Rattle.plain_heap.specs.Sections.{Sections, section_numbers, warehouse_numbe
 use Rattle.plain_heap.specs.PlainRun.{Printed, last_heap, last_heaps}
 use Rattle.plain_heap.specs.Paths.{Name, Survivor, name_of, HasValue, AreSurvivors}
 use Rattle.play_report.specs.Text.{outcome, outcomes, outcomes_text, outcome_text, survivors_text, report_text, load_text}
-use Rattle.play_contract.specs.Playing.{places_of}
-use Rattle.play_contract.specs.Laws.{said_of, OneReport, OneText, OneLoadText}
-use Rattle.play_contract.proofs.InOrder.{same-names}
-use Rattle.play_contract.proofs.LastHeaps.{object-there}
+use Rattle.play_end.specs.Answers.{places_of}
+use Rattle.play_end.specs.ReportLaws.{said_of, OneReport, OneText, OneLoadText}
+use Rattle.play_end.proofs.InOrder.{same-names}
+use Rattle.play_end.proofs.LastHeaps.{object-there}
 
 -- the value of a survivor is that of its object
 one-value : (s : Sections) (x y : Survivor) → HasValue (last_heaps s) x → HasValue (last_heaps s) y → name_of x ≡ name_of y → x ≡ y

@@ -8,7 +8,7 @@ use Rattle.play_report.specs.Order.{IsPlaced}
 use Rattle.play_report.specs.Report.{Outcome, outcome_of, survivor_of}
 use Rattle.play_report.specs.Text.{IsReportText, IsLoadText}
 use Rattle.play_report.specs.declared.report.Report.{Report}
-use Rattle.play_contract.specs.Playing.{IsReport}
+use Rattle.play_end.specs.Answers.{IsReport}
 
 -- what a section printed, and how many stores it dropped
 abbrev pub said_of : Outcome → List Printed × ℕ

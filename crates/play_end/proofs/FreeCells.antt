@@ -13,8 +13,8 @@ use Rattle.plain_heap.proofs.OwnReaching.{reached-among}
 use Rattle.plain_heap.proofs.TurnBounds.{next-before}
 use Rattle.plain_heap.proofs.Turns.{at-part-end, at-catalogue-end}
 use Rattle.play_report.specs.Order.{done_in, heaps_done}
-use Rattle.play_contract.specs.Laws.{CellsAreFree}
-use Rattle.play_contract.proofs.SectionLists.{contains_got, map-at, one-of-two, of-first}
+use Rattle.play_end.specs.ReportLaws.{CellsAreFree}
+use Rattle.play_end.proofs.SectionLists.{contains_got, map-at, one-of-two, of-first}
 
 -- how many of these are w
 abbrev count : List ℕ → ℕ → ℕ

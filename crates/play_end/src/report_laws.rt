@@ -1,5 +1,5 @@
-// Laws over definitions: each is the contract of a function that does nothing.
-ghost use Rattle.play_contract.specs.Laws.{CellsAreFree, OneLoadText, OneReport, OneText, SurvivorsExist};
+// Laws over reports and their texts: each is the contract of a function that does nothing.
+ghost use Rattle.play_end.specs.ReportLaws.{CellsAreFree, OneLoadText, OneReport, OneText, SurvivorsExist};
 
 /// Any two reports of one script agree but for the places of objects, however many cells each was played in: what each section printed,
 /// how many stores it dropped, and the survivors are values of the script alone.

@@ -8,7 +8,7 @@ use Rattle.plain_heap.specs.declared.object.Ref.TheVariants as refs
 use Rattle.plain_heap.specs.declared.object.Object.{Object}
 use Rattle.plain_heap.specs.PlainHeap.{Heap}
 use Rattle.plain_heap.specs.Paths.{Name, Names, HasObject, IsObject, IsHeld, RefersTo}
-use Rattle.play_contract.proofs.Members.{contains-cases, contains-head, contains-tail, nothing-in}
+use Rattle.play_end.proofs.Members.{contains-cases, contains-head, contains-tail, nothing-in}
 
 -- it holds, or it doesn't
 abbrev pub Decided : Type 0 → Type 0

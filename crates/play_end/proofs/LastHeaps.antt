@@ -8,7 +8,7 @@ use Rattle.plain_heap.specs.PlainRun.{last_heap, last_heaps}
 use Rattle.plain_heap.specs.Paths.{Name, HasObject, IsReachable}
 use Rattle.plain_heap.proofs.TurnBounds.{plain-section}
 use Rattle.plain_heap.proofs.TurnEnds.{at-last}
-use Rattle.play_contract.proofs.SectionLists.{of-section}
+use Rattle.play_end.proofs.SectionLists.{of-section}
 
 pub last-section : (s : Sections) (w : ℕ) → (last_heap s w).section ≡ w
 last-section s w = ap (λ (h : Heap). h.section) (sym (at-last s w (seasons s) (omega arith))) ∙ plain-section s w (end_of s w (seasons s))

@@ -8,9 +8,9 @@ use Rattle.play_report.specs.Order.{IsPlaced}
 use Rattle.play_report.specs.Report.{outcome_of, survivor_of}
 use Rattle.play_report.specs.Text.{outcomes, placed_count}
 use Rattle.play_report.specs.declared.report.Report.{Report}
-use Rattle.play_contract.specs.declared.options.Options.{Options}
-use Rattle.play_contract.specs.declared.error.PlayError.{PlayError}
-use Rattle.play_contract.specs.declared.error.PlayError.TheVariants as ends
+use Rattle.play_end.specs.declared.options.Options.{Options}
+use Rattle.play_end.specs.declared.error.PlayError.{PlayError}
+use Rattle.play_end.specs.declared.error.PlayError.TheVariants as ends
 
 -- the cells of each section's objects
 abbrev pub places_of : Report → List (List ℕ)

@@ -2,7 +2,7 @@
 use Rattle.std.proofs.Common.{◌≡◌, ◌⊎◌, inl, inr, suc, refl, ap, sym, ◌∙◌, subst, arith, List, [], ◌∷◌}
 use Rattle.std.specs.Prelude.{Contains}
 use Rattle.plain_heap.specs.Paths.{Name, ComesBefore, IsOrdered}
-use Rattle.play_contract.proofs.Members.{contains-cases, contains-head, contains-tail, nothing-in}
+use Rattle.play_end.proofs.Members.{contains-cases, contains-head, contains-tail, nothing-in}
 
 -- a name doesn't come before itself, nor before one that comes before it
 pub never : (a : Name) → ComesBefore a a → ⊥

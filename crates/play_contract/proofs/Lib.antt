@@ -1,9 +1,0 @@
-pub mod Members
-pub mod InOrder
-pub mod SectionLists
-pub mod LastHeaps
-pub mod FreeCells
-pub mod OneReport
-pub mod Ordered
-pub mod Deciding
-pub mod Existing

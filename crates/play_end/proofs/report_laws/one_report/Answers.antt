@@ -1,0 +1,5 @@
+use Rattle.play_end.proofs.OneReport.{one-report}
+use Rattle.play_end.proofs.report_laws.one_report.Goals as goal
+
+pub returns : goal.returns
+returns c = one-report
