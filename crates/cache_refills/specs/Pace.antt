@@ -2,6 +2,7 @@
 pub mod Quota
 pub mod Pacing
 pub mod Early
+pub mod Others
 pub mod Paying
 pub mod Payment
 pub mod StepBounds

@@ -7,7 +7,7 @@
 //! # A refill
 //!
 //! 1. Where free cells run short by the numbers of the last cycle, the mutator begins one (`pace`).
-//! 2. While a cycle marks it marks what its own roots refer to, passes the next cards early in the cycle (`early`), and traces its quota (`paying`); where there
+//! 2. While a cycle marks it marks what its own roots refer to, and those of another section (`others`), passes the next cards early in the cycle (`early`), and traces its quota (`paying`); where there
 //!    is nothing to trace, and the cycle is far on, it cleans a card.
 //! 3. It claims a block with a free cell. Where none has one, or the cards have been passed and all packets are empty, it stops the world and ends the cycle
 //!    (`finish_cycle` of `gc_cycle`), or collects precisely, and claims in the stop (`claiming`).
@@ -23,6 +23,7 @@
 mod claiming;
 mod early;
 mod in_stops;
+mod others;
 mod pace;
 mod paying;
 mod pieces;

@@ -1,6 +1,6 @@
 //! What a mutator pays for its cache while a cycle is marking.
 //!
-//! It marks the roots of its own section and traces a quota of objects, which is larger the fewer cells are free. So marking keeps pace with allocation:
+//! It marks the roots of its own section and of one more (`others`), and traces a quota of objects, which is larger the fewer cells are free. So marking keeps pace with allocation:
 //! Barabash and others, *A parallel, incremental, mostly concurrent garbage collector for servers*, 2005. Before it traces, it passes the cards that are next
 //! early in a cycle (`early`). Where it finds no packet to trace from, and the cycle is far on, it cleans cards, which fills packets again; and at last it brings
 //! back what was deferred. A card that was cleaned may be dirtied again, and then it is left to late payments and the stop.
@@ -8,7 +8,7 @@
 //! A payment is short whatever the heap's size: it traces its quota at most, and looks at 1,024 cards at most, early in a cycle or late ([`CARD_LOOKS`]). The
 //! cards that are left are those of the next payment, of tracers and of the stop. All steps of it are counted (`few`): a bound that is linear in the packets, the
 //! fields, the objects that were traced and the cards that were looked at.
-ghost use Rattle.std.specs.Prelude.{ℕ, ◌≡◌, ◌<◌, ◌≤◌, ◌+◌, Some, IfSome, IfNone, IsTrue, ◌-◌, ◌*◌, length};
+ghost use Rattle.std.specs.Prelude.{ℕ, ◌≡◌, ◌<◌, ◌≤◌, ◌+◌, Some, IfSome, IfNone, IsTrue, ◌-◌, ◌*◌, ◌%◌, length};
 ghost use Rattle.mark_core.specs.Cards.{block_cells, card_cells};
 ghost use Rattle.mark_core.specs.Layout.{card_count};
 ghost use Rattle.mark_core.specs.declared.kinds.Phase.TheVariants.{Marking};
@@ -24,17 +24,20 @@ ghost use Rattle.cache_refills.specs.Pace.Pacing.{card_looks, looks_by, looks_se
 ghost use Rattle.gc_cycle.specs.CardLooks.{looks_at_card};
 ghost use Rattle.gc_cycle.specs.Events.{never};
 ghost use Rattle.gc_cycle.specs.Standing.{Mutates};
+ghost use Rattle.gc_cycle.specs.Turns.{SeesToRoots};
+ghost use Rattle.cache_refills.specs.Pace.Others.{SeesToNext, turn_seen};
 ghost use Rattle.packet_pools.specs.StepBounds.{output_steps};
 ghost use Rattle.tracer.specs.StepBounds.{section_steps, trace_steps};
 ghost use Rattle.card_clean.specs.StepBounds.{clean_one_steps};
 ghost use Rattle.cache_refills.specs.Pace.StepBounds.{early_steps, look_steps, payment_steps, quota_steps};
 
 use crate::early::{early_end, pass_early};
+use crate::others::{scan_other, section_at};
 use crate::pace::{is_late, read_statistic};
 use crate::quota::quota_of;
 use gc_cycle::{Paid, clean, next_card, recycle_deferred, scan_roots, trace};
 use gc_table::{Heap, HeapSeat};
-use mark_core::{FREE, LAST, RESCANNED, TRACED};
+use mark_core::{BLOCK_CELLS, FREE, LAST, RESCANNED, TRACED};
 use tracer::{RootScan, Stopped};
 
 /// How many cards a payment looks at, at most. A look takes three steps, and most cards are clean late in a cycle: so all looks together take about as long as
@@ -52,11 +55,13 @@ struct Owed {
     from: u32,
     /// The end of these cards.
     end: u32,
+    /// Which section's roots it scans besides its own, among all again and again.
+    turn: u32,
 }
 
-/// What the mutator pays for a cache of `cells` free cells, at most 64, where it has read last that a cycle is marking: it marks its roots and traces its quota
-/// of objects, as [`quota_of`] has it of the numbers read now. Before it traces, it passes the cards that are next by these numbers, early in a cycle. How many
-/// objects it traced is told to the others once.
+/// What the mutator pays for a cache of `cells` free cells, at most 64, if it has read last that a cycle is marking: it marks its roots and traces its quota
+/// of objects, as [`quota_of`] has it of the numbers read now. Before it traces, it scans the roots of the section whose turn it is by these numbers, and passes the
+/// cards that are next, early in a cycle. How many objects it traced is told to the others once.
 ///
 /// In the answer, `stopped` is Quota exactly where it traced its quota. NoWork comes only where, after its roots were read, no packet to read from was found
 /// while nothing was left in hand, and NoPacket only where none with room was found. Where no packet could be taken at all, neither roots nor objects were
@@ -68,6 +73,7 @@ pub(crate) fn pay(heap: &Heap, seat: &mut HeapSeat, cells: u32) -> Paid
     ensures seat { Sits heap.now seat.new }
     ensures paid { Across (HasPaid cells result) seat.old seat.new }
     ensures passes { Across (PassesNext heap.now.shape cells) seat.old seat.new }
+    ensures others { Across (SeesToNext heap.now.shape) seat.old seat.new }
     ensures own { (view_of seat.new).own ≡ (view_of seat.old).own }
     ensures few { length (did seat.old seat.new) ≤ payment_steps result.done card_looks heap.now.shape }
 {
@@ -98,6 +104,7 @@ fn owed_now(heap: &Heap, seat: &mut HeapSeat, cells: u32) -> Owed
     ensures fewer { result.looks ≤ card_looks }
     ensures end { early_seen (did seat.old seat.new) ≡ result.end }
     ensures from { result.from ≡ result.end - 16 * cells }
+    ensures turn { turn_seen (did seat.old seat.new) ≡ result.turn }
     ensures few { length (did seat.old seat.new) ≤ 4 }
 {
     let last = read_statistic(heap, seat, LAST);
@@ -111,10 +118,11 @@ fn owed_now(heap: &Heap, seat: &mut HeapSeat, cells: u32) -> Owed
         looks: looks_of(late),
         from: end.saturating_sub(16 * cells),
         end,
+        turn: free / BLOCK_CELLS,
     }
 }
 
-/// Marks the roots of the seat's section, passes the cards that are next early in a cycle, and traces a quota. Where no packet can be taken, nothing is done.
+/// Marks the roots of the seat's section and of another one, passes the cards that are next early in a cycle, and traces a quota. Where no packet can be taken, nothing is done.
 fn mark_and_trace(heap: &Heap, seat: &mut HeapSeat, owed: Owed) -> Paid
     requires seat { Sits heap.now seat.old × Mutates (view_of seat.old) }
     requires marking { (state_of seat.old).phase_seen ≡ Some Marking }
@@ -122,7 +130,8 @@ fn mark_and_trace(heap: &Heap, seat: &mut HeapSeat, owed: Owed) -> Paid
     ensures seat { Sits heap.now seat.new }
     ensures pays { Across (MarksAndTraces (own_section (state_of seat.old)) owed.quota owed.looks result) seat.old seat.new }
     ensures passes { Across (HasPassed heap.now.shape owed.from owed.end owed.looks) seat.old seat.new }
-    ensures few { length (did seat.old seat.new) ≤ section_steps heap.now.shape + early_steps heap.now.shape + quota_steps result.done owed.looks heap.now.shape }
+    ensures other { Across (SeesToRoots (owed.turn % heap.now.shape.sections)) seat.old seat.new }
+    ensures few { length (did seat.old seat.new) ≤ 2 * section_steps heap.now.shape + early_steps heap.now.shape + quota_steps result.done owed.looks heap.now.shape }
 {
     let section = seat.state().section.unwrap_or(0);
     match scan_roots(heap, seat, section) {
@@ -132,6 +141,8 @@ fn mark_and_trace(heap: &Heap, seat: &mut HeapSeat, owed: Owed) -> Paid
             stopped: stopped_at(owed.quota),
         },
         RootScan::Done { marked: _ } => {
+            let other = section_at(owed.turn, heap.shape().sections);
+            scan_other(heap, seat, other);
             pass_early(heap, seat, owed.from, owed.end);
             pay_quota(heap, seat, owed.quota, owed.looks)
         }

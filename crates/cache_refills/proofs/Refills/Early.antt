@@ -1,5 +1,5 @@
--- The cards that a payment passes early, among all its events.
-use Rattle.std.proofs.Common.{ℕ, ◌≡◌, ◌≤◌, ◌+◌, ◌-◌, ◌*◌, List, [], ◌∷◌, ◌++◌, append_assoc, arith, refl, sym, ap, ◌∙◌, subst, true, false, inl, inr}
+-- The cards that a payment passes early, and the section whose roots it scans besides its own, among all its events.
+use Rattle.std.proofs.Common.{ℕ, ◌≡◌, ◌≤◌, ◌+◌, ◌-◌, ◌*◌, ◌%◌, List, [], ◌∷◌, ◌++◌, append_assoc, arith, refl, sym, ap, ◌∙◌, subst, true, false, inl, inr}
 use Rattle.std.proofs.lemmas.Bool.{false≢true}
 use Rattle.mark_core.specs.Numbers.{free_count, last_count, rescanned_count, traced_count}
 use Rattle.mark_core.specs.declared.kinds.Shape.{Shape}
@@ -17,10 +17,13 @@ use Rattle.gc_cycle.specs.CardLooks.{looks_at_card}
 use Rattle.gc_cycle.specs.Events.{never}
 use Rattle.gc_cycle.specs.Moments.{at_some_moment, begins, finds_no_packet}
 use Rattle.gc_cycle.specs.Sorts.{reads_pace}
+use Rattle.gc_cycle.specs.Turns.{SeesToRoots}
+use Rattle.gc_cycle.proofs.Turns.{roots-earlier, roots-later}
 use Rattle.gc_cycle.proofs.Longer.{earlier-moment, later-moment, packet-longer, packet-widens}
 use Rattle.gc_cycle.proofs.Stops.Admitted.{count-none, count-run, never-join}
 use Rattle.gc_cycle.proofs.TracingSpares.{Spares, untaken}
 use Rattle.cache_refills.specs.Pace.Early.{early_by, early_seen, HasPassed, PassesNext}
+use Rattle.cache_refills.specs.Pace.Others.{SeesToNext, turn_by, turn_seen}
 use Rattle.cache_refills.specs.Pace.Pacing.{looks_by, looks_seen}
 use Rattle.cache_refills.specs.Pace.Payment.{reads_number}
 use Rattle.cache_refills.proofs.Refills.PaidFor.{late-before, none-read, read-before}
@@ -94,3 +97,8 @@ module _ (sh : Shape) (cells from end looks done : ℕ) (u v w x : View) (r : Ra
       let looked : looks ≡ looks_seen (events u x) = sym (ap looks_seen all ∙ (ap looks_by (late-before (events u v) (events v w ++ events w x) unread) ∙ l)) in
       subst (λ m. HasPassed sh (m - 16 * cells) m (looks_seen (events u x)) u x) ends
       (subst (λ m. HasPassed sh (end - 16 * cells) end m u x) looked (subst (λ m. HasPassed sh m end looks u x) f (wider h)))
+
+  pub sees-next : (turn : ℕ) → turn_seen (events u v) ≡ turn → SeesToRoots (turn % sh.sections) v w → SeesToNext sh u x
+  sees-next turn e s =
+      let ends : turn ≡ turn_seen (events u x) = sym (ap turn_seen all ∙ (ap turn_by (read-before free_count (events u v) (events v w ++ events w x) (none-read free_count (events v w ++ events w x) (omega arith) unread)) ∙ e)) in
+      subst (λ m. SeesToRoots (m % sh.sections) u x) ends (roots-earlier (turn % sh.sections) u w x (ran-join u v w r k) last (roots-later (turn % sh.sections) u v w r k s))

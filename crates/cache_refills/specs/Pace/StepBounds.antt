@@ -18,6 +18,6 @@ quota_steps done looks sh = trace_steps done sh + looks * look_steps sh + recycl
 abbrev pub early_steps : Shape → ℕ
 early_steps sh = clean_some_steps card_looks (card_cells * card_looks) sh
 
--- the numbers are read, the roots of the section scanned, cards passed early, a quota traced, and the number of traced objects raised
+-- the numbers are read, the roots of two sections scanned, cards passed early, a quota traced, and the number of traced objects raised
 abbrev pub payment_steps : ℕ → ℕ → Shape → ℕ
-payment_steps done looks sh = section_steps sh + early_steps sh + quota_steps done looks sh + 5
+payment_steps done looks sh = 2 * section_steps sh + early_steps sh + quota_steps done looks sh + 5

@@ -1,13 +1,19 @@
-use Rattle.std.proofs.Common.{◌≡◌, ◌<◌, ◌+◌, ◌++◌, inl, inr, sym, ap, ◌∙◌, subst, true, arith}
+use Rattle.std.proofs.Common.{◌≡◌, ◌<◌, ◌+◌, ◌*◌, ◌%◌, ◌++◌, refl, inl, inr, sym, ap, ◌∙◌, subst, true, arith}
 use Rattle.mark_core.specs.declared.kinds.Shape.{Shape}
 use Rattle.mark_core.specs.declared.seat.SeatState.{SeatState}
+use Rattle.std.proofs.lemmas.Bool.{or_right}
 use Rattle.gc_table.specs.PlainSteps.{own_section}
 use Rattle.gc_table.specs.Log.{events}
 use Rattle.gc_table.specs.Seats.{view_of}
 use Rattle.gc_table.specs.declared.view.View.{View}
 use Rattle.cache_refills.specs.Pace.Payment.{MarksAndTraces}
 use Rattle.gc_cycle.specs.Roots.{roots_scanned}
-use Rattle.cache_refills.proofs.Refills.Payment.{marks-none, marks-traces, none-traces, section-below, traces-within}
+use Rattle.gc_cycle.specs.CardLooks.{looks_at_card}
+use Rattle.gc_cycle.specs.Sorts.{draws_or_clears, pops, reads_pace}
+use Rattle.gc_cycle.specs.Turns.{SeesToRoots}
+use Rattle.gc_cycle.proofs.Longer.{has-traced, roots-left}
+use Rattle.gc_cycle.proofs.Turns.{roots-earlier, roots-later, roots-scanned}
+use Rattle.cache_refills.proofs.Refills.Payment.{marks-none, marks-traces, never-run, none-traces, section-below, traces-within}
 use Rattle.tracer.specs.StepBounds.{section_steps}
 use Rattle.cache_refills.specs.Pace.StepBounds.{early_steps, quota_steps}
 use Rattle.gc_cycle.proofs.Few.{few-join}
@@ -30,21 +36,57 @@ returns-in-NoPacket-clause-pays c =
     subst (λ s. MarksAndTraces (own_section u.state) c.args.owed.quota c.args.owed.looks (record { quota = c.args.owed.quota; done = 0; stopped = s }) u v) (sym c.stopped_at.ensures)
     (marks-none (own_section u.state) c.args.owed.quota c.args.owed.looks u v e.traced e.unpopped e.unread e.uncleaned e.scans.0 e.scans.1)
 
+-- some section there is: the seat's own
+pub section_at-requires-clause : goal.section_at-requires-clause
+section_at-requires-clause c =
+    let v : View = view_of c.args.seat.now in
+    let own : own_section v.state < c.args.heap.now.shape.sections = subst (λ (sh : Shape). own_section v.state < sh.sections) c.requires.seat.0.1 (section-below v c.args.seat.now.possible c.requires.seat.1.section) in
+    omega (arith, own)
+
+pub scan_other-requires-clause-section : goal.scan_other-requires-clause-section
+scan_other-requires-clause-section c = let at = c.section_at-other.ensures in omega (arith, at)
+
 pub returns-in-Done-clause-pays : goal.returns-in-Done-clause-pays
 returns-in-Done-clause-pays c =
     let u : View = view_of c.args.seat.now in
     let v : View = view_of c.scan_roots.new.seat in
+    let y : View = view_of c.scan_other.new.seat in
     let x : View = view_of c.pass_early.new.seat in
     let w : View = view_of c.pay_quota.new.seat in
     let e = c.in-Done.ensures in
+    let o = c.scan_other.ensures in
     let quota = c.args.owed.quota in
     let looks = c.args.owed.looks in
-    marks-traces (own_section u.state) c.args.owed.quota c.args.owed.looks c.pay_quota.result u v w e.traced e.unpopped e.unread e.uncleaned
-    (subst (λ n. roots_scanned n (events u v) ≡ true) (c.unwrap_or-section.ensures ∙ ap (λ (s : SeatState). own_section s) c.state.ensures) e.scans)
-    (traces-within quota 0 (0 + looks) looks c.pay_quota.result v w (omega arith) (none-traces quota 0 0 looks c.pay_quota.result v x w c.pass_early.ensures.none c.pay_quota.ensures.traces))
+    let own = subst (λ n. roots_scanned n (events u v) ≡ true) (c.unwrap_or-section.ensures ∙ ap (λ (s : SeatState). own_section s) c.state.ensures) e.scans in
+    marks-traces (own_section u.state) quota looks c.pay_quota.result u y w (has-traced u v y e.traced o.traced)
+    (never-run pops u v y e.traced.ran o.traced.ran e.unpopped o.unpopped)
+    (never-run reads_pace u v y e.traced.ran o.traced.ran e.unread o.unread)
+    (never-run draws_or_clears u v y e.traced.ran o.traced.ran e.uncleaned o.uncleaned)
+    (ap (roots_scanned (own_section u.state)) (ran-events u v y e.traced.ran o.traced.ran) ∙ roots-left (own_section u.state) (events u v) (events v y) own)
+    (traces-within quota 0 (0 + looks) looks c.pay_quota.result y w (omega arith) (none-traces quota 0 0 looks c.pay_quota.result y x w c.pass_early.ensures.none c.pay_quota.ensures.traces))
 
 pub returns-in-NoPacket-clause-few : goal.returns-in-NoPacket-clause-few
 returns-in-NoPacket-clause-few c = let few = c.in-NoPacket.ensures.few in omega (arith, few)
+
+pub returns-in-NoPacket-clause-other : goal.returns-in-NoPacket-clause-other
+returns-in-NoPacket-clause-other c =
+    let u : View = view_of c.args.seat.now in
+    let e = c.in-NoPacket.ensures in
+    or_right (roots_scanned (c.args.owed.turn % c.args.heap.now.shape.sections) (events u (view_of c.scan_roots.new.seat))) _
+    (this-moment u.shape (finds_no_packet u.shape) (events u (view_of c.scan_roots.new.seat)) (begins u) e.scans.0)
+
+pub returns-in-Done-clause-other : goal.returns-in-Done-clause-other
+returns-in-Done-clause-other c =
+    let u : View = view_of c.args.seat.now in
+    let v : View = view_of c.scan_roots.new.seat in
+    let y : View = view_of c.scan_other.new.seat in
+    let x : View = view_of c.pass_early.new.seat in
+    let w : View = view_of c.pay_quota.new.seat in
+    let e = c.in-Done.ensures in
+    let o = c.scan_other.ensures in
+    let later = ran-join y x w c.pass_early.ensures.none.traced.ran c.pay_quota.ensures.traces.traced.ran in
+    let seen = subst (λ n. SeesToRoots n v y) c.section_at-other.ensures o.sees in
+    roots-earlier _ u y w (ran-join u v y e.traced.ran o.traced.ran) later (roots-later _ u v y e.traced.ran o.traced.ran seen)
 
 pub returns-in-Done-clause-few : goal.returns-in-Done-clause-few
 returns-in-Done-clause-few c =
@@ -52,13 +94,17 @@ returns-in-Done-clause-few c =
     let e = c.in-Done.ensures in
     let u : View = view_of c.args.seat.now in
     let v : View = view_of c.scan_roots.new.seat in
+    let y : View = view_of c.scan_other.new.seat in
     let x : View = view_of c.pass_early.new.seat in
     let w : View = view_of c.pay_quota.new.seat in
+    let o = c.scan_other.ensures in
     let p = c.pass_early.ensures in
     let q = c.pay_quota.ensures in
     let quota = quota_steps c.pay_quota.result.done c.args.owed.looks sh in
-    let last = few-join (early_steps sh) quota v x w p.none.traced.ran q.traces.traced.ran p.few q.few in
-    let all = few-join (section_steps sh) (early_steps sh + quota) u v w e.traced.ran (ran-join v x w p.none.traced.ran q.traces.traced.ran) e.few last in
+    let paid = ran-join y x w p.none.traced.ran q.traces.traced.ran in
+    let last = few-join (early_steps sh) quota y x w p.none.traced.ran q.traces.traced.ran p.few q.few in
+    let most = few-join (section_steps sh) (early_steps sh + quota) v y w o.traced.ran paid o.few last in
+    let all = few-join (section_steps sh) (section_steps sh + (early_steps sh + quota)) u v w e.traced.ran (ran-join v y w o.traced.ran paid) e.few most in
     omega (arith, all)
 
 pub returns-in-NoPacket-clause-passes : goal.returns-in-NoPacket-clause-passes
@@ -71,18 +117,21 @@ pub returns-in-Done-clause-passes : goal.returns-in-Done-clause-passes
 returns-in-Done-clause-passes c =
     let u : View = view_of c.args.seat.now in
     let v : View = view_of c.scan_roots.new.seat in
+    let y : View = view_of c.scan_other.new.seat in
     let x : View = view_of c.pass_early.new.seat in
     let w : View = view_of c.pay_quota.new.seat in
     let e = c.in-Done.ensures in
+    let o = c.scan_other.ensures in
     let p = c.pass_early.ensures in
     let q = c.pay_quota.ensures in
+    let before = ran-join u v y e.traced.ran o.traced.ran in
     inr
     (record {
-      first = events u v;
-      passing = events v x;
+      first = events u y;
+      passing = events y x;
       rest = events x w;
-      events_are = ran-events u v w e.traced.ran (ran-join v x w p.none.traced.ran q.traces.traced.ran) ∙ ap (λ es. events u v ++ es) (ran-events v x w p.none.traced.ran q.traces.traced.ran);
-      unlooked = e.unlooked;
+      events_are = ran-events u y w before (ran-join y x w p.none.traced.ran q.traces.traced.ran) ∙ ap (λ es. events u y ++ es) (ran-events y x w p.none.traced.ran q.traces.traced.ran);
+      unlooked = never-run looks_at_card u v y e.traced.ran o.traced.ran e.unlooked o.unlooked;
       passes = p.passes;
       late = q.late;
     })

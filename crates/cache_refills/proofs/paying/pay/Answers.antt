@@ -1,4 +1,4 @@
-use Rattle.std.proofs.Common.{ℕ, ◌+◌, arith, refl, false}
+use Rattle.std.proofs.Common.{ℕ, ◌+◌, ◌*◌, arith, refl, false}
 use Rattle.gc_table.specs.Seats.{view_of}
 use Rattle.gc_table.proofs.Running.{own-kept}
 use Rattle.cache_refills.specs.Pace.Payment.{pays_cells}
@@ -13,7 +13,7 @@ use Rattle.tracer.specs.StepBounds.{section_steps}
 use Rattle.cache_refills.specs.Pace.StepBounds.{early_steps, quota_steps}
 use Rattle.gc_cycle.proofs.Few.{few-after, few-join}
 use Rattle.cache_refills.proofs.Few.{quota-fewer}
-use Rattle.cache_refills.proofs.Refills.Early.{passes-next}
+use Rattle.cache_refills.proofs.Refills.Early.{passes-next, sees-next}
 use Rattle.cache_refills.proofs.paying.pay.Goals as goal
 
 pub returns-clause-paid : goal.returns-clause-paid
@@ -41,8 +41,8 @@ returns-clause-few c =
     let t = c.add_stat.ensures.view in
     let told = ran-found w x (AddStat traced_count done false) t.0 refl t.1 in
     let paid = quota-fewer done looks card_looks sh (quota_steps done looks sh) q.fewer (omega arith) in
-    let last = few-join (section_steps sh + early_steps sh + quota_steps done looks sh) 1 v w x p.pays.traced.ran told p.few (few-after w x _ _ t.1.0) in
-    let all = few-join 4 (section_steps sh + early_steps sh + quota_steps done looks sh + 1) u v x q.ran (ran-join v w x p.pays.traced.ran told) q.few last in
+    let last = few-join (2 * section_steps sh + early_steps sh + quota_steps done looks sh) 1 v w x p.pays.traced.ran told p.few (few-after w x _ _ t.1.0) in
+    let all = few-join 4 (2 * section_steps sh + early_steps sh + quota_steps done looks sh + 1) u v x q.ran (ran-join v w x p.pays.traced.ran told) q.few last in
     omega (arith, all, paid)
 
 pub returns-clause-passes : goal.returns-clause-passes
@@ -51,3 +51,10 @@ returns-clause-passes c =
     let q = c.owed_now-owed.ensures in
     let p = c.mark_and_trace-paid.ensures in
     passes-next c.args.heap.now.shape c.args.cells o.from o.end o.looks c.mark_and_trace-paid.result.done (view_of c.args.seat.now) (view_of c.owed_now-owed.new.seat) (view_of c.mark_and_trace-paid.new.seat) (view_of c.add_stat.new.seat) q.ran q.only p.pays.traced.ran p.pays.unread c.add_stat.ensures.view q.from q.end q.looks p.passes
+
+pub returns-clause-others : goal.returns-clause-others
+returns-clause-others c =
+    let o = c.owed_now-owed.result in
+    let q = c.owed_now-owed.ensures in
+    let p = c.mark_and_trace-paid.ensures in
+    sees-next c.args.heap.now.shape c.args.cells o.from o.end o.looks c.mark_and_trace-paid.result.done (view_of c.args.seat.now) (view_of c.owed_now-owed.new.seat) (view_of c.mark_and_trace-paid.new.seat) (view_of c.add_stat.new.seat) q.ran q.only p.pays.traced.ran p.pays.unread c.add_stat.ensures.view o.turn q.turn p.other
