@@ -1,6 +1,7 @@
-use Rattle.std.proofs.Common.{◌≡◌, ◌<◌, ◌+◌, ◌*◌, ◌%◌, ◌++◌, refl, inl, inr, sym, ap, ◌∙◌, subst, true, arith}
+use Rattle.std.proofs.Common.{◌≡◌, ◌<◌, ◌+◌, ◌%◌, ◌++◌, inl, inr, sym, ap, ◌∙◌, subst, true, arith}
 use Rattle.mark_core.specs.declared.kinds.Shape.{Shape}
 use Rattle.mark_core.specs.declared.seat.SeatState.{SeatState}
+use Rattle.std.proofs.Math.Nat.{mod-lt}
 use Rattle.std.proofs.lemmas.Bool.{or_right}
 use Rattle.gc_table.specs.PlainSteps.{own_section}
 use Rattle.gc_table.specs.Log.{events}
@@ -12,7 +13,7 @@ use Rattle.gc_cycle.specs.CardLooks.{looks_at_card}
 use Rattle.gc_cycle.specs.Sorts.{draws_or_clears, pops, reads_pace}
 use Rattle.gc_cycle.specs.Turns.{SeesToRoots}
 use Rattle.gc_cycle.proofs.Longer.{has-traced, roots-left}
-use Rattle.gc_cycle.proofs.Turns.{roots-earlier, roots-later, roots-scanned}
+use Rattle.gc_cycle.proofs.Turns.{roots-earlier, roots-later}
 use Rattle.cache_refills.proofs.Refills.Payment.{marks-none, marks-traces, never-run, none-traces, section-below, traces-within}
 use Rattle.tracer.specs.StepBounds.{section_steps}
 use Rattle.cache_refills.specs.Pace.StepBounds.{early_steps, quota_steps}
@@ -37,14 +38,21 @@ returns-in-NoPacket-clause-pays c =
     (marks-none (own_section u.state) c.args.owed.quota c.args.owed.looks u v e.traced e.unpopped e.unread e.uncleaned e.scans.0 e.scans.1)
 
 -- some section there is: the seat's own
-pub section_at-requires-clause : goal.section_at-requires-clause
-section_at-requires-clause c =
+some-section : (sh : Shape) (v : View) → v.shape ≡ sh → own_section v.state < v.shape.sections → 0 < sh.sections
+some-section sh v e own = let sections = ap (λ (s : Shape). s.sections) e in omega (arith, own, sections)
+
+pub section_at-other-requires : goal.section_at-other-requires
+section_at-other-requires c =
     let v : View = view_of c.args.seat.now in
-    let own : own_section v.state < c.args.heap.now.shape.sections = subst (λ (sh : Shape). own_section v.state < sh.sections) c.requires.seat.0.1 (section-below v c.args.seat.now.possible c.requires.seat.1.section) in
-    omega (arith, own)
+    let sections = ap (λ (s : Shape). s.sections) c.shape.ensures in
+    let some = some-section c.args.heap.now.shape v c.requires.seat.0.1 (section-below v c.args.seat.now.possible c.requires.seat.1.section) in
+    omega (arith, some, sections)
 
 pub scan_other-requires-clause-section : goal.scan_other-requires-clause-section
-scan_other-requires-clause-section c = let at = c.section_at-other.ensures in omega (arith, at)
+scan_other-requires-clause-section c =
+    let v : View = view_of c.args.seat.now in
+    let some = some-section c.args.heap.now.shape v c.requires.seat.0.1 (section-below v c.args.seat.now.possible c.requires.seat.1.section) in
+    subst (λ n. n < c.args.heap.now.shape.sections) (sym (c.section_at-other.ensures ∙ ap (λ (s : Shape). c.args.owed.turn % s.sections) c.shape.ensures)) (mod-lt c.args.owed.turn some)
 
 pub returns-in-Done-clause-pays : goal.returns-in-Done-clause-pays
 returns-in-Done-clause-pays c =
@@ -85,7 +93,7 @@ returns-in-Done-clause-other c =
     let e = c.in-Done.ensures in
     let o = c.scan_other.ensures in
     let later = ran-join y x w c.pass_early.ensures.none.traced.ran c.pay_quota.ensures.traces.traced.ran in
-    let seen = subst (λ n. SeesToRoots n v y) c.section_at-other.ensures o.sees in
+    let seen = subst (λ n. SeesToRoots n v y) (c.section_at-other.ensures ∙ ap (λ (s : Shape). c.args.owed.turn % s.sections) c.shape.ensures) o.sees in
     roots-earlier _ u y w (ran-join u v y e.traced.ran o.traced.ran) later (roots-later _ u v y e.traced.ran o.traced.ran seen)
 
 pub returns-in-Done-clause-few : goal.returns-in-Done-clause-few
