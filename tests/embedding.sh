@@ -18,7 +18,7 @@ while [ -n "$left" ]; do
     left=${left# }
     [ -d "crates/$name" ] && [ ! -d "$folder/crates/$name" ] || continue
     grep "^$name:" crates.txt >>"$folder/crates.txt"
-    left="$left $(sed -n "s/^$name: *//p" crates.txt)"
+    left="$left $(sed -n "s/#.*//; s/^$name: *//p" crates.txt)"
     left=${left# }
     mkdir -p "$folder/crates/$name"
     for part in src specs proofs; do

@@ -7,7 +7,7 @@ cd "$(dirname "$0")/../crates/managed_heap_c"
 kit=${KIT:-/opt/rattle}
 if [ -e ../managed_heap/out/rlib/stamp ]; then exec rt lib; fi
 words="--extern std=$kit/rlibs/std.rlib -L dependency=$kit/rlibs"
-for name in $(sed -n 's/^managed_heap_c staticlib: *//p' ../../crates.txt); do
+for name in $(sed -n 's/#.*//; s/^managed_heap_c staticlib: *//p' ../../crates.txt); do
     words="$words --extern $name=$PWD/../$name/out/rlib/$name.rlib"
 done
 for folder in ../*/out/rlib; do words="$words -L dependency=$PWD/$folder"; done

@@ -9,7 +9,7 @@ trap 'rm -rf "$copy"' EXIT
 
 # The crates of this repository that a crate stands on, with itself.
 below() {
-    sed -n "s/^$1://p" "$top/crates.txt" | tr ' ' '\n' | while read -r name; do
+    sed -n "s/#.*//; s/^$1://p" "$top/crates.txt" | tr ' ' '\n' | while read -r name; do
         if grep -q "^$name:" "$top/crates.txt"; then echo "$name"; fi
     done
     echo "$1"

@@ -88,7 +88,8 @@ def read_bodies(crate):
 def crates_below(crate):
     """The crate and those of this repository that it stands on, and these stand on."""
     with open(os.path.join(TOP, "crates.txt"), encoding="utf-8") as it:
-        named = {name.split()[0]: below.split() for name, below in (line.strip().split(":", 1) for line in it if ":" in line)}
+        lines = [line.partition("#")[0] for line in it]
+    named = {name.split()[0]: below.split() for name, below in (line.split(":", 1) for line in lines if ":" in line)}
     found, left = [], [crate]
     while left:
         name = left.pop()

@@ -49,7 +49,7 @@ def check_steps():
 def check_commands():
     commands = len(re.findall(r"^    [A-Z]\w*(?:\(.*\))?,$", text_of("crates/command_words/src/asked.rt"), re.M))
     says("commands", "README.md", r"the (\S+) commands, with examples", commands)
-    says("commands", "docs/ARCHITECTURE.md", r"all (\S+) commands \|", commands)
+    says("commands", "docs/ARCHITECTURE.md", r"`play_words`: all (\S+) commands", commands)
 
 
 def lines_of(*paths):
