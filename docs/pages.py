@@ -50,3 +50,10 @@ def rows_of(page, *columns):
 def label(cell):
     """What a row is of: a script's name without what is told of it."""
     return cell.split(":")[0].strip("`* ")
+
+
+def stands(what, page, words, numbers):
+    """As `says`, of words in which @least stands for the number of this name, and .. for any words of a line."""
+    parts = re.split(r"@(\w+)", words)
+    pattern = "".join(r"(\d[\d,_]*\b)" if at % 2 else re.escape(it).replace(r"\.\.", ".*") for at, it in enumerate(parts))
+    says(what, page, pattern, *(numbers.get(it, float("nan")) for it in parts[1::2]))
