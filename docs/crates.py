@@ -71,7 +71,7 @@ def picture(found):
     for members in reversed(list(by_group(found).values())):
         for crate in reversed(members):
             told = " ".join(it if it in found else f"({it})" for it in nearest(found, crate))
-            yield f"    {crate.name:{width}} -> {told}".rstrip()
+            yield f"    {crate.name:{width}}  {told}".rstrip()
         yield ""
 
 

@@ -37,7 +37,6 @@ PLACES = [
     ("docs/PERFORMANCE.md", "**Cells** (@least to @most)", "cells"),
     ("docs/PERFORMANCE.md", "**Packets** (@least to @most)", "packets"),
     ("docs/PERFORMANCE.md", "**entries** (@least to @most)", "entries"),
-    ("docs/FORMATS.md", "`batch` lets @least to @most NAME play them (@usual without `--NAME`)", "runners"),
     ("crates/job_pool/src/run.rt", "so many NAME, which are @least to @most.", "runners"),
     ("crates/job_pool/src/run.rt", "(@least ≤ NAME) × (NAME ≤ @most)", "runners"),
     ("crates/play_words/src/commands/batch.rt", "(@least ≤ NAME) × (NAME ≤ @most)", "runners"),

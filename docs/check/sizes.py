@@ -56,6 +56,7 @@ PLACES = [
     (RUST + "world.rs", ", @least to @most..\n    pub fn NAME(", ["fields", "mutators", "tracers", "slots"]),
     ("docs/SCHEDULES.md", "| NAME | @least | @most |", ["packets", "entries", "sections", "fields", "seats"]),
     ("crates/schedule_check/specs/Schedule.antt", "is_between @least @most s.NAME", ["packets", "entries", "sections", "fields"]),
+    ("docs/STEPS.md", "(`NAME`, @least to @most)", ["slots", "stretch"]),
     ("docs/FORMATS.md", "the fields of an object (@least to @most),", ["fields"]),
     ("docs/FORMATS.md", "the NAME (@least to @most),", ["sections"]),
 ]
