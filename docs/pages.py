@@ -56,4 +56,7 @@ def stands(what, page, words, numbers):
     """As `says`, of words in which @least stands for the number of this name, and .. for any words of a line."""
     parts = re.split(r"@(\w+?)(?=\W|th\b|$)", words)
     pattern = "".join(r"(\d(?:[\d,_]*\d)?)" if at % 2 else re.escape(it).replace(r"\.\.", ".*") for at, it in enumerate(parts))
-    says(what, page, pattern, *(numbers.get(it, float("nan")) for it in parts[1::2]))
+    if re.search(pattern, text_of(page)):
+        says(what, page, pattern, *(numbers.get(it, float("nan")) for it in parts[1::2]))
+    else:
+        print(f"{page}: {what} isn't told as: {words.strip()}".replace("\n", " / "))

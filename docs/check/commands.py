@@ -1,5 +1,5 @@
-"""Each command of gcplay has the options that the lines of usage in docs/SCRIPTS.md say, wherever they stand: in the command line's code and definitions, in tests
-and on other pages. What stands in no brackets there is needed, and what has no value is a flag; the table of options agrees."""
+"""Each command of gcplay has the options that the lines of usage in docs/SCRIPTS.md say, wherever they stand: in code and definitions of the command line, in
+tests and on other pages. What stands in no brackets there is needed, and what has no value is a flag; the table of options agrees."""
 import re
 import sys
 

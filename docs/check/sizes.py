@@ -1,5 +1,5 @@
-"""The sizes of a world are those that `IsShape` in crates/mark_core/specs/Shapes.antt allows, wherever they stand: in the libraries, in the header for C, in the crate
-for Rust, and on pages. A world has a section for each mutator and one more, and at most as many tracers as seats are left."""
+"""The sizes of a world are those that `IsShape` in crates/mark_core/specs/Shapes.antt allows, wherever they stand: in the libraries, in the header for C, in the
+crate for Rust, and on pages. A world has a section for each mutator and one more, and at most as many tracers as seats are left."""
 import re
 import sys
 

@@ -31,18 +31,23 @@ def check_singles(page):
     compare(page, there, {plain(it): at for it, at in singles().items() if plain(it) in there})
 
 
+def floor_begins():
+    """Where the heap of the floor has each of its words, by the formulas there."""
+    text = text_of(FLOOR)
+    names = re.search(r"^    uint64_t (blocks, .*);$", text, re.M)[1].split(", ")
+    told = {f"k{name}": it for name, it in constants(FLOOR).items()}
+    for name, formula in re.findall(r"^        (\w+) = (.*);$", text, re.M):
+        told[f"of_{name}"] = re.sub(rf"(?<!of\.)\b({'|'.join(names)})\b", r"of_\1", formula)
+    known = Formulas(SHAPE, told)
+    return {"positions": known["kPositions"], **{OTHERS.get(name, name): known[f"of_{name}"] for name in names}}
+
+
 def check_floor():
     """The heap of the floor, whose sections have no slots."""
-    text = text_of(FLOOR)
-    told = {f"of_{name}": formula for name, formula in re.findall(r"^        (\w+) = (.*);$", text, re.M)}
-    told.update({f"k{name}": it for name, it in constants(FLOOR).items()})
-    local = "|".join(re.search(r"^    uint64_t (blocks, .*);$", text, re.M)[1].split(", "))
-    known = Formulas(SHAPE, {name: re.sub(rf"(?<!of\.)\b({local})\b", r"of_\1", it) for name, it in told.items()})
     expected = begins(SHAPE)
-    positions = expected.pop("positions")
-    compare(FLOOR, {"positions": known["kPositions"], "season": known["of_season"]}, {"positions": positions, "season": expected["help"] + 1})
-    compare(FLOOR, {OTHERS.get(it, it): known[f"of_{it}"] for it in local.split("|") if OTHERS.get(it, it) in expected}, {it: at for it, at in expected.items() if it != "all"})
-    compare(FLOOR, {"all": known["of_count"]}, {"all": expected["all"]})
+    expected |= {"season": expected["help"] + 1, "count": expected.pop("all")}
+    found = floor_begins()
+    compare(FLOOR, {it: found.get(it) for it in expected}, expected)
 
 
 def check_atomics():
