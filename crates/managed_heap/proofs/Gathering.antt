@@ -10,7 +10,7 @@ use Rattle.gc_table.specs.declared.seat.Heap.{Heap}
 use Rattle.gc_table.specs.declared.seat.HeapSeat.{HeapSeat}
 use Rattle.gc_table.specs.declared.words.Words.{Words}
 use Rattle.gc_table.proofs.Running.{ran-number}
-use Rattle.seat_steps.specs.declared.background.Tracer.{Tracer}
+use Rattle.tracer_turns.specs.declared.background.Tracer.{Tracer}
 use Rattle.managed_heap.specs.Closing.{AreAll, AreAllThere, AreAllTracers, AreLeft, AreNumbered, Gathers, HasLeft, IsWorldEnd, all_seats, seats_of}
 use Rattle.managed_heap.specs.declared.mutator.Mutator.{Mutator}
 use Rattle.managed_heap.specs.declared.world.World.{World}

@@ -7,7 +7,7 @@ use Rattle.gc_table.specs.Seats.{Across, state_of, view_of}
 use Rattle.gc_table.specs.declared.seat.HeapSeat.{HeapSeat}
 use Rattle.gc_table.specs.declared.words.Words.{Words}
 use Rattle.managed_heap.specs.Calls.{MutatorLeft}
-use Rattle.seat_steps.specs.declared.background.Tracer.{Tracer}
+use Rattle.tracer_turns.specs.declared.background.Tracer.{Tracer}
 use Rattle.managed_heap.specs.declared.closing.NotClosed.{NotClosed}
 use Rattle.managed_heap.specs.declared.closing.NotClosed.TheVariants.{Gone, Missing, NoRoom}
 use Rattle.managed_heap.specs.declared.closing.Unclosed.{Unclosed}

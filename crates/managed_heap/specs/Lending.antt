@@ -12,7 +12,7 @@ use Rattle.gc_table.specs.declared.seat.Heap.{Heap}
 use Rattle.gc_table.specs.declared.view.View.{View}
 use Rattle.managed_heap.specs.Calls.{MutatorLeft, heap_of}
 use Rattle.managed_heap.specs.Opening.{AreNumbered, IsNewSeat}
-use Rattle.seat_steps.specs.declared.background.Tracer.{Tracer}
+use Rattle.tracer_turns.specs.declared.background.Tracer.{Tracer}
 use Rattle.managed_heap.specs.declared.mutator.Mutator.{Mutator}
 use Rattle.managed_heap.specs.declared.mutator.Place.TheVariants.{Outside}
 use Rattle.managed_heap.specs.declared.sizes.Sizes.{Sizes}

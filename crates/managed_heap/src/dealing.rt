@@ -16,9 +16,9 @@ use crate::taking::first_of;
 use crate::world::World;
 use gc_table::{Heap, HeapSeat};
 use mutator_turns::NotOpened;
-use seat_steps::Tracer;
 use std::alloc::{AllocError, Global};
 use std::sync::Arc;
+use tracer_turns::Tracer;
 
 /// A mutator that has done nothing.
 fn mutator_of(

@@ -19,8 +19,8 @@ use crate::world::{Statistics, World};
 use gc_table::{Heap, HeapSeat};
 use mark_core::{FREE, LAST, NAMED_SECTION};
 use mutator_turns::NotOpened;
-use seat_steps::Tracer;
 use std::alloc::Global;
+use tracer_turns::Tracer;
 
 /// Reads the numbers of the heap.
 fn read_statistics(heap: &Heap, seat: &mut HeapSeat) -> Statistics

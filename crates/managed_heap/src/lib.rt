@@ -40,7 +40,7 @@
 //! `sizes` has the sizes, `world` the heap with those of its mutators and tracers that nobody has, `lending` how they are
 //! taken and given back, and `closing` how a world hands out the run of its threads; `mutator` has the type, `calls` what a mutator does, and `reading` what it
 //! reads. Below them `opening` makes a heap, and `dealing` deals its seats out. What a mutator does with its seat is in `mutator_turns`, and so is why a call did
-//! nothing. A mutator that doesn't wait, and a tracer, are in `seat_steps`; `handing` turns a mutator into such a one and back, and `dismissing` ends the tracers.
+//! nothing. A mutator that doesn't wait is in `seat_steps`, a tracer in `tracer_turns`; `handing` turns a mutator into such a one and back, and `dismissing` ends the tracers.
 #![tactic(auto)]
 
 ghost use Rattle.managed_heap.specs.Threads.{ThreadsRun};
@@ -64,8 +64,10 @@ pub use gc_cycle::{Counts, Paid};
 pub use gc_table::Words;
 pub use mutator::Mutator;
 pub use mutator_turns::{NotOpened, Refused};
-pub use seat_steps::{Came, Stage, Stepper, Tracer, TryTurn, Turn};
+pub use seat_steps::{Stage, Stepper};
+pub use seat_tries::Came;
 pub use sizes::Sizes;
+pub use tracer_turns::{Tracer, TryTurn, Turn};
 pub use world::{Statistics, World};
 
 /// Whatever the threads of a closed world did, it is one run of the core, in which each thread's steps come in their order and nobody else takes part. No event of

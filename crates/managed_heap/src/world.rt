@@ -8,9 +8,9 @@ ghost use Rattle.mutator_turns.specs.Standing.{RestsOutside};
 use crate::mutator::Mutator;
 use crate::sizes::Sizes;
 use gc_table::{Heap, HeapSeat};
-use seat_steps::Tracer;
 use std::alloc::Global;
 use std::sync::Arc;
+use tracer_turns::Tracer;
 
 /// Numbers of a world, each as it was read.
 #[derive(Clone, Copy, Debug, PartialEq, Eq, Drop)]

@@ -1,7 +1,7 @@
 -- What the tracer behind a handle came to, where there is one.
 use Rattle.std.proofs.Common.{ℕ, ◌≡◌, refl, sym, subst, Option, Some, None}
-use Rattle.seat_steps.specs.declared.background.Tracer.{Tracer}
-use Rattle.seat_steps.specs.declared.try_turns.TryTurn.{TryTurn}
+use Rattle.tracer_turns.specs.declared.background.Tracer.{Tracer}
+use Rattle.tracer_turns.specs.declared.try_turns.TryTurn.{TryTurn}
 use Rattle.managed_heap_c.specs.Kinds.{RefusesTracer, TakesTracer}
 use Rattle.managed_heap_c.specs.Tracers.{AnswersTurn, GivesTracerBack, TriesTracerTurn, status_of_turn}
 use Rattle.managed_heap_c.specs.declared.hands.AnyWorld.{AnyWorld}

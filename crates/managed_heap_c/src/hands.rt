@@ -1,8 +1,9 @@
 //! What lies behind a handle.
 
 use managed_heap::World;
-use seat_steps::{Stepper, Tracer};
+use seat_steps::Stepper;
 use shared_heap::SharedWorld;
+use tracer_turns::Tracer;
 
 /// A mutator, or none where it was given back.
 #[derive(Drop)]

@@ -2,12 +2,13 @@
 use Rattle.std.proofs.Common.{ℕ, ◌≡◌, refl, sym, subst, inr}
 use Rattle.gc_table.specs.Seats.{Across}
 use Rattle.gc_table.specs.declared.seat.Heap.{Heap}
+use Rattle.seat_tries.specs.Course.{EndsBy}
+use Rattle.seat_tries.specs.Arriving.{Arrives}
+use Rattle.seat_tries.specs.declared.came.Came.{Came}
+use Rattle.seat_tries.specs.declared.came.Came.TheVariants as cames
 use Rattle.seat_steps.specs.Bounds.{IsBounded, IsBoundedStep}
-use Rattle.seat_steps.specs.Course.{EndsBy}
-use Rattle.seat_steps.specs.Stepping.{Arrives, KeepsAll}
+use Rattle.seat_steps.specs.Stepping.{KeepsAll}
 use Rattle.seat_steps.specs.Steps.{StepsCollection, StepsOn, counts_of}
-use Rattle.seat_steps.specs.declared.stepper.Came.{Came}
-use Rattle.seat_steps.specs.declared.stepper.Came.TheVariants as cames
 use Rattle.seat_steps.specs.declared.stepper.Stage.{Stage}
 use Rattle.seat_steps.specs.declared.stepper.Stage.TheVariants as stages
 use Rattle.seat_steps.specs.declared.stepper.Stepper.{Stepper}

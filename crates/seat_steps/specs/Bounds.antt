@@ -10,11 +10,11 @@ use Rattle.mark_core.specs.Cards.{card_cells}
 use Rattle.tracer.specs.StepBounds.{recycle_steps, trace_steps}
 use Rattle.card_clean.specs.StepBounds.{clean_some_steps, see_to_steps}
 use Rattle.mutator_ops.specs.Few.{AtMost}
-use Rattle.seat_steps.specs.Amounts.{DrawsNone, PopsNone}
-use Rattle.seat_steps.specs.Passes.{CleansFewCards, SeesFewRoots}
+use Rattle.seat_tries.specs.Amounts.{DoesFew, DrawsNone, PassesFew}
+use Rattle.seat_tries.specs.Passes.{CleansFewCards, SeesFewRoots}
+use Rattle.seat_tries.specs.declared.came.Came.{Came}
+use Rattle.seat_tries.specs.declared.came.Came.TheVariants as cames
 use Rattle.seat_steps.specs.Steps.{StepsCollection, draws_for, objects_popped, shape_of, stretches_drawn}
-use Rattle.seat_steps.specs.declared.stepper.Came.{Came}
-use Rattle.seat_steps.specs.declared.stepper.Came.TheVariants as cames
 use Rattle.seat_steps.specs.declared.stepper.Stage.{Stage}
 use Rattle.seat_steps.specs.declared.stepper.Stage.TheVariants as stages
 use Rattle.seat_steps.specs.declared.stepper.Stepper.{Stepper}
@@ -38,18 +38,6 @@ clearing_steps draws x = draws * (2 + (shape_of x).stretch)
 -- to sweep them: two for each, and four for each block
 abbrev pub sweeping_steps : ℕ → Stepper → ℕ
 sweeping_steps draws x = draws * (2 + 4 * (shape_of x).stretch)
-
--- neither a cell was popped nor a block drawn
-abbrev pub DoesNeither : View → View → Type 0
-DoesNeither v w = PopsNone v w × DrawsNone v w
-
--- neither was done, and so many steps were taken at most
-abbrev pub DoesFew : ℕ → View → View → Type 0
-DoesFew most v w = DoesNeither v w × AtMost most v w
-
--- no cell was popped, and so many steps were taken at most
-abbrev pub PassesFew : ℕ → View → View → Type 0
-PassesFew most v w = PopsNone v w × AtMost most v w
 
 -- the numbers for the next cycle were set and the world went on, by so many steps at most, which pop no cell and draw no block; and then it came to its turn or
 -- left, by so many

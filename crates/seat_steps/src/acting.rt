@@ -6,9 +6,10 @@ ghost use Rattle.mutator_turns.specs.Exchanging.{ExchangesField, ExchangesValue}
 ghost use Rattle.seat_steps.specs.Acting.{CanExchange, IsVariable, StepperActs, TakesRoot, WantsObject};
 ghost use Rattle.seat_steps.specs.declared.stepper.Stage.TheVariants as stages;
 
-use crate::stepper::{Came, Stage, Stepper};
+use crate::stepper::{Stage, Stepper};
 use mark_core::VARIABLES;
 use mutator_turns::{exchange_shared, exchange_value_shared, lend_shared, word_of};
+use seat_tries::Came;
 
 /// The variable of section 0 that refers to the root.
 const ROOT: u8 = 0;

@@ -7,9 +7,10 @@ ghost use Rattle.mutator_ops.specs.Sharing.{FillsFound, TakesSteps};
 ghost use Rattle.mutator_turns.specs.Clearing.{clearing_steps};
 ghost use Rattle.seat_steps.specs.Acting.{ActsTo, HasSlots, IsSlot};
 
-use crate::stepper::{Came, Stage, Stepper};
+use crate::stepper::{Stage, Stepper};
 use mark_core::VARIABLES;
 use mutator_turns::{clear_slots_shared, fill_shared, spill_shared};
+use seat_tries::Came;
 
 impl Stepper {
     /// Slot k becomes what variable v is, and keeps that reachable.

@@ -3,8 +3,8 @@ ghost use Rattle.std.specs.Arc.{arc_value};
 ghost use Rattle.std.specs.Prelude.{◌≡◌, ◌≤◌};
 ghost use Rattle.mark_core.specs.Layout.{block_count};
 ghost use Rattle.gc_table.specs.Seats.{view_of};
-ghost use Rattle.seat_steps.specs.Asked.{CountsSinceAsked, MarksSinceAsked, SweepsSinceAsked, WaitsSinceAsked};
-ghost use Rattle.seat_steps.specs.Collecting.{AsksStop, SitsAtClear, SitsAtCount, SitsAtDrain, SitsAtLook, SitsAtRoots, SitsAtSweep, SitsCounted};
+ghost use Rattle.seat_tries.specs.Asked.{CountsSinceAsked, MarksSinceAsked, SweepsSinceAsked, WaitsSinceAsked};
+ghost use Rattle.seat_tries.specs.Collecting.{AsksStop, SitsAtClear, SitsAtCount, SitsAtDrain, SitsAtLook, SitsAtRoots, SitsAtSweep, SitsCounted};
 ghost use Rattle.mutator_turns.specs.Standing.{IsAtTurn, IsMutatorOutside};
 ghost use Rattle.seat_steps.specs.declared.stepper.Stage.TheVariants as stages;
 
@@ -37,35 +37,6 @@ pub enum Stage {
     Counting,
     /// It collects, and has counted all cells in use.
     Ending,
-}
-
-/// What a call of a stepper came to. Where it isn't `Done`, objects and variables are as before.
-#[derive(Clone, Copy, Debug, PartialEq, Eq, Drop)]
-pub enum Came {
-    /// It is done.
-    Done,
-    /// A collection of its own is under way: it is to take the next step.
-    NotYet,
-    /// A stop of another is under way: the stepper is outside now.
-    Stopped,
-    /// No cell is free, or marking is done: a collection is called for.
-    NoCell,
-    /// No cell of the mutator's cache is free: it is to be refilled.
-    NoCache,
-    /// The stepper is outside the world: it is to enter first.
-    Outside,
-    /// The stepper is between two steps of a collection.
-    Collecting,
-    /// A variable is not below 32, or a field not below the world's number of fields.
-    OutOfRange,
-    /// The variable refers to no object.
-    Nil,
-    /// The reachable objects fill all cells, for good. The stepper is outside the world.
-    Full,
-    /// The stepper has made 4,294,967,295 objects, which are all that have numbers.
-    Spent,
-    /// The world's mutators don't share their objects: there is no root, no exchange and no slot.
-    NotShared,
 }
 
 /// What a mutator is for a thread that may not wait, in a world whose mutators share their objects and in one where each has its own: no call takes the

@@ -6,11 +6,11 @@ ghost use Rattle.seat_steps.specs.Payments.{PaysMaking};
 ghost use Rattle.seat_steps.specs.Stepping.{Entered, Left, StepperMakes, Operates, Passed, ReadsValue};
 ghost use Rattle.seat_steps.specs.declared.stepper.Stage.TheVariants as stages;
 
-use crate::leaving::leaves_turn;
-use crate::operations::{copies, finds, forgets, gets, puts, sets};
-use crate::stepper::{Came, Stage, Stepper};
-use crate::tries::{enter_once, make_once, pass_once};
+use crate::stepper::{Stage, Stepper};
 use mark_core::VARIABLES;
+use seat_tries::{
+    Came, copies, enter_once, finds, forgets, gets, leaves_turn, make_once, pass_once, puts, sets,
+};
 
 impl Stepper {
     /// Enters the world, where no stop is under way.

@@ -1,28 +1,24 @@
 //! A stepper collects.
 ghost use Rattle.std.specs.Prelude.{ℕ, ◌≡◌};
 ghost use Rattle.gc_table.specs.Seats.{Across, view_of};
-ghost use Rattle.seat_steps.specs.Asked.{CountsSinceAsked};
+ghost use Rattle.seat_tries.specs.Asked.{CountsSinceAsked};
+ghost use Rattle.seat_tries.specs.Collecting.{SitsCounted};
+ghost use Rattle.seat_tries.specs.Course.{EndsBy};
 ghost use Rattle.seat_steps.specs.Bounds.{CollectsAtMost, EndsInFew, IsBoundedStep};
-ghost use Rattle.seat_steps.specs.Collecting.{SitsCounted};
-ghost use Rattle.seat_steps.specs.Course.{EndsBy};
 ghost use Rattle.mutator_turns.specs.Sharing.{LeavesHeap};
 ghost use Rattle.mutator_turns.specs.Standing.{plain_of};
-ghost use Rattle.seat_steps.specs.Stepping.{Arrives};
+ghost use Rattle.seat_tries.specs.Arriving.{Arrives};
 ghost use Rattle.seat_steps.specs.Steps.{StepsCollection};
 ghost use Rattle.seat_steps.specs.declared.stepper.Stage.TheVariants as stages;
 
-use crate::collecting::{
-    asks, begins, begins_sweep, counts, ends, ends_sweep, saw_marking, stops, sweeps,
-};
-use crate::draining::{
-    begins_again, begins_clear, cleans, clears, finds_marked, looks, roots, traces,
-};
-use crate::leaving::gives_own_up;
-use crate::stepper::{Came, Stage, Stepper};
-use crate::tries::arrive;
+use crate::stepper::{Stage, Stepper};
 use cycle_steps::{Look, stretches_of};
 use gc_table::{Heap, HeapSeat};
 use mutator_turns::leave;
+use seat_tries::{
+    Came, arrive, asks, begins, begins_again, begins_clear, begins_sweep, cleans, clears, counts,
+    ends, ends_sweep, finds_marked, gives_own_up, looks, roots, saw_marking, stops, sweeps, traces,
+};
 
 /// How many roots, objects, cards or blocks a step does at most (or those of one stretch of blocks), where its caller says nothing of it.
 const STEP: u32 = 4_096;

@@ -5,9 +5,9 @@ ghost use Rattle.mark_core.specs.declared.kinds.Phase.TheVariants.{Marking};
 ghost use Rattle.gc_table.specs.Seats.{state_of};
 ghost use Rattle.seat_steps.specs.Steps.{counts_of};
 
-use crate::collecting::saw_marking;
 use crate::stepper::{Stage, Stepper};
 use gc_cycle::Counts;
+use seat_tries::saw_marking;
 
 impl Stepper {
     /// Where it stands.

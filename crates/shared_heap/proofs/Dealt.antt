@@ -7,7 +7,7 @@ use Rattle.mark_core.specs.declared.kinds.Shape.{Shape}
 use Rattle.mark_core.specs.declared.seat.SeatState.{SeatState}
 use Rattle.gc_table.specs.declared.seat.Heap.{Heap}
 use Rattle.gc_table.proofs.Records.{got-snoc}
-use Rattle.seat_steps.specs.declared.background.Tracer.{Tracer}
+use Rattle.tracer_turns.specs.declared.background.Tracer.{Tracer}
 use Rattle.shared_heap.specs.Lending.{AreFresh, AreNewTracers, IsFreshSharer, IsNewTracer}
 use Rattle.shared_heap.specs.Opening.{IsNewSeat}
 use Rattle.shared_heap.specs.declared.mutator.Place.TheVariants.{Outside}

@@ -10,7 +10,7 @@ use Rattle.gc_table.specs.declared.seat.Heap.{Heap}
 use Rattle.gc_table.specs.declared.seat.HeapSeat.{HeapSeat}
 use Rattle.gc_table.specs.declared.words.Words.{Words}
 use Rattle.gc_table.proofs.Running.{ran-number}
-use Rattle.seat_steps.specs.declared.background.Tracer.{Tracer}
+use Rattle.tracer_turns.specs.declared.background.Tracer.{Tracer}
 use Rattle.shared_heap.specs.Closing.{AreAll, AreAllThere, AreAllTracers, AreLeft, AreNumbered, Gathers, HasLeft, IsSharedEnd, all_seats, seats_of}
 use Rattle.shared_heap.specs.declared.mutator.SharedMutator.{SharedMutator}
 use Rattle.shared_heap.specs.declared.world.SharedWorld.{SharedWorld}

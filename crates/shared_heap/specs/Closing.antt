@@ -6,7 +6,7 @@ use Rattle.gc_table.specs.Seats.{state_of, view_of}
 use Rattle.gc_table.specs.declared.seat.HeapSeat.{HeapSeat}
 use Rattle.gc_table.specs.declared.words.Words.{Words}
 use Rattle.shared_heap.specs.Calls.{SharerLeft}
-use Rattle.seat_steps.specs.declared.background.Tracer.{Tracer}
+use Rattle.tracer_turns.specs.declared.background.Tracer.{Tracer}
 use Rattle.shared_heap.specs.declared.closing.NotClosed.{NotClosed}
 use Rattle.shared_heap.specs.declared.closing.NotClosed.TheVariants.{Gone, Missing, NoRoom}
 use Rattle.shared_heap.specs.declared.closing.Unclosed.{Unclosed}

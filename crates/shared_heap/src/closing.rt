@@ -11,9 +11,9 @@ use crate::mutator::SharedMutator;
 use crate::taking::first_of;
 use crate::world::SharedWorld;
 use gc_table::{Heap, HeapSeat, Words};
-use seat_steps::Tracer;
 use std::alloc::Global;
 use std::sync::Arc;
+use tracer_turns::Tracer;
 
 /// A world that wasn't closed, and the mutators and tracers that were handed in.
 #[derive(Drop)]

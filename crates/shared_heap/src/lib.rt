@@ -21,7 +21,7 @@
 //!
 //! `world` and `mutator` have the two types, and `sizes` the sizes. `opening` makes a heap with its root, `dealing` deals its seats out to mutators and tracers, `lending`
 //! lends these and takes them back, as `tracing` does with the tracers, and `closing` closes the world. What a mutator does is in `calls`, `exchanging`, `slots`
-//! and `identity`. A mutator that doesn't wait, and a tracer, are in `seat_steps`; `handing` turns a mutator into such a one and back.
+//! and `identity`. A mutator that doesn't wait is in `seat_steps`, a tracer in `tracer_turns`; `handing` turns a mutator into such a one and back.
 #![tactic(auto)]
 
 ghost use Rattle.shared_heap.specs.Counting.{CounterClosed, CounterRead, LockClosed};
@@ -50,8 +50,10 @@ pub use gc_table::Words;
 pub use mutator::{Place, SharedMutator};
 pub use mutator_turns::{NotOpened, Refused};
 pub use reading::root_value;
-pub use seat_steps::{Came, Stage, Stepper, Tracer, TryTurn, Turn};
+pub use seat_steps::{Stage, Stepper};
+pub use seat_tries::Came;
 pub use sizes::SharedSizes;
+pub use tracer_turns::{Tracer, TryTurn, Turn};
 pub use world::{SharedStatistics, SharedWorld};
 
 /// Whatever the threads of a closed world did, it is one run, in which each thread's steps come in their order and nobody else takes part. After each step the

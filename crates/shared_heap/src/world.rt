@@ -7,9 +7,9 @@ ghost use Rattle.shared_heap.specs.Rooting.{HasSeats, IsRootSeat};
 use crate::mutator::SharedMutator;
 use crate::sizes::SharedSizes;
 use gc_table::{Heap, HeapSeat};
-use seat_steps::Tracer;
 use std::alloc::Global;
 use std::sync::Arc;
+use tracer_turns::Tracer;
 
 /// Numbers of a world, each as it was read.
 #[derive(Clone, Copy, Debug, PartialEq, Eq, Drop)]

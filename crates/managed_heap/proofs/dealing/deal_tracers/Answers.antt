@@ -4,7 +4,7 @@ use Rattle.std.specs.Arc.{arc_value}
 use Rattle.gc_table.specs.declared.seat.Heap.{Heap}
 use Rattle.gc_table.specs.declared.seat.HeapSeat.{HeapSeat}
 use Rattle.managed_heap.specs.Lending.{IsFreshTracer}
-use Rattle.seat_steps.specs.declared.background.Tracer.{Tracer}
+use Rattle.tracer_turns.specs.declared.background.Tracer.{Tracer}
 use Rattle.managed_heap.specs.Opening.{AreNew, AreNumbered}
 use Rattle.managed_heap.proofs.Beginning.{first-new, numbered-push, rest-new}
 use Rattle.managed_heap.proofs.dealing.deal_tracers.Goals as goal

@@ -1,6 +1,6 @@
 use Rattle.mutator_turns.proofs.Leaving.{leaves-join}
 use Rattle.gc_table.specs.Seats.{view_of}
-use Rattle.seat_steps.proofs.Found.{arrives-few}
+use Rattle.seat_tries.proofs.Found.{arrives-few}
 use Rattle.seat_steps.proofs.steps.end_to_turn.Goals as goal
 
 pub returns-clause-ends : goal.returns-clause-ends

@@ -1,7 +1,7 @@
 use Rattle.std.proofs.Common.{ℕ, ◌≡◌, ◌<◌, ◌+◌, Some}
 use Rattle.std.specs.Prelude.{slice_get}
 use Rattle.gc_table.specs.Seats.{state_of}
-use Rattle.seat_steps.specs.declared.background.Tracer.{Tracer}
+use Rattle.tracer_turns.specs.declared.background.Tracer.{Tracer}
 use Rattle.shared_heap.proofs.closing.are_all_tracers.Given as goal
 
 abbrev pub invariant-loop-at : goal.invariant-loop-at

@@ -2,7 +2,7 @@ use Rattle.std.proofs.Common.{◌≡◌, ◌≤◌, ◌+◌, ◌++◌, All}
 use Rattle.std.specs.Prelude.{vec_capacity, vec_len}
 use Rattle.std.specs.Arc.{arc_value}
 use Rattle.mutator_turns.specs.Standing.{RestsOutside}
-use Rattle.seat_steps.specs.declared.background.Tracer.{Tracer}
+use Rattle.tracer_turns.specs.declared.background.Tracer.{Tracer}
 use Rattle.shared_heap.specs.Closing.{seats_of}
 use Rattle.shared_heap.proofs.closing.gather_tracers.Given as goal
 

@@ -3,11 +3,11 @@ use Rattle.std.specs.Prelude.{if◌then◌else◌}
 use Rattle.gc_table.specs.Seats.{view_of}
 use Rattle.gc_table.proofs.Running.{ran-join}
 use Rattle.mutator_turns.proofs.Leaving.{leaves-join}
-use Rattle.seat_steps.specs.Asked.{MarksSinceAsked}
+use Rattle.seat_tries.specs.Asked.{MarksSinceAsked}
+use Rattle.seat_tries.specs.Amounts.{DoesFew}
+use Rattle.seat_tries.proofs.Amounts.{few-join, looks-once, out-few, stopped-few}
+use Rattle.seat_tries.proofs.ReadFull.{begins-full}
 use Rattle.seat_steps.specs.declared.stepper.Stage.TheVariants as stages
-use Rattle.seat_steps.specs.Bounds.{DoesFew}
-use Rattle.seat_steps.proofs.Amounts.{few-join, looks-once, out-few, stopped-few}
-use Rattle.seat_steps.proofs.ReadFull.{begins-full}
 use Rattle.seat_steps.proofs.Stages.{bounded-on, step-on}
 use Rattle.seat_steps.proofs.stepper.Stepper.begin.Goals as goal
 

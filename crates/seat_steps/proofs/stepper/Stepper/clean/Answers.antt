@@ -10,10 +10,10 @@ use Rattle.cycle_steps.specs.Pieces.{CleansCards}
 use Rattle.gc_cycle.specs.Sorts.{clears}
 use Rattle.tracer.specs.StepBounds.{recycle_steps}
 use Rattle.card_clean.specs.StepBounds.{clean_some_steps}
-use Rattle.seat_steps.specs.Bounds.{DoesFew}
+use Rattle.seat_tries.specs.Amounts.{DoesFew}
+use Rattle.seat_tries.proofs.Passes.{all-left, as-many, cards-small, few-of}
 use Rattle.seat_steps.specs.Steps.{cards_left}
 use Rattle.seat_steps.specs.declared.stepper.Stage.TheVariants as stages
-use Rattle.seat_steps.proofs.Passes.{all-left, as-many, cards-small, few-of}
 use Rattle.seat_steps.proofs.Stages.{bounded-on, step-on}
 use Rattle.seat_steps.proofs.stepper.Stepper.clean.Goals as goal
 

@@ -9,11 +9,12 @@ use Rattle.packet_pools.specs.Counts.{count_of}
 use Rattle.gc_cycle.specs.Sorts.{draws_block}
 use Rattle.gc_cycle.proofs.Stops.Admitted.{count-run}
 use Rattle.mutator_ops.proofs.Few.{at-most-join}
-use Rattle.seat_steps.specs.Bounds.{PassesFew, clearing_steps}
+use Rattle.seat_tries.specs.Amounts.{PassesFew}
+use Rattle.seat_tries.proofs.Amounts.{pops-join, unpopped}
+use Rattle.seat_tries.proofs.Passes.{fewer-of}
+use Rattle.seat_steps.specs.Bounds.{clearing_steps}
 use Rattle.seat_steps.specs.Steps.{draws_for, shape_of}
 use Rattle.seat_steps.specs.declared.stepper.Stage.TheVariants as stages
-use Rattle.seat_steps.proofs.Amounts.{pops-join, unpopped}
-use Rattle.seat_steps.proofs.Passes.{fewer-of}
 use Rattle.seat_steps.proofs.Stages.{bounded-on, step-on}
 use Rattle.seat_steps.proofs.stepper.Stepper.clear.Goals as goal
 

@@ -5,9 +5,9 @@ use Rattle.gc_table.specs.Log.{steps_of}
 use Rattle.gc_table.specs.Seats.{did}
 use Rattle.gc_table.specs.declared.seat.Heap.{Heap}
 use Rattle.gc_cycle.specs.Settling.{alloc_reads}
+use Rattle.seat_tries.proofs.Passes.{all-left, as-many, blocks-small}
 use Rattle.seat_steps.specs.Steps.{blocks_left}
 use Rattle.seat_steps.specs.declared.stepper.Stage.TheVariants as stages
-use Rattle.seat_steps.proofs.Passes.{all-left, as-many, blocks-small}
 use Rattle.seat_steps.proofs.Stages.{bounded-on, step-on}
 use Rattle.seat_steps.proofs.stepper.Stepper.count.Goals as goal
 

@@ -7,11 +7,11 @@ use Rattle.cycle_steps.specs.Pieces.{LooksAt}
 use Rattle.cycle_steps.specs.declared.card_steps.Look.TheVariants as looks
 use Rattle.mark_core.specs.declared.kinds.Phase.TheVariants.{Clear, Drain, Sweep}
 use Rattle.mutator_turns.proofs.Leaving.{leaves-join}
-use Rattle.seat_steps.specs.Asked.{MarksSinceAsked}
+use Rattle.seat_tries.specs.Asked.{MarksSinceAsked}
+use Rattle.seat_tries.proofs.Amounts.{few-join, move-few}
+use Rattle.seat_tries.proofs.LookedAt.{all-empty, cards-left, packet-left}
+use Rattle.seat_tries.proofs.Passes.{cards-small}
 use Rattle.seat_steps.specs.declared.stepper.Stage.TheVariants as stages
-use Rattle.seat_steps.proofs.Amounts.{few-join, move-few}
-use Rattle.seat_steps.proofs.LookedAt.{all-empty, cards-left, packet-left}
-use Rattle.seat_steps.proofs.Passes.{cards-small}
 use Rattle.seat_steps.proofs.Stages.{bounded-on, step-on}
 use Rattle.seat_steps.proofs.stepper.Stepper.look.Goals as goal
 

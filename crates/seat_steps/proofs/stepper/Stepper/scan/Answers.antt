@@ -5,11 +5,11 @@ use Rattle.gc_table.specs.Seats.{Across, view_of}
 use Rattle.gc_table.specs.declared.seat.Heap.{Heap}
 use Rattle.tracer.specs.StepBounds.{recycle_steps}
 use Rattle.card_clean.specs.StepBounds.{see_to_steps}
-use Rattle.seat_steps.specs.Bounds.{DoesFew}
-use Rattle.seat_steps.specs.Passes.{SeesRoots}
+use Rattle.seat_tries.specs.Amounts.{DoesFew}
+use Rattle.seat_tries.specs.Passes.{SeesRoots}
+use Rattle.seat_tries.proofs.Passes.{all-left, as-many, few-of, roots-small}
 use Rattle.seat_steps.specs.Steps.{roots_left}
 use Rattle.seat_steps.specs.declared.stepper.Stage.TheVariants as stages
-use Rattle.seat_steps.proofs.Passes.{all-left, as-many, few-of, roots-small}
 use Rattle.seat_steps.proofs.Stages.{bounded-on, step-on}
 use Rattle.seat_steps.proofs.stepper.Stepper.scan.Goals as goal
 

@@ -13,11 +13,12 @@ use Rattle.gc_cycle.specs.Sorts.{draws_block}
 use Rattle.gc_cycle.proofs.Ends.Completing.{freed-move, freed-run}
 use Rattle.gc_cycle.proofs.Stops.Admitted.{count-run}
 use Rattle.mutator_ops.proofs.Few.{at-most-join}
-use Rattle.seat_steps.specs.Bounds.{PassesFew, sweeping_steps}
+use Rattle.seat_tries.specs.Amounts.{PassesFew}
+use Rattle.seat_tries.proofs.Amounts.{move-few, pops-join}
+use Rattle.seat_tries.proofs.Passes.{fewer-of}
+use Rattle.seat_steps.specs.Bounds.{sweeping_steps}
 use Rattle.seat_steps.specs.Steps.{draws_for, shape_of}
 use Rattle.seat_steps.specs.declared.stepper.Stage.TheVariants as stages
-use Rattle.seat_steps.proofs.Amounts.{move-few, pops-join}
-use Rattle.seat_steps.proofs.Passes.{fewer-of}
 use Rattle.seat_steps.proofs.Stages.{bounded-on, step-on}
 use Rattle.seat_steps.proofs.stepper.Stepper.sweep.Goals as goal
 

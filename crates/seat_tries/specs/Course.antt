@@ -1,0 +1,55 @@
+-- A mutator's collection, from the moment that it asked for a stop.
+use Rattle.std.specs.Prelude.{◌≡◌, [], ◌∷◌, Bool, IsTrue}
+use Rattle.mark_core.specs.Numbers.{block_counter, card_counter}
+use Rattle.mark_core.specs.Seats.{saw}
+use Rattle.mark_core.specs.declared.kinds.Phase.TheVariants.{Drain, Marking}
+use Rattle.mark_core.specs.declared.kinds.Step.TheVariants.{Reset}
+use Rattle.gc_table.specs.Log.{events}
+use Rattle.gc_table.specs.declared.view.View.{View}
+use Rattle.gc_cycle.specs.Courses.{TakesCourse, sets_numbers}
+use Rattle.gc_cycle.specs.Cycles.{collects_exactly}
+use Rattle.gc_cycle.specs.Moments.{begins}
+use Rattle.cycle_steps.specs.Stepping.{AsksOnce, EndsCollection, FindsStopped}
+use Rattle.gc_cycle.specs.declared.counts.Counts.{Counts}
+use Rattle.mutator_turns.specs.Coming.{GivesCache, StepsOut, WithOwn}
+use Rattle.seat_tries.specs.Asked.{HasAsked}
+use Rattle.seat_tries.specs.Causes.{ArrivesBy, FoundFull}
+use Rattle.seat_tries.specs.declared.came.Came.{Came}
+
+-- since the seat asked for its stop it made a precise collection: a drain began with no cell marked, and then the cycle ended
+pub record CollectsSinceAsked (w : View) : Type 0 where
+  pub start : View
+  pub asked : HasAsked start w
+  pub collects : IsTrue (collects_exactly w.shape (begins start) (events start w))
+
+-- the seat gave up its cache, if it had one, stored its position, left, and asked for the flag: it is the seat's own where it was down
+pub record AsksForStop (yours : Bool) (v w : View) : Type 0 where
+  pub retired : View
+  pub gives : WithOwn GivesCache v retired
+  pub asks : AsksOnce retired.state.made yours retired w
+
+-- the world was found stopped and the phase read; then the drain began. It is to mark once more where a cycle was marking
+pub record BeginsMarking (again : Bool) (v w : View) : Type 0 where
+  pub stopped : View
+  pub finds : FindsStopped v stopped
+  pub course : TakesCourse (Drain ∷ []) (Reset card_counter ∷ Reset block_counter ∷ []) stopped w
+  pub marking : again ≡ saw stopped.state.phase_seen Marking
+
+-- the world was found stopped, and the phase read as Full; then the world went on, the position was stored, and the seat left
+pub record FindsHeapFull (v w : View) : Type 0 where
+  pub stopped : View
+  pub finds : FindsStopped v stopped
+  pub resumed : View
+  pub course : TakesCourse [] [] stopped resumed
+  pub leaves : StepsOut resumed w
+  pub full : FoundFull v w
+
+-- the numbers for the next cycle were set, by how many cells are in use and were freed, and the world went on: so a precise collection was made since the seat
+-- asked for its stop, and its drain began with no cell marked; then the seat came to its turn, or left
+pub record EndsBy (counts : Counts) (came : Came) (v w : View) : Type 0 where
+  pub ended : View
+  pub exact : IsTrue v.state.exact
+  pub ends : EndsCollection counts v ended
+  pub course : TakesCourse [] (sets_numbers v.shape counts) v ended
+  pub collected : ∥ CollectsSinceAsked ended ∥₁
+  pub arrives : ArrivesBy came ended w

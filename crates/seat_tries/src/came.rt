@@ -1,0 +1,30 @@
+//! What a call that doesn't wait came to.
+
+/// What a call of a mutator that doesn't wait came to. If it isn't `Done`, objects and variables are as before.
+#[derive(Clone, Copy, Debug, PartialEq, Eq, Drop)]
+pub enum Came {
+    /// It is done.
+    Done,
+    /// A collection of its own is under way: it is to take the next step.
+    NotYet,
+    /// A stop of another is under way: the mutator is outside now.
+    Stopped,
+    /// No cell is free, or marking is done: a collection is called for.
+    NoCell,
+    /// No cell of the mutator's cache is free: it is to be refilled.
+    NoCache,
+    /// The mutator is outside the world: it is to enter first.
+    Outside,
+    /// The mutator is between two steps of a collection.
+    Collecting,
+    /// A variable is not below 32, or a field not below the world's number of fields.
+    OutOfRange,
+    /// The variable refers to no object.
+    Nil,
+    /// The reachable objects fill all cells, for good. The mutator is outside the world.
+    Full,
+    /// The mutator has made 4,294,967,295 objects, which are all that have numbers.
+    Spent,
+    /// The world's mutators don't share their objects: there is no root, no exchange and no slot.
+    NotShared,
+}

@@ -1,0 +1,3 @@
+mod Sparing
+mod Tallying
+mod Visiting

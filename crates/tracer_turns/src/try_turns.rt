@@ -1,0 +1,59 @@
+//! A turn of a tracer that doesn't wait.
+ghost use Rattle.std.specs.Prelude.{◌≡◌};
+ghost use Rattle.gc_table.specs.Seats.{Across};
+ghost use Rattle.mutator_turns.specs.Standing.{RestsOutside};
+ghost use Rattle.tracer_turns.specs.Tallying.{Tallies};
+ghost use Rattle.tracer_turns.specs.Trying.{TriesTurn};
+
+use crate::background::Tracer;
+use crate::marking::{go_round, goes_in, see_dismissals};
+use gc_table::{Heap, HeapSeat};
+use mark_core::Phase;
+
+/// What a turn of a tracer that doesn't wait came to.
+#[derive(Clone, Copy, Debug, PartialEq, Eq, Drop)]
+pub enum TryTurn {
+    /// A cycle is marking: it traced and cleaned a little, and there may be more to trace.
+    Marked,
+    /// No cycle is marking: there was nothing to do.
+    Idle,
+    /// A stop is under way: it turned back at once.
+    Stopped,
+    /// The world has dismissed its tracers.
+    Dismissed,
+    /// The heap is full, for good: nothing more is to be traced.
+    Full,
+}
+
+/// One turn that doesn't wait. Where a stop is under way the seat is outside again at once.
+fn try_take_turn(heap: &Heap, seat: &mut HeapSeat, tally: &mut u64) -> TryTurn
+    requires { RestsOutside heap.now seat.old }
+    ensures seat { RestsOutside heap.now seat.new }
+    ensures turn { Across (TriesTurn result) seat.old seat.new }
+    ensures tally { Across (Tallies tally.old tally.new) seat.old seat.new }
+{
+    if see_dismissals(heap, seat) != 0 {
+        return TryTurn::Dismissed;
+    }
+    if !goes_in(heap, seat) {
+        return TryTurn::Stopped;
+    }
+    match go_round(heap, seat, tally) {
+        Phase::Marking => TryTurn::Marked,
+        Phase::Full => TryTurn::Full,
+        _ => TryTurn::Idle,
+    }
+}
+
+impl Tracer {
+    /// One turn that doesn't wait, for a thread without a runtime: it enters the world once, traces at most 64 objects where a cycle is marking, passes at most
+    /// 1,024 cards where that is far on, and leaves. Where a stop is under way it does nothing, and comes again. Between two turns its thread lets others run.
+    /// Each answer has its bound of steps (`tried_steps`), which doesn't grow with the heap.
+    pub fn try_turn(&mut self) -> TryTurn
+        ensures turn { Across (TriesTurn result) self.old.seat self.new.seat }
+        ensures tally { Across (Tallies self.old.traced self.new.traced) self.old.seat self.new.seat }
+        ensures world { (self.new.heap ≡ self.old.heap) × (self.new.name ≡ self.old.name) }
+    {
+        try_take_turn(&self.heap, &mut self.seat, &mut self.traced)
+    }
+}
