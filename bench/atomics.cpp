@@ -1,4 +1,4 @@
-// The loops of bench_table over bare atomic words: the same operations on the same words, in the same order, and no more.
+// The typed steps of bench_steps over bare atomic words: the same operations on the same words, in the same order, and no more.
 #include <atomic>
 #include <cstdint>
 #include <cstdio>
@@ -31,7 +31,7 @@ struct Heap {
 
     Heap() { words[kEmpty] = 64 + kPackets; }
 
-    // Copies the words out, as bench_table's heap gives them.
+    // Copies the words out, as the heap of bench_steps gives them.
     bool close() {
         std::vector<uint64_t> copy;
         copy.reserve(kWords);

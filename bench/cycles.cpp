@@ -1,4 +1,4 @@
-// The collections of bench_cycle over bare atomic words: the same operations on the same words, in the same order, and no more. The sizes of the heap
+// The collections of bench_steps over bare atomic words: the same operations on the same words, in the same order, and no more. The sizes of the heap
 // are known only as it runs, as there.
 #include "heap.hpp"
 

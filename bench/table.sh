@@ -1,8 +1,8 @@
 #!/bin/sh
-# Times the steps of bench_table, the operations of bench_operations and the collections of bench_cycle beside the same steps on bare atomic words, and
-# prints the ratio of each. From the top of the repository: chrt -f 10 sh bench/table.sh [RUNS [FOLDER]]. The least time of so many runs counts, 40 if no number
-# is given. The three programs are taken from the folder, or proved and built.
-# What a run takes besides what is measured, as the making and closing of heaps, is timed alone and taken off. A collection is timed by the program itself,
+# Times the steps, operations and collections of bench_steps beside the same steps on bare atomic words, and prints the ratio of each.
+# From the top of the repository: chrt -f 10 sh bench/table.sh [RUNS [FOLDER]]. The least time of so many runs counts, 40 if no number is given.
+# The program is taken from the folder, or proved and built.
+# What a run takes besides what is measured, as the making and closing of heaps, is timed by itself and taken off. A collection is timed by the program,
 # since the heap that it finds takes longer to make.
 set -eu
 cd "$(dirname "$0")/.."
@@ -12,18 +12,20 @@ folder=${TMPDIR:-/tmp}/bench.$$
 mkdir "$folder"
 trap 'rm -rf "$folder"' EXIT
 
-# A program of the repository, and the same loops in C++.
+[ -n "$built" ] || (cd crates/bench_steps && rt run >/dev/null 2>&1)
+program=${built:-crates/bench_steps/out}/bench_steps
+
+# A kind of work of the program, and the same loops in C++.
 build() {
-    [ -n "$built" ] || (cd "crates/$1" && rt run >/dev/null 2>&1)
-    g++ -O2 -o "$folder/$1" "$2"
-    program=${built:-crates/$1/out}/$1
+    kind=$1
     bare=$folder/$1
+    g++ -O2 -o "$bare" "$2"
 }
 
-# The nanoseconds of one run: a program, what it does, and how many rounds.
+# The nanoseconds of one run of a command.
 once() {
     before=$(date +%s%N)
-    "$1" "$2" "$3" >/dev/null
+    "$@" >/dev/null
     after=$(date +%s%N)
     echo $((after - before))
 }
@@ -38,9 +40,9 @@ line() {
     ours='' ours_off='' theirs='' theirs_off=''
     run=0
     while [ "$run" -lt "$runs" ]; do
-        ours=$(lesser "$ours" "$(once "$program" "$2" "$3")")
+        ours=$(lesser "$ours" "$(once "$program" "$kind" "$2" "$3")")
         theirs=$(lesser "$theirs" "$(once "$bare" "$2" "$3")")
-        ours_off=$(lesser "$ours_off" "$(once "$program" "$4" "$5")")
+        ours_off=$(lesser "$ours_off" "$(once "$program" "$kind" "$4" "$5")")
         theirs_off=$(lesser "$theirs_off" "$(once "$bare" "$4" "$5")")
         run=$((run + 1))
     done
@@ -53,7 +55,7 @@ stop() {
     ours='' theirs=''
     run=0
     while [ "$run" -lt "$runs" ]; do
-        ours=$(lesser "$ours" "$("$program" "$2" "$3" "$4")")
+        ours=$(lesser "$ours" "$("$program" "$kind" "$2" "$3" "$4")")
         theirs=$(lesser "$theirs" "$("$bare" "$2" "$3" "$4")")
         run=$((run + 1))
     done
@@ -61,20 +63,20 @@ stop() {
 }
 
 printf '%-28s %8s %8s %8s\n' 'operation' 'table' 'bare' 'ratio'
-build bench_table bench/atomics.cpp
+build table bench/atomics.cpp
 line 'load of the count' load 60000000 load 0 1
 line 'load of a card' look 30000000 load 0 1
 line 'store of a card' store 5000000 load 0 1
 line 'fetch of the count' fetch 3000000 load 0 2
 line 'cell made, typed steps' make 100 open 100 4096
-build bench_operations bench/operations.cpp
+build operations bench/operations.cpp
 line 'new cell' make 100 open 100 4096
 line 'store with its card' publish 2000000 publish 0 1
 line 'store without a card' hide 2000000 hide 0 1
 line 'object traced' trace 100 mesh 100 4096
 line 'clean card passed over' look 100000 look 0 256
 line 'block swept' sweep 10000 drain 10000 64
-build bench_cycle bench/cycles.cpp
+build cycles bench/cycles.cpp
 stop 'stop, 64 cells, empty' empty 64 10000
 stop 'stop, 64 cells, live' live 64 1000
 stop 'stop, 64 cells, dead' dead 64 1000

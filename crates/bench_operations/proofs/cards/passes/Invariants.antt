@@ -1,5 +1,0 @@
-use Rattle.bench_operations.specs.Standing.{Tracing}
-use Rattle.bench_operations.proofs.cards.passes.Given as goal
-
-abbrev pub invariant-loop-round : goal.invariant-loop-round
-invariant-loop-round l = Tracing l.heap l.seat

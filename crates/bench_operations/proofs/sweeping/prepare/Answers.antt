@@ -1,5 +1,0 @@
-use Rattle.std.proofs.Common.{inl}
-use Rattle.bench_operations.proofs.sweeping.prepare.Goals as goal
-
-pub drains-requires-clause-begins : goal.drains-requires-clause-begins
-drains-requires-clause-begins c = inl c.requires.alone

@@ -1,4 +1,0 @@
-use Rattle.bench_operations.proofs.sweeping.settle.Goals as goal
-
-pub returns-clause-ready : goal.returns-clause-ready
-returns-clause-ready c = c.if-not-drained.ensures.drained.rooted.ready

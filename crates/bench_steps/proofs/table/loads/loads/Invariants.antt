@@ -1,0 +1,6 @@
+use Rattle.bench_steps.specs.Records.{SitsWithRecord, resting}
+use Rattle.bench_steps.specs.Taken.{TakesRounds, a_load}
+use Rattle.bench_steps.proofs.table.loads.loads.Given as goal
+
+abbrev pub invariant-loop-round : goal.invariant-loop-round
+invariant-loop-round l = SitsWithRecord l.heap resting l.seat × TakesRounds a_load l._round l.fn.seat l.seat

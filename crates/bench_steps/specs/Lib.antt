@@ -1,0 +1,4 @@
+pub mod Making
+pub mod Records
+pub mod Standing
+pub mod Taken

@@ -1,0 +1,61 @@
+//! A runtime's operations on a heap of 64 blocks of 64 cells with objects of four fields, by the calls that a runtime makes.
+//!
+//! - `opening`: a heap with one seat, which enters and begins to mark.
+//! - `blocks`, `cells`: objects are made, in blocks that are taken and given up.
+//! - `stores`: references are stored in objects that are published, and in objects that aren't.
+//! - `tracing`: objects with four references each are traced.
+//! - `cards`: a pass over clean cards.
+//! - `sweeping`: whole cycles in a stopped world, with all blocks swept.
+mod blocks;
+mod cards;
+mod cells;
+mod opening;
+mod stores;
+mod sweeping;
+mod tracing;
+
+use crate::operations::opening::SIZES;
+use crate::words::OperationWork as Work;
+use std::io;
+use std::rt::Runtime;
+use std::sync::Wait;
+use test_heaps::{opens, report};
+
+/// Whether so many rounds were done.
+fn is_done<R: Wait + AllocGlobal>(rt: &R, work: Work, rounds: u64) -> bool {
+    let alloc = rt.alloc();
+    match work {
+        Work::Open => opens(alloc, SIZES, rounds),
+        Work::Make => cells::run(alloc, rounds),
+        Work::Publish => stores::run(alloc, rounds, true),
+        Work::Hide => stores::run(alloc, rounds, false),
+        Work::Mesh => tracing::run(alloc, rounds, false),
+        Work::Trace => tracing::run(alloc, rounds, true),
+        Work::Look => cards::run(alloc, rounds),
+        Work::Drain => sweeping::run(rt, alloc, rounds, false),
+        Work::Sweep => sweeping::run(rt, alloc, rounds, true),
+    }
+}
+
+/// Does so many rounds, and writes what was done.
+pub fn does<R: Runtime + AllocGlobal + Wait>(rt: &R, work: Work, rounds: u64) -> io::Result<()> {
+    report(rt, work.name(), rounds, is_done(rt, work, rounds))
+}
+
+/// Does two rounds of each work.
+pub fn do_all<R: Runtime + AllocGlobal + Wait>(rt: &R) -> io::Result<()> {
+    for work in [
+        Work::Open,
+        Work::Make,
+        Work::Publish,
+        Work::Hide,
+        Work::Mesh,
+        Work::Trace,
+        Work::Look,
+        Work::Drain,
+        Work::Sweep,
+    ] {
+        does(rt, work, 2)?;
+    }
+    Ok(())
+}

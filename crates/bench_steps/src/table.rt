@@ -1,0 +1,45 @@
+//! Typed steps of a heap of 64 blocks of 64 cells, with objects of two fields.
+//!
+//! - `opening`: a heap with one seat, which enters.
+//! - `loads`, `stores`, `fetches`: one operation, many times.
+//! - `making`: cells, made one after another in all blocks of the heap.
+mod fetches;
+mod loads;
+mod making;
+mod opening;
+mod stores;
+
+use crate::table::opening::SIZES;
+use crate::words::TableWork as Work;
+use std::alloc::Global;
+use std::io;
+use std::rt::Runtime;
+use test_heaps::{opens, report};
+
+/// Whether so many rounds were done.
+fn is_done(alloc: Global, work: Work, rounds: u64) -> bool {
+    match work {
+        Work::Load => loads::run(alloc, rounds),
+        Work::Look => loads::run_looks(alloc, rounds),
+        Work::Store => stores::run(alloc, rounds),
+        Work::Fetch => fetches::run(alloc, rounds),
+        Work::Make => making::run(alloc, rounds),
+        Work::Open => opens(alloc, SIZES, rounds),
+    }
+}
+
+/// Does so many rounds, and writes what was done.
+pub fn does<R: Runtime + AllocGlobal>(rt: &R, work: Work, rounds: u64) -> io::Result<()> {
+    report(rt, work.name(), rounds, is_done(rt.alloc(), work, rounds))
+}
+
+/// Does a few rounds of each work.
+pub fn do_all<R: Runtime + AllocGlobal>(rt: &R) -> io::Result<()> {
+    for work in [Work::Load, Work::Look, Work::Store, Work::Fetch] {
+        does(rt, work, 10_000)?;
+    }
+    for work in [Work::Make, Work::Open] {
+        does(rt, work, 1)?;
+    }
+    Ok(())
+}

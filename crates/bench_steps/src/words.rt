@@ -1,0 +1,196 @@
+//! What the words of the command line ask for.
+use test_heaps::{named_rounds, rounds_of};
+
+/// What is done many times by typed steps.
+#[derive(Clone, Copy, Drop)]
+pub enum TableWork {
+    /// One load.
+    Load,
+    /// One load, of a word that is found by its number.
+    Look,
+    /// One store, into a word that is found by its number.
+    Store,
+    /// Two fetches: one from a counter is taken, and given back.
+    Fetch,
+    /// A heap is made, cells are made in all its blocks, and it is closed.
+    Make,
+    /// A heap is made and closed, with no cell.
+    Open,
+}
+
+impl TableWork {
+    /// The word that asks for it.
+    pub fn name(&self) -> &'static str {
+        match *self {
+            TableWork::Load => "load",
+            TableWork::Look => "look",
+            TableWork::Store => "store",
+            TableWork::Fetch => "fetch",
+            TableWork::Make => "make",
+            TableWork::Open => "open",
+        }
+    }
+}
+
+/// What is done many times by a runtime's operations.
+#[derive(Clone, Copy, Drop)]
+pub enum OperationWork {
+    /// A heap is made and closed.
+    Open,
+    /// A heap is made, an object is made in each of its cells, and it is closed.
+    Make,
+    /// A store in a published object.
+    Publish,
+    /// A store in an object that isn't published.
+    Hide,
+    /// A heap is made, filled with objects of four references each, and closed.
+    Mesh,
+    /// A heap is made, filled with objects of four references each, traced, and closed.
+    Trace,
+    /// A pass over cards that are clean.
+    Look,
+    /// A look whether anything is left to trace.
+    Drain,
+    /// A look whether anything is left to trace, and a sweep of all blocks.
+    Sweep,
+}
+
+impl OperationWork {
+    /// The word that asks for it.
+    pub fn name(&self) -> &'static str {
+        match *self {
+            OperationWork::Open => "open",
+            OperationWork::Make => "make",
+            OperationWork::Publish => "publish",
+            OperationWork::Hide => "hide",
+            OperationWork::Mesh => "mesh",
+            OperationWork::Trace => "trace",
+            OperationWork::Look => "look",
+            OperationWork::Drain => "drain",
+            OperationWork::Sweep => "sweep",
+        }
+    }
+}
+
+/// What a heap holds when the world is stopped.
+#[derive(Clone, Copy, Drop)]
+pub enum Content {
+    /// Nothing.
+    Nothing,
+    /// An object in each cell, all of which are reached.
+    Live,
+    /// An object in each cell, none of which is reached.
+    Dead,
+}
+
+impl Content {
+    /// The word that asks for it.
+    pub fn name(&self) -> &'static str {
+        match *self {
+            Content::Nothing => "empty",
+            Content::Live => "live",
+            Content::Dead => "dead",
+        }
+    }
+}
+
+/// How large a heap is that is collected.
+#[derive(Clone, Copy, Drop)]
+pub enum Size {
+    /// 64 cells: one block.
+    Small,
+    /// 65,536 cells.
+    Large,
+}
+
+/// What is collected, and how many times.
+#[derive(Clone, Copy, Drop)]
+pub struct Collections {
+    pub content: Content,
+    pub size: Size,
+    pub rounds: u64,
+}
+
+/// What is done, and how many times.
+#[derive(Clone, Copy, Drop)]
+pub enum Asked {
+    Table(TableWork, u64),
+    Operations(OperationWork, u64),
+    Cycles(Collections),
+}
+
+fn table_work(name: &str) -> Option<TableWork> {
+    match name {
+        "load" => Some(TableWork::Load),
+        "look" => Some(TableWork::Look),
+        "store" => Some(TableWork::Store),
+        "fetch" => Some(TableWork::Fetch),
+        "make" => Some(TableWork::Make),
+        "open" => Some(TableWork::Open),
+        _ => None,
+    }
+}
+
+fn operation_work(name: &str) -> Option<OperationWork> {
+    match name {
+        "open" => Some(OperationWork::Open),
+        "make" => Some(OperationWork::Make),
+        "publish" => Some(OperationWork::Publish),
+        "hide" => Some(OperationWork::Hide),
+        "mesh" => Some(OperationWork::Mesh),
+        "trace" => Some(OperationWork::Trace),
+        "look" => Some(OperationWork::Look),
+        "drain" => Some(OperationWork::Drain),
+        "sweep" => Some(OperationWork::Sweep),
+        _ => None,
+    }
+}
+
+fn content_named(name: &str) -> Option<Content> {
+    match name {
+        "empty" => Some(Content::Nothing),
+        "live" => Some(Content::Live),
+        "dead" => Some(Content::Dead),
+        _ => None,
+    }
+}
+
+fn size_named(name: &str) -> Option<Size> {
+    match name {
+        "64" => Some(Size::Small),
+        "65536" => Some(Size::Large),
+        _ => None,
+    }
+}
+
+fn steps_by(words: &[String]) -> Option<Asked> {
+    let (name, rounds) = named_rounds(words)?;
+    Some(Asked::Table(table_work(name)?, rounds))
+}
+
+fn operations_by(words: &[String]) -> Option<Asked> {
+    let (name, rounds) = named_rounds(words)?;
+    Some(Asked::Operations(operation_work(name)?, rounds))
+}
+
+fn cycles_by(words: &[String]) -> Option<Asked> {
+    let [content, size, rounds] = words else {
+        return None;
+    };
+    Some(Asked::Cycles(Collections {
+        content: content_named(content.as_str())?,
+        size: size_named(size.as_str())?,
+        rounds: rounds_of(rounds)?,
+    }))
+}
+
+/// What a kind of work and the words after it ask for, or nothing.
+pub fn asked_by(words: &[String]) -> Option<Asked> {
+    let (kind, others) = words.split_first()?;
+    match kind.as_str() {
+        "table" => steps_by(others),
+        "operations" => operations_by(others),
+        "cycles" => cycles_by(others),
+        _ => None,
+    }
+}

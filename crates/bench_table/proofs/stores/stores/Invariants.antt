@@ -1,6 +1,0 @@
-use Rattle.bench_table.specs.Records.{SitsWithRecord, entered}
-use Rattle.bench_table.specs.Taken.{TakesRounds, a_store}
-use Rattle.bench_table.proofs.stores.stores.Given as goal
-
-abbrev pub invariant-loop-round : goal.invariant-loop-round
-invariant-loop-round l = SitsWithRecord l.heap entered l.seat × TakesRounds a_store l.round l.fn.seat l.seat
