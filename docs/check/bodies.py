@@ -1,4 +1,4 @@
-"""Each edit of the gate and each wrong body quotes code that stands where it says, once; and docs/STRENGTH.md has as many bodies of each crate as there are."""
+"""Each edit of the gate and each wrong body quotes code that stands where it says, once; and tests/bodies/README.md has as many bodies of each crate as there are."""
 import glob
 import os
 import re
@@ -6,6 +6,8 @@ import sys
 
 sys.path.insert(0, "tests")
 import wrong_bodies  # noqa: E402
+
+PAGE = "tests/bodies/README.md"
 
 
 def check_edits():
@@ -31,9 +33,9 @@ def check_body(crate, body):
 
 
 def told_counts():
-    """How many bodies the second table of docs/STRENGTH.md tells of each crate."""
-    with open("docs/STRENGTH.md", encoding="utf-8") as it:
-        part = it.read().partition("\n## Made by hand\n")[2].partition("\n## ")[0]
+    """How many bodies the table of this page tells of each crate."""
+    with open(PAGE, encoding="utf-8") as it:
+        part = it.read()
     found = {}
     for row in re.findall(r"^\| (`[^|]*`) \| ([\d, ]+) \|", part, re.M):
         found.update(zip(re.findall(r"`(\w+)`", row[0]), (int(it) for it in row[1].split(","))))
@@ -51,9 +53,9 @@ def main():
             for wrong in check_body(crate, body):
                 print(wrong)
         if told.get(crate) != len(bodies):
-            print(f"docs/STRENGTH.md: {told.get(crate)} bodies of {crate}, and there are {len(bodies)}")
+            print(f"{PAGE}: {told.get(crate)} bodies of {crate}, and there are {len(bodies)}")
     for crate in sorted(set(told) - set(crates)):
-        print(f"docs/STRENGTH.md: bodies of {crate}, and there are none")
+        print(f"{PAGE}: bodies of {crate}, and there are none")
 
 
 if __name__ == "__main__":
