@@ -1,5 +1,5 @@
 #!/usr/bin/env python3
-"""Draws the tables of bench/README.md and docs/PAUSES.md as pictures under docs/figures.
+"""Draws the tables of bench/README.md and of the last series of pauses in bench/results as pictures under docs/figures.
 
 From the top of the repository: python3 bench/figures.py writes the pictures, and python3 bench/figures.py --check
 says whether those that are there are the ones that it would write. It needs Python's own library alone.
@@ -11,6 +11,7 @@ import re
 import sys
 
 TOP = pathlib.Path(__file__).resolve().parent.parent
+SERIES = "bench/results/2026-11-29-pauses.md"
 COLOURS = ["#0072b2", "#d55e00", "#009e73", "#cc79a7", "#e69f00", "#56b4e9"]
 WIDTH, HEIGHT = 640, 340
 LEFT, RIGHT, HEAD, FOOT = 64, 16, 48, 64
@@ -152,7 +153,7 @@ def speed_up():
 
 def pauses_of(column, programs):
     """What programs have in a column of the table of pauses, for each pair of cells and workers; a program is named by how its name begins."""
-    header, rows = table("docs/PAUSES.md", "Program", "Mean stop")
+    header, rows = table(SERIES, "Program", "Mean stop")
     cells, workers, program = (header.index(it) for it in ("Cells", "Workers", "Program"))
     found = {}
     for row in rows:

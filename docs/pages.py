@@ -1,5 +1,6 @@
-"""Numbers in the prose of pages and in their tables, for the checks in docs/check/ that compare them."""
+"""The pages of the repository, and numbers in their prose and tables, for the checks in docs/check/ that compare them."""
 import functools
+import glob
 import re
 import sys
 
@@ -11,6 +12,12 @@ WORDS = {"nine": 9, "sixteen": 16, "seventeen": 17, "eighteen": 18, "nineteen": 
 table = figures.table
 tables = figures.tables
 number = figures.number
+
+
+def all_pages():
+    """The documents for readers, those of crates last."""
+    folders = ["docs/*.md", "bench/README.md", "bench/results/*.md", "tests/README.md", "tests/bodies/README.md", "crates/*/README.md"]
+    return ["README.md", *(page for it in folders for page in sorted(glob.glob(it)))]
 
 
 @functools.lru_cache(maxsize=None)

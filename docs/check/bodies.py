@@ -1,4 +1,5 @@
-"""Each edit of the gate and each wrong body quotes code that stands where it says, once; and tests/bodies/README.md has as many bodies of each crate as there are."""
+"""Each edit of the gate and each wrong body quotes code that stands where it says, once; and tests/bodies/README.md has as many bodies of each crate as there
+are."""
 import glob
 import os
 import re

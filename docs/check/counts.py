@@ -8,7 +8,7 @@ import sys
 
 sys.path[:0] = ["docs", "tests"]
 import wrong_bodies  # noqa: E402
-from pages import number, rows_of, says, text_of  # noqa: E402
+from pages import all_pages, number, rows_of, says, text_of  # noqa: E402
 
 
 def check_edits():
@@ -78,9 +78,8 @@ def check_gate():
 
 
 def check_runs():
-    pages = ["README.md", "bench/README.md", "tests/README.md", *glob.glob("docs/*.md"), *glob.glob("crates/*/README.md")]
     for row in rows_of("docs/TESTED.md", "Runs", "Run on"):
-        for page in pages:
+        for page in all_pages():
             if "," in row[0] and page != "docs/TESTED.md" and re.search(rf"\b{row[0]}\b", text_of(page)):
                 print(f"{page}: {row[0]} runs are told, which docs/TESTED.md alone tells")
 

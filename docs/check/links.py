@@ -1,7 +1,10 @@
 """Each link leads to a page, and to a heading of it where it names one."""
-import glob
 import os
 import re
+import sys
+
+sys.path.insert(0, "docs")
+from pages import all_pages  # noqa: E402
 
 
 def headings(path):
@@ -12,7 +15,7 @@ def headings(path):
 
 
 def main():
-    for page in ["README.md", *sorted(glob.glob("docs/*.md")), "bench/README.md", "tests/README.md", *sorted(glob.glob("crates/*/README.md"))]:
+    for page in all_pages():
         with open(page, encoding="utf-8") as it:
             links = sorted(set(re.findall(r"\]\(([^)]*)\)", it.read())))
         for link in links:

@@ -1,16 +1,17 @@
-"""Figures that were measured stand on several pages alike: those of README.md, docs/PERFORMANCE.md and the prose of docs/PAUSES.md are those of the tables of
-docs/PAUSES.md and bench/README.md, and what docs/PAUSES.md works out from its table is right."""
+"""Figures that were measured stand on several pages alike: those of README.md, docs/PERFORMANCE.md and docs/PAUSES.md are those of the tables of
+bench/README.md and of the series of pauses in bench/results, and what docs/PAUSES.md works out from that series is right."""
 import sys
 
 sys.path.insert(0, "docs")
 from pages import label, number, rows_of, says  # noqa: E402
 
 BENCH, PAUSES, PERFORMANCE = "bench/README.md", "docs/PAUSES.md", "docs/PERFORMANCE.md"
+SERIES = "bench/results/2026-11-29-pauses.md"
 LARGE = ["orders", "live", "objects", "stores", "reads"]
 FRONT = ("4194304", "4")
 
-# Of each row of docs/PAUSES.md: orders a second, the mean and the longest stop, and the 99.9th percentile of transactions.
-STOPS = {tuple(row[:3]): [float(it) for it in row[3:]] for row in rows_of(PAUSES, "Cells", "Workers", "Program", "Orders a second", "Mean stop", "Longest", "p99.9")}
+# Of each row of the series: orders a second, the mean and the longest stop, and the 99.9th percentile of transactions.
+STOPS = {tuple(row[:3]): [float(it) for it in row[3:]] for row in rows_of(SERIES, "Cells", "Workers", "Program", "Orders a second", "Mean stop", "Longest", "p99.9")}
 ALONE = {label(row[0]): row[1:] for row in rows_of(BENCH, "Script", "gcplay, ns a command", "gcplay to the floor", "gcplay, processor ms", "Floor", "Go")}
 THREADS = {tuple(row[:2]): [float(it) for it in row[2:]] for row in rows_of(BENCH, "Workers", "Tracers", "`orders`, clock ms", "`live`, clock ms")}
 
@@ -60,7 +61,7 @@ def lost(stops, beside):
 
 
 def check_ratios():
-    """The table of docs/PAUSES.md that divides rows of the first."""
+    """The table of docs/PAUSES.md that divides rows of the series."""
     for cells, workers, tracers, mean, longest, rate in rows_of(PAUSES, "Cells", "Workers", "Tracers", "Mean", "Longest", "Throughput lost"):
         beside, stops = (row(f"{way}, {tracers}", (cells, workers)) for way in ("beside", "stops"))
         right = [ratio(stops[1], beside[1]), ratio(stops[2], beside[2]), lost(stops[0], beside[0])]

@@ -6,6 +6,10 @@ A name is said to stand in a crate by `name` of `crate`, in `crate` or (`crate`)
 import glob
 import os
 import re
+import sys
+
+sys.path.insert(0, "docs")
+from pages import all_pages  # noqa: E402
 
 NAME = r"`[A-Za-z_][A-Za-z_0-9:-]*`"
 NAMES = rf"(?:{NAME}(?:, and |, | and | or ))*{NAME}"
@@ -108,7 +112,7 @@ def check_files(page, text):
 
 
 def main():
-    for page in ["README.md", *sorted(glob.glob("docs/*.md")), "bench/README.md", "tests/README.md", *sorted(glob.glob("crates/*/README.md"))]:
+    for page in all_pages():
         text = read(page)
         for check in (check_known, check_paths, check_crates, check_files):
             for wrong in check(page, text):
