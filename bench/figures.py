@@ -1,5 +1,5 @@
 #!/usr/bin/env python3
-"""Draws the tables of bench/README.md and of the last series of pauses in bench/results as pictures under docs/figures.
+"""Draws tables of bench/README.md and bench/results as pictures under docs/figures.
 
 From the top of the repository: python3 bench/figures.py writes the pictures, and python3 bench/figures.py --check
 says whether those that are there are the ones that it would write. It needs Python's own library alone.
@@ -182,7 +182,7 @@ def pauses_rate():
 def longest_call():
     """The steps and the microseconds of the longest call, by the cells of the heap."""
     names = ["Steps, before", "Steps", "µs, before", "µs"]
-    labels, lines = series("bench/README.md", "Cells", names)
+    labels, lines = series("bench/results/2026-11-longest.md", "Cells", names)
     return curves("The longest call by cells, before and since collections go on in pieces", "steps; microseconds", labels, lines, powers)
 
 
