@@ -67,7 +67,7 @@ def check_pages():
         for word in row[0].split(", "):
             if word not in places():
                 print(f"docs/CYCLE.md: {word} isn't a word of {PAGE}")
-    first, rest = re.search(r"stand side by side\.\*\* (.*?) share one line of 64 bytes, and (.*?) share the next", text_of("docs/PERFORMANCE.md")).groups()
+    first, rest = re.search(r"Words side by side\.\*\* (.*?) share one line of 64 bytes; (.*?) share the next", text_of("docs/PERFORMANCE.md")).groups()
     named = {it: singles()[it] // 8 for it in re.findall(r"[A-Z]{2,}", first + " " + rest)}
     compare("docs/PERFORMANCE.md", {it: 0 if it in first else 1 for it in named}, named)
 
