@@ -1,3 +1,4 @@
 mod Sparing
 mod Tallying
 mod Visiting
+mod Waiting

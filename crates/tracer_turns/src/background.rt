@@ -6,7 +6,7 @@ ghost use Rattle.mutator_turns.specs.Standing.{RestsOutside};
 ghost use Rattle.tracer_turns.specs.Tallying.{Tallies};
 ghost use Rattle.tracer_turns.specs.Tracing.{TracerRunsTo, TracerTakesTurn};
 
-use crate::marking::take_turn;
+use crate::waiting::take_turn;
 use gc_table::{Heap, HeapSeat};
 use std::alloc::Global;
 use std::sync::{Arc, Wait};

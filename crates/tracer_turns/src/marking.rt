@@ -1,4 +1,4 @@
-//! A turn of a seat that marks beside the mutators.
+//! What a tracer's turn is made of: it looks at the dismissals, enters, marks, and leaves.
 ghost use Rattle.std.specs.Prelude.{◌≡◌, ◌+◌, Some, IsTrue, IsFalse};
 ghost use Rattle.std.specs.Bool.{OnFalse, OnTrue};
 ghost use Rattle.mark_core.specs.Numbers.{done_count};
@@ -11,14 +11,11 @@ ghost use Rattle.seat_turns.specs.Standing.{Goes, GoesMarking};
 ghost use Rattle.seat_turns.specs.StepBounds.{turn_steps};
 ghost use Rattle.mutator_turns.specs.Standing.{RestsOutside};
 ghost use Rattle.tracer_turns.specs.Tallying.{Tallies};
-ghost use Rattle.tracer_turns.specs.Tracing.{HasMarked, MarksIn, Rounds, TracerTakesTurn, marking_steps};
+ghost use Rattle.tracer_turns.specs.Tracing.{HasMarked, MarksIn, Rounds, marking_steps};
 
-use crate::background::Turn;
-use gc_cycle::await_resumed_helping;
 use gc_table::{Heap, HeapSeat};
 use mark_core::{DONE, Phase, TRACED};
 use seat_turns::{mark_some, see_phase};
-use std::sync::Wait;
 use stop_world::{enter, leave};
 
 /// Traces a few objects, and where there are none, cleans a few cards. How many it traced it tells, and adds to the tally.
@@ -92,24 +89,4 @@ pub fn see_dismissals(heap: &Heap, seat: &mut HeapSeat) -> u64
     ensures ran { Across Ran seat.old seat.new }
 {
     heap.read_stat(seat, DONE)
-}
-
-/// One turn. Where a stop is under way the seat helps until that has ended. The objects that it traced beside the mutators are added to the tally.
-pub fn take_turn<R: Wait>(rt: &R, heap: &Heap, seat: &mut HeapSeat, tally: &mut u64) -> Turn
-    requires { RestsOutside heap.now seat.old }
-    ensures seat { RestsOutside heap.now seat.new }
-    ensures turn { Across (TracerTakesTurn result) seat.old seat.new }
-    ensures tally { Across (Tallies tally.old tally.new) seat.old seat.new }
-{
-    if see_dismissals(heap, seat) != 0 {
-        return Turn::Dismissed;
-    }
-    if !goes_in(heap, seat) {
-        await_resumed_helping(rt, heap, seat);
-        return Turn::Going;
-    }
-    match go_round(heap, seat, tally) {
-        Phase::Full => Turn::Full,
-        _ => Turn::Going,
-    }
 }

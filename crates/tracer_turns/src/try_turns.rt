@@ -26,7 +26,7 @@ pub enum TryTurn {
 }
 
 /// One turn that doesn't wait. Where a stop is under way the seat is outside again at once.
-fn try_take_turn(heap: &Heap, seat: &mut HeapSeat, tally: &mut u64) -> TryTurn
+pub(crate) fn try_take_turn(heap: &Heap, seat: &mut HeapSeat, tally: &mut u64) -> TryTurn
     requires { RestsOutside heap.now seat.old }
     ensures seat { RestsOutside heap.now seat.new }
     ensures turn { Across (TriesTurn result) seat.old seat.new }
