@@ -20,7 +20,7 @@ use Rattle.seat_tries.specs.declared.came.Came.{Came}
 use Rattle.seat_tries.specs.declared.came.Came.TheVariants as cames
 use Rattle.seat_tries.proofs.Filled.{tries-first, tries-last}
 use Rattle.seat_tries.proofs.Found.{arrives-few}
-use Rattle.seat_tries.proofs.Sought.{seeks-first}
+use Rattle.seat_tries.proofs.Searched.{seeks-first}
 
 -- a try that found the heap full pays nothing
 pub full-counts : (r : Refill) (n : ℕ) → r ≡ refills.Full → n ≡ counts_after (Some r) n

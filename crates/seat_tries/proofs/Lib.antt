@@ -7,8 +7,8 @@ pub mod LookedAt
 mod Made
 pub mod Passes
 pub mod ReadFull
+mod Searched
 mod SinceAsked
-mod Sought
 mod Sparing
 mod Tried
 mod Undrawn

@@ -1,4 +1,4 @@
-use Rattle.seat_tries.proofs.Sought.{arrives-leaves}
+use Rattle.seat_tries.proofs.Searched.{arrives-leaves}
 use Rattle.seat_tries.proofs.seeking.lacks_some.Goals as goal
 
 pub returns-in-Done-clause-freely : goal.returns-in-Done-clause-freely

@@ -4,7 +4,7 @@ use Rattle.gc_table.specs.declared.view.View.{View}
 use Rattle.seat_tries.specs.declared.came.Came.TheVariants as cames
 use Rattle.seat_tries.proofs.Doing.{makes-after}
 use Rattle.seat_tries.proofs.Found.{lacking_none, passes-by, turn-known}
-use Rattle.seat_tries.proofs.Sought.{had-free, makes-own, misses, missed}
+use Rattle.seat_tries.proofs.Searched.{had-free, makes-own, misses, missed}
 use Rattle.seat_tries.proofs.seeking.make_here.Goals as goal
 
 pub returns-in-Ok-with_free-clause-makes : goal.returns-in-Ok-with_free-clause-makes

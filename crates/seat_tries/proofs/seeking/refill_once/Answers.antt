@@ -4,7 +4,7 @@ use Rattle.gc_table.specs.Seats.{view_of}
 use Rattle.mutator_turns.proofs.Leaving.{leaves-join}
 use Rattle.seat_tries.proofs.Counted.{pieces-first}
 use Rattle.seat_tries.proofs.Found.{err-weaker}
-use Rattle.seat_tries.proofs.Sought.{fails-first, given-up, had-free}
+use Rattle.seat_tries.proofs.Searched.{fails-first, given-up, had-free}
 use Rattle.seat_tries.proofs.seeking.refill_once.Goals as goal
 
 pub returns-in-Ok-clause-sought : goal.returns-in-Ok-clause-sought

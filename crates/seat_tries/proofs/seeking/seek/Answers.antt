@@ -9,7 +9,7 @@ use Rattle.mutator_ops.specs.Few.{AtMost}
 use Rattle.mutator_ops.proofs.Few.{at-most-more}
 use Rattle.seat_tries.proofs.Counted.{either-few}
 use Rattle.seat_tries.proofs.Found.{arrives-few, err-both}
-use Rattle.seat_tries.proofs.Sought.{fails, has-free, lacked, seeks, seeks-full}
+use Rattle.seat_tries.proofs.Searched.{fails, has-free, lacked, seeks, seeks-full}
 use Rattle.seat_tries.proofs.seeking.seek.Goals as goal
 
 pub returns-in-Ok-clause-leaves : goal.returns-in-Ok-clause-leaves

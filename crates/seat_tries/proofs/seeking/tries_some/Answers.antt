@@ -5,7 +5,7 @@ use Rattle.gc_table.specs.Seats.{did, view_of}
 use Rattle.cache_refills.specs.Pace.Pacing.{card_looks}
 use Rattle.cache_refills.specs.Pace.StepBounds.{payment_steps}
 use Rattle.mutator_turns.proofs.Leaving.{leaves-spared}
-use Rattle.seat_tries.proofs.Sought.{stands-after, tries-piece}
+use Rattle.seat_tries.proofs.Searched.{stands-after, tries-piece}
 use Rattle.seat_tries.proofs.seeking.tries_some.Goals as goal
 
 pub returns-clause-stands : goal.returns-clause-stands
