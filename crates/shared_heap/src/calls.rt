@@ -1,6 +1,6 @@
 //! What a mutator of a shared world does.
 ghost use Rattle.std.specs.Arc.{arc_value};
-ghost use Rattle.std.specs.Prelude.{◌≡◌, ◌<◌, ◌+◌, IfErr, IfOk, IsFalse, IsTrue, false};
+ghost use Rattle.std.specs.Prelude.{◌≡◌, ◌<◌, ◌+◌, IfErr, IfOk, false};
 ghost use Rattle.mark_core.specs.Steps.MutatorSteps.{seat_variable as word_in};
 ghost use Rattle.plain_heap.specs.declared.operation.Op.TheVariants as ops;
 ghost use Rattle.gc_table.specs.Seats.{Across, state_of};
@@ -8,7 +8,7 @@ ghost use Rattle.mutator_ops.specs.Few.{AtMost};
 ghost use Rattle.mutator_ops.specs.Sharing.{LendsFound, SetsVariable, TakesSteps, putting_steps, setting_steps};
 ghost use Rattle.mutator_turns.specs.Coming.{CollectsAtTurn, CollectsNone, EntersFull, MakesNoneAtTurn, MakesSharedAtTurn, PollsOutWith, PollsWith, WithOwn};
 ghost use Rattle.mutator_turns.specs.Sharing.{FollowsField, MakesSharedAfter};
-ghost use Rattle.shared_heap.specs.Calls.{CantEnter, FindsValue, HasNoRoot, HasPassed, MakesNone, ReadsNone, RefusedBy, Refuses, SharerCollected, SharerDoes, SharerEntered, SharerLeft, SharerRefused, StaysOut};
+ghost use Rattle.shared_heap.specs.Calls.{CantEnter, FindsValue, HasNoRoot, HasPassed, MakesNone, ReadsNone, RefusedBy, SharerCollected, SharerDoes, SharerEntered, SharerLeft, SharerRefused, StaysOut};
 
 use crate::mutator::{Place, SharedMutator};
 use cache_refills::Unwatched;
@@ -266,36 +266,6 @@ impl SharedMutator {
                 Some(value) => Ok(value),
                 None => Err(Refused::Nil),
             },
-        }
-    }
-
-    /// Whether variable v refers to nothing.
-    pub fn is_nil(&self, v: u8) -> Result<bool, Refused>
-        ensures nil { IfOk result (λ nil. IsTrue nil → word_in (state_of self.now.seat) v ≡ 0) }
-        ensures some { IfOk result (λ nil. IsFalse nil → word_in (state_of self.now.seat) v ≡ 0 → ⊥) }
-        ensures refused { IfErr result (λ e. Refuses e (ops.Say v) self.now) }
-    {
-        if v >= VARIABLES {
-            return Err(Refused::OutOfRange);
-        }
-        match self.place {
-            Place::Outside => Err(Refused::Outside),
-            Place::Inside => Ok(word_of(&self.seat, v) == 0),
-        }
-    }
-
-    /// Whether variables v and w refer to one object, or both to nothing: their words are the same.
-    pub fn same(&self, v: u8, w: u8) -> Result<bool, Refused>
-        ensures one { IfOk result (λ one. IsTrue one → word_in (state_of self.now.seat) v ≡ word_in (state_of self.now.seat) w) }
-        ensures two { IfOk result (λ one. IsFalse one → word_in (state_of self.now.seat) v ≡ word_in (state_of self.now.seat) w → ⊥) }
-        ensures refused { IfErr result (λ e. Refuses e (ops.Let v w) self.now) }
-    {
-        if v >= VARIABLES || w >= VARIABLES {
-            return Err(Refused::OutOfRange);
-        }
-        match self.place {
-            Place::Outside => Err(Refused::Outside),
-            Place::Inside => Ok(word_of(&self.seat, v) == word_of(&self.seat, w)),
         }
     }
 }

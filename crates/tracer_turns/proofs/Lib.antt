@@ -1,4 +1,4 @@
 mod Sparing
 mod Tallying
 mod Visiting
-mod Waiting
+mod Turns

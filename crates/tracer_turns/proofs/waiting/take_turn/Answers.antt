@@ -3,7 +3,7 @@ use Rattle.gc_table.specs.Seats.{view_of}
 use Rattle.tracer_turns.specs.Trying.{TriesTurn}
 use Rattle.tracer_turns.specs.declared.try_turns.TryTurn.{TryTurn}
 use Rattle.tracer_turns.proofs.Tallying.{tallies-join, tallies-only}
-use Rattle.tracer_turns.proofs.Waiting.{dismissed, full, helped, idle, marked}
+use Rattle.tracer_turns.proofs.Turns.{dismissed, full, helped, idle, marked}
 use Rattle.tracer_turns.proofs.waiting.take_turn.Goals as goal
 
 pub returns-in-Marked-clause-turn : goal.returns-in-Marked-clause-turn
