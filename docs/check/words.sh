@@ -19,7 +19,7 @@ dear@expensive
 (go|goes) by@split by, use, or depend on
 WORDS
 cut -d@ -f1 "$1/discarded" | tr '\n' '|' | sed 's/|$//' >"$1/any"
-for text in README.md docs/*.md bench/README.md bench/results/*.md tests/README.md tests/bodies/README.md crates/*/README.md; do
+for text in README.md CONTRIBUTING.md docs/*.md bench/README.md bench/results/*.md tests/README.md tests/bodies/README.md crates/*/README.md; do
     awk '/^ *```/ { inside = !inside } { print inside || /^    [^ -]/ ? "" : $0 }' "$text" | sed 's/`[^`]*`/``/g' >"$1/prose"
     grep -qwiE -e "$(cat "$1/any")" "$1/prose" || continue
     while IFS=@ read -r discarded used; do
