@@ -5,10 +5,10 @@ ghost use Rattle.test_operations.specs.Seats.{IsReadyMutator};
 ghost use Rattle.test_heaps.specs.Seats.{IsReadyWithCache};
 
 use super::objects::{gives_up, link, publish, take};
-use super::seasons::begin;
+use super::opening::begun;
 use alloc_cache::{Cache, claim, retire};
 use gc_table::{Heap, HeapSeat};
-use test_heaps::{SMALL, make, next_seat, open};
+use test_heaps::{SMALL, make};
 
 /// Whether the catalogue's seat finds no block.
 fn finds_none(heap: &Heap, seat: &mut HeapSeat) -> bool
@@ -104,48 +104,24 @@ fn links(heap: &Heap, seat: &mut HeapSeat) -> Option<(bool, bool)>
 
 #[test]
 fn a_block_has_one_owner(rt: HostRuntime) {
-    let Some((heap, mut seats)) = open(rt.alloc(), SMALL, 3) else {
-        panic!(&rt; "memory")
-    };
-    let mut zero = next_seat(&heap, &mut seats, 0);
-    let mut one = next_seat(&heap, &mut seats, 1);
-    let begun = begin(&rt, &heap, &mut zero, &mut one);
-    assert!(&rt; begun);
+    let (heap, mut zero, mut one, _two) = begun(&rt, SMALL);
     assert!(&rt; claims(&heap, &mut zero, &mut one) == Some((0, 64, true)));
 }
 
 #[test]
 fn a_block_has_room_for_its_cells(rt: HostRuntime) {
-    let Some((heap, mut seats)) = open(rt.alloc(), SMALL, 3) else {
-        panic!(&rt; "memory")
-    };
-    let mut zero = next_seat(&heap, &mut seats, 0);
-    let mut one = next_seat(&heap, &mut seats, 1);
-    let begun = begin(&rt, &heap, &mut zero, &mut one);
-    assert!(&rt; begun);
+    let (heap, _zero, mut one, _two) = begun(&rt, SMALL);
     assert!(&rt; fills(&heap, &mut one) == Some(64));
 }
 
 #[test]
 fn what_was_given_up_is_claimed_again(rt: HostRuntime) {
-    let Some((heap, mut seats)) = open(rt.alloc(), SMALL, 3) else {
-        panic!(&rt; "memory")
-    };
-    let mut zero = next_seat(&heap, &mut seats, 0);
-    let mut one = next_seat(&heap, &mut seats, 1);
-    let begun = begin(&rt, &heap, &mut zero, &mut one);
-    assert!(&rt; begun);
+    let (heap, _zero, mut one, _two) = begun(&rt, SMALL);
     assert!(&rt; claims_rest(&heap, &mut one) == Some((0, 62)));
 }
 
 #[test]
 fn a_store_dirties_the_card_of_a_published_object(rt: HostRuntime) {
-    let Some((heap, mut seats)) = open(rt.alloc(), SMALL, 3) else {
-        panic!(&rt; "memory")
-    };
-    let mut zero = next_seat(&heap, &mut seats, 0);
-    let mut one = next_seat(&heap, &mut seats, 1);
-    let begun = begin(&rt, &heap, &mut zero, &mut one);
-    assert!(&rt; begun);
+    let (heap, _zero, mut one, _two) = begun(&rt, SMALL);
     assert!(&rt; links(&heap, &mut one) == Some((false, true)));
 }

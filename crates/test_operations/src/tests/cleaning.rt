@@ -6,12 +6,11 @@ ghost use Rattle.test_operations.specs.Seats.{IsReadyMutator, playing};
 
 use super::FOUR;
 use super::objects::{gives_up, link, make_three, publish, take};
-use super::seasons::begin;
+use super::opening::begun;
 use super::tracing::{is_idle, scans, traces};
 use card_clean::{Cleaned, clean_card, clean_dirty, clean_one, next_card};
 use gc_table::{Heap, HeapSeat};
 use packet_pools::{give, take_output};
-use test_heaps::{next_seat, open};
 
 fn draw(heap: &Heap, seat: &mut HeapSeat) -> Option<u32>
     requires { At heap.now playing 1 seat.old }
@@ -91,13 +90,7 @@ fn cleans_dirty(heap: &Heap, seat: &mut HeapSeat) -> Option<(u32, u32)>
 
 #[test]
 fn a_clean_card_stays_clean(rt: HostRuntime) {
-    let Some((heap, mut seats)) = open(rt.alloc(), FOUR, 3) else {
-        panic!(&rt; "memory")
-    };
-    let mut zero = next_seat(&heap, &mut seats, 0);
-    let mut one = next_seat(&heap, &mut seats, 1);
-    let begun = begin(&rt, &heap, &mut zero, &mut one);
-    assert!(&rt; begun);
+    let (heap, _zero, mut one, _two) = begun(&rt, FOUR);
     let wanted = Cleaned {
         rescanned: 0,
         redirtied: false,
@@ -107,25 +100,13 @@ fn a_clean_card_stays_clean(rt: HostRuntime) {
 
 #[test]
 fn the_pass_gives_out_each_card_once(rt: HostRuntime) {
-    let Some((heap, mut seats)) = open(rt.alloc(), FOUR, 3) else {
-        panic!(&rt; "memory")
-    };
-    let mut zero = next_seat(&heap, &mut seats, 0);
-    let mut one = next_seat(&heap, &mut seats, 1);
-    let begun = begin(&rt, &heap, &mut zero, &mut one);
-    assert!(&rt; begun);
+    let (heap, _zero, mut one, _two) = begun(&rt, FOUR);
     assert!(&rt; five_cards(&heap, &mut one) == [Some(0), Some(1), Some(2), Some(3), None]);
 }
 
 #[test]
 fn a_dirty_card_is_scanned_again(rt: HostRuntime) {
-    let Some((heap, mut seats)) = open(rt.alloc(), FOUR, 3) else {
-        panic!(&rt; "memory")
-    };
-    let mut zero = next_seat(&heap, &mut seats, 0);
-    let mut one = next_seat(&heap, &mut seats, 1);
-    let begun = begin(&rt, &heap, &mut zero, &mut one);
-    assert!(&rt; begun);
+    let (heap, _zero, mut one, _two) = begun(&rt, FOUR);
     let wanted = Cleaned {
         rescanned: 3,
         redirtied: false,
@@ -135,12 +116,6 @@ fn a_dirty_card_is_scanned_again(rt: HostRuntime) {
 
 #[test]
 fn dirty_cards_are_scanned_again(rt: HostRuntime) {
-    let Some((heap, mut seats)) = open(rt.alloc(), FOUR, 3) else {
-        panic!(&rt; "memory")
-    };
-    let mut zero = next_seat(&heap, &mut seats, 0);
-    let mut one = next_seat(&heap, &mut seats, 1);
-    let begun = begin(&rt, &heap, &mut zero, &mut one);
-    assert!(&rt; begun);
+    let (heap, _zero, mut one, _two) = begun(&rt, FOUR);
     assert!(&rt; cleans_dirty(&heap, &mut one) == Some((3, 0)));
 }

@@ -5,11 +5,11 @@ ghost use Rattle.gc_table.specs.Seats.{state_of};
 ghost use Rattle.test_operations.specs.Seats.{IsReadyMutator};
 
 use super::objects::{gives_up, take};
-use super::seasons::begin;
+use super::opening::begun;
 use gc_table::{Heap, HeapSeat};
 use mutator_ops::{assign, clear, command, follow, lend, put, say, set, sum};
 use plain_heap::{Line, Op};
-use test_heaps::{SMALL, make, next_seat, open};
+use test_heaps::{SMALL, make};
 
 /// Whether the seat is a warehouse's.
 fn is_warehouse(seat: &HeapSeat) -> bool
@@ -95,13 +95,7 @@ fn commands(heap: &Heap, seat: &mut HeapSeat) -> Option<(bool, Option<Line>)>
 
 #[test]
 fn commands_print_what_was_stored(rt: HostRuntime) {
-    let Some((heap, mut seats)) = open(rt.alloc(), SMALL, 3) else {
-        panic!(&rt; "memory")
-    };
-    let mut zero = next_seat(&heap, &mut seats, 0);
-    let mut one = next_seat(&heap, &mut seats, 1);
-    let begun = begin(&rt, &heap, &mut zero, &mut one);
-    assert!(&rt; begun);
+    let (heap, _zero, mut one, _two) = begun(&rt, SMALL);
     let wanted = [
         Line::Walk {
             count: 2,
@@ -116,13 +110,7 @@ fn commands_print_what_was_stored(rt: HostRuntime) {
 
 #[test]
 fn any_command_is_done_by_its_operation(rt: HostRuntime) {
-    let Some((heap, mut seats)) = open(rt.alloc(), SMALL, 3) else {
-        panic!(&rt; "memory")
-    };
-    let mut zero = next_seat(&heap, &mut seats, 0);
-    let mut one = next_seat(&heap, &mut seats, 1);
-    let begun = begin(&rt, &heap, &mut zero, &mut one);
-    assert!(&rt; begun);
+    let (heap, _zero, mut one, _two) = begun(&rt, SMALL);
     let line = Line::Walk {
         count: 2,
         total: 12,

@@ -6,11 +6,11 @@ ghost use Rattle.test_operations.specs.Seats.{IsReadyMutator};
 
 use super::DEEP;
 use super::objects::{gives_up, make_three, publish, take};
-use super::seasons::begin;
+use super::opening::begun;
 use super::tracing::{scans, traces};
 use gc_table::{Heap, HeapSeat};
 use packet_pools::{give, take_input, take_output};
-use test_heaps::{make, next_seat, open};
+use test_heaps::make;
 
 /// Two objects are put in one packet, and a third in the other.
 fn fills_both(heap: &Heap, seat: &mut HeapSeat) -> bool
@@ -60,28 +60,33 @@ fn filled_in_order(heap: &Heap, seat: &mut HeapSeat, k: u32) -> Option<(u32, u32
     Some(lengths)
 }
 
+/// The lengths of the two packets, in the order in which they are taken to read from, or to be filled.
+fn taken_in_order(
+    heap: &Heap,
+    zero: &mut HeapSeat,
+    one: &mut HeapSeat,
+    reads: bool,
+) -> Option<(u32, u32)>
+    requires { At heap.now inside 0 zero.old × IsReadyMutator heap.now one.old }
+{
+    if heap.shape().fields < 2 || !fills_both(heap, one) {
+        return None;
+    }
+    if reads {
+        read_in_order(heap, zero, 0)
+    } else {
+        filled_in_order(heap, zero, 0)
+    }
+}
+
 #[test]
 fn the_fuller_packet_is_read_first(rt: HostRuntime) {
-    let Some((heap, mut seats)) = open(rt.alloc(), DEEP, 3) else {
-        panic!(&rt; "memory")
-    };
-    let mut zero = next_seat(&heap, &mut seats, 0);
-    let mut one = next_seat(&heap, &mut seats, 1);
-    let begun = begin(&rt, &heap, &mut zero, &mut one);
-    assert!(&rt; begun);
-    assert!(&rt; fills_both(&heap, &mut one));
-    assert!(&rt; read_in_order(&heap, &mut zero, 0) == Some((2, 1)));
+    let (heap, mut zero, mut one, _two) = begun(&rt, DEEP);
+    assert!(&rt; taken_in_order(&heap, &mut zero, &mut one, true) == Some((2, 1)));
 }
 
 #[test]
 fn the_emptier_packet_is_filled_first(rt: HostRuntime) {
-    let Some((heap, mut seats)) = open(rt.alloc(), DEEP, 3) else {
-        panic!(&rt; "memory")
-    };
-    let mut zero = next_seat(&heap, &mut seats, 0);
-    let mut one = next_seat(&heap, &mut seats, 1);
-    let begun = begin(&rt, &heap, &mut zero, &mut one);
-    assert!(&rt; begun);
-    assert!(&rt; fills_both(&heap, &mut one));
-    assert!(&rt; filled_in_order(&heap, &mut zero, 0) == Some((1, 2)));
+    let (heap, mut zero, mut one, _two) = begun(&rt, DEEP);
+    assert!(&rt; taken_in_order(&heap, &mut zero, &mut one, false) == Some((1, 2)));
 }

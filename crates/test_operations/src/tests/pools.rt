@@ -8,11 +8,12 @@ ghost use Rattle.gc_table.specs.SeatRecords.{At, inside, resting};
 ghost use Rattle.packet_pools.specs.Tracing.{IsTracer};
 
 use super::meeting::Meeting;
+use super::opening::opened;
 use gc_table::{Heap, HeapSeat};
 use packet_pools::{all_empty, give, pop, take_deferred, take_input, take_output};
 use std::sync::Wait;
 use std::thread::{Threads, join_mut};
-use test_heaps::{SMALL, enters, next_seat, open, sees_marking, try_marking};
+use test_heaps::{SMALL, enters, sees_marking, try_marking};
 
 /// The seat begins to mark.
 fn begin(heap: &Heap, seat: &mut HeapSeat, k: u32) -> bool
@@ -183,39 +184,25 @@ fn first_answers(heap: &Heap, seat: &mut HeapSeat) -> Option<(bool, bool)>
 
 #[test]
 fn answers(rt: HostRuntime) {
-    let Some((heap, mut seats)) = open(rt.alloc(), SMALL, 3) else {
-        panic!(&rt; "memory")
-    };
-    let mut seat = next_seat(&heap, &mut seats, 0);
+    let (heap, mut seat, _one, _two) = opened(&rt, SMALL);
     assert!(&rt; first_answers(&heap, &mut seat) == Some((false, true)));
 }
 
 #[test]
 fn quiet(rt: HostRuntime) {
-    let Some((heap, mut seats)) = open(rt.alloc(), SMALL, 3) else {
-        panic!(&rt; "memory")
-    };
-    let mut seat = next_seat(&heap, &mut seats, 0);
+    let (heap, mut seat, _one, _two) = opened(&rt, SMALL);
     assert!(&rt; one_packet(&heap, &mut seat, 0) == Some((0, false, true)));
 }
 
 #[test]
 fn no_third(rt: HostRuntime) {
-    let Some((heap, mut seats)) = open(rt.alloc(), SMALL, 3) else {
-        panic!(&rt; "memory")
-    };
-    let mut seat = next_seat(&heap, &mut seats, 0);
+    let (heap, mut seat, _one, _two) = opened(&rt, SMALL);
     assert!(&rt; third_packet(&heap, &mut seat, 0) == Some(false));
 }
 
 #[test]
 fn two_threads(rt: HostRuntime) {
-    let Some((heap, mut seats)) = open(rt.alloc(), SMALL, 3) else {
-        panic!(&rt; "memory")
-    };
-    let mut one = next_seat(&heap, &mut seats, 0);
-    let mut two = next_seat(&heap, &mut seats, 1);
-    let mut other = next_seat(&heap, &mut seats, 2);
+    let (heap, mut one, mut two, mut other) = opened(&rt, SMALL);
     let meeting = Meeting::of(2);
     let done = both(&rt, &heap, &mut one, &mut two, 0, 1, &meeting);
     assert!(&rt; meeting.is_met());

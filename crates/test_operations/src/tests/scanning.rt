@@ -1,4 +1,4 @@
-//! What is left of an object in scan is marked, and goes into a packet.
+//! What is left of an object in scan is marked, and goes into packets as long as one has room.
 ghost use Rattle.std.specs.Prelude.{◌<◌, None, false, IsFalse, IsTrue};
 ghost use Rattle.std.specs.Bool.{OnTrue};
 ghost use Rattle.mark_core.specs.Held.{has_free_slot};
@@ -11,55 +11,46 @@ ghost use Rattle.tracer.specs.Parts.{HasPopped};
 ghost use Rattle.test_operations.specs.Seats.{IsReadyMutator};
 ghost use Rattle.test_heaps.specs.Seats.{IsReadyWithCache};
 
-use super::FOUR;
-use super::objects::{gives_up, link, make_three, publish, take};
-use super::seasons::begin;
+use super::objects::{gives_up, link, publish, take};
+use super::opening::begun;
 use super::tracing::{is_idle, scans};
 use alloc_cache::Cache;
 use gc_table::{Heap, HeapSeat};
-use mark_core::{BLOCK_CELLS, Cell, has_bit};
+use mark_core::{BLOCK_CELLS, Cell, Shape, has_bit};
 use packet_pools::{Held, Scanned, give, pop, scan_cell, take_input};
 use std::process::Abort;
-use test_heaps::{forget, make, next_seat, open};
+use test_heaps::{SMALL, forget, make};
 
 /// What a scan came to, and how many cells were in the packet after it.
 type Filled = (Scanned, u32);
 
-/// An object in variable 0, whose fields 0 and 1 both lead to one that no variable names.
-fn make_two(heap: &Heap, seat: &mut HeapSeat, cache: &mut Cache)
-    requires fields { 1 < heap.now.shape.fields }
+/// Two packets of two entries, and objects of six fields.
+const WIDE: Shape = Shape { fields: 6, ..SMALL };
+
+/// An object in variable 0. Its first fields lead to so many others that no variable names, and the field behind them to the last of these.
+fn make_star(heap: &Heap, seat: &mut HeapSeat, cache: &mut Cache, others: u8)
+    requires fields { others < heap.now.shape.fields }
     requires fills { IsReadyWithCache heap.now seat.old cache.old }
     ensures { IsReadyWithCache heap.now seat.new cache.new }
 {
     make(heap, seat, cache, 0, 7);
-    make(heap, seat, cache, 1, 8);
-    link(heap, seat, cache, 0, 0, 1);
-    link(heap, seat, cache, 0, 1, 1);
+    for i in 0..others {
+        make(heap, seat, cache, 1, 8);
+        link(heap, seat, cache, 0, i, 1);
+    }
+    link(heap, seat, cache, 0, others, 1);
     forget(heap, seat, cache, 1);
 }
 
-/// An object in variable 0, whose fields 0 and 1 lead to two others, or both to one.
-fn make_linked(heap: &Heap, seat: &mut HeapSeat, cache: &mut Cache, two: bool)
-    requires fields { 1 < heap.now.shape.fields }
-    requires fills { IsReadyWithCache heap.now seat.old cache.old }
-    ensures { IsReadyWithCache heap.now seat.new cache.new }
-{
-    if two {
-        make_three(heap, seat, cache);
-    } else {
-        make_two(heap, seat, cache);
-    }
-}
-
 /// The object in variable 0 is marked, and is put in a packet.
-fn marks_root(heap: &Heap, seat: &mut HeapSeat, two: bool) -> bool
-    requires { IsReadyMutator heap.now seat.old × (1 < heap.now.shape.fields) }
+fn marks_root(heap: &Heap, seat: &mut HeapSeat, others: u8) -> bool
+    requires { IsReadyMutator heap.now seat.old × (others < heap.now.shape.fields) }
     ensures { OnTrue result (IsReadyMutator heap.now seat.new) }
 {
     let Some(mut cache) = take(heap, seat) else {
         return false;
     };
-    make_linked(heap, seat, &mut cache, two);
+    make_star(heap, seat, &mut cache, others);
     publish(heap, seat, &mut cache);
     scans(heap, seat, &cache);
     gives_up(heap, seat, cache);
@@ -114,50 +105,36 @@ fn scans_popped<R: Abort>(rt: &R, heap: &Heap, seat: &mut HeapSeat) -> Option<(F
     Some(found)
 }
 
-/// What is marked of an object that leads to two others, or to one, where it is popped and scanned into the same packet.
+/// What is marked of an object that leads to so many others, if it is popped and scanned into the same packet.
 fn answers<R: Abort>(
     rt: &R,
     heap: &Heap,
     seat: &mut HeapSeat,
-    two: bool,
+    others: u8,
 ) -> Option<(Filled, Filled)>
     requires { IsReadyMutator heap.now seat.old }
 {
-    if heap.shape().fields < 2 || !marks_root(heap, seat, two) {
+    if u32::from(others) >= heap.shape().fields || !marks_root(heap, seat, others) {
         return None;
     }
     scans_popped(rt, heap, seat)
 }
 
-fn marked(marked: u32) -> Scanned {
-    Scanned {
-        marked,
-        overflowed: 0,
+/// To how many others an object leads, how many of them find no packet with room, and how many cells are in the packet that the seat then holds.
+const ROWS: [(u8, u32, u32); 4] = [(1, 0, 1), (2, 0, 2), (3, 0, 1), (5, 1, 2)];
+
+#[test]
+fn each_object_that_a_field_leads_to_is_marked_once(rt: HostRuntime) {
+    for (others, overflowed, length) in ROWS {
+        let (heap, _zero, mut one, _two) = begun(&rt, WIDE);
+        let first = Scanned {
+            marked: u32::from(others),
+            overflowed,
+        };
+        let found = answers(&rt, &heap, &mut one, others);
+        assert!(&rt;
+            found == Some(((first, length), (Scanned::none(), length))),
+            "{others}"
+        );
     }
-}
-
-#[test]
-fn each_object_that_a_field_leads_to_is_marked(rt: HostRuntime) {
-    let Some((heap, mut seats)) = open(rt.alloc(), FOUR, 3) else {
-        panic!(&rt; "memory")
-    };
-    let mut zero = next_seat(&heap, &mut seats, 0);
-    let mut one = next_seat(&heap, &mut seats, 1);
-    let begun = begin(&rt, &heap, &mut zero, &mut one);
-    assert!(&rt; begun);
-    let found = answers(&rt, &heap, &mut one, true);
-    assert!(&rt; found == Some(((marked(2), 2), (marked(0), 2))));
-}
-
-#[test]
-fn an_object_that_two_fields_lead_to_is_marked_once(rt: HostRuntime) {
-    let Some((heap, mut seats)) = open(rt.alloc(), FOUR, 3) else {
-        panic!(&rt; "memory")
-    };
-    let mut zero = next_seat(&heap, &mut seats, 0);
-    let mut one = next_seat(&heap, &mut seats, 1);
-    let begun = begin(&rt, &heap, &mut zero, &mut one);
-    assert!(&rt; begun);
-    let found = answers(&rt, &heap, &mut one, false);
-    assert!(&rt; found == Some(((marked(1), 1), (marked(0), 1))));
 }

@@ -8,13 +8,14 @@ ghost use Rattle.gc_table.specs.SeatRecords.{At, resting};
 ghost use Rattle.stop_world.specs.Gates.{IsOpenable};
 ghost use Rattle.stop_world.specs.StopRecords.{stopped};
 
+use super::opening::opened;
 use gc_table::{Heap, HeapSeat};
 use mark_core::Phase;
 use std::sync::Wait;
 use stop_world::{
     Raised, await_resumed, close_help, enter, join_help, leave_help, open_help, poll, raise,
 };
-use test_heaps::{SMALL, drains, goes_on, next_seat, next_turn, open, raises_own, stops_idle};
+use test_heaps::{SMALL, drains, goes_on, next_turn, raises_own, stops_idle};
 
 /// What becomes of the flag when a seat finds it free.
 fn raises(heap: &Heap, seat: &mut HeapSeat) -> bool
@@ -92,11 +93,7 @@ fn shares<R: Wait>(
 
 #[test]
 fn another_flag_is_theirs(rt: HostRuntime) {
-    let Some((heap, mut seats)) = open(rt.alloc(), SMALL, 3) else {
-        panic!(&rt; "memory")
-    };
-    let mut zero = next_seat(&heap, &mut seats, 0);
-    let mut one = next_seat(&heap, &mut seats, 1);
+    let (heap, mut zero, mut one, _two) = opened(&rt, SMALL);
     let turned = next_turn(&rt, &heap, &mut zero);
     assert!(&rt; turned);
     assert!(&rt; raises(&heap, &mut one));
@@ -105,19 +102,12 @@ fn another_flag_is_theirs(rt: HostRuntime) {
 
 #[test]
 fn the_world_stops_and_goes_on(rt: HostRuntime) {
-    let Some((heap, mut seats)) = open(rt.alloc(), SMALL, 3) else {
-        panic!(&rt; "memory")
-    };
-    let mut zero = next_seat(&heap, &mut seats, 0);
+    let (heap, mut zero, _one, _two) = opened(&rt, SMALL);
     assert!(&rt; stops(&rt, &heap, &mut zero, 0));
 }
 
 #[test]
 fn a_helper_is_let_in(rt: HostRuntime) {
-    let Some((heap, mut seats)) = open(rt.alloc(), SMALL, 3) else {
-        panic!(&rt; "memory")
-    };
-    let mut zero = next_seat(&heap, &mut seats, 0);
-    let mut one = next_seat(&heap, &mut seats, 1);
+    let (heap, mut zero, mut one, _two) = opened(&rt, SMALL);
     assert!(&rt; shares(&rt, &heap, &mut zero, &mut one, 0, 1));
 }

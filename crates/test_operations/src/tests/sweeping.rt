@@ -1,6 +1,7 @@
 //! A stop in which a drain ends, and then every block is swept, or cleared of its marks.
-ghost use Rattle.std.specs.Prelude.{◌<◌, IfSome};
+ghost use Rattle.std.specs.Prelude.{◌<◌};
 ghost use Rattle.std.specs.Bool.{OnTrue};
+ghost use Rattle.mark_core.specs.Shapes.{IsShape};
 ghost use Rattle.mark_core.specs.declared.kinds.Phase.TheVariants.{Clear, Sweep};
 ghost use Rattle.gc_table.specs.Running.{Alone};
 ghost use Rattle.gc_table.specs.Seats.{Sits, view_of};
@@ -11,17 +12,18 @@ ghost use Rattle.test_heaps.specs.Seats.{HasEachObject, IsReadyWithCache, New};
 
 use super::FOUR;
 use super::objects::make_three;
+use super::opening::opened;
 use super::seasons::joins;
 use alloc_cache::{Cache, retire};
 use card_clean::{is_drained, see_to_roots};
 use gc_table::{Heap, HeapSeat};
 use mark_core::{Phase, Shape};
-use std::alloc::Global;
+use std::process::Abort;
 use std::sync::Wait;
 use sweeper::{Swept, clear_marks_next, clear_rest, end_clear, end_sweep, sweep_next, sweep_rest};
 use test_heaps::{
-    SMALL, are_bare, begins_sweep, drains, forget, holds_nothing, leaves, make, next_seat,
-    next_turn, open, raises_own, resets, scans_all, stops_idle, take, work_in_hand,
+    SMALL, are_bare, begins_sweep, drains, forget, holds_nothing, leaves, make, next_turn,
+    raises_own, resets, scans_all, stops_idle, take, work_in_hand,
 };
 use tracer::trace;
 
@@ -163,12 +165,7 @@ const STRETCHES: Shape = Shape {
 /// Of five objects three stay: two cells of the block are freed.
 #[test]
 fn each_block_is_swept_once(rt: HostRuntime) {
-    let Some((heap, mut seats)) = open(rt.alloc(), FOUR, 3) else {
-        panic!(&rt; "memory")
-    };
-    let mut zero = next_seat(&heap, &mut seats, 0);
-    let mut one = next_seat(&heap, &mut seats, 1);
-    let mut two = next_seat(&heap, &mut seats, 2);
+    let (heap, mut zero, mut one, mut two) = opened(&rt, FOUR);
     let turned = next_turn(&rt, &heap, &mut zero);
     assert!(&rt; turned);
     let played = plays(&heap, &mut one);
@@ -179,49 +176,36 @@ fn each_block_is_swept_once(rt: HostRuntime) {
     assert!(&rt; sweeps_all(&heap, &mut two) == Some((Some((0, 1, 2)), None, 0)));
 }
 
+/// A heap in which nothing was made, and the seat that ended a drain in it.
+fn drained<R: Abort + AllocGlobal + Wait>(rt: &R, shape: Shape) -> (Heap, HeapSeat)
+    requires { IsShape shape × (0 < shape.sections) }
+    ensures { Sits result.0 result.1 × IsDrained (view_of result.1) }
+{
+    let (heap, mut zero, mut one, _two) = opened(rt, shape);
+    if !next_turn(rt, &heap, &mut zero) || !ends_drain(rt, &heap, &mut one, 1) {
+        panic!(rt; "it doesn't end");
+    }
+    (heap, one)
+}
+
 #[test]
 fn each_block_is_cleared_once(rt: HostRuntime) {
-    let Some((heap, mut seats)) = open(rt.alloc(), SMALL, 3) else {
-        panic!(&rt; "memory")
-    };
-    let mut zero = next_seat(&heap, &mut seats, 0);
-    let mut one = next_seat(&heap, &mut seats, 1);
-    let turned = next_turn(&rt, &heap, &mut zero);
-    assert!(&rt; turned);
-    let ended = ends_drain(&rt, &heap, &mut one, 1);
-    assert!(&rt; ended);
-    begins_clear(&heap, &mut one);
-    assert!(&rt; clears_all(&heap, &mut one) == Some((Some(0), None)));
-}
-
-/// A drain ends in a heap of five blocks, by seat 1.
-fn ends_drain_of_five<R: Wait>(rt: &R, alloc: Global) -> Option<(Heap, HeapSeat)>
-    ensures { IfSome result (λ r. Sits r.0 r.1 × IsDrained (view_of r.1)) }
-{
-    let (heap, mut seats) = open(alloc, STRETCHES, 3)?;
-    let mut zero = next_seat(&heap, &mut seats, 0);
-    let mut one = next_seat(&heap, &mut seats, 1);
-    if !next_turn(rt, &heap, &mut zero) || !ends_drain(rt, &heap, &mut one, 1) {
-        return None;
-    }
-    Some((heap, one))
-}
-
-#[test]
-fn stretches_are_swept_once(rt: HostRuntime) {
-    let Some((heap, mut seat)) = ends_drain_of_five(&rt, rt.alloc()) else {
-        panic!(&rt; "memory")
-    };
-    begins_sweep(&heap, &mut seat);
-    let swept = sweeps_all(&heap, &mut seat);
-    assert!(&rt; swept == Some((Some((0, 2, 0)), Some((2, 2, 0)), 0)));
+    let (heap, mut seat) = drained(&rt, SMALL);
+    begins_clear(&heap, &mut seat);
+    assert!(&rt; clears_all(&heap, &mut seat) == Some((Some(0), None)));
 }
 
 #[test]
 fn stretches_are_cleared_once(rt: HostRuntime) {
-    let Some((heap, mut seat)) = ends_drain_of_five(&rt, rt.alloc()) else {
-        panic!(&rt; "memory")
-    };
+    let (heap, mut seat) = drained(&rt, STRETCHES);
     begins_clear(&heap, &mut seat);
     assert!(&rt; clears_all(&heap, &mut seat) == Some((Some(0), Some(2))));
+}
+
+#[test]
+fn stretches_are_swept_once(rt: HostRuntime) {
+    let (heap, mut seat) = drained(&rt, STRETCHES);
+    begins_sweep(&heap, &mut seat);
+    let swept = sweeps_all(&heap, &mut seat);
+    assert!(&rt; swept == Some((Some((0, 2, 0)), Some((2, 2, 0)), 0)));
 }

@@ -11,14 +11,14 @@ ghost use Rattle.tracer.specs.Hands.{IsIdle};
 use super::FOUR;
 use super::meeting::Meeting;
 use super::objects::{link, make_three, publish, take};
-use super::seasons::begin;
+use super::opening::begun;
 use super::tracing::{recycles, scans, traces};
 use alloc_cache::{Cache, retire};
 use gc_table::{Heap, HeapSeat};
 use packet_pools::all_empty;
 use std::sync::Wait;
 use std::thread::{Threads, join_mut};
-use test_heaps::{enters, next_seat, open, sees_marking};
+use test_heaps::{enters, sees_marking};
 use tracer::trace;
 
 /// A tracer's seat enters, and sees that marking is under way.
@@ -228,14 +228,7 @@ fn hands_over<R: Threads + Wait + Sync>(
 
 #[test]
 fn cells_go_from_thread_to_thread(rt: HostRuntime) {
-    let Some((heap, mut seats)) = open(rt.alloc(), FOUR, 3) else {
-        panic!(&rt; "memory")
-    };
-    let mut zero = next_seat(&heap, &mut seats, 0);
-    let mut one = next_seat(&heap, &mut seats, 1);
-    let mut two = next_seat(&heap, &mut seats, 2);
-    let begun = begin(&rt, &heap, &mut zero, &mut one);
-    assert!(&rt; begun);
+    let (heap, _zero, mut one, mut two) = begun(&rt, FOUR);
     let joined = joins(&heap, &mut two, 2);
     assert!(&rt; joined);
     assert!(&rt; hands_over(&rt, &heap, &mut one, &mut two) == Some(3));
@@ -243,14 +236,7 @@ fn cells_go_from_thread_to_thread(rt: HostRuntime) {
 
 #[test]
 fn all_packets_are_empty_in_the_end(rt: HostRuntime) {
-    let Some((heap, mut seats)) = open(rt.alloc(), FOUR, 3) else {
-        panic!(&rt; "memory")
-    };
-    let mut zero = next_seat(&heap, &mut seats, 0);
-    let mut one = next_seat(&heap, &mut seats, 1);
-    let mut two = next_seat(&heap, &mut seats, 2);
-    let begun = begin(&rt, &heap, &mut zero, &mut one);
-    assert!(&rt; begun);
+    let (heap, mut zero, mut one, mut two) = begun(&rt, FOUR);
     let joined = joins(&heap, &mut two, 2);
     assert!(&rt; joined);
     let meeting = Meeting::of(3);

@@ -6,11 +6,11 @@ ghost use Rattle.test_heaps.specs.Seats.{IsReadyWithCache};
 
 use super::FOUR;
 use super::objects::{make_three, publish, take};
-use super::seasons::begin;
+use super::opening::begun;
 use alloc_cache::{Cache, retire};
 use gc_table::{Heap, HeapSeat};
 use packet_pools::{give, take_deferred};
-use test_heaps::{are_bare, is_marking, next_seat, open};
+use test_heaps::{are_bare, is_marking};
 use tracer::{RootScan, Stopped, Traced, recycle_deferred, scan_roots, trace};
 
 /// Whether the seat marks as a mutator, and holds no packet and no block to sweep.
@@ -146,36 +146,18 @@ fn answers(heap: &Heap, seat: &mut HeapSeat, which: u32) -> Option<bool>
 
 #[test]
 fn published_objects_are_traced(rt: HostRuntime) {
-    let Some((heap, mut seats)) = open(rt.alloc(), FOUR, 3) else {
-        panic!(&rt; "memory")
-    };
-    let mut zero = next_seat(&heap, &mut seats, 0);
-    let mut one = next_seat(&heap, &mut seats, 1);
-    let begun = begin(&rt, &heap, &mut zero, &mut one);
-    assert!(&rt; begun);
+    let (heap, _zero, mut one, _two) = begun(&rt, FOUR);
     assert!(&rt; answers(&heap, &mut one, 0) == Some(true));
 }
 
 #[test]
 fn unpublished_objects_are_put_off(rt: HostRuntime) {
-    let Some((heap, mut seats)) = open(rt.alloc(), FOUR, 3) else {
-        panic!(&rt; "memory")
-    };
-    let mut zero = next_seat(&heap, &mut seats, 0);
-    let mut one = next_seat(&heap, &mut seats, 1);
-    let begun = begin(&rt, &heap, &mut zero, &mut one);
-    assert!(&rt; begun);
+    let (heap, _zero, mut one, _two) = begun(&rt, FOUR);
     assert!(&rt; answers(&heap, &mut one, 1) == Some(true));
 }
 
 #[test]
 fn a_quota_is_spent(rt: HostRuntime) {
-    let Some((heap, mut seats)) = open(rt.alloc(), FOUR, 3) else {
-        panic!(&rt; "memory")
-    };
-    let mut zero = next_seat(&heap, &mut seats, 0);
-    let mut one = next_seat(&heap, &mut seats, 1);
-    let begun = begin(&rt, &heap, &mut zero, &mut one);
-    assert!(&rt; begun);
+    let (heap, _zero, mut one, _two) = begun(&rt, FOUR);
     assert!(&rt; answers(&heap, &mut one, 2) == Some(true));
 }

@@ -3,11 +3,12 @@ ghost use Rattle.std.specs.Bool.{OnTrue, OnFalse};
 ghost use Rattle.gc_table.specs.SeatRecords.{At, inside, reserved, holding, measured, returned, resting};
 
 use super::meeting::Meeting;
+use super::opening::opened;
 use gc_table::{Heap, HeapSeat};
 use mark_core::EMPTY_POOL;
 use std::sync::Wait;
 use std::thread::{Threads, join_mut};
-use test_heaps::{SMALL, enters, next_seat, open, sees_marking, try_marking};
+use test_heaps::{SMALL, enters, sees_marking, try_marking};
 
 fn reserve(heap: &Heap, seat: &mut HeapSeat, k: u32)
     requires { At heap.now inside k seat.old }
@@ -131,11 +132,7 @@ fn both<R: Threads + Wait + Sync>(
 
 #[test]
 fn two_threads(rt: HostRuntime) {
-    let Some((heap, mut seats)) = open(rt.alloc(), SMALL, 3) else {
-        panic!(&rt; "memory")
-    };
-    let mut one = next_seat(&heap, &mut seats, 0);
-    let mut two = next_seat(&heap, &mut seats, 1);
+    let (heap, mut one, mut two, _two) = opened(&rt, SMALL);
     let meeting = Meeting::of(2);
     let (a, b) = both(&rt, &heap, &mut one, &mut two, &meeting);
     assert!(&rt; meeting.is_met());
