@@ -5,6 +5,7 @@ mod helping;
 mod hiding;
 mod moving;
 mod objects;
+mod opening;
 mod paying;
 mod quotas;
 mod resting;

@@ -4,14 +4,14 @@ ghost use Rattle.test_heaps.specs.Seats.{HasEachObject, IsReadyWithCache};
 
 use super::checks::may_call;
 use super::objects::{chain, free_cells, link};
-use super::seasons::begin;
+use super::opening::begun;
 use alloc_cache::{Cache, retire};
 use cache_refills::refill;
 use gc_cycle::{Paid, Refill, Safe, collect};
 use gc_table::{Heap, HeapSeat};
 use mark_core::{BLOCK_CELLS, FIRST_POSITION, NAMED_SECTION, Phase};
 use std::sync::Wait;
-use test_heaps::{SMALL, forget, is_ready, make, next_seat, open, take};
+use test_heaps::{SMALL, forget, is_ready, make, take};
 
 /// A cache and what was paid for it, for a mutator that has done `done` commands.
 pub fn refills<R: Wait>(
@@ -156,36 +156,18 @@ fn frees_ring<R: Wait>(rt: &R, heap: &Heap, seat: &mut HeapSeat) -> Option<(u32,
 
 #[test]
 fn a_refill_frees_what_no_variable_names(rt: HostRuntime) {
-    let Some((heap, mut seats)) = open(rt.alloc(), SMALL, 2) else {
-        panic!(&rt; "memory")
-    };
-    let mut zero = next_seat(&heap, &mut seats, 0);
-    let mut one = next_seat(&heap, &mut seats, 1);
-    let begun = begin(&rt, &heap, &mut zero, &mut one);
-    assert!(&rt; begun);
+    let (heap, _zero, mut one, _two) = begun(&rt, SMALL);
     assert!(&rt; refills_after_garbage(&rt, &heap, &mut one) == Some(63));
 }
 
 #[test]
 fn a_heap_is_full_of_reachable_objects(rt: HostRuntime) {
-    let Some((heap, mut seats)) = open(rt.alloc(), SMALL, 2) else {
-        panic!(&rt; "memory")
-    };
-    let mut zero = next_seat(&heap, &mut seats, 0);
-    let mut one = next_seat(&heap, &mut seats, 1);
-    let begun = begin(&rt, &heap, &mut zero, &mut one);
-    assert!(&rt; begun);
+    let (heap, _zero, mut one, _two) = begun(&rt, SMALL);
     assert!(&rt; fills_up(&rt, &heap, &mut one) == Some((Phase::Full, 1, 193)));
 }
 
 #[test]
 fn a_collection_frees_a_ring(rt: HostRuntime) {
-    let Some((heap, mut seats)) = open(rt.alloc(), SMALL, 2) else {
-        panic!(&rt; "memory")
-    };
-    let mut zero = next_seat(&heap, &mut seats, 0);
-    let mut one = next_seat(&heap, &mut seats, 1);
-    let begun = begin(&rt, &heap, &mut zero, &mut one);
-    assert!(&rt; begun);
+    let (heap, _zero, mut one, _two) = begun(&rt, SMALL);
     assert!(&rt; frees_ring(&rt, &heap, &mut one) == Some((62, 64)));
 }

@@ -12,15 +12,15 @@ ghost use Rattle.stop_world.specs.StopRecords.{flagged};
 
 use super::checks::{is_done, may_help};
 use super::objects::chain;
-use super::seasons::{begin, marks};
+use super::opening::begun;
+use super::seasons::marks;
 use gc_cycle::{HelpEnd, Helped, help};
 use gc_table::{Heap, HeapSeat};
 use mark_core::Phase;
 use std::sync::Wait;
 use stop_world::{await_stopped, close_help, join_help, leave_help, open_help};
 use test_heaps::{
-    SMALL, begins_sweep, drained, drains, is_bare, leaves, next_seat, open, raises_own, resets,
-    scans_all,
+    SMALL, begins_sweep, drained, drains, is_bare, leaves, raises_own, resets, scans_all,
 };
 
 /// What a seat did that was let in to help: nothing where help was closed.
@@ -147,13 +147,7 @@ fn shares<R: Wait>(
 
 #[test]
 fn a_seat_that_waits_traces_and_sweeps(rt: HostRuntime) {
-    let Some((heap, mut seats)) = open(rt.alloc(), SMALL, 2) else {
-        panic!(&rt; "memory")
-    };
-    let mut zero = next_seat(&heap, &mut seats, 0);
-    let mut one = next_seat(&heap, &mut seats, 1);
-    let begun = begin(&rt, &heap, &mut zero, &mut one);
-    assert!(&rt; begun);
+    let (heap, mut zero, mut one, _two) = begun(&rt, SMALL);
     let drained = Helped {
         traced: 10,
         rescanned: 0,

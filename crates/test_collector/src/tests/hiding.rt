@@ -3,13 +3,14 @@ ghost use Rattle.test_heaps.specs.Seats.{HasEachObject, IsReadyWithCache};
 
 use super::collecting::refills;
 use super::objects::{link, walk};
-use super::seasons::{begin, marks};
+use super::opening::begun;
+use super::seasons::marks;
 use alloc_cache::{Cache, retire};
 use card_clean::next_card;
 use gc_table::{Heap, HeapSeat};
 use mark_core::Phase;
 use std::sync::Wait;
-use test_heaps::{SMALL, forget, make, marks_as_mutator, next_seat, open, take};
+use test_heaps::{SMALL, forget, make, marks_as_mutator, take};
 use tracer::{scan_roots, trace};
 
 /// Makes an object with value 7 in variable 0.
@@ -127,12 +128,6 @@ fn keeps<R: Wait>(rt: &R, heap: &Heap, seat: &mut HeapSeat) -> Option<(u32, Phas
 
 #[test]
 fn a_hidden_object_is_kept(rt: HostRuntime) {
-    let Some((heap, mut seats)) = open(rt.alloc(), SMALL, 2) else {
-        panic!(&rt; "memory")
-    };
-    let mut zero = next_seat(&heap, &mut seats, 0);
-    let mut one = next_seat(&heap, &mut seats, 1);
-    let begun = begin(&rt, &heap, &mut zero, &mut one);
-    assert!(&rt; begun);
+    let (heap, _zero, mut one, _two) = begun(&rt, SMALL);
     assert!(&rt; keeps(&rt, &heap, &mut one) == Some((62, Phase::Idle, 2, 16)));
 }

@@ -18,7 +18,8 @@ ghost use Rattle.test_heaps.specs.Seats.{HasEachObject};
 
 use super::checks::{is_out, may_call};
 use super::hiding::passes;
-use super::seasons::{begin, joins, marks};
+use super::opening::begun;
+use super::seasons::{joins, marks};
 use super::sharers::{makes, may_share, refills_sharer, takes_block};
 use alloc_cache::{Cache, retire};
 use gc_cycle::{go_in, go_out};
@@ -28,7 +29,7 @@ use mutator_ops::{share_follow, share_forget, share_set, share_value_of};
 use std::sync::Wait;
 use std::sync::atomic::{AtomicU64, Ordering};
 use std::thread::{Threads, join_mut, yield_now};
-use test_heaps::{SMALL, marks_as_mutator, next_seat, open};
+use test_heaps::{SMALL, marks_as_mutator};
 use tracer::{scan_roots, trace};
 
 /// One block, and two sections besides the catalogue's, which share their objects.
@@ -233,14 +234,7 @@ fn keeps_moved<R: Threads + Wait + Sync>(
 
 #[test]
 fn a_moved_object_is_kept(rt: HostRuntime) {
-    let Some((heap, mut seats)) = open(rt.alloc(), SHARED, 3) else {
-        panic!(&rt; "memory")
-    };
-    let mut zero = next_seat(&heap, &mut seats, 0);
-    let mut one = next_seat(&heap, &mut seats, 1);
-    let mut two = next_seat(&heap, &mut seats, 2);
-    let begun = begin(&rt, &heap, &mut zero, &mut one);
-    assert!(&rt; begun);
+    let (heap, _zero, mut one, mut two) = begun(&rt, SHARED);
     let joined = joins(&heap, &mut two, 2);
     assert!(&rt; joined);
     assert!(&rt; keeps_moved(&rt, &heap, &mut one, &mut two) == Some((61, 9)));

@@ -4,13 +4,12 @@ ghost use Rattle.test_heaps.specs.Seats.{HasEachObject};
 use super::LARGE;
 use super::collecting::{collects, refills};
 use super::objects::chain;
-use super::seasons::begin;
+use super::opening::begun;
 use alloc_cache::retire;
 use gc_cycle::Paid;
 use gc_table::{Heap, HeapSeat};
 use mark_core::{FREE, Phase};
 use std::sync::Wait;
-use test_heaps::{next_seat, open};
 use tracer::Stopped;
 
 /// What a refill comes to.
@@ -57,13 +56,7 @@ fn refills_last<R: Wait>(rt: &R, heap: &Heap, seat: &mut HeapSeat) -> Option<Cam
 
 #[test]
 fn the_last_block_is_paid_for(rt: HostRuntime) {
-    let Some((heap, mut seats)) = open(rt.alloc(), LARGE, 2) else {
-        panic!(&rt; "memory")
-    };
-    let mut zero = next_seat(&heap, &mut seats, 0);
-    let mut one = next_seat(&heap, &mut seats, 1);
-    let begun = begin(&rt, &heap, &mut zero, &mut one);
-    assert!(&rt; begun);
+    let (heap, _zero, mut one, _two) = begun(&rt, LARGE);
     let paid = Paid {
         quota: 1_024,
         done: 576,

@@ -3,8 +3,8 @@ ghost use Rattle.test_heaps.specs.Seats.{HasEachObject};
 
 use super::LARGE;
 use super::collecting::{collects, refills};
+use super::opening::begun;
 use super::paying::make_chain;
-use super::seasons::begin;
 use alloc_cache::retire;
 use gc_table::{Heap, HeapSeat};
 use std::sync::Wait;
@@ -12,7 +12,6 @@ use std::sync::atomic::AtomicU64;
 use std::sync::atomic::Ordering::SeqCst;
 use std::thread::{Threads, join_mut};
 use std::time::Duration;
-use test_heaps::{next_seat, open};
 
 /// How many times a thread looks for a sign. Between two looks it sleeps, for a millisecond at most.
 const LOOKS: u32 = 5_000;
@@ -84,12 +83,6 @@ fn wakes<R: Threads + Wait + Sync>(rt: &R, heap: &Heap, seat: &mut HeapSeat) -> 
 
 #[test]
 fn who_rests_is_woken_by_a_cycle(rt: HostRuntime) {
-    let Some((heap, mut seats)) = open(rt.alloc(), LARGE, 2) else {
-        panic!(&rt; "memory")
-    };
-    let mut zero = next_seat(&heap, &mut seats, 0);
-    let mut one = next_seat(&heap, &mut seats, 1);
-    let begun = begin(&rt, &heap, &mut zero, &mut one);
-    assert!(&rt; begun);
+    let (heap, _zero, mut one, _two) = begun(&rt, LARGE);
     assert!(&rt; wakes(&rt, &heap, &mut one));
 }

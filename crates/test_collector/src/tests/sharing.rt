@@ -8,14 +8,14 @@ use super::BROAD;
 use super::collecting::collects;
 use super::helping::helps;
 use super::objects::{assign_to, link, walk};
-use super::seasons::begin;
+use super::opening::begun;
 use alloc_cache::{Cache, retire};
 use gc_table::{Heap, HeapSeat};
 use mark_core::FREE;
 use std::sync::Wait;
 use std::sync::atomic::{AtomicBool, Ordering};
 use std::thread::{Threads, join_mut, yield_now};
-use test_heaps::{make, next_seat, open, take};
+use test_heaps::{make, take};
 
 /// Puts a new object with value n before the chain from variable v along field 0.
 fn grow(heap: &Heap, seat: &mut HeapSeat, cache: &mut Cache, v: u8, n: u32) -> bool
@@ -165,13 +165,7 @@ fn shares<R: Threads + Wait + Sync>(
 
 #[test]
 fn a_thread_that_waits_traces_and_sweeps(rt: HostRuntime) {
-    let Some((heap, mut seats)) = open(rt.alloc(), BROAD, 2) else {
-        panic!(&rt; "memory")
-    };
-    let mut zero = next_seat(&heap, &mut seats, 0);
-    let mut one = next_seat(&heap, &mut seats, 1);
-    let begun = begin(&rt, &heap, &mut zero, &mut one);
-    assert!(&rt; begun);
+    let (heap, mut zero, mut one, _two) = begun(&rt, BROAD);
     let wanted = Left {
         goes_on: true,
         has_helped: true,

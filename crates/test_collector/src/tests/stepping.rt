@@ -11,7 +11,7 @@ use super::LARGE;
 use super::checks::{is_out, may_call};
 use super::collecting::make_ring;
 use super::objects::{chain, free_cells, walk};
-use super::seasons::begin;
+use super::opening::begun;
 use super::stages::{Collected, Drained, Marked, collects_in_steps};
 use alloc_cache::{Cache, retire};
 use cache_refills::{Pass, try_enter, try_safe_point};
@@ -19,7 +19,7 @@ use cycle_steps::{ask_to_stop, finds_stopped};
 use gc_cycle::Counts;
 use gc_table::{Heap, HeapSeat};
 use mutator_ops::set;
-use test_heaps::{SMALL, next_seat, open, take};
+use test_heaps::{SMALL, take};
 
 /// What a seat outside is told that tries once to enter.
 fn tries_entering(heap: &Heap, seat: &mut HeapSeat) -> Option<Pass>
@@ -154,33 +154,39 @@ fn collects_beside(heap: &Heap, zero: &mut HeapSeat, one: &mut HeapSeat, most: u
     })
 }
 
-/// What was marked where so many pieces that saw to roots were full, so many cards were cleaned, and so many pieces of the last look were full: each of three
-/// objects was popped once.
-fn marked(roots: u32, cleaned: u32, looks: u32) -> Marked {
+/// What a collection in pieces of so many did: how many pieces that saw to roots were full, how many of each last look at the cards, and how many that cleared.
+/// As many swept, and as many counted. Each of three objects was popped once, the first one's card was dirty, and two cells were freed.
+fn wanted(roots: u32, looks: u32, full: u32) -> Collected {
     let drained = Drained {
         popped: 3,
-        cleaned,
+        cleaned: 1,
         looks,
     };
-    Marked { roots, drained }
+    let again = Drained {
+        cleaned: 0,
+        ..drained
+    };
+    let found = Counts {
+        marked: 3,
+        freed: 2,
+        rescanned: 0,
+    };
+    Collected {
+        first: Marked { roots, drained },
+        cleared: full,
+        again: Marked {
+            roots,
+            drained: again,
+        },
+        swept: full,
+        counted: full,
+        found,
+    }
 }
-
-/// Three objects are in use, and two were freed.
-const FOUND: Counts = Counts {
-    marked: 3,
-    freed: 2,
-    rescanned: 0,
-};
 
 #[test]
 fn a_collection_in_steps_frees_a_ring(rt: HostRuntime) {
-    let Some((heap, mut seats)) = open(rt.alloc(), SMALL, 2) else {
-        panic!(&rt; "memory")
-    };
-    let mut zero = next_seat(&heap, &mut seats, 0);
-    let mut one = next_seat(&heap, &mut seats, 1);
-    let begun = begin(&rt, &heap, &mut zero, &mut one);
-    assert!(&rt; begun);
+    let (heap, mut zero, mut one, _two) = begun(&rt, SMALL);
     let Some(told) = collects_beside(&heap, &mut zero, &mut one, 1) else {
         panic!(&rt; "no collection")
     };
@@ -188,63 +194,19 @@ fn a_collection_in_steps_frees_a_ring(rt: HostRuntime) {
     assert!(&rt; told.point == Some(Pass::Out));
     assert!(&rt; told.during == Some(Pass::Out));
     assert!(&rt; told.after == Some(Pass::Going));
-    let collected = Collected {
-        first: marked(64, 1, 4),
-        cleared: 1,
-        again: marked(64, 0, 4),
-        swept: 1,
-        counted: 1,
-        found: FOUND,
-    };
-    assert!(&rt; told.collected == collected);
+    assert!(&rt; told.collected == wanted(64, 4, 1));
     assert!(&rt; told.chain == (3, 3));
     assert!(&rt; told.free == 61);
 }
 
 #[test]
-fn a_collection_goes_two_at_a_time(rt: HostRuntime) {
-    let Some((heap, mut seats)) = open(rt.alloc(), LARGE, 2) else {
-        panic!(&rt; "memory")
-    };
-    let mut zero = next_seat(&heap, &mut seats, 0);
-    let mut one = next_seat(&heap, &mut seats, 1);
-    let begun = begin(&rt, &heap, &mut zero, &mut one);
-    assert!(&rt; begun);
-    let Some(told) = collects_beside(&heap, &mut zero, &mut one, 2) else {
-        panic!(&rt; "no collection")
-    };
-    let collected = Collected {
-        first: marked(32, 1, 20),
-        cleared: 5,
-        again: marked(32, 0, 20),
-        swept: 5,
-        counted: 5,
-        found: FOUND,
-    };
-    assert!(&rt; told.collected == collected);
-    assert!(&rt; told.chain == (3, 3));
-}
-
-#[test]
-fn a_collection_goes_three_at_a_time(rt: HostRuntime) {
-    let Some((heap, mut seats)) = open(rt.alloc(), LARGE, 2) else {
-        panic!(&rt; "memory")
-    };
-    let mut zero = next_seat(&heap, &mut seats, 0);
-    let mut one = next_seat(&heap, &mut seats, 1);
-    let begun = begin(&rt, &heap, &mut zero, &mut one);
-    assert!(&rt; begun);
-    let Some(told) = collects_beside(&heap, &mut zero, &mut one, 3) else {
-        panic!(&rt; "no collection")
-    };
-    let collected = Collected {
-        first: marked(21, 1, 13),
-        cleared: 3,
-        again: marked(21, 0, 13),
-        swept: 3,
-        counted: 3,
-        found: FOUND,
-    };
-    assert!(&rt; told.collected == collected);
-    assert!(&rt; told.chain == (3, 3));
+fn a_collection_goes_two_or_three_at_a_time(rt: HostRuntime) {
+    for (most, roots, looks, full) in [(2, 32, 20, 5), (3, 21, 13, 3)] {
+        let (heap, mut zero, mut one, _two) = begun(&rt, LARGE);
+        let Some(told) = collects_beside(&heap, &mut zero, &mut one, most) else {
+            panic!(&rt; "no collection")
+        };
+        let is_so = told.collected == wanted(roots, looks, full);
+        assert!(&rt; is_so && told.chain == (3, 3), "{most} at a time");
+    }
 }

@@ -5,13 +5,14 @@ use super::THREE;
 use super::checks::{is_out, may_call};
 use super::collecting::refills;
 use super::objects::{lengthen, walk};
-use super::seasons::{begin, joins};
+use super::opening::begun;
+use super::seasons::joins;
 use alloc_cache::{Cache, retire};
 use gc_cycle::{Safe, go_in, go_out, safe_point};
 use gc_table::{Heap, HeapSeat};
 use std::sync::Wait;
 use std::thread::{Threads, join_mut};
-use test_heaps::{forget, make, next_seat, open};
+use test_heaps::{forget, make};
 
 /// Comes to a safe point: true where the mutator goes on.
 fn passes<R: Wait>(rt: &R, heap: &Heap, seat: &mut HeapSeat) -> bool
@@ -143,14 +144,7 @@ fn plays_together<R: Threads + Wait + Sync>(
 
 #[test]
 fn two_mutators_keep_what_they_reach(rt: HostRuntime) {
-    let Some((heap, mut seats)) = open(rt.alloc(), THREE, 3) else {
-        panic!(&rt; "memory")
-    };
-    let mut zero = next_seat(&heap, &mut seats, 0);
-    let mut one = next_seat(&heap, &mut seats, 1);
-    let mut two = next_seat(&heap, &mut seats, 2);
-    let begun = begin(&rt, &heap, &mut zero, &mut one);
-    assert!(&rt; begun);
+    let (heap, _zero, mut one, mut two) = begun(&rt, THREE);
     let joined = joins(&heap, &mut two, 2);
     assert!(&rt; joined);
     let kept = Some(((120, 120), (192, 1_440), (192, 1_440)));
