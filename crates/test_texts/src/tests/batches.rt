@@ -13,14 +13,17 @@ use std::time::Duration;
 /// How many times a held job looks before it gives up. Between two looks its thread sleeps, for a millisecond at most.
 const LOOKS: u64 = 5_000;
 
-/// Answers with the script itself. It holds a job whose script is `0` until one whose script is `1` was played.
+/// Answers with the script itself, counts how often jobs were played, and adds up their numbers. It holds a job whose script is `0` until one whose script is
+/// `1` was played.
 #[derive(Drop)]
-struct Holding {
+struct Watching {
+    plays: AtomicU64,
+    numbers: AtomicU64,
     played: AtomicU64,
     late: AtomicU64,
 }
 
-impl Player for Holding {
+impl Player for Watching {
     ghost use Rattle.std.specs.Prelude.{◌≡◌, ◌⊎◌, []};
 
     ghost fits = { λ player script status text. ((status ≡ 0) × (text ≡ script)) ⊎ ((status ≡ 6) × (text ≡ [])) };
@@ -31,6 +34,29 @@ impl Player for Holding {
         alloc: Global,
         job: Job<'_>,
     ) -> (u8, Text) {
+        self.watch(rt, &job);
+        let mut text = Text::make(alloc);
+        match text.append(job.script()) {
+            Ok(()) => (0, text),
+            Err(_) => (6, text),
+        }
+    }
+}
+
+impl Watching {
+    fn new() -> Watching {
+        Watching {
+            plays: AtomicU64::new(0),
+            numbers: AtomicU64::new(0),
+            played: AtomicU64::new(0),
+            late: AtomicU64::new(0),
+        }
+    }
+
+    fn watch<R: Wait>(&self, rt: &R, job: &Job<'_>) {
+        self.plays.fetch_add(1, Ordering::SeqCst);
+        self.numbers
+            .fetch_add(u64::from(job.number()), Ordering::SeqCst);
         let script = job.script();
         if script == [b'0'].as_slice() {
             self.hold(rt);
@@ -38,15 +64,8 @@ impl Player for Holding {
         if script == [b'1'].as_slice() {
             self.played.store(1, Ordering::SeqCst);
         }
-        let mut text = Text::make(alloc);
-        match text.append(script) {
-            Ok(()) => (0, text),
-            Err(_) => (6, text),
-        }
     }
-}
 
-impl Holding {
     fn hold<R: Wait>(&self, rt: &R) {
         for _ in 0..LOOKS {
             if self.played.load(Ordering::SeqCst) == 1 {
@@ -59,19 +78,19 @@ impl Holding {
     }
 }
 
-/// How many results there are of the batch, and how many of them are of the job of their place, and its own script. A play spends its job, so the scripts
-/// are those of a second reading.
-fn echoed<P: Player + Sync, R: AllocGlobal + Threads + Wait + Sync>(
+/// How many results there are of the batch, how many of them are of the job of their place, and its own script, how often jobs were played, and the sum of their
+/// numbers. A play spends its job, so the scripts are those of a second reading.
+fn echoed<R: AllocGlobal + Threads + Wait + Sync>(
     rt: &R,
     source: &[u8],
     runners: u32,
-    player: &P,
-) -> Result<(usize, usize), Fail>
+) -> Result<(usize, usize, u64, u64), Fail>
     requires { (1 ≤ runners) × (runners ≤ 8) }
 {
+    let player = Watching::new();
     let played = read_batch(rt.alloc(), source).ok().ok_or("batch")?;
     let batch = read_batch(rt.alloc(), source).ok().ok_or("batch")?;
-    let done = run_jobs(rt, rt.alloc(), played, runners, player)
+    let done = run_jobs(rt, rt.alloc(), played, runners, &player)
         .ok()
         .ok_or("memory")?;
     let mut echoed = 0usize;
@@ -81,41 +100,20 @@ fn echoed<P: Player + Sync, R: AllocGlobal + Threads + Wait + Sync>(
             echoed = echoed.saturating_add(1);
         }
     }
-    Ok((done.len(), echoed))
+    let late = player.late.load(Ordering::SeqCst);
+    let plays = player.plays.load(Ordering::SeqCst);
+    let numbers = player.numbers.load(Ordering::SeqCst);
+    if late > 0 {
+        return Err(Fail::from("late"));
+    }
+    Ok((done.len(), echoed, plays, numbers))
 }
 
 #[test]
 fn runners_play_beside_each_other(rt: HostRuntime) -> Result<(), Fail> {
-    let player = Holding {
-        played: AtomicU64::new(0),
-        late: AtomicU64::new(0),
-    };
-    let echoed = echoed(&rt, b"gcbatch 1\njob 1\n0job 1\n1job 0\n", 2, &player)?;
-    assert!(rt; player.late.load(Ordering::SeqCst) == 0 && echoed == (3, 3));
+    let echoed = echoed(&rt, b"gcbatch 1\njob 1\n0job 1\n1job 0\n", 2)?;
+    assert!(rt; echoed == (3, 3, 3, 3));
     Ok(())
-}
-
-/// Answers with the script itself, and holds nothing.
-#[derive(Drop)]
-struct Echo;
-
-impl Player for Echo {
-    ghost use Rattle.std.specs.Prelude.{◌≡◌, ◌⊎◌, []};
-
-    ghost fits = { λ player script status text. ((status ≡ 0) × (text ≡ script)) ⊎ ((status ≡ 6) × (text ≡ [])) };
-
-    fn play_job<R: Threads + Wait + Sync>(
-        &self,
-        _rt: &R,
-        alloc: Global,
-        job: Job<'_>,
-    ) -> (u8, Text) {
-        let mut text = Text::make(alloc);
-        match text.append(job.script()) {
-            Ok(()) => (0, text),
-            Err(_) => (6, text),
-        }
-    }
 }
 
 #[test]
@@ -126,61 +124,29 @@ fn one_to_eight_runners_answer_alike(rt: HostRuntime) -> Result<(), Fail> {
         source.push_str("job 2\nabjob 3\ncde")?;
     }
     for runners in 1..=8 {
-        let echoed = echoed(&rt, source.as_bytes(), runners, &Echo)?;
-        assert!(rt; echoed == (64, 64), "{runners}");
+        let echoed = echoed(&rt, source.as_bytes(), runners)?;
+        assert!(rt; echoed == (64, 64, 64, 2_016), "{runners}");
     }
     Ok(())
-}
-
-/// Answers as `Echo` does, and counts how often the jobs were played, and adds up their numbers.
-#[derive(Drop)]
-struct Counting {
-    plays: AtomicU64,
-    numbers: AtomicU64,
-}
-
-impl Player for Counting {
-    ghost use Rattle.std.specs.Prelude.{◌≡◌, ◌⊎◌, []};
-
-    ghost fits = { λ player script status text. ((status ≡ 0) × (text ≡ script)) ⊎ ((status ≡ 6) × (text ≡ [])) };
-
-    fn play_job<R: Threads + Wait + Sync>(
-        &self,
-        rt: &R,
-        alloc: Global,
-        job: Job<'_>,
-    ) -> (u8, Text) {
-        self.plays.fetch_add(1, Ordering::SeqCst);
-        self.numbers
-            .fetch_add(u64::from(job.number()), Ordering::SeqCst);
-        Echo.play_job(rt, alloc, job)
-    }
 }
 
 #[test]
 fn each_job_is_played_once(rt: HostRuntime) -> Result<(), Fail> {
     for runners in 1..=8 {
-        let player = Counting {
-            plays: AtomicU64::new(0),
-            numbers: AtomicU64::new(0),
-        };
         let echoed = echoed(
             &rt,
             b"gcbatch 1\njob 1\najob 1\nbjob 0\njob 1\ncjob 1\nd",
             runners,
-            &player,
         )?;
-        assert!(rt; echoed == (5, 5), "{runners}");
-        assert!(rt; player.plays.load(Ordering::SeqCst) == 5, "{runners}");
-        assert!(rt; player.numbers.load(Ordering::SeqCst) == 10, "{runners}");
+        assert!(rt; echoed == (5, 5, 5, 10), "{runners}");
     }
     Ok(())
 }
 
 #[test]
 fn a_batch_without_jobs_has_no_results(rt: HostRuntime) -> Result<(), Fail> {
-    let echoed = echoed(&rt, b"gcbatch 1\n", 8, &Echo)?;
-    assert!(rt; echoed == (0, 0));
+    let echoed = echoed(&rt, b"gcbatch 1\n", 8)?;
+    assert!(rt; echoed == (0, 0, 0, 0));
     Ok(())
 }
 
