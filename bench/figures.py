@@ -11,7 +11,7 @@ import re
 import sys
 
 TOP = pathlib.Path(__file__).resolve().parent.parent
-SERIES = "bench/results/2026-11-29-pauses.md"
+SERIES = "bench/results/2026-11-30-pauses.md"
 COLOURS = ["#0072b2", "#d55e00", "#009e73", "#cc79a7", "#e69f00", "#56b4e9"]
 WIDTH, HEIGHT = 640, 340
 LEFT, RIGHT, HEAD, FOOT = 64, 16, 48, 64

@@ -6,7 +6,7 @@ sys.path.insert(0, "docs")
 from pages import label, number, rows_of, says  # noqa: E402
 
 BENCH, PAUSES, PERFORMANCE = "bench/README.md", "docs/PAUSES.md", "docs/PERFORMANCE.md"
-SERIES = "bench/results/2026-11-29-pauses.md"
+SERIES = "bench/results/2026-11-30-pauses.md"
 LARGE = ["orders", "live", "objects", "stores", "reads"]
 FRONT = ("4194304", "4")
 
