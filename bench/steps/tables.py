@@ -52,9 +52,9 @@ def cleaning(cells, most):
 
 
 def paying(cells):
-    """A payment scans 32 roots, passes at most 1,024 cards early in a cycle, traces at most 1,024 objects and looks at as many cards."""
+    """A payment scans 32 roots of two sections, passes at most 1,024 cards early in a cycle, traces at most 1,024 objects and looks at as many cards."""
     look = 3 + OUTPUT + 16 * SCAN + 7 + tracing(0)
-    return OUTPUT + INPUT + 32 * FOLLOW + 3 + cleaning(cells, 1024) + tracing(1024) + 1024 * look + 5
+    return 2 * (OUTPUT + INPUT + 32 * FOLLOW + 3) + cleaning(cells, 1024) + tracing(1024) + 1024 * look + 5
 
 
 def refilling(cells, most):
