@@ -143,6 +143,3 @@ impl PlainHeap {
         self.variables[v as usize]
     }
 }
-
-#[cfg(test)]
-mod tests;

@@ -12,6 +12,7 @@
 use super::batches::{said, said_of_many};
 use super::dumps::first_fault;
 use super::generated::line_of;
+use super::heaps::played;
 use super::scripts::fault_of;
 use super::texts::fault_text;
 use super::words::asked_by;
@@ -29,6 +30,8 @@ pub enum Kind {
     Number,
     /// A script.
     Script,
+    /// A script whose first warehouse is played on a heap that forgets nothing.
+    Heap,
     /// The size of a generated script, and a line of it.
     Generated,
     /// The name of a fault of scripts, and its place.
@@ -47,6 +50,7 @@ fn found(alloc: Global, kind: Kind, read: &str) -> Result<String, Fail> {
         Kind::Words => asked_by(alloc, read),
         Kind::Number => asked_with(alloc, read),
         Kind::Script => fault_of(alloc, read.as_bytes()),
+        Kind::Heap => played(alloc, read.as_bytes()),
         Kind::Generated => line_of(alloc, read),
         Kind::Fault => fault_text(alloc, read),
         Kind::Batch => said(alloc, read.as_bytes()),
