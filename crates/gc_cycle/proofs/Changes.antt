@@ -11,7 +11,9 @@ use Rattle.gc_table.proofs.History.Log.{events-none, only-after}
 use Rattle.gc_table.proofs.Running.{ran-events, ran-join, ran-refl}
 use Rattle.packet_pools.proofs.Reading.{picked-join}
 use Rattle.alloc_cache.specs.declared.cache.Cache.{Cache}
-use Rattle.gc_cycle.specs.Statistics.{BetweenCycles, changing_step, ChangesBy, ChangesNumbers, EndsCycle, given_up, gives_back, GivesUp, leaves_numbers, numbers_changed}
+use Rattle.gc_cycle.specs.OneCycle.{EndsCycle}
+use Rattle.gc_cycle.specs.declared.counts.Counts.{Counts}
+use Rattle.gc_cycle.specs.Statistics.{BetweenCycles, changing_step, ChangesBy, ChangesNumbers, given_up, gives_back, GivesUp, leaves_numbers, numbers_changed}
 use Rattle.gc_cycle.proofs.Picked.{picked-none}
 
 -- steps that change no number
@@ -58,8 +60,8 @@ pub numbers-one : (ss : List Step) (v w : View) → ChangesBy ss v w → Changes
 numbers-one ss v w c = ([], c)
 
 -- a cycle ended, and then more was done
-pub numbers-after : (ss : List Step) (u v w : View) → EndsCycle u v → ChangesNumbers ss v w → ChangesNumbers ss u w
-numbers-after ss u v w e k = ((u, v) ∷ k.0, (by-none u, e, k.1))
+pub numbers-after : {counts : Counts} (ss : List Step) (u v w : View) → EndsCycle counts u v → ChangesNumbers ss v w → ChangesNumbers ss u w
+numbers-after {counts} ss u v w e k = ((u, v) ∷ k.0, (by-none u, (counts, e), k.1))
 
 -- a collection in a stop of its own, with what comes before and after it
 pub numbers-collected : (u v w x y : View) → ChangesBy [] u v → ChangesBy [] v w → ChangesNumbers [] w x → ChangesBy [] x y → ChangesNumbers [] u y

@@ -1,23 +1,16 @@
 -- What a call does to the statistics that pace a cycle: the cells marked last, those scanned again, the traced ones, and the free ones.
-use Rattle.std.specs.Prelude.{ℕ, ◌≡◌, ◌⊎◌, min, List, [], ◌∷◌, Bool, true, false, Option, Some, None, IsTrue}
+use Rattle.std.specs.Prelude.{ℕ, ◌≡◌, ◌⊎◌, List, [], ◌∷◌, Bool, true, false, Option, Some, None}
 use Rattle.std.specs.Int.Count.{ones}
 use Rattle.mark_core.specs.Numbers.{free_count, traced_count}
-use Rattle.mark_core.specs.declared.kinds.Phase.TheVariants.{Idle}
 use Rattle.mark_core.specs.declared.kinds.Step.{Step}
 use Rattle.mark_core.specs.declared.kinds.Step.TheVariants.{AddStat, Reset}
-use Rattle.gc_table.specs.Log.{Only, events}
+use Rattle.gc_table.specs.Log.{events}
 use Rattle.gc_table.specs.Running.{Ran}
 use Rattle.gc_table.specs.declared.view.Entry.{Entry}
 use Rattle.gc_table.specs.declared.view.View.{View}
 use Rattle.packet_pools.specs.Fields.{picked}
 use Rattle.alloc_cache.specs.declared.cache.Cache.{Cache}
-use Rattle.sweeper.specs.Freeing.{freed_in}
-use Rattle.card_clean.specs.Leaving.{rescanned_in}
-use Rattle.gc_cycle.specs.Cycles.{lets_help}
-use Rattle.gc_cycle.specs.DrainRounds.{HasDrained}
-use Rattle.gc_cycle.specs.Ending.{InEach, IsCycleEnd}
-use Rattle.gc_cycle.specs.Finishing.{IsAloneIn, finishes, most}
-use Rattle.gc_cycle.specs.Standing.{IsAlone}
+use Rattle.gc_cycle.specs.OneCycle.{EndsCycle}
 use Rattle.gc_cycle.specs.declared.counts.Counts.{Counts}
 use Rattle.gc_cycle.specs.declared.counts.Refill.{Refill}
 use Rattle.gc_cycle.specs.declared.counts.Refill.TheVariants as refills
@@ -57,24 +50,10 @@ gives_back h = AddStat free_count (ones h.cells) false
 abbrev pub tells : ℕ → Step
 tells n = AddStat traced_count n false
 
--- a cycle ended, by all that `finish_cycle` and `precise` promise of it alike: alone in a stop the seat drained and swept, let helpers in, and set the numbers
--- to those of this cycle
-pub record EndsCycle (v w : View) : Type 0 where
-  pub ran : Ran v w
-  pub only : Only finishes v w
-  pub alone : IsAlone v
-  pub idle : IsAloneIn Idle w
-  pub drains : HasDrained v w
-  pub help : IsTrue (lets_help (events v w))
-  pub counts : Counts
-  pub end : InEach (IsCycleEnd counts) w
-  pub rescanned : counts.rescanned ≡ min (rescanned_in v (events v w)) most
-  pub freed : counts.freed ≡ freed_in v (events v w)
-
 -- a cycle ended between the two views of each pair; up to the last of them nothing else changed the numbers, and after it these steps did, and no other
 abbrev pub BetweenCycles : List Step → List (View × View) → View → View → Type 0
 BetweenCycles steps [] v w = ChangesBy steps v w
-BetweenCycles steps (end ∷ ends) v w = ChangesBy [] v end.0 × EndsCycle end.0 end.1 × BetweenCycles steps ends end.1 w
+BetweenCycles steps (end ∷ ends) v w = ChangesBy [] v end.0 × ((counts : Counts) × EndsCycle counts end.0 end.1) × BetweenCycles steps ends end.1 w
 
 -- what the cycles that ended in the call set stays, but for these steps after the last of them
 abbrev pub ChangesNumbers : List Step → View → View → Type 0

@@ -1,24 +1,17 @@
 //! A cycle ends in a stop: the final phase, and the sweep.
-ghost use Rattle.std.specs.Prelude.{◌≡◌, ◌+◌, ◌⊎◌, min, IsTrue, IsFalse};
+ghost use Rattle.std.specs.Prelude.{◌≡◌, ◌+◌, ◌⊎◌, min, IsTrue};
 ghost use Rattle.mark_core.specs.declared.kinds.Phase.TheVariants.{Idle, Marking, Drain};
 ghost use Rattle.std.specs.Bool.{OnTrue, OnFalse};
 ghost use Rattle.mark_core.specs.declared.kinds.Step.TheVariants.{ReadPhase};
 ghost use Rattle.gc_table.specs.Seats.{Across, did, Sits, state_of, Took, view_of};
-ghost use Rattle.gc_table.specs.Log.{Only};
-ghost use Rattle.gc_table.specs.Running.{Ran};
-ghost use Rattle.packet_pools.specs.Counts.{count_of};
 ghost use Rattle.sweeper.specs.Freeing.{freed_in};
 ghost use Rattle.card_clean.specs.Leaving.{rescanned_in};
-ghost use Rattle.gc_cycle.specs.Cycles.{collects_exactly, lets_help, never_fills};
-ghost use Rattle.gc_cycle.specs.DrainRounds.{DrainsBefore, DrainsToSweep, HasDrained};
+ghost use Rattle.gc_cycle.specs.Cycles.{collects_exactly};
+ghost use Rattle.gc_cycle.specs.DrainRounds.{DrainsBefore, DrainsToSweep};
 ghost use Rattle.gc_cycle.specs.Ending.{InEach, IsCycleEnd, IsExact};
-ghost use Rattle.gc_cycle.specs.Finishing.{BeginsExactly, Completes, IsAloneIn, finishes, most};
-ghost use Rattle.gc_cycle.specs.Events.{never};
+ghost use Rattle.gc_cycle.specs.Finishing.{BeginsExactly, Completes, IsAloneIn, most};
 ghost use Rattle.gc_cycle.specs.Moments.{begins};
-ghost use Rattle.gc_cycle.specs.Polling.{saw_full};
-ghost use Rattle.gc_cycle.specs.Sorts.{ends_cycle, raises_flag, tries_marking};
-ghost use Rattle.gc_cycle.specs.Sparing.{spares_part};
-ghost use Rattle.gc_cycle.specs.Standing.{KeepsSeat, KeepsSection};
+ghost use Rattle.gc_cycle.specs.OneCycle.{EndsCycle};
 
 use crate::clearing::clear_all_marks;
 use crate::counts::Counts;
@@ -89,28 +82,8 @@ fn begin_exactly<R: Wait>(rt: &R, heap: &Heap, seat: &mut HeapSeat) -> u32
 pub fn finish_cycle<R: Wait>(rt: &R, heap: &Heap, seat: &mut HeapSeat) -> Counts
     requires seat { Sits heap.now seat.old }
     requires alone { IsAloneIn Marking (view_of seat.old) }
-    // what the seat is afterwards
     ensures seat { Sits heap.now seat.new }
-    ensures alone { IsAloneIn Idle (view_of seat.new) }
-    ensures keeps { Across KeepsSeat seat.old seat.new × Across KeepsSection seat.old seat.new }
-    ensures position { (view_of seat.new).own.position ≡ (view_of seat.old).own.position }
-    // what the call did
-    ensures ran { Across Ran seat.old seat.new }
-    ensures only { Across (Only finishes) seat.old seat.new }
-    ensures drains { Across HasDrained seat.old seat.new }
-    ensures help { IsTrue (lets_help (did seat.old seat.new)) }
-    ensures once { count_of ends_cycle (did seat.old seat.new) ≡ 1 }
-    // what it never did
-    ensures spares { Across (Only spares_part) seat.old seat.new }
-    ensures not_full { IsTrue (never_fills (did seat.old seat.new)) }
-    ensures unbegun { IsTrue (never tries_marking (did seat.old seat.new)) }
-    ensures calm { IsTrue (never raises_flag (did seat.old seat.new)) }
-    ensures going { IsFalse (saw_full (did seat.old seat.new)) }
-    // what the cells are
-    ensures end { InEach (IsCycleEnd result) (view_of seat.new) }
-    // the counts
-    ensures rescanned { result.rescanned ≡ min (rescanned_in (view_of seat.old) (did seat.old seat.new)) most }
-    ensures freed { result.freed ≡ freed_in (view_of seat.old) (did seat.old seat.new) }
+    ensures ends { Across (EndsCycle result) seat.old seat.new }
 {
     begin_drain(heap, seat);
     complete(rt, heap, seat, 0)
@@ -123,31 +96,12 @@ pub fn finish_cycle<R: Wait>(rt: &R, heap: &Heap, seat: &mut HeapSeat) -> Counts
 pub fn precise<R: Wait>(rt: &R, heap: &Heap, seat: &mut HeapSeat) -> Counts
     requires seat { Sits heap.now seat.old }
     requires alone { IsAloneIn Idle (view_of seat.old) ⊎ IsAloneIn Marking (view_of seat.old) }
-    // what the seat is afterwards
     ensures seat { Sits heap.now seat.new }
-    ensures alone { IsAloneIn Idle (view_of seat.new) × IsTrue (state_of seat.new).exact }
-    ensures keeps { Across KeepsSeat seat.old seat.new × Across KeepsSection seat.old seat.new }
-    ensures position { (view_of seat.new).own.position ≡ (view_of seat.old).own.position }
-    // what the call did
-    ensures ran { Across Ran seat.old seat.new }
-    ensures only { Across (Only finishes) seat.old seat.new }
-    ensures drains { Across HasDrained seat.old seat.new }
+    ensures ends { Across (EndsCycle result) seat.old seat.new }
     ensures first { IsAloneIn Marking (view_of seat.old) → Across DrainsBefore seat.old seat.new }
     ensures collects { IsTrue (collects_exactly heap.now.shape (begins (view_of seat.old)) (did seat.old seat.new)) }
-    ensures help { IsTrue (lets_help (did seat.old seat.new)) }
-    ensures once { count_of ends_cycle (did seat.old seat.new) ≡ 1 }
-    // what it never did
-    ensures spares { Across (Only spares_part) seat.old seat.new }
-    ensures not_full { IsTrue (never_fills (did seat.old seat.new)) }
-    ensures unbegun { IsTrue (never tries_marking (did seat.old seat.new)) }
-    ensures calm { IsTrue (never raises_flag (did seat.old seat.new)) }
-    ensures going { IsFalse (saw_full (did seat.old seat.new)) }
-    // what the cells are
-    ensures end { InEach (IsCycleEnd result) (view_of seat.new) }
+    ensures known { IsTrue (state_of seat.new).exact }
     ensures exact { InEach IsExact (view_of seat.new) }
-    // the counts
-    ensures rescanned { result.rescanned ≡ min (rescanned_in (view_of seat.old) (did seat.old seat.new)) most }
-    ensures freed { result.freed ≡ freed_in (view_of seat.old) (did seat.old seat.new) }
 {
     let first = begin_exactly(rt, heap, seat);
     complete(rt, heap, seat, first)

@@ -19,7 +19,9 @@ use Rattle.gc_cycle.specs.Answering.{HasCache, retires}
 use Rattle.gc_cycle.specs.Events.{never}
 use Rattle.gc_cycle.specs.Mutating.{GoesOut, stays_calm}
 use Rattle.gc_cycle.specs.Sorts.{polls, raises_flag, tries_marking}
-use Rattle.gc_cycle.specs.Statistics.{BetweenCycles, ChangesBy, ChangesNumbers, EndsCycle, GivesUp, RefillsNumbers, leaves_numbers}
+use Rattle.gc_cycle.specs.OneCycle.{EndsCycle}
+use Rattle.gc_cycle.specs.declared.counts.Counts.{Counts}
+use Rattle.gc_cycle.specs.Statistics.{BetweenCycles, ChangesBy, ChangesNumbers, GivesUp, RefillsNumbers, leaves_numbers}
 use Rattle.gc_cycle.specs.declared.counts.Refill.{Refill}
 use Rattle.gc_cycle.proofs.Changes.{by-join, by-none, changes-after, numbers-after, numbers-join, numbers-one, only-changes}
 use Rattle.gc_cycle.proofs.Courses.{add-changes}
@@ -146,5 +148,5 @@ pub ends-calm : (v w : View) → Ran v w → Only stays_calm v w → Only leaves
 ends-calm v w ran calm only = ends-none v w ran only (calm-unbegun v w calm)
 
 -- a cycle ends
-pub ends-cycle : (v w : View) → EndsCycle v w → never tries_marking (events v w) ≡ true → EndsCyclesAlone v w
-ends-cycle v w e b = record { numbers = numbers-after [] v w w e (numbers-one [] w w (by-none w)); unbegun = b }
+pub ends-cycle : {counts : Counts} (v w : View) → EndsCycle counts v w → EndsCyclesAlone v w
+ends-cycle v w e = record { numbers = numbers-after [] v w w e (numbers-one [] w w (by-none w)); unbegun = e.unbegun }

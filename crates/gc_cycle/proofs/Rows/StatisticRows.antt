@@ -10,7 +10,9 @@ use Rattle.mark_core.specs.declared.kinds.Step.TheVariants.{AddStat, ClaimBlock,
 use Rattle.gc_table.specs.Log.{all_steps}
 use Rattle.gc_table.specs.declared.view.Entry.{Entry}
 use Rattle.alloc_cache.specs.declared.cache.Cache.{Cache}
-use Rattle.gc_cycle.specs.Statistics.{ChangesNumbers, EndsCycle, given_up, gives_back, GivesUp, leaves_numbers, numbers_changed, taken, takes_off, tells}
+use Rattle.gc_cycle.specs.OneCycle.{EndsCycle}
+use Rattle.gc_cycle.specs.declared.counts.Counts.{Counts}
+use Rattle.gc_cycle.specs.Statistics.{ChangesNumbers, given_up, gives_back, GivesUp, leaves_numbers, numbers_changed, taken, takes_off, tells}
 use Rattle.gc_cycle.proofs.Changes.{by-none, keeps-up, numbers-one}
 use Rattle.gc_cycle.proofs.Rows.SmallLogs.{did, marker, seen_by, stopper}
 
@@ -100,8 +102,8 @@ refused-kept : GivesUp (Some two_cells) (Some two_cells) (seen_by marker) (recor
 refused-kept h = absurd (true≢false (sym (ap nothing h.changed.all)))
 
 -- a cycle ended where help was let in for its drain and its sweep
-refused-end : EndsCycle (seen_by stopper) (seen_by stopper) → ⊥
-refused-end e = absurd (true≢false (sym e.help))
+refused-end : (counts : Counts) → EndsCycle counts (seen_by stopper) (seen_by stopper) → ⊥
+refused-end counts e = absurd (true≢false (sym e.help))
 
-refused-drain : EndsCycle (seen_by stopper) (record (seen_by stopper) { log = did (StorePhase Drain) 1 ∷ [] }) → ⊥
-refused-drain e = absurd (true≢false (sym e.help))
+refused-drain : (counts : Counts) → EndsCycle counts (seen_by stopper) (record (seen_by stopper) { log = did (StorePhase Drain) 1 ∷ [] }) → ⊥
+refused-drain counts e = absurd (true≢false (sym e.help))

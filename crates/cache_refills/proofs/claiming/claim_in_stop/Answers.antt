@@ -21,7 +21,7 @@ use Rattle.gc_cycle.specs.Moments.{begins}
 use Rattle.gc_cycle.proofs.Refills.Collected.{exactly-collects, full-alone}
 use Rattle.cache_refills.proofs.Stops.InStop.{claims-later, claims-none, fills-caused, fills-own, quiet-finish, rests-held, rests-later}
 use Rattle.gc_cycle.proofs.Changes.{by-none, numbers-after, numbers-one}
-use Rattle.gc_cycle.specs.Statistics.{EndsCycle, taken}
+use Rattle.gc_cycle.specs.Statistics.{taken}
 use Rattle.cache_refills.proofs.Stops.InStops.{unbegun-empty, unbegun-join}
 use Rattle.gc_table.specs.declared.view.Entry.{Entry}
 use Rattle.gc_table.specs.Running.{Ran}
@@ -39,14 +39,14 @@ use Rattle.cache_refills.proofs.claiming.claim_in_stop.Goals as goal
 pub claim_or_collect-requires-clause-alone : goal.claim_or_collect-requires-clause-alone
 claim_or_collect-requires-clause-alone g c =
     let u : View = view_of c.args.seat.now in
-    let p = c.finish_cycle.ensures in
-    (p.alone, rests-later u (view_of c.finish_cycle.new.seat) p.ran p.only u refl refl (rests-held u c.requires.stopped))
+    let p = c.finish_cycle.ensures.ends in
+    (p.idle, rests-later u (view_of c.finish_cycle.new.seat) p.ran p.only u refl refl (rests-held u c.requires.stopped))
 
 pub claim_or_fill-requires-clause-alone : goal.claim_or_fill-requires-clause-alone
 claim_or_fill-requires-clause-alone g c =
     let u : View = view_of c.args.seat.now in
-    let p = c.precise.ensures in
-    (p.alone.0, rests-later u (view_of c.precise.new.seat) p.ran p.only u refl refl (rests-held u c.requires.stopped))
+    let p = c.precise.ensures.ends in
+    (p.idle, rests-later u (view_of c.precise.new.seat) p.ran p.only u refl refl (rests-held u c.requires.stopped))
 
 pub returns-in-Some-Full-clause-claims : goal.returns-in-Some-Full-clause-claims
 returns-in-Some-Full-clause-claims g c =
@@ -65,7 +65,7 @@ returns-in-Some-Marking-clause-missed g c =
     let w : View = view_of c.claim_or_collect.new.seat in
     let sh : Shape = c.args.heap.now.shape in
     let e = c.claim_or_collect.ensures in
-    subst (λ es. HasMissed sh c.claim_or_collect.result es w) (sym (ran-events u v w c.finish_cycle.ensures.ran e.claims.ran)) (none-later sh c.claim_or_collect.result (events u v) (events v w) w e.missed)
+    subst (λ es. HasMissed sh c.claim_or_collect.result es w) (sym (ran-events u v w c.finish_cycle.ensures.ends.ran e.claims.ran)) (none-later sh c.claim_or_collect.result (events u v) (events v w) w e.missed)
 
 pub returns-in_default-clause-missed : goal.returns-in_default-clause-missed
 returns-in_default-clause-missed g c =
@@ -73,39 +73,39 @@ returns-in_default-clause-missed g c =
     let v : View = view_of c.precise.new.seat in
     let w : View = view_of c.claim_or_fill.new.seat in
     let sh : Shape = c.args.heap.now.shape in
-    let p = c.precise.ensures in
+    let p = c.precise.ensures.ends in
     let e = c.claim_or_fill.ensures in
-    subst (λ es. HasMissed sh c.claim_or_fill.result es w) (sym (ran-events u v w p.ran e.claims.ran)) (e.missed (events u v) (exactly-collects sh (begins u) (events u v) p.collects))
+    subst (λ es. HasMissed sh c.claim_or_fill.result es w) (sym (ran-events u v w p.ran e.claims.ran)) (e.missed (events u v) (exactly-collects sh (begins u) (events u v) c.precise.ensures.collects))
 
 pub returns-in-Some-Marking-clause-claims : goal.returns-in-Some-Marking-clause-claims
 returns-in-Some-Marking-clause-claims g c =
     let u : View = view_of c.args.seat.now in
     let v : View = view_of c.finish_cycle.new.seat in
-    let p = c.finish_cycle.ensures in
+    let p = c.finish_cycle.ensures.ends in
     claims-later c.claim_or_collect.result u v (view_of c.claim_or_collect.new.seat) (quiet-finish u v p.ran p.only p.spares p.going) c.claim_or_collect.ensures.claims
 
 pub returns-in-Some-Marking-clause-fills : goal.returns-in-Some-Marking-clause-fills
 returns-in-Some-Marking-clause-fills g c =
     let u : View = view_of c.args.seat.now in
     let v : View = view_of c.finish_cycle.new.seat in
-    let p = c.finish_cycle.ensures in
+    let p = c.finish_cycle.ensures.ends in
     fills-own c.args.heap.now.shape u v (view_of c.claim_or_collect.new.seat) (quiet-finish u v p.ran p.only p.spares p.going) c.claim_or_collect.ensures.claims.ran c.claim_or_collect.ensures.fills
 
 pub returns-in_default-clause-claims : goal.returns-in_default-clause-claims
 returns-in_default-clause-claims g c =
     let u : View = view_of c.args.seat.now in
     let v : View = view_of c.precise.new.seat in
-    let p = c.precise.ensures in
+    let p = c.precise.ensures.ends in
     claims-later c.claim_or_fill.result u v (view_of c.claim_or_fill.new.seat) (quiet-finish u v p.ran p.only p.spares p.going) c.claim_or_fill.ensures.claims
 
 pub returns-in_default-clause-fills : goal.returns-in_default-clause-fills
 returns-in_default-clause-fills g c =
     let u : View = view_of c.args.seat.now in
     let v : View = view_of c.precise.new.seat in
-    let p = c.precise.ensures in
+    let p = c.precise.ensures.ends in
     let f = c.claim_or_fill.ensures in
     fills-caused c.args.heap.now.shape u v (view_of c.claim_or_fill.new.seat) (quiet-finish u v p.ran p.only p.spares p.going) f.claims.ran
-    (f.fills (events u v) (exactly-collects c.args.heap.now.shape (begins u) (events u v) p.collects))
+    (f.fills (events u v) (exactly-collects c.args.heap.now.shape (begins u) (events u v) c.precise.ensures.collects))
 
 pub returns-in-Some-Full-clause-numbers : goal.returns-in-Some-Full-clause-numbers
 returns-in-Some-Full-clause-numbers g c = let v : View = view_of c.args.seat.now in numbers-one [] v v (by-none v)
@@ -114,30 +114,28 @@ pub returns-in-Some-Marking-clause-numbers : goal.returns-in-Some-Marking-clause
 returns-in-Some-Marking-clause-numbers g c =
     let u : View = view_of c.args.seat.now in
     let v : View = view_of c.finish_cycle.new.seat in
-    let p = c.finish_cycle.ensures in
-    let e : EndsCycle u v = record { ran = p.ran; only = p.only; alone = c.requires.stopped.rest; idle = p.alone; drains = p.drains; help = p.help; counts = c.finish_cycle.result; end = p.end; rescanned = p.rescanned; freed = p.freed } in
-    numbers-after (taken c.claim_or_collect.result) u v (view_of c.claim_or_collect.new.seat) e c.claim_or_collect.ensures.numbers
+    let p = c.finish_cycle.ensures.ends in
+    numbers-after (taken c.claim_or_collect.result) u v (view_of c.claim_or_collect.new.seat) p c.claim_or_collect.ensures.numbers
 
 pub returns-in_default-clause-numbers : goal.returns-in_default-clause-numbers
 returns-in_default-clause-numbers g c =
     let u : View = view_of c.args.seat.now in
     let v : View = view_of c.precise.new.seat in
-    let p = c.precise.ensures in
-    let e : EndsCycle u v = record { ran = p.ran; only = p.only; alone = c.requires.stopped.rest; idle = p.alone.0; drains = p.drains; help = p.help; counts = c.precise.result; end = p.end; rescanned = p.rescanned; freed = p.freed } in
-    numbers-after (taken c.claim_or_fill.result) u v (view_of c.claim_or_fill.new.seat) e c.claim_or_fill.ensures.numbers
+    let p = c.precise.ensures.ends in
+    numbers-after (taken c.claim_or_fill.result) u v (view_of c.claim_or_fill.new.seat) p c.claim_or_fill.ensures.numbers
 
 pub returns-in-Some-Full-clause-unbegun : goal.returns-in-Some-Full-clause-unbegun
 returns-in-Some-Full-clause-unbegun g c = unbegun-empty (view_of c.args.seat.now)
 
 pub returns-in-Some-Marking-clause-unbegun : goal.returns-in-Some-Marking-clause-unbegun
 returns-in-Some-Marking-clause-unbegun g c =
-    let p = c.finish_cycle.ensures in
+    let p = c.finish_cycle.ensures.ends in
     let e = c.claim_or_collect.ensures in
     unbegun-join (view_of c.args.seat.now) (view_of c.finish_cycle.new.seat) (view_of c.claim_or_collect.new.seat) p.ran e.claims.ran p.unbegun e.unbegun
 
 pub returns-in_default-clause-unbegun : goal.returns-in_default-clause-unbegun
 returns-in_default-clause-unbegun g c =
-    let p = c.precise.ensures in
+    let p = c.precise.ensures.ends in
     let e = c.claim_or_fill.ensures in
     unbegun-join (view_of c.args.seat.now) (view_of c.precise.new.seat) (view_of c.claim_or_fill.new.seat) p.ran e.claims.ran p.unbegun e.unbegun
 
@@ -183,12 +181,12 @@ returns-in-Some-Full-clause-ends g c =
 
 pub returns-in-Some-Marking-clause-ends : goal.returns-in-Some-Marking-clause-ends
 returns-in-Some-Marking-clause-ends g c =
-    let p = c.finish_cycle.ensures in
+    let p = c.finish_cycle.ensures.ends in
     inl (ended-first (view_of c.args.seat.now) (view_of c.finish_cycle.new.seat) (view_of c.claim_or_collect.new.seat) p.ran c.claim_or_collect.ensures.claims.ran p.once)
 
 pub returns-in_default-clause-ends : goal.returns-in_default-clause-ends
 returns-in_default-clause-ends g c =
-    let p = c.precise.ensures in inl (ended-first (view_of c.args.seat.now) (view_of c.precise.new.seat) (view_of c.claim_or_fill.new.seat) p.ran c.claim_or_fill.ensures.claims.ran p.once)
+    let p = c.precise.ensures.ends in inl (ended-first (view_of c.args.seat.now) (view_of c.precise.new.seat) (view_of c.claim_or_fill.new.seat) p.ran c.claim_or_fill.ensures.claims.ran p.once)
 
 pub returns-in-Some-Full-clause-cycles : goal.returns-in-Some-Full-clause-cycles
 returns-in-Some-Full-clause-cycles g c = λ before h. ap (each_after (may_end c.args.heap.now.shape) ends_cycle before) (events-none (view_of c.args.seat.now))
@@ -197,7 +195,7 @@ pub returns-in-Some-Marking-clause-cycles : goal.returns-in-Some-Marking-clause-
 returns-in-Some-Marking-clause-cycles g c = λ before h.
     let u : View = view_of c.args.seat.now in
     let v : View = view_of c.finish_cycle.new.seat in
-    let p = c.finish_cycle.ensures in
+    let p = c.finish_cycle.ensures.ends in
     let e = c.claim_or_collect.ensures in
     collected-cycles c.args.heap.now.shape before u v (view_of c.claim_or_collect.new.seat) p.ran e.claims.ran h p.once (e.cycles (before ++ events u v))
 
@@ -206,6 +204,6 @@ returns-in_default-clause-cycles g c = λ before h.
     let u : View = view_of c.args.seat.now in
     let v : View = view_of c.precise.new.seat in
     let w : View = view_of c.claim_or_fill.new.seat in
-    let p = c.precise.ensures in
+    let p = c.precise.ensures.ends in
     let e = c.claim_or_fill.ensures in
     collected-cycles c.args.heap.now.shape before u v w p.ran e.claims.ran h p.once (unended-later c.args.heap.now.shape (before ++ events u v) (events v w) e.unended)

@@ -23,7 +23,7 @@ use Rattle.gc_cycle.proofs.Refills.Collected.{exactly-collects}
 use Rattle.cache_refills.proofs.Stops.InStop.{alone-same, claims-alone, claims-later, fills-caused, quiet-claim, quiet-finish, quiet-join, rests-later, unfills}
 use Rattle.gc_cycle.proofs.Sequences.{followed-later}
 use Rattle.gc_cycle.proofs.Changes.{numbers-after, numbers-join, numbers-one}
-use Rattle.gc_cycle.specs.Statistics.{EndsCycle, taken}
+use Rattle.gc_cycle.specs.Statistics.{taken}
 use Rattle.gc_cycle.proofs.Numbers.{claim-by, seeks-by}
 use Rattle.cache_refills.proofs.Stops.InStops.{unbegun-claims, unbegun-join, unbegun-seeks, unended-claims, unended-seeks}
 use Rattle.cache_refills.proofs.claiming.claim_or_collect.Goals as goal
@@ -46,14 +46,14 @@ pub precise-requires-clause-alone : goal.precise-requires-clause-alone
 precise-requires-clause-alone g c = let n = c.in_default.ensures.none in inl (alone-same (view_of c.args.seat.now) (view_of c.claim.new.seat) n.0 c.claim.ensures.ran n.3 c.requires.alone.0)
 
 pub claim_or_fill-requires-clause-alone : goal.claim_or_fill-requires-clause-alone
-claim_or_fill-requires-clause-alone g c = let n = c.in_default.ensures.none in let p = c.precise.ensures in (p.alone.0, rests-later (view_of c.claim.new.seat) (view_of c.precise.new.seat) p.ran p.only (view_of c.args.seat.now) (ap (λ (s : SeatState). s.section) n.0) (ap (λ (s : SeatState). s.helping) n.0) c.requires.alone.1)
+claim_or_fill-requires-clause-alone g c = let n = c.in_default.ensures.none in let p = c.precise.ensures.ends in (p.idle, rests-later (view_of c.claim.new.seat) (view_of c.precise.new.seat) p.ran p.only (view_of c.args.seat.now) (ap (λ (s : SeatState). s.section) n.0) (ap (λ (s : SeatState). s.helping) n.0) c.requires.alone.1)
 
 pub returns-clause-claims : goal.returns-clause-claims
 returns-clause-claims g c =
     let u : View = view_of c.args.seat.now in
     let v : View = view_of c.claim.new.seat in
     let w : View = view_of c.precise.new.seat in
-    let p = c.precise.ensures in
+    let p = c.precise.ensures.ends in
     claims-later c.claim_or_fill.result u w (view_of c.claim_or_fill.new.seat)
     (quiet-join u v w (quiet-claim None c.args.heap.now.shape u v c.claim.ensures.ran tt c.in_default.ensures.none) (quiet-finish v w p.ran p.only p.spares p.going))
     c.claim_or_fill.ensures.claims
@@ -65,9 +65,9 @@ returns-clause-missed g c =
     let w : View = view_of c.precise.new.seat in
     let x : View = view_of c.claim_or_fill.new.seat in
     let sh : Shape = c.args.heap.now.shape in
-    let p = c.precise.ensures in
+    let p = c.precise.ensures.ends in
     let f = c.claim_or_fill.ensures in
-    subst (λ es. HasMissed sh c.claim_or_fill.result es x) (sym (ran-events u w x (ran-join u v w c.claim.ensures.ran p.ran) f.claims.ran)) (f.missed (events u w) (collected-after sh u v w c.claim.ensures.ran p.ran p.collects))
+    subst (λ es. HasMissed sh c.claim_or_fill.result es x) (sym (ran-events u w x (ran-join u v w c.claim.ensures.ran p.ran) f.claims.ran)) (f.missed (events u w) (collected-after sh u v w c.claim.ensures.ran p.ran c.precise.ensures.collects))
 
 pub returns-clause-fills : goal.returns-clause-fills
 returns-clause-fills g c =
@@ -75,11 +75,11 @@ returns-clause-fills g c =
     let v : View = view_of c.claim.new.seat in
     let w : View = view_of c.precise.new.seat in
     let sh : Shape = c.args.heap.now.shape in
-    let p = c.precise.ensures in
+    let p = c.precise.ensures.ends in
     let f = c.claim_or_fill.ensures in
     fills-caused sh u w (view_of c.claim_or_fill.new.seat)
     (quiet-join u v w (quiet-claim None sh u v c.claim.ensures.ran tt c.in_default.ensures.none) (quiet-finish v w p.ran p.only p.spares p.going))
-    f.claims.ran (f.fills (events u w) (collected-after sh u v w c.claim.ensures.ran p.ran p.collects))
+    f.claims.ran (f.fills (events u w) (collected-after sh u v w c.claim.ensures.ran p.ran c.precise.ensures.collects))
 
 pub returns-in-Some-clause-numbers : goal.returns-in-Some-clause-numbers
 returns-in-Some-clause-numbers g c =
@@ -94,10 +94,8 @@ returns-clause-numbers g c =
     let w : View = view_of c.precise.new.seat in
     let x : View = view_of c.claim_or_fill.new.seat in
     let n = c.in_default.ensures.none in
-    let p = c.precise.ensures in
-    let alone = (alone-same u v n.0 c.claim.ensures.ran n.3 c.requires.alone.0).rest in
-    let e : EndsCycle v w = record { ran = p.ran; only = p.only; alone = alone; idle = p.alone.0; drains = p.drains; help = p.help; counts = c.precise.result; end = p.end; rescanned = p.rescanned; freed = p.freed } in
-    numbers-join (taken c.claim_or_fill.result) u v x (numbers-one [] u v (seeks-by u v c.claim.ensures.ran n.3)) (numbers-after (taken c.claim_or_fill.result) v w x e c.claim_or_fill.ensures.numbers)
+    let p = c.precise.ensures.ends in
+    numbers-join (taken c.claim_or_fill.result) u v x (numbers-one [] u v (seeks-by u v c.claim.ensures.ran n.3)) (numbers-after (taken c.claim_or_fill.result) v w x p c.claim_or_fill.ensures.numbers)
 
 pub returns-in-Some-clause-unbegun : goal.returns-in-Some-clause-unbegun
 returns-in-Some-clause-unbegun g c = unbegun-claims c.in-Some.cache (view_of c.args.seat.now) (view_of c.claim.new.seat) c.in-Some.ensures.some
@@ -108,7 +106,7 @@ returns-clause-unbegun g c =
     let v : View = view_of c.claim.new.seat in
     let w : View = view_of c.precise.new.seat in
     let x : View = view_of c.claim_or_fill.new.seat in
-    let p = c.precise.ensures in
+    let p = c.precise.ensures.ends in
     let f = c.claim_or_fill.ensures in
     unbegun-join u v x c.claim.ensures.ran (ran-join v w x p.ran f.claims.ran) (unbegun-seeks u v c.in_default.ensures.none.3) (unbegun-join v w x p.ran f.claims.ran p.unbegun f.unbegun)
 
@@ -134,7 +132,7 @@ returns-clause-cycles g c = λ before.
     let v : View = view_of c.claim.new.seat in
     let sh : Shape = c.args.heap.now.shape in
     let n = c.in_default.ensures.none in
-    let p = c.precise.ensures in
+    let p = c.precise.ensures.ends in
     let f = c.claim_or_fill.ensures in
     let some : 0 < block_count sh = subst (λ (s : Shape). 0 < block_count s) c.requires.seat.1 (some-blocks u c.args.seat.now.possible) in
     collected-cycles sh before u v (view_of c.precise.new.seat) (view_of c.claim_or_fill.new.seat) c.claim.ensures.ran p.ran f.claims.ran (unended-seeks u v n.3) (search-failed sh (events u v) some n.3 n.2) p.once f.unended

@@ -8,7 +8,6 @@ use Rattle.gc_table.specs.Log.{events}
 use Rattle.mark_core.specs.declared.kinds.Phase.TheVariants.{Full, Idle}
 use Rattle.mark_core.specs.declared.kinds.Step.TheVariants.{DropStep}
 use Rattle.gc_cycle.proofs.Changes.{changes-after, numbers-after, numbers-one}
-use Rattle.gc_cycle.specs.Statistics.{EndsCycle}
 use Rattle.gc_table.proofs.History.Log.{events-after}
 use Rattle.gc_cycle.specs.Events.{never}
 use Rattle.gc_cycle.specs.Sorts.{tries_marking}
@@ -32,24 +31,24 @@ pub precise-requires-clause-alone : goal.precise-requires-clause-alone
 precise-requires-clause-alone g c = (holds-phase (view_of c.args.seat.now) c.requires.stopped c.if-has_seen_full.ensures.other).0
 
 pub resume-requires-2-clause-alone : goal.resume-requires-2-clause-alone
-resume-requires-2-clause-alone g c = (Idle, refl, c.precise.ensures.alone.0.alone)
+resume-requires-2-clause-alone g c = (Idle, refl, c.precise.ensures.ends.idle.alone)
 
 pub resume-requires-2-clause-done : goal.resume-requires-2-clause-done
-resume-requires-2-clause-done g c = is-done (view_of c.precise.new.seat) c.precise.ensures.alone.0.rest.rest
+resume-requires-2-clause-done g c = is-done (view_of c.precise.new.seat) c.precise.ensures.ends.idle.rest.rest
 
 pub returns-clause-seat : goal.returns-clause-seat
 returns-clause-seat g c =
     let v : View = view_of c.args.seat.now in
     let w : View = view_of c.precise.new.seat in
-    let p = c.precise.ensures in
-    (c.resume-2.ensures.seat, (ends-collected v w (view_of c.resume-2.new.seat) c.requires.stopped (holds-phase v c.requires.stopped c.if-has_seen_full.ensures.other).1 p.ran p.only p.spares p.calm p.going (exactly-collects c.args.heap.now.shape (begins v) (events v w) p.collects) p.alone.0.rest c.resume-2.ensures.ran c.resume-2.ensures.step).0)
+    let p = c.precise.ensures.ends in
+    (c.resume-2.ensures.seat, (ends-collected v w (view_of c.resume-2.new.seat) c.requires.stopped (holds-phase v c.requires.stopped c.if-has_seen_full.ensures.other).1 p.ran p.only p.spares p.calm p.going (exactly-collects c.args.heap.now.shape (begins v) (events v w) c.precise.ensures.collects) p.idle.rest c.resume-2.ensures.ran c.resume-2.ensures.step).0)
 
 pub returns-clause-ends : goal.returns-clause-ends
 returns-clause-ends g c =
     let v : View = view_of c.args.seat.now in
     let w : View = view_of c.precise.new.seat in
-    let p = c.precise.ensures in
-    (ends-collected v w (view_of c.resume-2.new.seat) c.requires.stopped (holds-phase v c.requires.stopped c.if-has_seen_full.ensures.other).1 p.ran p.only p.spares p.calm p.going (exactly-collects c.args.heap.now.shape (begins v) (events v w) p.collects) p.alone.0.rest c.resume-2.ensures.ran c.resume-2.ensures.step).1
+    let p = c.precise.ensures.ends in
+    (ends-collected v w (view_of c.resume-2.new.seat) c.requires.stopped (holds-phase v c.requires.stopped c.if-has_seen_full.ensures.other).1 p.ran p.only p.spares p.calm p.going (exactly-collects c.args.heap.now.shape (begins v) (events v w) c.precise.ensures.collects) p.idle.rest c.resume-2.ensures.ran c.resume-2.ensures.step).1
 
 pub returns-then-has_seen_full-clause-numbers : goal.returns-then-has_seen_full-clause-numbers
 returns-then-has_seen_full-clause-numbers g c =
@@ -63,10 +62,9 @@ returns-clause-numbers g c =
     let v : View = view_of c.args.seat.now in
     let w : View = view_of c.precise.new.seat in
     let x : View = view_of c.resume-2.new.seat in
-    let p = c.precise.ensures in
+    let p = c.precise.ensures.ends in
     let t = c.resume-2.ensures.step in
-    let e : EndsCycle v w = record { ran = p.ran; only = p.only; alone = c.requires.stopped.rest; idle = p.alone.0; drains = p.drains; help = p.help; counts = c.precise.result; end = p.end; rescanned = p.rescanned; freed = p.freed } in
-    numbers-after [] v w x e (numbers-one [] w x (changes-after w x DropStep t.0 refl c.resume-2.ensures.ran t.1.0))
+    numbers-after [] v w x p (numbers-one [] w x (changes-after w x DropStep t.0 refl c.resume-2.ensures.ran t.1.0))
 
 pub returns-then-has_seen_full-clause-unbegun : goal.returns-then-has_seen_full-clause-unbegun
 returns-then-has_seen_full-clause-unbegun g c =
@@ -76,6 +74,6 @@ pub returns-clause-unbegun : goal.returns-clause-unbegun
 returns-clause-unbegun g c =
     let w : View = view_of c.precise.new.seat in
     let x : View = view_of c.resume-2.new.seat in
-    let p = c.precise.ensures in
+    let p = c.precise.ensures.ends in
     let r = c.resume-2.ensures in
     unbegun-join (view_of c.args.seat.now) w x p.ran r.ran p.unbegun (ap (never tries_marking) (events-after w x DropStep r.step.0 r.step.1.0))

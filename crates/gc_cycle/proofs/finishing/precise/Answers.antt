@@ -1,4 +1,5 @@
-use Rattle.std.proofs.Common.{◌≡◌, subst, true, arith}
+use Rattle.std.proofs.Common.{◌≡◌, subst, true, ⊎_elim, arith}
+use Rattle.mark_core.specs.declared.kinds.Phase.TheVariants.{Idle, Marking}
 use Rattle.mark_core.specs.declared.kinds.Shape.{Shape}
 use Rattle.gc_table.specs.Seats.{view_of}
 use Rattle.gc_table.specs.declared.view.View.{View}
@@ -7,17 +8,46 @@ use Rattle.gc_cycle.specs.Cycles.{collects_exactly}
 use Rattle.card_clean.specs.Leaving.{rescans}
 use Rattle.gc_cycle.specs.Moments.{begins}
 use Rattle.gc_table.proofs.Running.{ran-only}
-use Rattle.gc_cycle.specs.Finishing.{finishes}
+use Rattle.gc_cycle.specs.Finishing.{finishes, IsAloneIn}
 use Rattle.gc_cycle.proofs.Ends.Completing.{freed-run, total-run}
 use Rattle.gc_cycle.proofs.Ends.Finishes.{before-more, exact-collects, exact-end, exact-fresh, exact-help, exact-not-full, exact-once, exact-ran, exact-unbegun}
 use Rattle.gc_cycle.proofs.Ends.Spared.{finish-calm, finish-keeps, finish-position, finish-spares, untold-fills, untold-sees}
 use Rattle.gc_cycle.proofs.finishing.precise.Goals as goal
 
-pub returns-clause-ran : goal.returns-clause-ran
-returns-clause-ran g c = exact-ran (view_of c.args.seat.now) (view_of c.begin_exactly-first.new.seat) (view_of c.complete.new.seat) c.begin_exactly-first.ensures.begun c.complete.ensures.completes
-
-pub returns-clause-alone : goal.returns-clause-alone
-returns-clause-alone g c = (c.complete.ensures.completes.alone, (c.complete.ensures.completes.exactly c.begin_exactly-first.ensures.begun.exact).1)
+pub returns-clause-ends : goal.returns-clause-ends
+returns-clause-ends g c =
+    let u : View = view_of c.args.seat.now in
+    let v : View = view_of c.begin_exactly-first.new.seat in
+    let w : View = view_of c.complete.new.seat in
+    let f = c.begin_exactly-first.ensures in
+    let b = f.begun in
+    let r = c.complete.ensures in
+    let k = r.completes in
+    let ran = exact-ran u v w b k in
+    let only = ran-only finishes u v w b.ran k.ran b.only k.only in
+    let untold = exact-not-full u v w b k in
+    let fills = untold-fills (events u w) untold in
+    let rescanned = total-run rescans u v w b.ran k.ran in
+    let freed = freed-run u v w b.ran k.ran in
+    record {
+      alone = ⊎_elim (λ (a : IsAloneIn Idle u). a.rest) (λ (a : IsAloneIn Marking u). a.rest) c.requires.alone;
+      idle = k.alone;
+      keeps = finish-keeps u w ran only;
+      position = finish-position u w ran only;
+      ran = ran;
+      only = only;
+      drains = record { begun = v; begins = (b.ran, exact-fresh u v b); drains = r.drains };
+      help = exact-help u v w b k;
+      once = exact-once u v w b k;
+      spares = finish-spares u w only fills;
+      not_full = fills;
+      unbegun = exact-unbegun u v w b k;
+      calm = finish-calm u w only;
+      going = untold-sees (events u w) untold;
+      end = r.end;
+      rescanned = let first = f.rescanned in let n = r.rescanned in omega (arith, rescanned, first, n);
+      freed = let none = f.freed in let n = r.freed in omega (arith, freed, none, n);
+    }
 
 pub returns-clause-collects : goal.returns-clause-collects
 returns-clause-collects g c =
@@ -25,58 +55,11 @@ returns-clause-collects g c =
     let w : View = view_of c.complete.new.seat in
     subst (λ (sh : Shape). collects_exactly sh (begins v) (events v w) ≡ true) c.requires.seat.1 (exact-collects v (view_of c.begin_exactly-first.new.seat) w c.begin_exactly-first.ensures.begun c.complete.ensures.completes)
 
-pub returns-clause-help : goal.returns-clause-help
-returns-clause-help g c = exact-help (view_of c.args.seat.now) (view_of c.begin_exactly-first.new.seat) (view_of c.complete.new.seat) c.begin_exactly-first.ensures.begun c.complete.ensures.completes
-
-pub returns-clause-unbegun : goal.returns-clause-unbegun
-returns-clause-unbegun g c = exact-unbegun (view_of c.args.seat.now) (view_of c.begin_exactly-first.new.seat) (view_of c.complete.new.seat) c.begin_exactly-first.ensures.begun c.complete.ensures.completes
-
-pub returns-clause-not_full : goal.returns-clause-not_full
-returns-clause-not_full g c = untold-fills (events (view_of c.args.seat.now) (view_of c.complete.new.seat)) (exact-not-full (view_of c.args.seat.now) (view_of c.begin_exactly-first.new.seat) (view_of c.complete.new.seat) c.begin_exactly-first.ensures.begun c.complete.ensures.completes)
-
-pub returns-clause-going : goal.returns-clause-going
-returns-clause-going g c = untold-sees (events (view_of c.args.seat.now) (view_of c.complete.new.seat)) (exact-not-full (view_of c.args.seat.now) (view_of c.begin_exactly-first.new.seat) (view_of c.complete.new.seat) c.begin_exactly-first.ensures.begun c.complete.ensures.completes)
+pub returns-clause-known : goal.returns-clause-known
+returns-clause-known g c = (c.complete.ensures.completes.exactly c.begin_exactly-first.ensures.begun.exact).1
 
 pub returns-clause-exact : goal.returns-clause-exact
-returns-clause-exact g c = exact-end (view_of c.complete.new.seat) c.complete.ensures.completes.alone (c.complete.ensures.completes.exactly c.begin_exactly-first.ensures.begun.exact).1
-
-pub returns-clause-rescanned : goal.returns-clause-rescanned
-returns-clause-rescanned g c =
-    let t = total-run rescans (view_of c.args.seat.now) (view_of c.begin_exactly-first.new.seat) (view_of c.complete.new.seat) c.begin_exactly-first.ensures.begun.ran c.complete.ensures.completes.ran in
-    let first = c.begin_exactly-first.ensures.rescanned in
-    let r = c.complete.ensures.rescanned in
-    omega (arith, t, first, r)
-
-pub returns-clause-freed : goal.returns-clause-freed
-returns-clause-freed g c =
-    let t = freed-run (view_of c.args.seat.now) (view_of c.begin_exactly-first.new.seat) (view_of c.complete.new.seat) c.begin_exactly-first.ensures.begun.ran c.complete.ensures.completes.ran in
-    let none = c.begin_exactly-first.ensures.freed in
-    let r = c.complete.ensures.freed in
-    omega (arith, t, none, r)
-
-pub returns-clause-only : goal.returns-clause-only
-returns-clause-only g c =
-    ran-only finishes (view_of c.args.seat.now) (view_of c.begin_exactly-first.new.seat) (view_of c.complete.new.seat) c.begin_exactly-first.ensures.begun.ran c.complete.ensures.completes.ran c.begin_exactly-first.ensures.begun.only c.complete.ensures.completes.only
-
-pub returns-clause-calm : goal.returns-clause-calm
-returns-clause-calm g c = finish-calm (view_of c.args.seat.now) (view_of c.complete.new.seat) (returns-clause-only g c)
-
-pub returns-clause-keeps : goal.returns-clause-keeps
-returns-clause-keeps g c = finish-keeps (view_of c.args.seat.now) (view_of c.complete.new.seat) (returns-clause-ran g c) (returns-clause-only g c)
-
-pub returns-clause-position : goal.returns-clause-position
-returns-clause-position g c = finish-position (view_of c.args.seat.now) (view_of c.complete.new.seat) (returns-clause-ran g c) (returns-clause-only g c)
-
-pub returns-clause-spares : goal.returns-clause-spares
-returns-clause-spares g c = finish-spares (view_of c.args.seat.now) (view_of c.complete.new.seat) (returns-clause-only g c) (returns-clause-not_full g c)
-
-pub returns-clause-drains : goal.returns-clause-drains
-returns-clause-drains g c =
-    let b = c.begin_exactly-first.ensures.begun in
-    record { begun = view_of c.begin_exactly-first.new.seat; begins = (b.ran, exact-fresh (view_of c.args.seat.now) (view_of c.begin_exactly-first.new.seat) b); drains = c.complete.ensures.drains }
+returns-clause-exact g c = exact-end (view_of c.complete.new.seat) c.complete.ensures.completes.alone (returns-clause-known g c)
 
 pub returns-clause-first : goal.returns-clause-first
 returns-clause-first g c a = before-more (view_of c.args.seat.now) (view_of c.begin_exactly-first.new.seat) (view_of c.complete.new.seat) (c.begin_exactly-first.ensures.first a) c.complete.ensures.completes.ran
-
-pub returns-clause-once : goal.returns-clause-once
-returns-clause-once g c = exact-once (view_of c.args.seat.now) (view_of c.begin_exactly-first.new.seat) (view_of c.complete.new.seat) c.begin_exactly-first.ensures.begun c.complete.ensures.completes

@@ -1,8 +1,6 @@
 use Rattle.std.proofs.Common.{◌∙◌, refl, sym}
 use Rattle.gc_table.specs.Seats.{view_of}
 use Rattle.mark_core.specs.declared.kinds.Phase.TheVariants.{Full, Idle, Marking}
-use Rattle.gc_cycle.specs.Standing.{IsAlone}
-use Rattle.gc_cycle.specs.Statistics.{EndsCycle}
 use Rattle.warehouse.proofs.Pacing.{ends-both, ends-cycle}
 use Rattle.warehouse.proofs.PacedTurns.{read-paces}
 use Rattle.warehouse.proofs.Stopping.{ends-after, finishes-unhelped}
@@ -37,8 +35,8 @@ returns-in-Marking-clause-ends g c =
     let v = view_of c.args.seat.now in
     let w = view_of c.read_phase.new.seat in
     let x = view_of c.finish_cycle.new.seat in
-    let f = c.finish_cycle.ensures in
-    ends-after v w x (ends-read r.0 v w c.requires.stopped c.requires.rest (r.1, r.2) _ Marking (sym r.3 ∙ c.in-Marking.is) refl) f.ran f.spares f.alone.rest f.calm f.going f.position (finishes-unhelped w x f.ran f.only)
+    let f = c.finish_cycle.ensures.ends in
+    ends-after v w x (ends-read r.0 v w c.requires.stopped c.requires.rest (r.1, r.2) _ Marking (sym r.3 ∙ c.in-Marking.is) refl) f.ran f.spares f.idle.rest f.calm f.going f.position (finishes-unhelped w x f.ran f.only)
 
 pub returns-in-Marking-clause-paces : goal.returns-in-Marking-clause-paces
 returns-in-Marking-clause-paces g c =
@@ -46,11 +44,8 @@ returns-in-Marking-clause-paces g c =
     let v = view_of c.args.seat.now in
     let w = view_of c.read_phase.new.seat in
     let x = view_of c.finish_cycle.new.seat in
-    let f = c.finish_cycle.ensures in
-    let a = read-alone r.0 v w c.requires.stopped c.requires.rest (r.1, r.2) Marking (sym r.3 ∙ c.in-Marking.is) in
-    let alone : IsAlone w = record { knows = a.knows; alone = a.alone; rest = read-rest r.0 v w c.requires.stopped c.requires.rest (r.1, r.2) } in
-    let e : EndsCycle w x = record { ran = f.ran; only = f.only; alone = alone; idle = f.alone; drains = f.drains; help = f.help; counts = c.finish_cycle.result; end = f.end; rescanned = f.rescanned; freed = f.freed } in
-    ends-both v w x (read-paces r.0 v w (r.1, r.2)) (ends-cycle w x e f.unbegun)
+    let f = c.finish_cycle.ensures.ends in
+    ends-both v w x (read-paces r.0 v w (r.1, r.2)) (ends-cycle w x f)
 
 pub returns-in_default : goal.returns-in_default
 returns-in_default g c =
