@@ -3,6 +3,7 @@ pub mod Stops
 pub mod PartEvents
 pub mod Getting
 pub mod Refilling
+pub mod RefillRules
 pub mod InStops
 pub mod Trying
 pub mod Pieces

@@ -1,19 +1,19 @@
 //! A cache for a mutator that collects in stops alone: a cycle is never begun, so nothing is marked beside the mutators.
-ghost use Rattle.std.specs.Prelude.{◌≡◌, [], None, IfSome, IsTrue};
+ghost use Rattle.std.specs.Prelude.{◌≡◌, None, IfSome, IsTrue};
 ghost use Rattle.gc_table.specs.Log.{Only};
 ghost use Rattle.gc_table.specs.Running.{Ran};
 ghost use Rattle.gc_table.specs.Seats.{Across, did, Sits, state_of, view_of};
 ghost use Rattle.gc_table.specs.declared.view.View.{View};
 ghost use Rattle.alloc_cache.specs.Caching.{IsCached};
 ghost use Rattle.gc_cycle.specs.Answering.{StoredAt, TellsFull, answers};
-ghost use Rattle.gc_cycle.specs.Cycles.{fills_with_cause};
 ghost use Rattle.cache_refills.specs.InStops.{FillsTo, HasSearched, begins_none};
+ghost use Rattle.cache_refills.specs.RefillRules.{KeepsRefillRules};
 ghost use Rattle.cache_refills.specs.Refilling.{IsRound};
 ghost use Rattle.gc_cycle.specs.Mutating.{pops_in_stops};
-ghost use Rattle.gc_cycle.specs.Sparing.{SparesRefill, fills_part};
-ghost use Rattle.gc_cycle.specs.Standing.{KeepsSeat, KeepsSection, Mutates};
-ghost use Rattle.gc_cycle.specs.Statistics.{PaysNumbers, RefillsNumbers, RoundNumbers};
-ghost use Rattle.cache_refills.specs.Stops.{cycles_with_cause, stops_again_with_cause, stops_collect, stops_in_visit, stops_with_cause};
+ghost use Rattle.gc_cycle.specs.Sparing.{SparesRefill};
+ghost use Rattle.gc_cycle.specs.Standing.{Mutates};
+ghost use Rattle.gc_cycle.specs.Statistics.{PaysNumbers, RoundNumbers};
+ghost use Rattle.cache_refills.specs.Stops.{stops_in_visit, stops_with_cause};
 
 use crate::refilling::{nothing_paid, refill_in_stop};
 use crate::watching::Watch;
@@ -36,20 +36,10 @@ pub fn refill_in_stops<R: Wait, W: Watch>(
     requires seat { Sits heap.now seat.old × Mutates (view_of seat.old) }
     requires cache { (state_of seat.old).cache ≡ None }
     ensures seat { Sits heap.now seat.new }
-    ensures ran { Across Ran seat.old seat.new }
+    ensures rules { Across (KeepsRefillRules heap.now.shape result) seat.old seat.new }
     ensures fills { Across (FillsTo result done) seat.old seat.new }
-    ensures stops { IsTrue (stops_with_cause heap.now.shape (did seat.old seat.new)) }
-    ensures visit { IsTrue (stops_in_visit heap.now.shape (did seat.old seat.new)) }
-    ensures again { IsTrue (stops_again_with_cause heap.now.shape (did seat.old seat.new)) }
-    ensures collects { IsTrue (stops_collect (did seat.old seat.new)) }
-    ensures cycles { IsTrue (cycles_with_cause heap.now.shape (did seat.old seat.new)) }
     ensures pops { IsTrue (pops_in_stops (did seat.old seat.new)) }
-    ensures full { IsTrue (fills_with_cause heap.now.shape (did seat.old seat.new)) }
     ensures unbegun { IsTrue (begins_none (did seat.old seat.new)) }
-    ensures keeps { Across KeepsSeat seat.old seat.new × Across KeepsSection seat.old seat.new }
-    ensures only { Across (Only fills_part) seat.old seat.new }
-    ensures numbers { Across (RefillsNumbers result) seat.old seat.new }
-    ensures spares { Across (SparesRefill result) seat.old seat.new }
 {
     for _ in rt.forever() {
         if let Some(refill) = fill_once(rt, heap, seat, done, watch) {

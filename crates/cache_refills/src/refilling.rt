@@ -12,18 +12,18 @@ ghost use Rattle.alloc_cache.specs.Caching.{IsCached};
 ghost use Rattle.cache_refills.specs.Getting.{RefillsTo};
 ghost use Rattle.gc_cycle.specs.declared.counts.Refill.TheVariants as refills;
 ghost use Rattle.gc_cycle.specs.Answering.{StoredAt, TellsFull};
-ghost use Rattle.gc_cycle.specs.Cycles.{fills_with_cause};
 ghost use Rattle.gc_cycle.specs.Events.{each_after, never};
 ghost use Rattle.gc_cycle.specs.Sorts.{comes_in, raises_flag};
 ghost use Rattle.cache_refills.specs.InStops.{begins_none};
 ghost use Rattle.gc_cycle.specs.Mutating.{pops_in_stops, stays_calm};
 ghost use Rattle.cache_refills.specs.Pace.Pacing.{begins_where_due, card_looks};
 ghost use Rattle.cache_refills.specs.Pace.Paying.{IsFree, pops_where_paid};
+ghost use Rattle.cache_refills.specs.RefillRules.{KeepsRefillRules};
 ghost use Rattle.cache_refills.specs.Refilling.{HasClaimed, IsPaced, IsRound, SeesEnd, looks_for_end, prepares};
-ghost use Rattle.gc_cycle.specs.Sparing.{SparesRefill, fills_part};
-ghost use Rattle.gc_cycle.specs.Standing.{KeepsSeat, KeepsSection, Mutates};
-ghost use Rattle.gc_cycle.specs.Statistics.{ChangesBy, PaysNumbers, RefillsNumbers, RoundNumbers};
-ghost use Rattle.cache_refills.specs.Stops.{cycles_with_cause, stops_again_with_cause, stops_collect, stops_in_visit, stops_with_cause};
+ghost use Rattle.gc_cycle.specs.Sparing.{SparesRefill};
+ghost use Rattle.gc_cycle.specs.Standing.{Mutates};
+ghost use Rattle.gc_cycle.specs.Statistics.{ChangesBy, PaysNumbers, RoundNumbers};
+ghost use Rattle.cache_refills.specs.Stops.{stops_in_visit, stops_with_cause};
 ghost use Rattle.cache_refills.specs.Pace.StepBounds.{payment_steps};
 
 use crate::claiming::claim_in_stop;
@@ -59,20 +59,10 @@ pub fn refill<R: Wait>(rt: &R, heap: &Heap, seat: &mut HeapSeat, done: u32) -> R
     requires seat { Sits heap.now seat.old × Mutates (view_of seat.old) }
     requires cache { (state_of seat.old).cache ≡ None }
     ensures seat { Sits heap.now seat.new }
-    ensures ran { Across Ran seat.old seat.new }
+    ensures rules { Across (KeepsRefillRules heap.now.shape result) seat.old seat.new }
     ensures refills { Across (RefillsTo result done) seat.old seat.new }
-    ensures stops { IsTrue (stops_with_cause heap.now.shape (did seat.old seat.new)) }
-    ensures visit { IsTrue (stops_in_visit heap.now.shape (did seat.old seat.new)) }
-    ensures again { IsTrue (stops_again_with_cause heap.now.shape (did seat.old seat.new)) }
-    ensures collects { IsTrue (stops_collect (did seat.old seat.new)) }
-    ensures cycles { IsTrue (cycles_with_cause heap.now.shape (did seat.old seat.new)) }
     ensures pops { IsTrue (pops_where_paid (did seat.old seat.new)) }
-    ensures fills { IsTrue (fills_with_cause heap.now.shape (did seat.old seat.new)) }
     ensures due { IsTrue (begins_where_due (did seat.old seat.new)) }
-    ensures keeps { Across KeepsSeat seat.old seat.new × Across KeepsSection seat.old seat.new }
-    ensures only { Across (Only fills_part) seat.old seat.new }
-    ensures numbers { Across (RefillsNumbers result) seat.old seat.new }
-    ensures spares { Across (SparesRefill result) seat.old seat.new }
 {
     refill_watched(rt, heap, seat, done, &mut Unwatched)
 }
@@ -88,20 +78,10 @@ pub fn refill_watched<R: Wait, W: Watch>(
     requires seat { Sits heap.now seat.old × Mutates (view_of seat.old) }
     requires cache { (state_of seat.old).cache ≡ None }
     ensures seat { Sits heap.now seat.new }
-    ensures ran { Across Ran seat.old seat.new }
+    ensures rules { Across (KeepsRefillRules heap.now.shape result) seat.old seat.new }
     ensures refills { Across (RefillsTo result done) seat.old seat.new }
-    ensures stops { IsTrue (stops_with_cause heap.now.shape (did seat.old seat.new)) }
-    ensures visit { IsTrue (stops_in_visit heap.now.shape (did seat.old seat.new)) }
-    ensures again { IsTrue (stops_again_with_cause heap.now.shape (did seat.old seat.new)) }
-    ensures collects { IsTrue (stops_collect (did seat.old seat.new)) }
-    ensures cycles { IsTrue (cycles_with_cause heap.now.shape (did seat.old seat.new)) }
     ensures pops { IsTrue (pops_where_paid (did seat.old seat.new)) }
-    ensures fills { IsTrue (fills_with_cause heap.now.shape (did seat.old seat.new)) }
     ensures due { IsTrue (begins_where_due (did seat.old seat.new)) }
-    ensures keeps { Across KeepsSeat seat.old seat.new × Across KeepsSection seat.old seat.new }
-    ensures only { Across (Only fills_part) seat.old seat.new }
-    ensures numbers { Across (RefillsNumbers result) seat.old seat.new }
-    ensures spares { Across (SparesRefill result) seat.old seat.new }
 {
     for _ in rt.forever() {
         if let Some(refill) = refill_once(rt, heap, seat, done, watch) {

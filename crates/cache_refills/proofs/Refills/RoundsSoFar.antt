@@ -1,6 +1,7 @@
 -- A mutator's rounds so far, none of which had an answer, and what the call leaves once one has.
-use Rattle.std.proofs.Common.{ℕ, ◌≡◌, ap, ◌∙◌, true, Some, None}
+use Rattle.std.proofs.Common.{ℕ, ◌≡◌, [], ap, ◌∙◌, subst, true, Some, None}
 use Rattle.std.proofs.lemmas.Bool.{false≢true}
+use Rattle.mark_core.specs.declared.kinds.Shape.{Shape}
 use Rattle.mark_core.specs.declared.kinds.Step.{Step}
 use Rattle.mark_core.specs.declared.kinds.Step.TheVariants.{ReadCat, ReadOwn, ReadSlot}
 use Rattle.gc_table.specs.Log.{events, Only}
@@ -12,9 +13,12 @@ use Rattle.gc_cycle.specs.Answering.{StoredAt, TellsFull}
 use Rattle.gc_cycle.specs.declared.counts.Refill.{Refill}
 use Rattle.gc_cycle.specs.Cycles.{fills_with_cause}
 use Rattle.cache_refills.specs.Refilling.{IsRound}
-use Rattle.gc_cycle.specs.Sparing.{fills_part, SparesRefill, spares_part}
-use Rattle.gc_cycle.specs.Standing.{KeepsSeat, KeepsSection, Mutates}
+use Rattle.gc_cycle.specs.Sparing.{fills_part, spares_part}
+use Rattle.gc_cycle.specs.Standing.{Mutates}
+use Rattle.gc_cycle.specs.Statistics.{ChangesNumbers, RefillsNumbers}
+use Rattle.cache_refills.specs.RefillRules.{KeepsRefillRules}
 use Rattle.cache_refills.specs.Stops.{cycles_with_cause, may_stop_again, resumes_with_end, stops_again_with_cause, stops_collect, stops_in_visit, stops_with_cause}
+use Rattle.cache_refills.proofs.Refills.RoundNumbers.{refills-later}
 use Rattle.cache_refills.proofs.Stops.StopsAgain.{again-join, again-stops-join}
 use Rattle.gc_cycle.specs.Mutating.{keeps_section, pops_in_stops}
 use Rattle.cache_refills.proofs.Refills.Popping.{pops-join}
@@ -90,20 +94,8 @@ keeps-fill (ReadSlot k) e = absurd (false≢true e)
 keeps-fill step e = e
 
 -- what a call of rounds leaves, once one of them has an answer
-pub record Ends (r : Refill) (u w : View) : Type 0 where
-  pub ran : Ran u w
-  pub stops : stops_with_cause u.shape (events u w) ≡ true
-  pub fills : fills_with_cause u.shape (events u w) ≡ true
-  pub again : stops_again_with_cause u.shape (events u w) ≡ true
-  pub visit : stops_in_visit u.shape (events u w) ≡ true
-  pub collects : stops_collect (events u w) ≡ true
-  pub cycles : cycles_with_cause u.shape (events u w) ≡ true
-  pub keeps : KeepsSeat u w × KeepsSection u w
-  pub only : Only fills_part u w
-  pub spares : SparesRefill r u w
-
-pub ends-round : (r : Refill) (done : ℕ) (u v w : View) → HasTried done u v → IsRound (Some r) done v w → stops_with_cause v.shape (events v w) ≡ true → stops_in_visit v.shape (events v w) ≡ true → Ends r u w
-ends-round r done u v w a i s t =
+pub ends-round : (r : Refill) (done : ℕ) (u v w : View) → HasTried done u v → IsRound (Some r) done v w → stops_with_cause v.shape (events v w) ≡ true → stops_in_visit v.shape (events v w) ≡ true → ChangesNumbers [] u v → RefillsNumbers r v w → KeepsRefillRules u.shape r u w
+ends-round r done u v w a i s t n m =
     let ran = ran-join u v w a.ran i.ran in
     let only = ran-only keeps_section u v w a.ran i.ran a.only i.only in
     record {
@@ -117,4 +109,9 @@ ends-round r done u v w a i s t =
       keeps = (keeps-seat u w ran only, keeps-section u w ran only);
       only = only-more keeps_section fills_part keeps-fill u w only;
       spares = spares-refill r u v w a.ran i.ran a.spares i.spares;
+      numbers = refills-later r u v w n m;
     }
+
+-- the same at a shape that is that of the view
+pub rules-at : (sh : Shape) (r : Refill) (u w : View) → u.shape ≡ sh → KeepsRefillRules u.shape r u w → KeepsRefillRules sh r u w
+rules-at sh r u w e k = subst (λ (s : Shape). KeepsRefillRules s r u w) e k

@@ -2,15 +2,13 @@ use Rattle.gc_table.specs.Seats.{view_of}
 use Rattle.gc_table.specs.declared.view.View.{View}
 use Rattle.mark_core.specs.declared.kinds.Shape.{Shape}
 use Rattle.gc_table.specs.Log.{events}
-use Rattle.gc_cycle.specs.Cycles.{fills_with_cause}
-use Rattle.cache_refills.specs.Stops.{cycles_with_cause, stops_again_with_cause, stops_in_visit, stops_with_cause}
+use Rattle.cache_refills.specs.Stops.{stops_in_visit, stops_with_cause}
 use Rattle.std.proofs.Common.{ap, sym, subst, true, ◌≡◌, ◌∙◌, []}
 use Rattle.gc_table.proofs.Running.{ran-events, ran-refl}
 use Rattle.cache_refills.specs.Pace.Paying.{pops_where_paid}
 use Rattle.cache_refills.proofs.Refills.Popping.{paid-join}
 use Rattle.gc_cycle.proofs.Refills.KnownFull.{tells-none}
-use Rattle.cache_refills.proofs.Refills.RoundsSoFar.{ends-round, tried-more, tried-none}
-use Rattle.cache_refills.proofs.Refills.RoundNumbers.{refills-later}
+use Rattle.cache_refills.proofs.Refills.RoundsSoFar.{ends-round, rules-at, tried-more, tried-none}
 use Rattle.gc_cycle.proofs.Changes.{by-none, numbers-join, numbers-one}
 use Rattle.cache_refills.proofs.Due.{due-empty, due-join}
 use Rattle.cache_refills.proofs.refilling.refill_watched.Goals as goal
@@ -29,23 +27,14 @@ returns-in-Some-refill_once g c =
     let u : View = view_of c.args.seat.now in
     let v : View = view_of c.loop.seat in
     let w : View = view_of c.refill_once.new.seat in
-    let t = c.loop.invariant.tried in
+    let i = c.loop.invariant in
+    let t = i.tried in
     let e = c.in-Some-refill_once.ensures in
-    let d = ends-round _ c.args.done u v w t e.round (subst (λ (sh : Shape). stops_with_cause sh (events v w) ≡ true) (sym c.loop.invariant.sits.1) e.stops) (subst (λ (sh : Shape). stops_in_visit sh (events v w) ≡ true) (sym c.loop.invariant.sits.1) e.visit) in
+    let d = ends-round _ c.args.done u v w t e.round (subst (λ (sh : Shape). stops_with_cause sh (events v w) ≡ true) (sym i.sits.1) e.stops) (subst (λ (sh : Shape). stops_in_visit sh (events v w) ≡ true) (sym i.sits.1) e.visit) i.numbers e.numbers in
     record {
       seat = e.seat;
-      ran = d.ran;
+      rules = rules-at c.args.heap.now.shape _ u w c.requires.seat.0.1 d;
       refills = e.some u t.ran (t.tells u (ran-refl u) (tells-none u)) t.position;
-      stops = subst (λ (sh : Shape). stops_with_cause sh (events u w) ≡ true) c.requires.seat.0.1 d.stops;
-      visit = subst (λ (sh : Shape). stops_in_visit sh (events u w) ≡ true) c.requires.seat.0.1 d.visit;
-      again = subst (λ (sh : Shape). stops_again_with_cause sh (events u w) ≡ true) c.requires.seat.0.1 d.again;
-      collects = d.collects;
-      cycles = subst (λ (sh : Shape). cycles_with_cause sh (events u w) ≡ true) c.requires.seat.0.1 d.cycles;
       pops = ap pops_where_paid (ran-events u v w t.ran e.round.ran) ∙ paid-join (events u v) (events v w) t.pops e.pops;
-      fills = subst (λ (sh : Shape). fills_with_cause sh (events u w) ≡ true) c.requires.seat.0.1 d.fills;
-      due = due-join u v w t.ran e.round.ran c.loop.invariant.due e.due;
-      keeps = d.keeps;
-      only = d.only;
-      numbers = refills-later _ u v w c.loop.invariant.numbers e.numbers;
-      spares = d.spares;
+      due = due-join u v w t.ran e.round.ran i.due e.due;
     }

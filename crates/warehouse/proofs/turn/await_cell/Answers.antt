@@ -76,17 +76,17 @@ loop-preserved g c =
     let k = c.if-not-await_turn.ensures.ready in
     let r = c.retire_some.ensures in
     let f = c.refill.ensures in
-    let cause = subst (λ (sh : Shape). stops_with_cause sh (events x y) ≡ true) (sym r.seat.0.1) f.stops in
+    let cause = subst (λ (sh : Shape). stops_with_cause sh (events x y) ≡ true) (sym r.seat.0.1) f.rules.stops in
     let had = subst (λ o. HasCache o w) (sym c.take_empty.ensures.value) k.cached in
-    let paced = paces-refilled c.refill.result c.args.done x y f.refills f.numbers f.due in
+    let paced = paces-refilled c.refill.result c.args.done x y f.refills f.rules.numbers f.due in
     record {
       next = tt;
       finite = tt;
       sits = f.seat;
       mutates = c.in-Cache.ensures.refills.goes_on.mutates;
       cached = subst (λ o. HasCache o y) (sym c.keep.ensures) c.in-Cache.ensures.refills.cached;
-      stays = stays-join u v y i.stays (stays-join v w y k.stays (stays-join w x y (retired-stays w x r.ran r.state r.own) (stays-spared x y f.ran c.in-Cache.ensures.spares f.keeps.0)));
-      waits = waits-join u v y i.waits (waits-join v w y (ready-waits c.args.turn c.await_turn.new.cache v w k) (waits-join w x y (retired-waits c.take_empty.result w x had r.ran r.only r.state r.numbers) (waits-caused x y f.ran f.only cause paced)));
+      stays = stays-join u v y i.stays (stays-join v w y k.stays (stays-join w x y (retired-stays w x r.ran r.state r.own) (stays-spared x y f.rules.ran c.in-Cache.ensures.rules.spares f.rules.keeps.0)));
+      waits = waits-join u v y i.waits (waits-join v w y (ready-waits c.args.turn c.await_turn.new.cache v w k) (waits-join w x y (retired-waits c.take_empty.result w x had r.ran r.only r.state r.numbers) (waits-caused x y f.rules.ran f.rules.only cause paced)));
     }
 
 pub returns-in-Full-clause-full : goal.returns-in-Full-clause-full
@@ -100,11 +100,11 @@ returns-in-Full-clause-full g c =
     let k = c.if-not-await_turn.ensures.ready in
     let r = c.retire_some.ensures in
     let f = c.refill.ensures in
-    let cause = subst (λ (sh : Shape). stops_with_cause sh (events x y) ≡ true) (sym r.seat.0.1) f.stops in
+    let cause = subst (λ (sh : Shape). stops_with_cause sh (events x y) ≡ true) (sym r.seat.0.1) f.rules.stops in
     let had = subst (λ o. HasCache o w) (sym c.take_empty.ensures.value) k.cached in
-    let paced = paces-refilled c.refill.result c.args.done x y f.refills f.numbers f.due in (
+    let paced = paces-refilled c.refill.result c.args.done x y f.refills f.rules.numbers f.due in (
       finds-after c.args.done u x y (stays-join u v x i.stays (stays-join v w x k.stays (retired-stays w x r.ran r.state r.own)))
-          (waits-join u v x i.waits (waits-join v w x (ready-waits c.args.turn c.await_turn.new.cache v w k) (retired-waits c.take_empty.result w x had r.ran r.only r.state r.numbers))) f.keeps.0 f.keeps.1 (waits-caused x y f.ran f.only cause paced)
-          c.in-Full.ensures.refills c.in-Full.ensures.spares,
+          (waits-join u v x i.waits (waits-join v w x (ready-waits c.args.turn c.await_turn.new.cache v w k) (retired-waits c.take_empty.result w x had r.ran r.only r.state r.numbers))) f.rules.keeps.0 f.rules.keeps.1 (waits-caused x y f.rules.ran f.rules.only cause paced)
+          c.in-Full.ensures.refills c.in-Full.ensures.rules.spares,
       c.take_empty.ensures.after,
     )
