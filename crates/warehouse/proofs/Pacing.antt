@@ -122,7 +122,7 @@ module _ (v w : View) (took : Took (AddStat done_count 1 false) v w) where
 -- between two turns: one call after another
 ran_between : (ends : List (View × View)) (v w : View) → BetweenCycles [] ends v w → Ran v w
 ran_between [] v w b = b.ran
-ran_between (e ∷ ends) v w b = ran-join v e.0 w b.0.ran (ran-join e.0 e.1 w b.1.ran (ran_between ends e.1 w b.2))
+ran_between (e ∷ ends) v w b = ran-join v e.0 w b.0.ran (ran-join e.0 e.1 w b.1.1.ran (ran_between ends e.1 w b.2))
 
 pub ends-ran : (v w : View) → EndsCyclesAlone v w → Ran v w
 ends-ran v w a = ran_between a.numbers.0 v w a.numbers.1
