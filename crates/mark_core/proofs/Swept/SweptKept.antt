@@ -181,8 +181,8 @@ swept_others c i s (Join other) t k =
 swept_others c i s step t k = k
 
 -- each event that is allowed leaves no mark in the blocks that are done
-pub swept-kept_by : EventsKeepSwept
-swept-kept_by c e k before f =
+pub swept_kept_by : EventsKeepSwept
+swept_kept_by c e k before f =
     let r : (s : SeatState) × Acted c e s = acts c e k f in
     let a : Acted c e r.0 = r.1 in
     let s : SeatState = r.0 in
