@@ -1,5 +1,5 @@
 -- Each event that is allowed leaves no mark in a block that was handed out and that no seat has in its stretch any more.
-use Rattle.std.proofs.Common.{ℕ, ◌≡◌, ◌≢◌, ◌+◌, ◌%◌, ◌<◌, ◌≤◌, List, [], ◌∷◌, ◌++◌, set, get_or, length, arith, refl, sym, ◌∙◌, subst, Bool, true, false, ◌||◌, cond, eqb, Option, None, ⊎_elim}
+use Rattle.std.proofs.Common.{ℕ, ◌≡◌, ◌+◌, ◌%◌, ◌<◌, ◌≤◌, List, [], ◌∷◌, ◌++◌, set, get_or, length, arith, refl, sym, ◌∙◌, subst, Bool, true, false, ◌||◌, cond, eqb, Option, None, ⊎_elim}
 use Rattle.std.proofs.lemmas.Bool.{and_parts, or_cases, or_from, cases_eq, ne_eqb, eqb-true, false≢true}
 use Rattle.std.proofs.lemmas.List.{map-set, map_push, set-get_or, get_or-set_same, get_or-set_other, length-map, length-set}
 use Rattle.mark_core.specs.Layout.{Words, words_of}
