@@ -8,7 +8,7 @@ use Rattle.mark_core.specs.Effects.{place, written, seat_after}
 use Rattle.mark_core.specs.Steps.{Core, AllTrue, failing_part, others_after, after_of, after_event}
 use Rattle.mark_core.specs.Laws.{NumbersFit}
 use Rattle.mark_core.specs.Notes.{same_place, word_at, steady, keeps_bound, resets}
-use Rattle.mark_core.proofs.Notes.NotesKept.{notes-kept, word-found, word-elsewhere}
+use Rattle.mark_core.proofs.Notes.NotesKept.{notes_kept, word-found, word-elsewhere}
 use Rattle.mark_core.proofs.Notes.NotesBounds.{bounds-kept}
 use Rattle.mark_core.proofs.Notes.NotesOwn.{word-here}
 use Rattle.mark_core.proofs.Pool.PoolsKept.{shape-kept}
@@ -253,7 +253,7 @@ module _ (x : TableState) (i : ℕ) (v : View) (step : Step) (t : Takes x i v st
         shape = a.shape ∙ sym left-shape;
         seat = ap (λ xs. slice_get xs j) left-seats ∙ (found-else c.seats i j (seat_after c.shape v.state step finds) n ∙ a.seat);
         noted = λ at m h.
-            let q = a.noted at m h in (q.0, ap (λ (sh : Shape). word_at sh left.words at) left-shape ∙ notes-kept c (event i step) t.whole.core allowed j u.state n a.seat at m q.0 q.1);
+            let q = a.noted at m h in (q.0, ap (λ (sh : Shape). word_at sh left.words at) left-shape ∙ notes_kept c (event i step) t.whole.core allowed j u.state n a.seat at m q.0 q.1);
         floored = λ at m h.
             let q = a.floored at m h in
             let not_own : IsFalse ((i == j) && resets step at) = ap (λ (b : Bool). b && resets step at) (ne_eqb i j (λ e. n (sym e))) in
@@ -263,7 +263,7 @@ module _ (x : TableState) (i : ℕ) (v : View) (step : Step) (t : Takes x i v st
             let far : step ≡ StoreLength p → ⊥ = λ e. n (sym (one-hand c t.whole.core i j p v.state u.state t.agrees.seat a.seat (subst (λ (sh : Shape). p < sh.packets) a.shape there) (store-asks c v.state step t.ok p e) h)) in
             ap (is_in_range u.shape q) (head-stays p far) ∙ a.fetched p q there h m last;
         stopped = λ h m.
-            ap is_stopped_phase (ap (λ (sh : Shape). word_at sh left.words the_phase) left-shape ∙ notes-kept c (event i step) t.whole.core allowed j u.state n a.seat the_phase (word_at c.shape c.words the_phase) (knower-steady u.state (word_at c.shape c.words the_phase) h) refl) ∙ a.stopped h m;
+            ap is_stopped_phase (ap (λ (sh : Shape). word_at sh left.words the_phase) left-shape ∙ notes_kept c (event i step) t.whole.core allowed j u.state n a.seat the_phase (word_at c.shape c.words the_phase) (knower-steady u.state (word_at c.shape c.words the_phase) h) refl) ∙ a.stopped h m;
         plan = a.plan;
         own = λ k e.
             let there : k ≡ j = own-number c j k u.state t.whole.core a.seat e in

@@ -6,7 +6,7 @@ use Rattle.mark_core.specs.Laws.{IsCore}
 use Rattle.mark_core.specs.Closed.{IsReachableIn, is_published}
 use Rattle.mark_core.specs.declared.kinds.Event.{Event}
 use Rattle.mark_core.proofs.CoreKept.{core-starts}
-use Rattle.mark_core.proofs.Consequences.Staying.{reachable-stay}
+use Rattle.mark_core.proofs.Consequences.Staying.{reachable_stay}
 use Rattle.gc_table.proofs.History.Past.{run-first, run-sound}
 use Rattle.heap_runs.specs.Runs.{AreAllowed, NoneFreed}
 
@@ -25,7 +25,7 @@ stays c (e ∷ es) core ok k x below =
 
     go : (k : ℕ) → k < length (e ∷ es) → ((j y : ℕ) → j < length es → Stays (run_of (take j es) (after_event c e)) (run_of (take (j + 1) es) (after_event c e)) y)
         → Stays (run_of (take k (e ∷ es)) c) (run_of (take (k + 1) (e ∷ es)) c) x
-    go zero below later = subst (λ (d : Core). Stays c d x) (sym (run-first c e [] ok.0)) (reachable-stay c e (core 0) ok.0 x)
+    go zero below later = subst (λ (d : Core). Stays c d x) (sym (run-first c e [] ok.0)) (reachable_stay c e (core 0) ok.0 x)
     go (suc k) below later =
         let now : run_of (take (suc k) (e ∷ es)) c ≡ run_of (take k es) (after_event c e) = run-first c e (take k es) ok.0 in
         let then : run_of (take (suc k + 1) (e ∷ es)) c ≡ run_of (take (k + 1) es) (after_event c e) = more k ∙ run-first c e (take (k + 1) es) ok.0 in

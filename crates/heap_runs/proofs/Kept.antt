@@ -12,7 +12,7 @@ use Rattle.mark_core.specs.Steps.{Core, failing_part, after_event, run_of, start
 use Rattle.mark_core.specs.Laws.{IsCore, NumbersFit, AllNumbersFit}
 use Rattle.mark_core.proofs.Acting.{found, words_left, seats_left}
 use Rattle.mark_core.proofs.Blocks.BlocksTaken.{Taken, kept-after}
-use Rattle.mark_core.proofs.CoreKept.{core-kept, core-starts}
+use Rattle.mark_core.proofs.CoreKept.{core_kept, core-starts}
 use Rattle.mark_core.proofs.Formed.FormedStart.{seat-at}
 use Rattle.mark_core.proofs.References.ReferencesStart.{no-root, none-used}
 use Rattle.mark_core.specs.declared.kinds.Event.{Event}
@@ -97,7 +97,7 @@ run_from [] c world k a fit = a
 run_from (e ∷ es) c world k a fit =
     run_by e es c world a
     (λ f.
-    run_from es (after_event c e) (world_after c e world) (core-kept c e k (All-head (λ (x : Event). NumbersFit x.step) e es fit) f) (agrees-kept c e world k a f)
+    run_from es (after_event c e) (world_after c e world) (core_kept c e k (All-head (λ (x : Event). NumbersFit x.step) e es fit) f) (agrees-kept c e world k a f)
     (All-tail (λ (x : Event). NumbersFit x.step) e es fit)) (failing_part c e) refl
 
 pub runs-agree : RunsAgree

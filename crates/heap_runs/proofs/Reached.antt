@@ -17,7 +17,7 @@ use Rattle.mark_core.proofs.Consequences.Closing.{goes-to}
 use Rattle.mark_core.proofs.References.ReferencesRoots.{Used}
 use Rattle.mark_core.proofs.Consequences.Sparing.{Kept, kept-below, path-kept}
 use Rattle.mark_core.proofs.AtSeat.{roots-length}
-use Rattle.mark_core.proofs.CoreKept.{runs-sound}
+use Rattle.mark_core.proofs.CoreKept.{runs_sound}
 use Rattle.mark_core.proofs.Exacts.ExactsReach.{reach-root, reach-field}
 use Rattle.mark_core.specs.declared.kinds.Phase.TheVariants.{Sweep}
 use Rattle.heap_runs.specs.World.{World, WorldObject, object_of, reference_of, name_at, referred, start_world, variable_of}
@@ -90,4 +90,4 @@ along c world name (before ∷ path) k a (leads, p) =
 
 pub reached-cells : ReachedHaveCells
 reached-cells sh n es z some few fit name reached =
-    along (run_of es (start_core sh n)) (world_run es (start_core sh n) (start_world sh)) name reached.0 (runs-sound sh n es z some few fit) (runs-agree sh n es z some few fit) reached.1
+    along (run_of es (start_core sh n)) (world_run es (start_core sh n) (start_world sh)) name reached.0 (runs_sound sh n es z some few fit) (runs-agree sh n es z some few fit) reached.1

@@ -6,7 +6,7 @@ use Rattle.mark_core.specs.Layout.{words_of}
 use Rattle.mark_core.specs.Bits.{nil_or}
 use Rattle.mark_core.specs.Steps.{Core, run_of, start_core}
 use Rattle.mark_core.specs.Laws.{IsCore}
-use Rattle.mark_core.proofs.CoreKept.{runs-sound}
+use Rattle.mark_core.proofs.CoreKept.{runs_sound}
 use Rattle.mark_core.proofs.References.ReferencesRoots.{Used}
 use Rattle.heap_runs.specs.World.{name_at, referred}
 use Rattle.heap_runs.specs.Laws.{SameWords}
@@ -25,4 +25,4 @@ words-same c (suc x) (suc y) k u v e =
     ap (λ (n : ℕ). suc n) (k.sound.caches.distinct x (used-exists c k x a) y (used-exists c k y b) a b (omega (arith, ap (λ (n : Name). n.section) name, ap (λ (n : Name). n.number) name)))
 
 pub same-words : SameWords
-same-words sh n es z some few fit r q u v e = words-same (run_of es (start_core sh n)) r q (runs-sound sh n es z some few fit) u v e
+same-words sh n es z some few fit r q u v e = words-same (run_of es (start_core sh n)) r q (runs_sound sh n es z some few fit) u v e

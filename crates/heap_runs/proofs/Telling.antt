@@ -13,7 +13,7 @@ use Rattle.mark_core.specs.Steps.{Core, failing_part, run_of, start_core}
 use Rattle.mark_core.specs.Laws.{IsCore}
 use Rattle.mark_core.proofs.Acting.{Acted, found}
 use Rattle.mark_core.proofs.Core.{acts}
-use Rattle.mark_core.proofs.CoreKept.{runs-sound}
+use Rattle.mark_core.proofs.CoreKept.{runs_sound}
 use Rattle.mark_core.proofs.Blocks.BlocksTaken.{Taken, in-place}
 use Rattle.mark_core.proofs.Writing.Regions.{words-get}
 use Rattle.mark_core.proofs.References.ReferencesNames.{known-used}
@@ -147,4 +147,4 @@ tells-once c world e k a f =
 
 pub reads-tell : ReadsTell
 reads-tell sh n es z some few fit e f =
-    tells-once (run_of es (start_core sh n)) (world_run es (start_core sh n) (start_world sh)) e (runs-sound sh n es z some few fit) (runs-agree sh n es z some few fit) f
+    tells-once (run_of es (start_core sh n)) (world_run es (start_core sh n) (start_world sh)) e (runs_sound sh n es z some few fit) (runs-agree sh n es z some few fit) f

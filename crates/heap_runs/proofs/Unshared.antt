@@ -11,7 +11,7 @@ use Rattle.mark_core.specs.Rules.HeapRules.{section_of_cell}
 use Rattle.mark_core.specs.Steps.{Core, run_of, start_core}
 use Rattle.mark_core.proofs.Acting.{Acted}
 use Rattle.mark_core.proofs.Core.{acts}
-use Rattle.mark_core.proofs.CoreKept.{runs-sound}
+use Rattle.mark_core.proofs.CoreKept.{runs_sound}
 use Rattle.mark_core.proofs.Blocks.BlocksTaken.{Taken}
 use Rattle.mark_core.specs.declared.kinds.Step.{Step}
 use Rattle.mark_core.specs.declared.kinds.Step.TheVariants.{StoreField, StoreValue, ExchangeField, ExchangeValue}
@@ -50,7 +50,7 @@ unshared_at c i s step world name k a unshared stores = absurd stores
 pub unshared-stores : UnsharedStores
 unshared-stores sh n es z some few fit e s f g unshared name stores =
     let c : Core = run_of es (start_core sh n) in
-    let r : (t : SeatState) × Acted c e t = acts c e (runs-sound sh n es z some few fit) f in
+    let r : (t : SeatState) × Acted c e t = acts c e (runs_sound sh n es z some few fit) f in
     let same : r.0 ≡ s = same_Some r.0 s (sym r.1.seat ∙ g) in
-    let taken : Taken c e.seat s e.step = subst (λ (t : SeatState). Taken c e.seat t e.step) same (record { core = runs-sound sh n es z some few fit; got = r.1.seat; live = r.1.live; ok = r.1.ok }) in
+    let taken : Taken c e.seat s e.step = subst (λ (t : SeatState). Taken c e.seat t e.step) same (record { core = runs_sound sh n es z some few fit; got = r.1.seat; live = r.1.live; ok = r.1.ok }) in
     unshared_at c e.seat s e.step (world_run es (start_core sh n) (start_world sh)) name taken (runs-agree sh n es z some few fit) unshared stores

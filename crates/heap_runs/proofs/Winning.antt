@@ -12,7 +12,7 @@ use Rattle.mark_core.specs.Steps.{Core, failing_part, after_event, run_of}
 use Rattle.mark_core.specs.Laws.{IsCore, NumbersFit, AllNumbersFit}
 use Rattle.mark_core.proofs.Acting.{Acted, found}
 use Rattle.mark_core.proofs.Core.{acts}
-use Rattle.mark_core.proofs.CoreKept.{core-kept}
+use Rattle.mark_core.proofs.CoreKept.{core_kept}
 use Rattle.mark_core.proofs.Blocks.BlocksTaken.{Taken}
 use Rattle.mark_core.specs.declared.kinds.Event.{Event}
 use Rattle.mark_core.specs.declared.kinds.Step.{Step}
@@ -86,7 +86,7 @@ run_whole [] c world k a fit = (k, a)
 run_whole (e ∷ es) c world k a fit =
     run_by e es c world k a
     (λ f.
-    run_whole es (after_event c e) (world_after c e world) (core-kept c e k (All-head (λ (x : Event). NumbersFit x.step) e es fit) f) (agrees-kept c e world k a f)
+    run_whole es (after_event c e) (world_after c e world) (core_kept c e k (All-head (λ (x : Event). NumbersFit x.step) e es fit) f) (agrees-kept c e world k a f)
     (All-tail (λ (x : Event). NumbersFit x.step) e es fit)) (failing_part c e) refl
 
 pub won-once : WonOnce
@@ -97,7 +97,7 @@ won-once c world e name m n k a fit x es fits none f l word y =
     let held : WorldObject = with_value n first.object in
     let won : object_of after name ≡ Some held = first.after ∙ ap (λ (b : Bool). Some (cond b held first.object)) (eq-eqb m m refl) in
     let stays : object_of (world_run es d after) name ≡ Some held = objects-stay d after es name held won none in
-    let whole = run_whole es d after (core-kept c e k fit x.allowed) (agrees-kept c e world k a x.allowed) fits in
+    let whole = run_whole es d after (core_kept c e k fit x.allowed) (agrees-kept c e world k a x.allowed) fits in
     let second : Told (run_of es d) (world_run es d after) f name m l word = told (run_of es d) (world_run es d after) f name m l word whole.0 whole.1 y in
     second.value ∙ ap (λ (o : WorldObject). o.value) (same_Some second.object held (sym second.there ∙ stays))
 
@@ -146,6 +146,6 @@ field-won-once c world e name i from to word k a fit x won es fits none f asked 
     let yes : is_same (reference_of first.object i) from ≡ true = subst (λ (o : Option Name). is_same (reference_of first.object i) o ≡ true) was (same-as (reference_of first.object i)) in
     let there : object_of after name ≡ Some held = first.after ∙ ap (λ (b : Bool). Some (cond b held first.object)) yes in
     let stays : object_of (world_run es d after) name ≡ Some held = objects-stay d after es name held there none in
-    let whole = run_whole es d after (core-kept c e k fit x.allowed) (agrees-kept c e world k a x.allowed) fits in
+    let whole = run_whole es d after (core_kept c e k fit x.allowed) (agrees-kept c e world k a x.allowed) fits in
     let second : ToldField (run_of es d) (world_run es d after) f name i asked given word2 = told_field (run_of es d) (world_run es d after) f name i asked given word2 whole.0 whole.1 y in
     second.refers ∙ (ap (λ (o : WorldObject). reference_of o i) (same_Some second.object held (sym second.there ∙ stays)) ∙ get_or-set_same first.object.refs i to None first.exists)

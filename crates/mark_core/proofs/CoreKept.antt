@@ -27,7 +27,7 @@ use Rattle.mark_core.proofs.Hands.HandsRight.{HandRight}
 use Rattle.mark_core.proofs.Marks.MarksKept.{marks-kept_by}
 use Rattle.mark_core.proofs.Marks.MarksStart.{marks-starts}
 use Rattle.mark_core.proofs.Pool.PoolStart.{start, each-seat}
-use Rattle.mark_core.proofs.Pool.PoolsKept.{packets-kept, shape-kept}
+use Rattle.mark_core.proofs.Pool.PoolsKept.{packets_kept, shape-kept}
 use Rattle.mark_core.proofs.References.ReferencesKept.{references-kept_by}
 use Rattle.mark_core.proofs.References.ReferencesStart.{references-starts}
 use Rattle.mark_core.proofs.SeasonKept.{KnowsSeason, season-kept_by}
@@ -68,13 +68,13 @@ season_after : (c : Core) (e : Event) → IsCore c → failing_part c e ≡ None
 season_after c e k f = subst (λ (sh : Shape). Season (words_of sh (after_event c e).words).season (after_event c e).seats) (sym (shape-kept c e)) (season-kept_by c e k f)
 
 -- each event that is allowed keeps the rule
-pub core-kept : EventsKeepCore
-core-kept c e k n f =
+pub core_kept : EventsKeepCore
+core_kept c e k n f =
     let d : Core = after_event c e in
     let w : Words = words_of d.shape d.words in
     let world : WorldSound d.shape w d.seats = world-kept_by c e k f in
     let blocks : BlocksSound w d.seats = blocks-kept_by c e k f in
-    let packets : ArePacketsSound d = packets-kept c e k.formed (λ _. k.sound.references.seats_in_use) (record { pools = k.sound.pools; counts = k.sound.counts }) f in
+    let packets : ArePacketsSound d = packets_kept c e k.formed (λ _. k.sound.references.seats_in_use) (record { pools = k.sound.pools; counts = k.sound.counts }) f in
     record {
       formed = formed-kept_by c e k n f;
       sound =
@@ -137,7 +137,7 @@ core-starts sh n z some few =
 
 -- a run from a state that meets the rule, by whether its first event is allowed
 run_by : (e : Event) (es : List Event) (c : Core) → IsCore c → NumbersFit e.step → ((d : Core) → IsCore d → IsCore (run_of es d)) → (o : Option ℕ) → failing_part c e ≡ o → IsCore (if is_none o then run_of es (after_event c e) else c)
-run_by e es c k n later None f = later (after_event c e) (core-kept c e k n f)
+run_by e es c k n later None f = later (after_event c e) (core_kept c e k n f)
 run_by e es c k n later (Some part) f = k
 
 run_from : (es : List Event) (c : Core) → IsCore c → AllNumbersFit es → IsCore (run_of es c)
@@ -146,5 +146,5 @@ run_from (e ∷ es) c k fit =
     run_by e es c k (All-head (λ (x : Event). NumbersFit x.step) e es fit) (λ d h. run_from es d h (All-tail (λ (x : Event). NumbersFit x.step) e es fit)) (failing_part c e) refl
 
 -- every run from the start meets the rule
-pub runs-sound : RunsAreSound
-runs-sound sh n events z some few fit = run_from events (start_core sh n) (core-starts sh n z some few) fit
+pub runs_sound : RunsAreSound
+runs_sound sh n events z some few fit = run_from events (start_core sh n) (core-starts sh n z some few) fit

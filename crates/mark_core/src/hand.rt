@@ -37,24 +37,6 @@ fn cleaning_left(cleaning: Option<Cleaning>) -> bool
     }
 }
 
-/// Whether a grey cell, or something that may lead to one, is in the seat's record alone; `fields` is how many fields an object has.
-pub fn work_in_hand(fields: u32, s: &SeatState) -> bool
-    ensures { result ≡ work_in_hand_of fields s.now }
-{
-    s.popped.is_some()
-        || scan_left(fields, s.scan)
-        || s.value.is_some()
-        || s.fresh.is_some()
-        || cleaning_left(s.cleaning)
-}
-
-/// Whether the seat has neither a packet, nor a reservation, nor a credit.
-pub fn empty_handed(s: &SeatState) -> bool
-    ensures { result ≡ empty_handed_of s.now }
-{
-    !slots::holds_any(s.held) && !s.reserved && !s.credit
-}
-
 /// Cell c of block b, in a set of the block's cells.
 fn in_set(b: u32, set: u64, c: Cell) -> bool
     ensures { result ≡ in_set_of b set c }
@@ -133,16 +115,6 @@ pub fn is_unread(cache: Option<CacheState>) -> bool
     }
 }
 
-/// Whether a cell is being made.
-pub fn has_making(cache: Option<CacheState>) -> bool
-    ensures { result ≡ has_making_of cache }
-{
-    match cache {
-        None => false,
-        Some(x) => x.making.is_some(),
-    }
-}
-
 /// Whether the cell being made is c, and this part is its next.
 pub fn makes(cache: Option<CacheState>, c: Cell, part: u8) -> bool
     ensures { result ≡ makes_of cache c part }
@@ -170,5 +142,36 @@ pub fn is_swept(block: Option<BlockState>) -> bool
     match block {
         None => false,
         Some(x) => x.stored,
+    }
+}
+
+impl SeatState {
+    /// Whether a grey cell, or something that may lead to one, is in the seat's record only; `fields` is how many fields an object has. Then it must not give back
+    /// its last packet, nor leave.
+    pub fn work_in_hand(&self, fields: u32) -> bool
+        ensures { result ≡ work_in_hand_of fields self.now }
+    {
+        self.popped.is_some()
+            || scan_left(fields, self.scan)
+            || self.value.is_some()
+            || self.fresh.is_some()
+            || cleaning_left(self.cleaning)
+    }
+
+    /// Whether the seat has neither a packet, nor a reservation of an empty one, nor a credit for one that it gave back.
+    pub fn empty_handed(&self) -> bool
+        ensures { result ≡ empty_handed_of self.now }
+    {
+        !slots::holds_any(self.held) && !self.reserved && !self.credit
+    }
+
+    /// Whether the seat has begun to make a cell that it hasn't finished.
+    pub fn has_making(&self) -> bool
+        ensures { result ≡ has_making_of self.now.cache }
+    {
+        match self.cache {
+            None => false,
+            Some(x) => x.making.is_some(),
+        }
     }
 }

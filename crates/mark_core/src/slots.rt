@@ -2,6 +2,8 @@
 ghost use Rattle.std.specs.Prelude.{ℕ, ◌≡◌, Option, Some, unwrap_or};
 ghost use Rattle.mark_core.specs.Held.{slot_of, length_in_slot, stored_in_slot, holds as holds_packet, known_length as known_length_of, length_in_hand as length_in_hand_of, has_length as has_length_of, has_entry as has_entry_of, is_stored as is_stored_packet, holds_any as holds_any_packet, has_free_slot as has_a_free_slot, put_packet as put_of, slot_without, slot_with, drop_packet as dropped_from, set_length as set_length_of, holds_another as holds_another_packet};
 
+use crate::seat::SeatState;
+
 /// Nothing, or a packet, its length if that is known, and whether its head holds this length.
 pub type Slot = Option<(u32, Option<u32>, bool)>;
 
@@ -38,14 +40,6 @@ fn is_stored_in(slot: Slot, p: u32) -> bool
     }
 }
 
-/// Whether packet p is held.
-pub fn holds(held: Slots, p: u32) -> bool
-    ensures { result ≡ holds_packet held p }
-{
-    let [a, b, c, d] = held;
-    is_of(a, p) || is_of(b, p) || is_of(c, p) || is_of(d, p)
-}
-
 /// The length of packet p, where it is held and its length is known.
 pub fn known_length(held: &Slots, p: u32) -> Option<u32>
     ensures { result ≡ known_length_of held.now p }
@@ -73,13 +67,6 @@ pub fn length_in_hand(held: &Slots, p: u32) -> u32
     known_length(held, p).unwrap_or(0)
 }
 
-/// Whether packet p is held, and its length is known.
-pub fn has_length(held: &Slots, p: u32) -> bool
-    ensures { result ≡ has_length_of held.now p }
-{
-    known_length(held, p).is_some()
-}
-
 /// Whether packet p is known to have an entry.
 pub fn has_entry(held: &Slots, p: u32) -> bool
     ensures { result ≡ has_entry_of held.now p }
@@ -87,26 +74,11 @@ pub fn has_entry(held: &Slots, p: u32) -> bool
     !(length_in_hand(held, p) == 0)
 }
 
-/// Whether packet p is held, and its head holds its length.
-pub fn is_stored(held: Slots, p: u32) -> bool
-    ensures { result ≡ is_stored_packet held p }
-{
-    let [a, b, c, d] = held;
-    is_stored_in(a, p) || is_stored_in(b, p) || is_stored_in(c, p) || is_stored_in(d, p)
-}
-
 /// Whether a packet is held.
 pub fn holds_any(held: Slots) -> bool
     ensures { result ≡ holds_any_packet held }
 {
     held[0].is_some() || held[1].is_some() || held[2].is_some() || held[3].is_some()
-}
-
-/// Whether a slot is free.
-pub fn has_free_slot(held: Slots) -> bool
-    ensures { result ≡ has_a_free_slot held }
-{
-    held[0].is_none() || held[1].is_none() || held[2].is_none() || held[3].is_none()
 }
 
 /// The packet goes into the first free slot, with no length known.
@@ -173,4 +145,37 @@ pub fn holds_another(held: Slots, p: u32) -> bool
     let mut others = held;
     drop_packet(&mut others, p);
     holds_any(others)
+}
+
+impl SeatState {
+    /// Whether the seat holds packet `p`.
+    pub fn holds(&self, p: u32) -> bool
+        ensures { result ≡ holds_packet self.now.held p }
+    {
+        let [a, b, c, d] = self.held;
+        is_of(a, p) || is_of(b, p) || is_of(c, p) || is_of(d, p)
+    }
+
+    /// Whether the seat holds packet `p` and knows its length.
+    pub fn has_length(&self, p: u32) -> bool
+        ensures { result ≡ has_length_of self.now.held p }
+    {
+        known_length(&self.held, p).is_some()
+    }
+
+    /// Whether the seat holds packet `p`, and the packet's head holds the length that the seat knows.
+    pub fn is_stored(&self, p: u32) -> bool
+        ensures { result ≡ is_stored_packet self.now.held p }
+    {
+        let [a, b, c, d] = self.held;
+        is_stored_in(a, p) || is_stored_in(b, p) || is_stored_in(c, p) || is_stored_in(d, p)
+    }
+
+    /// Whether the seat may take a further packet: it has four slots.
+    pub fn has_free_slot(&self) -> bool
+        ensures { result ≡ has_a_free_slot self.now.held }
+    {
+        let [a, b, c, d] = self.held;
+        a.is_none() || b.is_none() || c.is_none() || d.is_none()
+    }
 }

@@ -1,6 +1,7 @@
 //! What a seat may do, by how it stands to the world, to its help and to the phase.
-ghost use Rattle.std.specs.Prelude.{◌≡◌};
+ghost use Rattle.std.specs.Prelude.{◌≡◌, ◌&&◌};
 ghost use Rattle.mark_core.specs.Seats.{phase_number as phase_number_of, phase_of as phase_of_word, is_phase as is_phase_of, saw as saw_phase, is_the as is_the_number, may_trace as may_trace_in, may_sweep as may_sweep_in, may_clear as may_clear_in, takes_part as takes_part_of, is_bare as is_bare_seat, has_turn as has_turn_of, may_mutate as may_mutate_of};
+ghost use Rattle.mark_core.specs.declared.kinds.Phase.TheVariants.{Marking};
 
 use crate::kinds::Phase;
 use crate::seat::SeatState;
@@ -83,20 +84,6 @@ pub fn may_clear(phase: u64, s: &SeatState) -> bool
     s.knows && is_phase(phase, Phase::Clear)
 }
 
-/// Whether the seat runs, or it stopped the world, or it helps.
-pub fn takes_part(s: &SeatState) -> bool
-    ensures { result ≡ takes_part_of s.now }
-{
-    s.active || s.knows || s.admitted
-}
-
-/// Whether the seat is neither in the world's number, nor has stopped the world, nor helps.
-pub fn is_bare(s: &SeatState) -> bool
-    ensures { result ≡ is_bare_seat s.now }
-{
-    !s.counted && !s.raised && !s.helping
-}
-
 /// The season is the section's turn: even for the catalogue, odd for a warehouse.
 fn has_turn(section: Option<u32>, season: Option<u64>) -> bool
     ensures { result ≡ has_turn_of section season }
@@ -107,9 +94,33 @@ fn has_turn(section: Option<u32>, season: Option<u64>) -> bool
     }
 }
 
-/// Whether the seat is a mutator: active, in its section's turn.
-pub fn may_mutate(s: &SeatState) -> bool
-    ensures { result ≡ may_mutate_of s.now }
-{
-    s.active && has_turn(s.section, s.season_seen)
+impl SeatState {
+    /// Whether the seat runs, or stopped the world, or helps. Only such a seat reads allocation bits, dirties cards and adds to statistics.
+    pub fn takes_part(&self) -> bool
+        ensures { result ≡ takes_part_of self.now }
+    {
+        self.active || self.knows || self.admitted
+    }
+
+    /// Whether the seat is outside: not in the world's number, without a stop of its own, and not among the helpers. Only such a seat enters, raises the stop
+    /// flag or joins the helpers.
+    pub fn is_bare(&self) -> bool
+        ensures { result ≡ is_bare_seat self.now }
+    {
+        !self.counted && !self.raised && !self.helping
+    }
+
+    /// Whether the seat is a mutator: active in its section's turn, in which it may read, store and make objects.
+    pub fn may_mutate(&self) -> bool
+        ensures { result ≡ may_mutate_of self.now }
+    {
+        self.active && has_turn(self.section, self.season_seen)
+    }
+
+    /// Whether the seat is active and has read that marking is under way, so that it may trace while mutators run.
+    pub fn is_marking(&self) -> bool
+        ensures { result ≡ (self.now.active && saw_phase self.now.phase_seen Marking) }
+    {
+        self.active && saw(self.phase_seen, Phase::Marking)
+    }
 }

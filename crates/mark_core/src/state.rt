@@ -102,26 +102,6 @@ impl CoreState {
         change_others(&self.shape, &mut self.seats, &event.step);
     }
 
-    fn apply_one(&mut self, event: &Event) -> Result<(), NotAllowed>
-        ensures allowed { OnOk result (failing_part self.old event.now ≡ None) }
-        ensures after { self.new ≡ (if is_ok result then after_event self.old event.now else self.old) }
-        ensures refused { IfErr result (λ e. (e.rule.kind ≡ kind_of event.now.step) × (failing_part self.old event.now ≡ Some e.rule.part)) }
-    {
-        match self.failing(event) {
-            Some(part) => {
-                let rule = Rule {
-                    kind: passes::kind_of(&event.step),
-                    part,
-                };
-                Err(NotAllowed { rule })
-            }
-            None => {
-                self.act(event);
-                Ok(())
-            }
-        }
-    }
-
     /// Takes one step of one seat. An event is refused exactly where a part of its step's condition fails, with the
     /// step's kind and the least such part, and the state then stays as it was; a seat that doesn't exist or was
     /// joined into another fails part 0.
@@ -130,7 +110,19 @@ impl CoreState {
         ensures after { self.new ≡ (if is_ok result then after_event self.old event else self.old) }
         ensures refused { IfErr result (λ e. (e.rule.kind ≡ kind_of event.step) × (failing_part self.old event ≡ Some e.rule.part)) }
     {
-        self.apply_one(&event)
+        match self.failing(&event) {
+            Some(part) => {
+                let rule = Rule {
+                    kind: passes::kind_of(&event.step),
+                    part,
+                };
+                Err(NotAllowed { rule })
+            }
+            None => {
+                self.act(&event);
+                Ok(())
+            }
+        }
     }
 
     /// Takes the events in order, up to the first that is refused, and answers its index and what it broke. The state
@@ -142,8 +134,7 @@ impl CoreState {
     {
         let mut i = 0;
         while i < events.len() {
-            let event = &events[i];
-            if let Err(refusal) = self.apply_one(event) {
+            if let Err(refusal) = self.apply(events[i]) {
                 return Err((i, refusal.rule));
             }
             i += 1;

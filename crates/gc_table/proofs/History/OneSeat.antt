@@ -18,7 +18,7 @@ use Rattle.mark_core.specs.declared.kinds.Shape.{Shape}
 use Rattle.mark_core.specs.declared.kinds.Step.{Step}
 use Rattle.mark_core.specs.declared.kinds.Step.TheVariants.{Split, Join}
 use Rattle.mark_core.specs.declared.seat.SeatState.{SeatState}
-use Rattle.mark_core.proofs.CoreKept.{core-kept, core-starts}
+use Rattle.mark_core.proofs.CoreKept.{core_kept, core-starts}
 use Rattle.plain_heap.specs.declared.operation.Op.{Op}
 use Rattle.gc_table.specs.declared.view.Entry.{Entry}
 use Rattle.gc_table.specs.declared.view.View.{View}
@@ -76,7 +76,7 @@ only-one k (e ∷ es) c core one fit ok left =
     let added : adds 0 c e ≡ event e.step (word_told c s e.step) ∷ [] =
     ap (λ (b : Bool). cond b (entries_of c (slice_get c.seats e.seat) e.step) []) (eq-eqb e.seat 0 first)
     ∙ (ap (λ (o : Option SeatState). entries_of c o e.step) seat.1 ∙ ap (λ (b : Bool). cond b (event e.step (word_told c s e.step) ∷ []) []) told) in
-    let rest : es ≡ by_first (log_from 0 d es) = only-one (k + 1) es d (core-kept c e core (fit 0 e (omega arith)) q.0) one' (All-rest Fits e es (e ∷ es) refl fit) q.1 end in
+    let rest : es ≡ by_first (log_from 0 d es) = only-one (k + 1) es d (core_kept c e core (fit 0 e (omega arith)) q.0) one' (All-rest Fits e es (e ∷ es) refl fit) q.1 end in
     (λ y. record { seat = first y; step = e.step } ∷ rest y) ∙ ap (λ l. by_first (l ++ log_from 0 d es)) (sym added)
 
 -- the words are those to which they lead, and each entry tells the word that its step found or stored

@@ -17,7 +17,7 @@ use Rattle.mark_core.specs.declared.kinds.Shape.{Shape}
 use Rattle.mark_core.specs.declared.kinds.Step.{Step}
 use Rattle.mark_core.specs.declared.kinds.Step.TheVariants.{Split, Join}
 use Rattle.mark_core.specs.declared.seat.SeatState.{SeatState}
-use Rattle.mark_core.proofs.CoreKept.{core-kept}
+use Rattle.mark_core.proofs.CoreKept.{core_kept}
 use Rattle.gc_table.specs.declared.view.Entry.{Entry}
 use Rattle.gc_table.specs.Entries.{event, is_logged}
 use Rattle.gc_table.specs.Past.{word_told, entries_of, adds, log_from, log_of, LeadTo}
@@ -149,4 +149,4 @@ either_way c d (Some part) core then = core
 pub run-sound : (n : ℕ) (es : List Event) (c : Core) → IsCore c → All Fits es → IsCore (run_of (take n es) c)
 run-sound zero es c core fit = core
 run-sound (suc n) [] c core fit = core
-run-sound (suc n) (e ∷ es) c core fit = either_way c (run_of (take n es) (after_event c e)) (failing_part c e) core (λ ok. run-sound n es (after_event c e) (core-kept c e core (fit 0 e (omega arith)) ok) (All-rest Fits e es (e ∷ es) refl fit))
+run-sound (suc n) (e ∷ es) c core fit = either_way c (run_of (take n es) (after_event c e)) (failing_part c e) core (λ ok. run-sound n es (after_event c e) (core_kept c e core (fit 0 e (omega arith)) ok) (All-rest Fits e es (e ∷ es) refl fit))

@@ -13,8 +13,8 @@ use Rattle.mark_core.proofs.Acting.{Acted, found, seats_left}
 use Rattle.mark_core.proofs.Core.{acts}
 use Rattle.gc_table.specs.Laws.{EventsKeepRule}
 use Rattle.mark_core.proofs.Blocks.BlocksTaken.{within}
-use Rattle.mark_core.proofs.CoreKept.{core-kept}
-use Rattle.mark_core.proofs.Swept.SweptKept.{swept-kept_by}
+use Rattle.mark_core.proofs.CoreKept.{core_kept}
+use Rattle.mark_core.proofs.Swept.SweptKept.{swept_kept_by}
 use Rattle.mark_core.specs.declared.kinds.Shape.{Shape}
 use Rattle.mark_core.specs.declared.kinds.Step.{Step}
 use Rattle.mark_core.specs.declared.kinds.Step.TheVariants.{Split, Join}
@@ -70,8 +70,8 @@ pub whole-kept : (x : TableState) (i : ℕ) (s : SeatState) (step : Step) → Go
 whole-kept x i s step g =
     let f = may-happen x i s step g in
     record {
-      core = core-kept x.core (event i step) g.whole.core g.fits f;
-      swept = swept-kept_by x.core (event i step) g.whole.core g.whole.swept f;
+      core = core_kept x.core (event i step) g.whole.core g.fits f;
+      swept = swept_kept_by x.core (event i step) g.whole.core g.whole.swept f;
       sections = kept-whole (λ sh w seats xs. length xs ≡ sh.sections) x i s step g (sections_long s.section (section_after x.core.shape x.plan s step) x.sections ∙ g.whole.sections);
       stands = λ alone. stands-whole x i s step (still_alone x i step alone) g;
       told = record {

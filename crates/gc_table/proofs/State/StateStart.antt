@@ -15,7 +15,7 @@ use Rattle.mark_core.proofs.Formed.FormedStart.{seat-at}
 use Rattle.mark_core.proofs.Pool.PoolStart.{in-gap, past-gap, gap, singles, tail_words}
 use Rattle.mark_core.proofs.References.ReferencesStart.{none-used}
 use Rattle.mark_core.proofs.Writing.Regions.{words-get}
-use Rattle.mark_core.proofs.Swept.SweptStart.{swept-starts}
+use Rattle.mark_core.proofs.Swept.SweptStart.{swept_starts}
 use Rattle.mark_core.specs.declared.kinds.Shape.{Shape}
 use Rattle.mark_core.specs.declared.seat.SeatState.{SeatState}
 use Rattle.plain_heap.specs.declared.operation.Op.{Op}
@@ -102,7 +102,7 @@ pub whole-starts : (sh : Shape) (plan : List (List Op)) (n : ℕ) → IsShape sh
 whole-starts sh plan n z some few =
     record {
       core = core-starts sh n z some few;
-      swept = swept-starts sh n z;
+      swept = swept_starts sh n z;
       sections = length-map-range_with_len (start_section sh) 0 sh.sections;
       stands = λ alone. subst (λ (ms : List Meaning). StandsFor (start_state sh plan n).core ms) (sym (meanings_from sh 0 sh.sections)) (stands-starts sh n z);
       told = told-starts sh plan n z some few;

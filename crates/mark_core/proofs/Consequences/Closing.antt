@@ -151,5 +151,5 @@ path_marked c formed k done x (d ∷ ds) p =
     (λ (a : cell_bit w.allocs d ≡ false). absurd (not_waiting sh w c.seats d done (k.unpublished.waits done.tracing d below m a)))
     (cases_Bool (cell_bit w.allocs d))
 
-pub closed-marks : ClosedMarksAll
-closed-marks c formed k e x p = path_marked c formed k (done_from c formed k e) x p.0 p.1
+pub closed_marks : ClosedMarksAll
+closed_marks c formed k e x p = path_marked c formed k (done_from c formed k e) x p.0 p.1

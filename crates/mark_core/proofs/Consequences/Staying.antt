@@ -41,8 +41,8 @@ stays_at c i s StoreAlloc x k p e =
 stays_at c i s step x k p e = alloc-on c i s step x k refl e
 
 -- no event takes the allocation bit of a cell that is reachable
-pub reachable-stay : ReachableStay
-reachable-stay c e k f x p h =
+pub reachable_stay : ReachableStay
+reachable_stay c e k f x p h =
     let r = acts c e k f in
     let s : SeatState = r.0 in
     let a : Acted c e s = r.1 in

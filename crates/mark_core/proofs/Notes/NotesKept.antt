@@ -63,8 +63,8 @@ note_stays c i j s t step at word k n hs ht st is =
     (cases_eq at.0 p.0)
 
 -- each event that is allowed leaves the words for which another seat is steady
-pub notes-kept : EventsKeepNotes
-notes-kept c e k f j t n got at word st is =
+pub notes_kept : EventsKeepNotes
+notes_kept c e k f j t n got at word st is =
     let r : (s : SeatState) × Acted c e s = acts c e k f in
     let a : Acted c e r.0 = r.1 in
     let s : SeatState = r.0 in

@@ -130,8 +130,8 @@ pub shape-kept : (c : Core) (e : Event) → (after_event c e).shape ≡ c.shape
 shape-kept c e = shape_of c e.seat (slice_get c.seats e.seat) e.step
 
 -- each event that is allowed keeps the rules of packets
-pub packets-kept : EventsKeepPackets
-packets-kept c e k names p f =
+pub packets_kept : EventsKeepPackets
+packets_kept c e k names p f =
     let r : (s : SeatState) × Acted c e s = acted c e k.words (λ s g. reaches_from c e.seat s e.step k names p.pools g) f in
     let a : Acted c e r.0 = r.1 in
     let s : SeatState = r.0 in

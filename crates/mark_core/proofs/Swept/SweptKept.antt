@@ -1,5 +1,5 @@
 -- Each event that is allowed leaves no mark in a block that was handed out and that no seat has in its stretch any more.
-use Rattle.std.proofs.Common.{ℕ, ◌≡◌, ◌≢◌, ◌+◌, ◌%◌, ◌<◌, ◌≤◌, List, [], ◌∷◌, ◌++◌, set, get_or, length, arith, refl, sym, ◌∙◌, subst, Bool, true, false, ◌||◌, cond, eqb, Option, None, ⊎_elim}
+use Rattle.std.proofs.Common.{ℕ, ◌≡◌, ◌+◌, ◌%◌, ◌<◌, ◌≤◌, List, [], ◌∷◌, ◌++◌, set, get_or, length, arith, refl, sym, ◌∙◌, subst, Bool, true, false, ◌||◌, cond, eqb, Option, None, ⊎_elim}
 use Rattle.std.proofs.lemmas.Bool.{and_parts, or_cases, or_from, cases_eq, ne_eqb, eqb-true, false≢true}
 use Rattle.std.proofs.lemmas.List.{map-set, map_push, set-get_or, get_or-set_same, get_or-set_other, length-map, length-set}
 use Rattle.mark_core.specs.Layout.{Words, words_of}
@@ -181,8 +181,8 @@ swept_others c i s (Join other) t k =
 swept_others c i s step t k = k
 
 -- each event that is allowed leaves no mark in the blocks that are done
-pub swept-kept_by : EventsKeepSwept
-swept-kept_by c e k before f =
+pub swept_kept_by : EventsKeepSwept
+swept_kept_by c e k before f =
     let r : (s : SeatState) × Acted c e s = acts c e k f in
     let a : Acted c e r.0 = r.1 in
     let s : SeatState = r.0 in

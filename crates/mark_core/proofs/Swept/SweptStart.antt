@@ -2,5 +2,5 @@
 use Rattle.std.proofs.lemmas.Bool.{false≢true}
 use Rattle.mark_core.specs.Laws.{StartIsSwept}
 
-pub swept-starts : StartIsSwept
-swept-starts sh n z = record { done_is_white = λ e. absurd (false≢true e) }
+pub swept_starts : StartIsSwept
+swept_starts sh n z = record { done_is_white = λ e. absurd (false≢true e) }

@@ -12,7 +12,7 @@ use crate::kinds::Shape;
 use crate::layout::{block_count, card_count};
 use crate::numbers::VARIABLES;
 use crate::seat::{BlockState, Cleaning, SeatState};
-use crate::standing::{is_the, may_trace, phase_of, takes_part};
+use crate::standing::{is_the, may_trace, phase_of};
 use crate::steps::cleaning;
 use crate::{bits, hand, slots};
 
@@ -47,7 +47,7 @@ fn with_alloc_word(block: &mut Option<BlockState>, b: u32, word: u64)
 pub fn check_read_alloc(shape: &Shape, s: &SeatState, b: u32) -> Option<u8>
     ensures { result ≡ first_false_of 1 (read_alloc_parts shape.now s.now b) }
 {
-    first_false(&[b < block_count(shape) && takes_part(s)])
+    first_false(&[b < block_count(shape) && s.takes_part()])
 }
 
 /// Kind 9: a popped cell of the block is in scan where its bit is set, and else known to be unpublished; of a cleaning the published cells alone are left; a
@@ -107,7 +107,7 @@ pub fn check_read_root(shape: &Shape, phase: u64, s: &SeatState, section: u32, v
             && v < VARIABLES
             && may_trace(phase, s)
             && slots::holds_any(s.held),
-        !hand::work_in_hand(shape.fields, s),
+        !s.work_in_hand(shape.fields),
     ])
 }
 
@@ -120,7 +120,7 @@ pub fn check_load_slot(shape: &Shape, phase: u64, s: &SeatState, section: u32, k
             && u32::from(k) < shape.slots
             && may_trace(phase, s)
             && slots::holds_any(s.held),
-        !hand::work_in_hand(shape.fields, s),
+        !s.work_in_hand(shape.fields),
     ])
 }
 
@@ -181,7 +181,7 @@ fn popped_off(popped: &mut Option<(Cell, bool)>, card: u32)
 pub fn check_dirty_card(shape: &Shape, s: &SeatState, card: u32) -> Option<u8>
     ensures { result ≡ first_false_of 1 (dirty_card_parts shape.now s.now card) }
 {
-    first_false(&[card < card_count(shape) && takes_part(s)])
+    first_false(&[card < card_count(shape) && s.takes_part()])
 }
 
 /// The dirty card answers for all that the seat owes it.
@@ -205,7 +205,7 @@ pub fn check_clear_card(shape: &Shape, phase: u64, s: &SeatState, card: u32) -> 
 {
     first_false(&[
         card < card_count(shape) && may_trace(phase, s) && slots::holds_any(s.held),
-        !hand::work_in_hand(shape.fields, s),
+        !s.work_in_hand(shape.fields),
     ])
 }
 
@@ -230,7 +230,7 @@ pub fn clear_card(s: &mut SeatState, card: u32, old: u64) -> u64
 pub fn check_read_marks(shape: &Shape, s: &SeatState, b: u32) -> Option<u8>
     ensures { result ≡ first_false_of 1 (read_marks_parts shape.now s.now b) }
 {
-    first_false(&[b < block_count(shape) && takes_part(s)])
+    first_false(&[b < block_count(shape) && s.takes_part()])
 }
 
 /// Kind 14: a cleaning of a card of this block, whose cells weren't known, has the marked ones left to scan.
@@ -254,7 +254,7 @@ pub fn read_phase(s: &mut SeatState, old: u64) -> u64
     ensures word { result ≡ (read_phase_effect s.old).written old }
     ensures seat { s.new ≡ (read_phase_effect s.old).seat old }
 {
-    if takes_part(s) {
+    if s.takes_part() {
         s.phase_seen = Some(phase_of(old));
     }
     old

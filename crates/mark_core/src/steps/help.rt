@@ -6,7 +6,7 @@ ghost use Rattle.mark_core.specs.Steps.{first_false as first_false_of};
 use crate::failing_part::first_false;
 use crate::kinds::{Phase, Shape};
 use crate::seat::SeatState;
-use crate::standing::{is_bare, is_phase};
+use crate::standing::is_phase;
 use crate::{bits, hand};
 
 /// Kind 43: one seat opens help, once, and in Drain and Sweep alone there is work to share.
@@ -33,7 +33,7 @@ pub fn open_help(s: &mut SeatState, old: u64) -> u64
 pub fn check_join_help(s: &SeatState) -> Option<u8>
     ensures { result ≡ first_false_of 1 (join_help_parts s.now) }
 {
-    first_false(&[is_bare(s)])
+    first_false(&[s.is_bare()])
 }
 
 /// Kind 44: the seat is counted among the helpers, and admitted where help was open.
@@ -52,8 +52,8 @@ pub fn check_leave_help(shape: &Shape, s: &SeatState) -> Option<u8>
 {
     first_false(&[
         s.helping,
-        hand::empty_handed(s),
-        !hand::work_in_hand(shape.fields, s) && s.block.is_none(),
+        s.empty_handed(),
+        !s.work_in_hand(shape.fields) && s.block.is_none(),
     ])
 }
 

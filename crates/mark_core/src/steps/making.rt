@@ -11,7 +11,7 @@ use crate::kinds::{Phase, Shape};
 use crate::layout::block_count;
 use crate::numbers::{SECTION_SPAN, VALUE_BOUND};
 use crate::seat::{CacheState, SeatState};
-use crate::standing::{is_phase, may_mutate};
+use crate::standing::is_phase;
 use crate::{bits, hand};
 
 /// Kind 20: a sweep stores the allocation word whole, so cells that are made meanwhile would be lost.
@@ -61,7 +61,7 @@ pub fn check_release_block(s: &SeatState) -> Option<u8>
 {
     first_false(&[
         s.cache.is_some(),
-        !hand::has_used(s.cache) && !hand::has_making(s.cache),
+        !hand::has_used(s.cache) && !s.has_making(),
     ])
 }
 
@@ -105,7 +105,7 @@ fn is_next_part(s: &SeatState, c: Cell, part: u8) -> bool
     ensures { result ≡ is_next_part_of s.now c part }
 {
     if part == 0 {
-        hand::free_in(s.cache, c) && !hand::has_making(s.cache)
+        hand::free_in(s.cache, c) && !s.has_making()
     } else {
         hand::makes(s.cache, c, part)
     }
@@ -161,7 +161,7 @@ pub fn check_store_new(shape: &Shape, s: &SeatState, c: Cell, part: u8, word: u6
     ensures { result ≡ first_false_of 1 (store_new_parts shape.now s.now c part word) }
 {
     first_false(&[
-        c.number() < shape.cells && u32::from(part) <= shape.fields + 1 && may_mutate(s),
+        c.number() < shape.cells && u32::from(part) <= shape.fields + 1 && s.may_mutate(),
         is_next_part(s, c, part),
         fits_part(shape, s, part, word),
     ])
@@ -207,10 +207,7 @@ fn without_used(cache: &mut Option<CacheState>)
 pub fn check_publish_cells(s: &SeatState) -> Option<u8>
     ensures { result ≡ first_false_of 1 (publish_cells_parts s.now) }
 {
-    first_false(&[
-        s.cache.is_some(),
-        s.owes.is_none() && !hand::has_making(s.cache),
-    ])
+    first_false(&[s.cache.is_some(), s.owes.is_none() && !s.has_making()])
 }
 
 /// Kind 24: no cell is made and unpublished any more. The bits of those that were so are set.

@@ -15,7 +15,7 @@ use crate::failing_part::first_false;
 use crate::kinds::Shape;
 use crate::numbers::VARIABLES;
 use crate::seat::{CacheState, SeatState};
-use crate::standing::{is_the, may_mutate};
+use crate::standing::is_the;
 use crate::{bits, hand};
 
 /// A variable of the seat holds this reference.
@@ -37,7 +37,7 @@ fn knows_cell(s: &SeatState, c: Cell) -> bool
 pub fn check_read_object(shape: &Shape, s: &SeatState, c: Cell) -> Option<u8>
     ensures { result ≡ first_false_of 1 (read_object_parts shape.now s.now c) }
 {
-    first_false(&[c.number() < shape.cells && may_mutate(s), knows_cell(s, c)])
+    first_false(&[c.number() < shape.cells && s.may_mutate(), knows_cell(s, c)])
 }
 
 /// Kind 17: a cell that neither the variables nor the register name could be freed, and made anew, before its field is read.
@@ -45,7 +45,7 @@ pub fn check_read_own(shape: &Shape, s: &SeatState, c: Cell, i: u8) -> Option<u8
     ensures { result ≡ first_false_of 1 (read_own_parts shape.now s.now c i) }
 {
     first_false(&[
-        c.number() < shape.cells && u32::from(i) < shape.fields && may_mutate(s),
+        c.number() < shape.cells && u32::from(i) < shape.fields && s.may_mutate(),
         knows_cell(s, c),
     ])
 }
@@ -63,7 +63,7 @@ pub fn read_reference(s: &mut SeatState, old: u64) -> u64
 pub fn check_read_cat(s: &SeatState, v: u8) -> Option<u8>
     ensures { result ≡ first_false_of 1 (read_cat_parts s.now v) }
 {
-    first_false(&[v < VARIABLES && may_mutate(s), !is_the(s.section, 0)])
+    first_false(&[v < VARIABLES && s.may_mutate(), !is_the(s.section, 0)])
 }
 
 /// What variable v of the seat refers to.
@@ -118,7 +118,7 @@ pub fn check_store_field(
     ensures { (ids : List ℕ) → slice_index ids (variable_of s.now v - 1) ≡ identity → result ≡ first_false_of 1 (store_field_parts shape.now ids s.now v i w) }
 {
     first_false(&[
-        v < VARIABLES && u32::from(i) < shape.fields && in_variables(w) && may_mutate(s),
+        v < VARIABLES && u32::from(i) < shape.fields && in_variables(w) && s.may_mutate(),
         may_change(shape, s, v, identity),
         s.owes.is_none(),
     ])
@@ -141,7 +141,7 @@ pub fn check_store_value(shape: &Shape, identity: u64, s: &SeatState, v: u8) -> 
     ensures { (ids : List ℕ) → slice_index ids (variable_of s.now v - 1) ≡ identity → result ≡ first_false_of 1 (store_value_parts shape.now ids s.now v) }
 {
     first_false(&[
-        v < VARIABLES && may_mutate(s),
+        v < VARIABLES && s.may_mutate(),
         may_change(shape, s, v, identity),
         s.owes.is_none(),
     ])
@@ -162,7 +162,7 @@ pub fn check_exchange_field(
         v < VARIABLES
             && u32::from(i) < shape.fields
             && (in_variables(expected) && in_variables(new))
-            && may_mutate(s),
+            && s.may_mutate(),
         !(variable(s, v) == 0) && shape.sharing,
         s.owes.is_none(),
     ])
@@ -191,7 +191,7 @@ pub fn check_exchange_value(shape: &Shape, s: &SeatState, v: u8, new: u32) -> Op
     ensures { result ≡ first_false_of 1 (exchange_value_parts shape.now s.now v new) }
 {
     first_false(&[
-        v < VARIABLES && u64::from(new) < bits::FLAG && may_mutate(s),
+        v < VARIABLES && u64::from(new) < bits::FLAG && s.may_mutate(),
         !(variable(s, v) == 0) && shape.sharing,
         s.owes.is_none(),
     ])
@@ -233,9 +233,9 @@ pub fn check_store_root(s: &SeatState, v: u8, r: u64) -> Option<u8>
     ensures { result ≡ first_false_of 1 (store_root_parts s.now v r) }
 {
     first_false(&[
-        v < VARIABLES && may_mutate(s),
+        v < VARIABLES && s.may_mutate(),
         has_reference(s, r),
-        s.owes.is_none() && !hand::has_making(s.cache),
+        s.owes.is_none() && !s.has_making(),
     ])
 }
 
@@ -262,9 +262,9 @@ pub fn check_store_slot(shape: &Shape, s: &SeatState, k: u16, r: u64) -> Option<
     ensures { result ≡ first_false_of 1 (store_slot_parts shape.now s.now k r) }
 {
     first_false(&[
-        u32::from(k) < shape.slots && may_mutate(s),
+        u32::from(k) < shape.slots && s.may_mutate(),
         has_reference(s, r),
-        s.owes.is_none() && !hand::has_making(s.cache),
+        s.owes.is_none() && !s.has_making(),
     ])
 }
 
@@ -281,5 +281,5 @@ pub fn store_slot(s: &mut SeatState, r: u64) -> u64
 pub fn check_read_slot(shape: &Shape, s: &SeatState, k: u16) -> Option<u8>
     ensures { result ≡ first_false_of 1 (read_slot_parts shape.now s.now k) }
 {
-    first_false(&[u32::from(k) < shape.slots && may_mutate(s)])
+    first_false(&[u32::from(k) < shape.slots && s.may_mutate()])
 }

@@ -38,9 +38,9 @@ pub fn check_take(shape: &Shape, phase: u64, s: &SeatState, q: u8, p: u32) -> Op
 {
     first_false(&[
         q < POOLS && p < shape.packets && may_trace(phase, s),
-        !slots::holds(s.held, p),
+        !s.holds(p),
         !(q == EMPTY_POOL) || s.reserved,
-        slots::has_free_slot(s.held),
+        s.has_free_slot(),
     ])
 }
 
@@ -78,11 +78,11 @@ pub fn check_give(shape: &Shape, s: &SeatState, p: u32, deferred: bool) -> Optio
     ensures { result ≡ first_false_of 1 (give_parts shape.now s.now p deferred) }
 {
     first_false(&[
-        p < shape.packets && slots::holds(s.held, p),
-        slots::has_length(&s.held, p) && (!deferred || slots::has_entry(&s.held, p)),
-        !hand::work_in_hand(shape.fields, s) || slots::holds_another(s.held, p),
+        p < shape.packets && s.holds(p),
+        s.has_length(p) && (!deferred || slots::has_entry(&s.held, p)),
+        !s.work_in_hand(shape.fields) || slots::holds_another(s.held, p),
         !s.credit && !s.reserved,
-        slots::is_stored(s.held, p),
+        s.is_stored(p),
     ])
 }
 
@@ -119,8 +119,8 @@ pub fn check_push(shape: &Shape, s: &SeatState, p: u32, c: Cell) -> Option<u8>
     ensures { result ≡ first_false_of 1 (push_parts shape.now s.now p c) }
 {
     first_false(&[
-        p < shape.packets && c.number() < shape.cells && slots::holds(s.held, p),
-        slots::has_length(&s.held, p) && slots::length_in_hand(&s.held, p) < shape.entries,
+        p < shape.packets && c.number() < shape.cells && s.holds(p),
+        s.has_length(p) && slots::length_in_hand(&s.held, p) < shape.entries,
         hand::is_the_cell(s.fresh, c) || hand::is_unpublished(s.popped, c),
     ])
 }
@@ -156,9 +156,9 @@ pub fn check_pop(shape: &Shape, phase: u64, s: &SeatState, p: u32) -> Option<u8>
     ensures { result ≡ first_false_of 1 (pop_parts shape.now phase s.now p) }
 {
     first_false(&[
-        p < shape.packets && slots::holds(s.held, p),
+        p < shape.packets && s.holds(p),
         slots::has_entry(&s.held, p),
-        !hand::work_in_hand(shape.fields, s),
+        !s.work_in_hand(shape.fields),
         may_trace(phase, s),
     ])
 }
@@ -195,10 +195,7 @@ pub fn check_look(shape: &Shape, q: u8, g: u32) -> Option<u8>
 pub fn check_store_length(shape: &Shape, s: &SeatState, p: u32) -> Option<u8>
     ensures { result ≡ first_false_of 1 (store_length_parts shape.now s.now p) }
 {
-    first_false(&[
-        p < shape.packets && slots::holds(s.held, p),
-        slots::has_length(&s.held, p),
-    ])
+    first_false(&[p < shape.packets && s.holds(p), s.has_length(p)])
 }
 
 /// Kind 41: the head holds the length.
@@ -215,10 +212,7 @@ pub fn store_length(s: &mut SeatState, p: u32) -> u64
 pub fn check_read_length(shape: &Shape, s: &SeatState, p: u32) -> Option<u8>
     ensures { result ≡ first_false_of 1 (read_length_parts shape.now s.now p) }
 {
-    first_false(&[
-        p < shape.packets && slots::holds(s.held, p),
-        !slots::has_length(&s.held, p),
-    ])
+    first_false(&[p < shape.packets && s.holds(p), !s.has_length(p)])
 }
 
 /// Kind 42: the length is known, and is that of the head.

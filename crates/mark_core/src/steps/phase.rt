@@ -47,7 +47,7 @@ pub fn is_quiet(shape: &Shape, words: &[u64], s: &SeatState) -> bool
     ensures { result ≡ is_quiet_of shape.now (words_of shape.now words.now) s.now }
 {
     read(words, layout::EMPTY) == EMPTY_OFFSET + u64::from(shape.packets)
-        && !hand::work_in_hand(shape.fields, s)
+        && !s.work_in_hand(shape.fields)
 }
 
 /// Every block was handed out, none is in hand, and no mark is left.

@@ -11,7 +11,7 @@ use crate::kinds::{Phase, Shape};
 use crate::layout::{block_count, card_count, stretch_end};
 use crate::numbers::{BLOCK_COUNTER, CARD_COUNTER, DONE, FIRST_POSITION, FREE, LAST};
 use crate::seat::{BlockState, SeatState};
-use crate::standing::{is_phase, may_clear, may_sweep, may_trace, takes_part};
+use crate::standing::{is_phase, may_clear, may_sweep, may_trace};
 
 /// Kind 33: a block that is in hand already would be left unswept, and a counter that is raised unread would run away past its end.
 pub fn check_next_block(phase: u64, s: &SeatState) -> Option<u8>
@@ -206,7 +206,7 @@ pub fn check_add_stat(s: &SeatState, which: u8, by: u32, down: bool) -> Option<u
     ensures { result ≡ first_false_of 1 (add_stat_parts s.now which by down) }
 {
     first_false(&[
-        LAST <= which && which <= DONE && takes_part(s),
+        LAST <= which && which <= DONE && s.takes_part(),
         !(which == DONE) || !down && by == 1 && s.section.is_some(),
     ])
 }

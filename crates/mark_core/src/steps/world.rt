@@ -9,14 +9,14 @@ use crate::failing_part::first_false;
 use crate::kinds::{Phase, Shape};
 use crate::numbers::SEATS;
 use crate::seat::SeatState;
-use crate::standing::{is_bare, is_phase};
+use crate::standing::is_phase;
 use crate::{bits, hand};
 
 /// Kind 25: a seat that is in the world already, or in its own stop, or among the helpers, would be in two places.
 pub fn check_enter(s: &SeatState) -> Option<u8>
     ensures { result ≡ first_false_of 1 (enter_parts s.now) }
 {
-    first_false(&[is_bare(s)])
+    first_false(&[s.is_bare()])
 }
 
 /// Kind 25: the seat is counted, and active where no flag was up.
@@ -36,8 +36,8 @@ pub fn check_leave(shape: &Shape, s: &SeatState) -> Option<u8>
 {
     first_false(&[
         s.counted,
-        hand::empty_handed(s),
-        !hand::work_in_hand(shape.fields, s),
+        s.empty_handed(),
+        !s.work_in_hand(shape.fields),
         s.owes.is_none() && s.cache.is_none() && s.got == 0,
     ])
 }
@@ -58,7 +58,7 @@ pub fn leave(s: &mut SeatState, old: u64) -> u64
 pub fn check_raise(s: &SeatState) -> Option<u8>
     ensures { result ≡ first_false_of 1 (raise_parts s.now) }
 {
-    first_false(&[is_bare(s)])
+    first_false(&[s.is_bare()])
 }
 
 /// Kind 27: the flag is up, and the seat's own where it was down.
@@ -94,7 +94,7 @@ pub fn check_drop(shape: &Shape, phase: u64, s: &SeatState) -> Option<u8>
 {
     first_false(&[
         s.knows,
-        hand::empty_handed(s) && !hand::work_in_hand(shape.fields, s) && s.block.is_none(),
+        s.empty_handed() && !s.work_in_hand(shape.fields) && s.block.is_none(),
         is_phase(phase, Phase::Idle) || is_phase(phase, Phase::Full),
         s.alone,
     ])
@@ -119,7 +119,7 @@ pub fn drop_flag(s: &mut SeatState, old: u64) -> u64
 fn is_plain_standing(s: &SeatState) -> bool
     ensures { result ≡ is_plain_standing_of s.now }
 {
-    is_bare(s)
+    s.is_bare()
         && !s.active
         && !s.knows
         && !s.admitted
@@ -133,8 +133,8 @@ fn is_plain_standing(s: &SeatState) -> bool
 fn has_nothing(shape: &Shape, s: &SeatState) -> bool
     ensures { result ≡ has_nothing_of shape.now s.now }
 {
-    hand::empty_handed(s)
-        && !hand::work_in_hand(shape.fields, s)
+    s.empty_handed()
+        && !s.work_in_hand(shape.fields)
         && s.owes.is_none()
         && s.cache.is_none()
         && s.block.is_none()
@@ -176,7 +176,7 @@ fn may_be_joined(seats: &[SeatState], other: u32) -> bool
 {
     match seats.get(other as usize) {
         None => false,
-        Some(o) => !o.spent && is_bare(o),
+        Some(o) => !o.spent && o.is_bare(),
     }
 }
 
@@ -194,7 +194,7 @@ pub fn check_join(shape: &Shape, seats: &[SeatState], s: &SeatState, other: u32)
     ensures { result ≡ first_false_of 1 (join_parts shape.now seats.now s.now other) }
 {
     first_false(&[
-        !(other == s.number) && may_be_joined(seats, other) && is_bare(s),
+        !(other == s.number) && may_be_joined(seats, other) && s.is_bare(),
         has_nothing(shape, s) && other_has_nothing(shape, seats, other),
     ])
 }

@@ -2,7 +2,7 @@ use Rattle.std.proofs.Common.{◌≡◌, set, sym, subst, None, ◌∙◌, ap}
 use Rattle.mark_core.specs.Steps.{Core, failing_part, after_event}
 use Rattle.mark_core.specs.Bounds.{IsBounded}
 use Rattle.mark_core.specs.Laws.{IsCore, NumbersFit}
-use Rattle.mark_core.proofs.CoreKept.{core-kept}
+use Rattle.mark_core.proofs.CoreKept.{core_kept}
 use Rattle.mark_core.proofs.Doing.{Ready, ready, seat-within, core_of, done, numbers-fit}
 use Rattle.mark_core.proofs.state.CoreState.act.Goals as goal
 
@@ -56,7 +56,7 @@ invariant_of-self c =
     let d = done core c.args.event.now c.index.result.now c.act-word.new.s c.address-at.result c.index-old.result.now c.act-word.result c.change_others.new.seats.items r c.index.ensures c.address-at.ensures c.index-old.ensures c.act-word.ensures.word c.act-word.ensures.seat c.change_others.ensures.seats in
     let after : core_of c.self.inside.shape (set c.self.inside.words.items c.address-at.result c.act-word.result) c.change_others.new.seats.items ≡ after_event core c.args.event.now = d ∙ sym r.after in
     let fits : NumbersFit c.args.event.now.step = numbers-fit c.self.inside.shape c.index.result.now c.args.event.now.step c.index-old.result.now c.act-word.result c.act-word.ensures.word c.act-word.type_inv c.has_value.ensures in
-    (subst IsBounded (sym d) r.bounded, c.change_others.ensures.room, subst IsCore (sym after) (core-kept core c.args.event.now c.self.invariant.2 fits (subst P (sym c.self.view_is) c.requires)))
+    (subst IsBounded (sym d) r.bounded, c.change_others.ensures.room, subst IsCore (sym after) (core_kept core c.args.event.now c.self.invariant.2 fits (subst P (sym c.self.view_is) c.requires)))
 
 pub returns : goal.returns
 returns c =
