@@ -168,6 +168,7 @@ impl<'a> Record<'a> {
 }
 
 /// No dump begins another, and two legal heaps have two dumps.
+#[tactic(auto, using(crate::proofs::ReadBack::one_dump))]
 pub fn one_dump()
     ensures { (g h : DumpedHeap) (rest : List ℕ) → HasDump g → HasDump h → dump g ++ rest ≡ dump h → (rest ≡ []) × (g ≡ h) }
 {}

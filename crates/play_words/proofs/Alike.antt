@@ -8,7 +8,7 @@ use Rattle.heap_dump.specs.Spelling.{dump}
 use Rattle.load_gen.specs.Generated.{generated}
 use Rattle.play_report.specs.Text.{IsReportText}
 use Rattle.play_end.proofs.OneReport.{one-text, one-load-text}
-use Rattle.play_dump.proofs.One.{one-final}
+use Rattle.play_words.proofs.FinalHeap.One.{one-final}
 use Rattle.command_words.specs.Words.{Options}
 use Rattle.play_words.specs.Loading.{LoadsTo}
 use Rattle.play_words.specs.Dumping.{EndsDoneOrFull, DumpsTo}

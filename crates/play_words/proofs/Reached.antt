@@ -12,8 +12,8 @@ use Rattle.heap_dump.specs.declared.fault.DumpError.{DumpError}
 use Rattle.heap_dump.proofs.ReadBack.{heap_again, no_fault_again}
 use Rattle.dump_census.specs.Surviving.{TellsSurvivors}
 use Rattle.dump_census.proofs.Reached.{survivors_reached}
-use Rattle.play_dump.specs.Final.{IsFinalHeap}
-use Rattle.play_dump.proofs.Referring.{held-there, refers-there}
+use Rattle.play_words.specs.Final.{IsFinalHeap}
+use Rattle.play_words.proofs.FinalHeap.Referring.{held-there, refers-there}
 use Rattle.command_words.specs.Words.{Options}
 use Rattle.play_words.specs.Counting.{IsCensusAnswer, IsCensusText}
 use Rattle.play_words.specs.DumpReading.{OfDump}

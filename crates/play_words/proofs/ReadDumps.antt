@@ -9,7 +9,7 @@ use Rattle.heap_dump.specs.Reading.{first_dump_fault, heap_of_dump}
 use Rattle.heap_dump.specs.Spelling.{dump}
 use Rattle.heap_dump.specs.Text.{dump_fault_text}
 use Rattle.heap_dump.specs.declared.fault.DumpError.{DumpError}
-use Rattle.play_dump.specs.Final.{IsFinalHeap}
+use Rattle.play_words.specs.Final.{IsFinalHeap}
 use Rattle.command_words.specs.Words.{Options}
 use Rattle.play_words.specs.Dumping.{DumpsTo, EndsDoneOrFull, IsEndAnswer}
 use Rattle.play_words.specs.Counting.{IsCensusAnswer, IsCensusText, IsCountOf}

@@ -19,7 +19,7 @@ use Rattle.heap_dump.proofs.ReadBack.{heap_again, no_fault_again}
 use Rattle.dump_census.specs.Counted.{section_count}
 use Rattle.dump_census.specs.Values.{AreValueCounts}
 use Rattle.dump_census.specs.declared.counts.SectionCount.{SectionCount}
-use Rattle.play_dump.specs.Final.{survivor_in}
+use Rattle.play_words.specs.Final.{survivor_in}
 use Rattle.command_words.specs.Words.{Options}
 use Rattle.play_run.specs.RunAnswers.{RunAnswersTo}
 use Rattle.play_words.specs.Dumping.{DumpsTo, IsDumpText}

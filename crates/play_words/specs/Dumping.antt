@@ -6,7 +6,7 @@ use Rattle.gc_script.specs.Script.{Script, script}
 use Rattle.play_report.specs.Text.{IsFullText, fault_text}
 use Rattle.heap_dump.specs.Final.{DumpedHeap, HasDump}
 use Rattle.heap_dump.specs.Spelling.{dump}
-use Rattle.play_dump.specs.Final.{IsFinalHeap}
+use Rattle.play_words.specs.Final.{IsFinalHeap}
 use Rattle.command_words.specs.Words.{Options}
 
 -- the dump of the heap at the end of a play: the objects that are reachable then, with the references and variables of the plain heaps

@@ -12,7 +12,7 @@ use Rattle.dump_census.specs.Counted.{CensusCounts, IsCensus}
 use Rattle.dump_census.specs.Values.{AreValueCounts}
 use Rattle.dump_census.specs.Text.{census_text}
 use Rattle.dump_census.specs.declared.counts.SectionCount.{SectionCount}
-use Rattle.play_dump.specs.Final.{IsFinalHeap}
+use Rattle.play_words.specs.Final.{IsFinalHeap}
 use Rattle.command_words.specs.Words.{Options}
 use Rattle.play_words.specs.Running.{IsRunText}
 use Rattle.play_run.specs.RunAnswers.{IsRunAnswer}
@@ -25,6 +25,10 @@ use Rattle.play_words.specs.Undumping.{IsUndumpAnswer}
 -- `run` writes one text of a script where no places are asked for, with any two sets of cells, workers, tracers, packets and entries, whenever both are done
 abbrev pub RunsAlike : Type 0
 RunsAlike = (o p : Options) (bytes a b : List ℕ) → o.place ≡ false → p.place ≡ false → IsRunText o bytes a → IsRunText p bytes b → a ≡ b
+
+-- a script has one final heap
+abbrev pub OneFinalHeap : Type 0
+OneFinalHeap = (s : Sections) (a b : DumpedHeap) → IsFinalHeap s a → IsFinalHeap s b → a ≡ b
 
 -- `dump` writes the same bytes of one script, with any two sets of options, whenever both are done
 abbrev pub DumpsAlike : Type 0

@@ -1,6 +1,6 @@
 // Laws over what `play_words` promises: each is the contract of a function that does nothing.
 ghost use Rattle.play_words.specs.Following.{AnswersFollow, StatusesFollow};
-ghost use Rattle.play_words.specs.Laws.{ConversionsAnswer, ConversionsRunAlike, DumpsAlike, DumpsAreReached, DumpsTellSurvivors, FinalHeapsAreReached, LoadsAlike, RunsAlike};
+ghost use Rattle.play_words.specs.Laws.{ConversionsAnswer, ConversionsRunAlike, DumpsAlike, DumpsAreReached, DumpsTellSurvivors, FinalHeapsAreReached, LoadsAlike, OneFinalHeap, RunsAlike};
 
 /// Two runs of one script that are done, without `--place`, write the same bytes, whatever their cells, workers, tracers, packets and entries.
 pub fn runs_alike()
@@ -15,6 +15,11 @@ pub fn conversions_answer()
 /// A run of a conversion and one of its source that are done, without `--place`, write the same bytes.
 pub fn conversions_run_alike()
     ensures { ConversionsRunAlike }
+{}
+
+/// A script has one final heap.
+pub fn one_final_heap()
+    ensures { OneFinalHeap }
 {}
 
 /// Two dumps of one script are the same bytes.

@@ -25,5 +25,5 @@ accepted-from n i (l ∷ ls) c none =
     let events : List Event = map (λ (m : Line). m.event) ls in
     with-one n i (kind_of l.event.step) l (failing_part c l.event) (first_refused (i + 1) events after) (verdict_from n ls after) c (run_of events after) none (accepted-from n (i + 1) ls after)
 
-pub runs-accepted : RunsAreAccepted
-runs-accepted s none = accepted-from (length s.events) 0 s.events (start_of s) none
+pub runs_accepted : RunsAreAccepted
+runs_accepted s none = accepted-from (length s.events) 0 s.events (start_of s) none

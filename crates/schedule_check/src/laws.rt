@@ -2,6 +2,7 @@
 ghost use Rattle.schedule_check.specs.Laws.{RunsAreAccepted};
 
 /// Each list of events that the core runs without refusing one is accepted when it is told as a schedule, with the end that the core's run has.
+#[tactic(auto, using(crate::proofs::Accepting::runs_accepted))]
 pub fn runs_are_accepted()
     ensures { RunsAreAccepted }
 {}

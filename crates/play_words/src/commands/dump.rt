@@ -1,19 +1,25 @@
 //! The command `dump`: plays the script of the source, and writes the heap at its end.
+//!
+//! - `ending`: the heap that is written, of what a play answers. `numbers` and `telling`: its records and references.
 ghost use Rattle.std.specs.Prelude.{IfSome};
 ghost use Rattle.command_words.specs.Commands.{options_of};
 ghost use Rattle.play_end.specs.Answers.{AreInRange};
-ghost use Rattle.play_dump.specs.Ending.{IsEndOf};
+ghost use Rattle.play_words.specs.EndOfPlay.{IsEndOf};
 ghost use Rattle.play_words.specs.Dumping.{EndsDoneOrFull, IsDumpAnswer, IsEndAnswer};
 ghost use Rattle.play_run.specs.Ending.{CommandEnds, TextEnds, number_of_status};
 ghost use Rattle.play_run.specs.Promise.{HasItsText, OfSource};
 ghost use Rattle.play_run.specs.Reading.{IsSpent, TakesAtMost};
 ghost use Rattle.play_report.specs.Causes.{AcrossSink};
 
+mod ending;
+mod numbers;
+mod telling;
+
+use ending::final_heap;
 use gc_play::{Gate, play_final};
 use gc_script::{Script, ScriptError, read};
 use gc_table::Words;
 use heap_dump::write_dump;
-use play_dump::final_heap;
 use play_end::Options;
 use play_report::{Report, Sink, Source};
 use play_run::{SCRIPT, Status, Unread, read_source, tell_fault, tell_stop};

@@ -1,6 +1,0 @@
-use Rattle.std.proofs.Common.{◌≡◌, length}
-use Rattle.play_dump.proofs.Loops.{NumbersTo}
-use Rattle.play_dump.proofs.numbers.number_cells.Given as goal
-
-abbrev pub invariant-loop-k : goal.invariant-loop-k
-invariant-loop-k l = record { count : length l.numbers.items ≡ l.cells; each : NumbersTo l.report l.k l.numbers.items }

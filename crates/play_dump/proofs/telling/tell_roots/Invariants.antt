@@ -1,6 +1,0 @@
-use Rattle.std.proofs.Common.{◌≡◌, map, take}
-use Rattle.play_dump.specs.Telling.{dumped_word}
-use Rattle.play_dump.proofs.telling.tell_roots.Given as goal
-
-abbrev pub invariant-loop-word : goal.invariant-loop-word
-invariant-loop-word l = l.told.items ≡ map (dumped_word l.numbers) (take l.word-index l.roots)

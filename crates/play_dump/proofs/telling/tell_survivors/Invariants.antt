@@ -1,5 +1,0 @@
-use Rattle.play_dump.specs.Telling.{AreRecords}
-use Rattle.play_dump.proofs.telling.tell_survivors.Given as goal
-
-abbrev pub invariant-loop-survivor : goal.invariant-loop-survivor
-invariant-loop-survivor l = AreRecords l.numbers l.report l.words l.fields l.survivor-index l.told.items

@@ -1,4 +1,0 @@
-pub mod Final
-pub mod Ending
-pub mod Laws
-pub mod Telling
