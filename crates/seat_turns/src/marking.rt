@@ -1,21 +1,21 @@
 //! A tracer inside the world: it reads the phase, traces a few objects, and where there are none, cleans a few cards.
-ghost use Rattle.std.specs.Prelude.{◌≡◌, ◌<◌, ◌≤◌, ◌+◌, IfSome, Some, length};
+ghost use Rattle.std.specs.Prelude.{◌≡◌, ◌<◌, ◌≤◌, ◌+◌, Some, length};
 ghost use Rattle.mark_core.specs.Cards.{card_cells};
 ghost use Rattle.mark_core.specs.Layout.{card_count};
 ghost use Rattle.mark_core.specs.Seats.{phase_of};
 ghost use Rattle.mark_core.specs.declared.kinds.Step.TheVariants.{ReadPhase};
 ghost use Rattle.gc_table.specs.Seats.{Across, Answered, did, state_of};
 ghost use Rattle.card_clean.specs.StepBounds.{clean_one_steps};
-ghost use Rattle.tracer.specs.StepBounds.{recycle_steps, trace_steps};
+ghost use Rattle.tracer.specs.StepBounds.{recycle_steps};
 ghost use Rattle.seat_turns.specs.Standing.{Goes, GoesMarking};
 ghost use Rattle.seat_turns.specs.StepBounds.{card_steps, cards_steps, late_steps, turn_steps};
-ghost use Rattle.seat_turns.specs.Tending.{MarksSome, Tends, TracesSome, turn_quota};
+ghost use Rattle.seat_turns.specs.Tending.{MarksSome, Tends};
 
 use cache_refills::is_far_on;
 use card_clean::{clean_one, next_card};
 use gc_table::{Heap, HeapSeat};
 use mark_core::Phase;
-use tracer::{Stopped, Traced, recycle_deferred, trace};
+use tracer::{Stopped, recycle_deferred, trace};
 
 /// How many objects a turn traces.
 const OBJECTS: u32 = 64;
@@ -33,27 +33,6 @@ pub fn see_phase(heap: &Heap, seat: &mut HeapSeat) -> Phase
     heap.read_phase(seat)
 }
 
-/// Traces the objects of a turn.
-fn trace_objects(heap: &Heap, seat: &mut HeapSeat) -> Traced
-    requires { GoesMarking heap.now seat.old }
-    ensures seat { GoesMarking heap.now seat.new }
-    ensures traces { Across (TracesSome result.done) seat.old seat.new }
-    ensures few { length (did seat.old seat.new) ≤ trace_steps turn_quota heap.now.shape }
-{
-    trace(heap, seat, OBJECTS)
-}
-
-/// The next card of the cycle's pass.
-fn draw(heap: &Heap, seat: &mut HeapSeat) -> Option<u32>
-    requires { GoesMarking heap.now seat.old }
-    ensures seat { GoesMarking heap.now seat.new }
-    ensures tends { Across (Tends 0) seat.old seat.new }
-    ensures there { IfSome result (λ card. card < card_count heap.now.shape) }
-    ensures few { length (did seat.old seat.new) ≤ 2 }
-{
-    next_card(heap, seat)
-}
-
 /// Cleans a card. False where no packet has room.
 fn clean(heap: &Heap, seat: &mut HeapSeat, card: u32) -> bool
     requires seat { GoesMarking heap.now seat.old }
@@ -68,17 +47,6 @@ fn clean(heap: &Heap, seat: &mut HeapSeat, card: u32) -> bool
     }
 }
 
-/// Whether a card is dirty.
-fn is_dirty(heap: &Heap, seat: &mut HeapSeat, card: u32) -> bool
-    requires seat { GoesMarking heap.now seat.old }
-    requires card { card < card_count heap.now.shape }
-    ensures seat { GoesMarking heap.now seat.new }
-    ensures tends { Across (Tends 0) seat.old seat.new }
-    ensures few { length (did seat.old seat.new) ≤ 1 }
-{
-    heap.read_card(seat, card)
-}
-
 /// Looks at a card, and cleans it where it is dirty: a clean card costs one look and no packet. False where no packet has room.
 fn clean_where_dirty(heap: &Heap, seat: &mut HeapSeat, card: u32) -> bool
     requires seat { GoesMarking heap.now seat.old }
@@ -87,7 +55,7 @@ fn clean_where_dirty(heap: &Heap, seat: &mut HeapSeat, card: u32) -> bool
     ensures tends { Across (Tends 0) seat.old seat.new }
     ensures few { length (did seat.old seat.new) ≤ 1 + clean_one_steps card_cells heap.now.shape }
 {
-    if !is_dirty(heap, seat, card) {
+    if !heap.read_card(seat, card) {
         return true;
     }
     clean(heap, seat, card)
@@ -100,7 +68,7 @@ fn clean_next(heap: &Heap, seat: &mut HeapSeat) -> bool
     ensures tends { Across (Tends 0) seat.old seat.new }
     ensures few { length (did seat.old seat.new) ≤ card_steps heap.now.shape }
 {
-    match draw(heap, seat) {
+    match next_card(heap, seat) {
         Some(card) => clean_where_dirty(heap, seat, card),
         None => false,
     }
@@ -120,16 +88,6 @@ fn clean_cards(heap: &Heap, seat: &mut HeapSeat)
     }
 }
 
-/// Whether the cycle is far on.
-fn is_late(heap: &Heap, seat: &mut HeapSeat) -> bool
-    requires { GoesMarking heap.now seat.old }
-    ensures seat { GoesMarking heap.now seat.new }
-    ensures tends { Across (Tends 0) seat.old seat.new }
-    ensures few { length (did seat.old seat.new) ≤ 3 }
-{
-    is_far_on(heap, seat)
-}
-
 /// Cleans the cards of a turn, where the cycle is far on: a card that is cleaned early is dirtied again, and then the stop cleans it.
 fn clean_late(heap: &Heap, seat: &mut HeapSeat)
     requires { GoesMarking heap.now seat.old }
@@ -137,7 +95,7 @@ fn clean_late(heap: &Heap, seat: &mut HeapSeat)
     ensures tends { Across (Tends 0) seat.old seat.new }
     ensures few { length (did seat.old seat.new) ≤ late_steps heap.now.shape }
 {
-    if is_late(heap, seat) {
+    if is_far_on(heap, seat) {
         clean_cards(heap, seat);
     }
 }
@@ -154,16 +112,6 @@ fn clean_after(heap: &Heap, seat: &mut HeapSeat, stopped: Stopped)
     }
 }
 
-/// Lets deferred cells, which weren't published yet, be traced again.
-fn recycle(heap: &Heap, seat: &mut HeapSeat)
-    requires { GoesMarking heap.now seat.old }
-    ensures seat { GoesMarking heap.now seat.new }
-    ensures tends { Across (Tends 0) seat.old seat.new }
-    ensures few { length (did seat.old seat.new) ≤ recycle_steps heap.now.shape }
-{
-    recycle_deferred(heap, seat);
-}
-
 /// Cleans a few cards, where there was nothing to trace, and lets deferred cells be traced again.
 fn tend(heap: &Heap, seat: &mut HeapSeat, stopped: Stopped)
     requires { GoesMarking heap.now seat.old }
@@ -172,7 +120,7 @@ fn tend(heap: &Heap, seat: &mut HeapSeat, stopped: Stopped)
     ensures few { length (did seat.old seat.new) ≤ late_steps heap.now.shape + recycle_steps heap.now.shape }
 {
     clean_after(heap, seat, stopped);
-    recycle(heap, seat);
+    recycle_deferred(heap, seat);
 }
 
 /// Traces the 64 objects of a turn, and where there are fewer and the cycle is far on, cleans cards. Returns how many objects it traced, which the caller is to
@@ -183,7 +131,7 @@ pub fn mark_some(heap: &Heap, seat: &mut HeapSeat) -> u32
     ensures marks { Across (MarksSome result) seat.old seat.new }
     ensures few { length (did seat.old seat.new) ≤ turn_steps heap.now.shape }
 {
-    let traced = trace_objects(heap, seat);
+    let traced = trace(heap, seat, OBJECTS);
     tend(heap, seat, traced.stopped);
     traced.done
 }

@@ -6,7 +6,8 @@ ghost use Rattle.mutator_turns.specs.Standing.{RestsOutside};
 ghost use Rattle.tracer_turns.specs.Tallying.{Tallies};
 ghost use Rattle.tracer_turns.specs.Tracing.{TracerRunsTo, TracerTakesTurn};
 
-use crate::waiting::take_turn;
+use crate::try_turns::TryTurn;
+use gc_cycle::await_resumed_helping;
 use gc_table::{Heap, HeapSeat};
 use std::alloc::Global;
 use std::sync::{Arc, Wait};
@@ -94,7 +95,16 @@ impl Tracer {
         ensures tally { Across (Tallies self.old.traced self.new.traced) self.old.seat self.new.seat }
         ensures world { (self.new.heap ≡ self.old.heap) × (self.new.name ≡ self.old.name) }
     {
-        take_turn(rt, &self.heap, &mut self.seat, &mut self.traced)
+        match self.try_turn() {
+            TryTurn::Marked => Turn::Going,
+            TryTurn::Idle => Turn::Going,
+            TryTurn::Stopped => {
+                await_resumed_helping(rt, &self.heap, &mut self.seat);
+                Turn::Going
+            }
+            TryTurn::Dismissed => Turn::Dismissed,
+            TryTurn::Full => Turn::Full,
+        }
     }
 
     /// How many objects it has traced beside the mutators. What it traced while it helped a stop isn't counted.

@@ -1,13 +1,12 @@
 //! A turn of a tracer that doesn't wait.
 ghost use Rattle.std.specs.Prelude.{◌≡◌};
 ghost use Rattle.gc_table.specs.Seats.{Across};
-ghost use Rattle.mutator_turns.specs.Standing.{RestsOutside};
 ghost use Rattle.tracer_turns.specs.Tallying.{Tallies};
 ghost use Rattle.tracer_turns.specs.Trying.{TriesTurn};
 
 use crate::background::Tracer;
 use crate::marking::{go_round, goes_in, see_dismissals};
-use gc_table::{Heap, HeapSeat};
+use gc_table::Heap;
 use mark_core::Phase;
 
 /// What a turn of a tracer that doesn't wait came to.
@@ -25,26 +24,6 @@ pub enum TryTurn {
     Full,
 }
 
-/// One turn that doesn't wait. Where a stop is under way the seat is outside again at once.
-pub(crate) fn try_take_turn(heap: &Heap, seat: &mut HeapSeat, tally: &mut u64) -> TryTurn
-    requires { RestsOutside heap.now seat.old }
-    ensures seat { RestsOutside heap.now seat.new }
-    ensures turn { Across (TriesTurn result) seat.old seat.new }
-    ensures tally { Across (Tallies tally.old tally.new) seat.old seat.new }
-{
-    if see_dismissals(heap, seat) != 0 {
-        return TryTurn::Dismissed;
-    }
-    if !goes_in(heap, seat) {
-        return TryTurn::Stopped;
-    }
-    match go_round(heap, seat, tally) {
-        Phase::Marking => TryTurn::Marked,
-        Phase::Full => TryTurn::Full,
-        _ => TryTurn::Idle,
-    }
-}
-
 impl Tracer {
     /// One turn that doesn't wait, for a thread without a runtime: it enters the world once, traces at most 64 objects where a cycle is marking, passes at most
     /// 1,024 cards where that is far on, and leaves. Where a stop is under way it does nothing, and comes again. Between two turns its thread lets others run.
@@ -54,6 +33,17 @@ impl Tracer {
         ensures tally { Across (Tallies self.old.traced self.new.traced) self.old.seat self.new.seat }
         ensures world { (self.new.heap ≡ self.old.heap) × (self.new.name ≡ self.old.name) }
     {
-        try_take_turn(&self.heap, &mut self.seat, &mut self.traced)
+        let heap: &Heap = &self.heap;
+        if see_dismissals(heap, &mut self.seat) != 0 {
+            return TryTurn::Dismissed;
+        }
+        if !goes_in(heap, &mut self.seat) {
+            return TryTurn::Stopped;
+        }
+        match go_round(heap, &mut self.seat, &mut self.traced) {
+            Phase::Marking => TryTurn::Marked,
+            Phase::Full => TryTurn::Full,
+            _ => TryTurn::Idle,
+        }
     }
 }
