@@ -32,4 +32,4 @@ pub use sharing::{
     set_shared, value_shared, word_of,
 };
 pub use slots::{clear_slots_shared, fill_shared, spill_shared};
-pub use turns::{TURN, keep_some, retire_some, with_free};
+pub use turns::{TURN, keep_some, with_free};

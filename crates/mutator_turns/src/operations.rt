@@ -1,5 +1,5 @@
 //! One operation of a mutator at its turn.
-ghost use Rattle.std.specs.Prelude.{ℕ, ◌≡◌, ◌<◌, ◌+◌, IfErr, IfOk, IsFalse, slice_index};
+ghost use Rattle.std.specs.Prelude.{ℕ, ◌≡◌, ◌<◌, ◌+◌, IfErr, IfOk, IsFalse};
 ghost use Rattle.std.specs.Bool.{OnFalse, OnTrue};
 ghost use Rattle.std.specs.Int.Count.{ones};
 ghost use Rattle.mark_core.specs.Numbers.{section_variables};
@@ -21,6 +21,7 @@ ghost use Rattle.mutator_turns.specs.Standing.{IsAtTurn, Plays, plain_of};
 
 use crate::gates::leave_full;
 use crate::refused::Refused;
+use crate::sharing::word_of;
 use crate::turns::come_to;
 use alloc_cache::{Cache, cache_of, leave_with_seat};
 use cache_refills::Watch;
@@ -175,14 +176,6 @@ pub fn read_value(heap: &Heap, seat: &mut HeapSeat, v: u8) -> Option<u32>
         Line::Nil => None,
         Line::Walk { .. } => None,
     }
-}
-
-/// The word of variable v: 0 where it refers to nothing.
-fn word_of(seat: &HeapSeat, v: u8) -> u32
-    requires { v < section_variables }
-    ensures { result ≡ slice_index (state_of seat.now).env v }
-{
-    seat.state().env[v as usize]
 }
 
 /// Whether variable v refers to nothing.
