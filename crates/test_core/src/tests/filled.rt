@@ -1,94 +1,79 @@
 //! Every cell is reachable: a precise collection finds the heap full.
-use super::events::{
-    ALLOC, EMPTY, MARK, NAMED, PHASE, WORLD, begin, gives, greys, has, loads, makes, mutates,
-    names, publishes, ran, scans, takes,
-};
-use super::{by, refusal, resets_blocks, stopped, swept};
-use mark_core::{CoreState, Event, Phase, Step};
+use mark_core::SECTION_SPAN;
+use std::alloc::{AllocError, Global};
+use std::test::Fail;
 
-/// The cell's field names the cell of variable 0, which then names this cell.
-fn links(c: u32) -> [Event; 3] {
-    let store = Step::StoreField {
-        v: 1,
-        i: 0,
-        w: Some(0),
-    };
-    [names(1, c), by(1, store), names(0, c)]
-}
+/// In the line `chain` all cells are made, and in the lines `traced` they are scanned.
+const FILLED: &str = "
+$ all cells are reachable, and a precise collection finds the heap full
+heap one 3
+# a chain of all 64 cells, from cell 63 down to cell 0: the field of each names the cell of variable 0, which then names this cell
+0 raise_step, 0 observe, 0 next_season, 0 drop_step, 0 leave_step, 1 enter_step, 1 read_season, 1 claim_block 0
+1 read_free
+chain
+1 publish_cells, 1 release_block
+words alloc 18446744073709551615, mark 0
+# an ordinary cycle, up to its end in the stop; the chain is traced from variable 0, with one cell at a time in the packet
+1 store_phase 1, 1 leave_step
+1 raise_step, 1 observe, 1 store_phase 2
+1 reserve, 1 take 0 0, 1 read_length 0, 1 read_root 1 0
+traced
+1 store_length 0, 1 give 0 0, 1 credit
+1 store_phase 3, 1 read_stat 1, 1 next_block, 1 read_alloc 0, 1 read_block_marks, 1 store_alloc, 1 clear_marks
+1 store_phase 0
+# nothing is freed; but marks of before the stop may have been of what floats, so this isn't a full heap
+words phase 0, alloc 18446744073709551615, mark 0, empty 66
+1 store_phase 5 => 30 2
+# a drain from no mark on in the same stop shows it: the seat names its section, and resumes the world with the heap full
+1 reset 1, 1 store_phase 2
+1 reserve, 1 take 0 0, 1 read_length 0, 1 read_root 1 0
+traced
+1 store_length 0, 1 give 0 0, 1 credit
+1 store_phase 3, 1 read_stat 1, 1 next_block, 1 read_alloc 0, 1 read_block_marks, 1 store_alloc, 1 clear_marks
+1 store_phase 0
+1 store_named, 1 store_phase 5, 1 drop_step, 1 read_phase
+words phase 5, named 1, world 1
+words alloc 18446744073709551615, mark 0, empty 66
+seat 1 saw_full 1
+";
 
-/// A chain of all 64 cells, from cell 63 down to cell 0.
-fn chains(core: &mut CoreState) -> bool {
-    let mut all = ran(core, &mutates(0));
-    for c in 0..64 {
-        all = all && ran(core, &makes(c, c)) && ran(core, &links(c));
+/// Makes each cell, whose field names the cell of variable 0, which then names this cell.
+fn chain(alloc: Global) -> Result<String, AllocError> {
+    let mut lines = String::new(alloc);
+    for c in 0..64u32 {
+        let (r, identity) = (c + 1, SECTION_SPAN + u64::from(c));
+        let line = format!(in alloc;
+            "1 store_new {c} 0 0, 1 store_new {c} 1 5, 1 store_new {c} 2 {identity}, 1 store_root 1 {r}, 1 store_field 1 0 0, 1 store_root 0 {r}\n"
+        )?;
+        lines.push_str(line.as_str())?;
     }
-    all && ran(core, &publishes())
+    Ok(lines)
 }
 
-/// The chain is traced from variable 0, with one cell at a time in the packet.
-fn traces(core: &mut CoreState) -> bool {
-    let mut all = ran(core, &takes(1)) && ran(core, &[loads(1, 0)]);
-    for k in 0..64 {
-        all = all && ran(core, &greys(1, 63 - k, 0)) && ran(core, &scans(1, 63 - k, 0));
+/// Marks and scans each cell, from the last one on.
+fn traced(alloc: Global) -> Result<String, AllocError> {
+    let mut lines = String::new(alloc);
+    for k in 0..64u32 {
+        let c = 63 - k;
+        let line = format!(in alloc;
+            "1 set_mark {c}, 1 push 0 {c}, 1 pop 0, 1 read_alloc 0, 1 read_field {c} 0\n"
+        )?;
+        lines.push_str(line.as_str())?;
     }
-    all && ran(core, &gives(1))
+    Ok(lines)
 }
 
-/// An ordinary cycle, up to its end in the stop.
-fn collects(core: &mut CoreState) -> bool {
-    let to = Phase::Marking;
-    let sweep = swept();
-    let (up_to_idle, _) = sweep.split_at(8);
-    ran(
-        core,
-        &[by(1, Step::StorePhase { to }), by(1, Step::LeaveStep)],
-    ) && ran(core, &stopped())
-        && traces(core)
-        && ran(core, up_to_idle)
-}
-
-/// Marking once more in the same stop, from no mark on.
-fn collects_anew(core: &mut CoreState) -> bool {
-    let to = Phase::Drain;
-    let sweep = swept();
-    let (up_to_idle, _) = sweep.split_at(8);
-    ran(core, &[resets_blocks(1), by(1, Step::StorePhase { to })])
-        && traces(core)
-        && ran(core, up_to_idle)
-}
-
-/// The seat names its section, and resumes the world with the heap full.
-fn fills() -> [Event; 4] {
-    [
-        by(1, Step::StoreNamed),
-        by(1, Step::StorePhase { to: Phase::Full }),
-        by(1, Step::DropStep),
-        by(1, Step::ReadPhase),
-    ]
-}
-
-#[test]
-fn full_heap_is_found(rt: HostRuntime) {
-    let full = by(1, Step::StorePhase { to: Phase::Full });
-    match begin(rt.alloc()) {
-        Err(_) => assert!(rt; false),
-        Ok(mut core) => {
-            assert!(rt; chains(&mut core));
-            assert!(rt; has(&core, &[(ALLOC, u64::MAX), (MARK, 0)]));
-            // nothing is freed; but marks of before the stop may have been of what floats, so this isn't a full heap
-            assert!(rt; collects(&mut core));
-            assert!(rt;
-                has(
-                    &core,
-                    &[(PHASE, 0), (ALLOC, u64::MAX), (MARK, 0), (EMPTY, 66)]
-                )
-            );
-            assert!(rt; core.run(&[full]) == refusal(30, 2));
-            // a drain from no mark on shows it
-            assert!(rt; collects_anew(&mut core) && ran(&mut core, &fills()));
-            assert!(rt; has(&core, &[(PHASE, 5), (NAMED, 1), (WORLD, 1)]));
-            assert!(rt; has(&core, &[(ALLOC, u64::MAX), (MARK, 0), (EMPTY, 66)]));
-            assert!(rt; core.seat(1).map(|s| s.phase_seen) == Some(Some(Phase::Full)));
-        }
+/// The run with all its lines.
+pub fn filled(alloc: Global) -> Result<String, Fail> {
+    let (chain, traced) = (chain(alloc)?, traced(alloc)?);
+    let mut whole = String::new(alloc);
+    for line in FILLED.lines() {
+        whole.push_str(match line {
+            "chain" => chain.as_str(),
+            "traced" => traced.as_str(),
+            other => other,
+        })?;
+        whole.push('\n')?;
     }
+    Ok(whole)
 }

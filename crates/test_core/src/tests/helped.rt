@@ -1,174 +1,56 @@
 //! A stop in which two seats without a section help: they trace and sweep, each a block of its own.
-use super::events::{
-    EMPTY, PHASE, WORLD, forgets, gives, greys, has, loads, makes, mutates, names, publishes, ran,
-    scans, takes,
-};
-use super::{by, reads_blocks, refusal, takes_out};
-use mark_core::{CoreState, Event, FLAG, HIGH_POOL, Phase, Shape, Step};
-use plain_heap::OutOfMemory;
-use std::alloc::Global;
+//!
+//! Words 79 and 80 are allocation bits, 81 and 82 mark bits; 483 is the high pool and 485 the word of help: 4,294,967,296 says that it is open, and to it is added
+//! how many help.
 
-const TWO_BLOCKS: Shape = Shape {
-    cells: 128,
-    packets: 2,
-    entries: 2,
-    sections: 2,
-    fields: 1,
-    objects: 2_000_000,
-    sharing: false,
-    slots: 0,
-    stretch: 1,
-};
-
-/// There are two words of owners, at 77, before those of allocation bits; two of mark bits and eight cards follow, and
-/// then two heads, four entries, 128 identities, values and fields each, and four pools.
-const ALLOC: u32 = 79;
-
-const MARK: u32 = 81;
-
-const HIGH: u32 = 483;
-
-const HELP: u32 = 485;
-
-/// The word of help while it is open, with nobody who helps.
-const OPEN: u64 = FLAG;
-
-/// Four seats that have done nothing.
-fn begin(alloc: Global) -> Result<CoreState, OutOfMemory> {
-    CoreState::start(alloc, TWO_BLOCKS, 4)
-}
-
-/// Block 1 has cell 64, which variable 1 names, and cell 65, which nobody names.
-fn far(core: &mut CoreState) -> bool {
-    ran(core, &mutates(1))
-        && ran(core, &makes(64, 0))
-        && ran(core, &[names(1, 64)])
-        && ran(core, &makes(65, 1))
-        && ran(core, &publishes())
-}
-
-/// Block 0 has cell 0, which variable 0 names and whose field alone names cell 64, and cell 1, which nobody names.
-fn near(core: &mut CoreState) -> bool {
-    let store = Step::StoreField {
-        v: 0,
-        i: 0,
-        w: Some(1),
-    };
-    ran(
-        core,
-        &[by(1, Step::ClaimBlock { b: 0 }), by(1, Step::ReadFree)],
-    ) && ran(core, &makes(0, 2))
-        && ran(core, &[names(0, 0), by(1, store), forgets(1)])
-        && ran(core, &makes(1, 3))
-        && ran(core, &publishes())
-        && ran(core, &[by(1, Step::LeaveStep)])
-}
-
-/// Seat 0 opens the stop, and seats 2 and 3 are admitted and read its phase.
-fn opens() -> [Event; 5] {
-    [
-        by(0, Step::OpenStep),
-        by(2, Step::JoinHelpStep),
-        by(3, Step::JoinHelpStep),
-        by(2, Step::ReadPhase),
-        by(3, Step::ReadPhase),
-    ]
-}
-
-/// The helpers leave, and seat 0 closes.
-fn closes() -> [Event; 3] {
-    [
-        by(2, Step::LeaveHelpStep),
-        by(3, Step::LeaveHelpStep),
-        by(0, Step::CloseStep),
-    ]
-}
-
-/// Seat 0 stops the world and begins to drain.
-fn stops() -> [Event; 3] {
-    let to = Phase::Drain;
-    [
-        by(0, Step::RaiseStep),
-        by(0, Step::Observe),
-        by(0, Step::StorePhase { to }),
-    ]
-}
-
-/// Seat 2 traces cell 0, and gives its packet away with cell 64 in it.
-fn traces_near(core: &mut CoreState) -> bool {
-    let give = Step::Give {
-        p: 0,
-        deferred: false,
-    };
-    ran(core, &takes(2))
-        && ran(core, &[loads(2, 0)])
-        && ran(core, &greys(2, 0, 0))
-        && ran(core, &scans(2, 0, 0))
-        && ran(core, &greys(2, 64, 0))
-        && ran(core, &[by(2, Step::StoreLength { p: 0 }), by(2, give)])
-}
-
-/// Seat 3 takes this packet from the high pool, since one of two cells is half of it, and traces cell 64.
-fn traces_far(core: &mut CoreState) -> bool {
-    ran(
-        core,
-        &[takes_out(3, HIGH_POOL, 0), by(3, Step::ReadLength { p: 0 })],
-    ) && ran(core, &scans(3, 64, 0))
-        && ran(core, &gives(3))
-}
-
-/// The seat takes the next block in hand.
-fn hands_out(seat: u32) -> [Event; 2] {
-    [reads_blocks(seat), by(seat, Step::NextBlock)]
-}
-
-/// The seat frees the white cells of its block, and clears the marks.
-fn sweeps(seat: u32, b: u32) -> [Event; 4] {
-    [
-        by(seat, Step::ReadAlloc { b }),
-        by(seat, Step::ReadBlockMarks),
-        by(seat, Step::StoreAlloc),
-        by(seat, Step::ClearMarks),
-    ]
-}
-
-/// Seat 0 learns that no helper is left, and moves the phase.
-fn moves(to: Phase) -> [Event; 2] {
-    [by(0, Step::SeeHelp), by(0, Step::StorePhase { to })]
-}
-
-#[test]
-fn helpers_trace_and_sweep(rt: HostRuntime) {
-    let to = Phase::Sweep;
-    match begin(rt.alloc()) {
-        Err(_) => assert!(rt; false),
-        Ok(mut core) => {
-            assert!(rt; far(&mut core) && near(&mut core));
-            // two cells in each block; nobody runs
-            assert!(rt; has(&core, &[(WORLD, 0), (ALLOC, 3), (ALLOC + 1, 3)]));
-            assert!(rt; ran(&mut core, &stops()) && ran(&mut core, &opens()));
-            assert!(rt; has(&core, &[(WORLD, OPEN), (PHASE, 2), (HELP, OPEN + 2)]));
-            // cell 64 is marked by seat 2, and waits in the pool
-            assert!(rt; traces_near(&mut core));
-            assert!(rt; has(&core, &[(MARK, 1), (MARK + 1, 1), (HIGH, 1), (EMPTY, 65)]));
-            assert!(rt; traces_far(&mut core) && ran(&mut core, &closes()));
-            assert!(rt; has(&core, &[(HIGH, 0), (EMPTY, 66), (HELP, 0)]));
-            // until seat 0 has read that nobody helps, it doesn't move the phase
-            assert!(rt; core.run(&[by(0, Step::StorePhase { to })]) == refusal(30, 3));
-            assert!(rt; ran(&mut core, &moves(to)) && ran(&mut core, &opens()));
-            // the blocks are handed out in order, and swept in any
-            assert!(rt; ran(&mut core, &hands_out(2)) && ran(&mut core, &hands_out(3)));
-            assert!(rt; ran(&mut core, &sweeps(3, 1)) && ran(&mut core, &sweeps(2, 0)));
-            assert!(rt; ran(&mut core, &closes()) && ran(&mut core, &moves(Phase::Idle)));
-            assert!(rt; ran(&mut core, &[by(0, Step::DropStep)]));
-            // cells 1 and 65 are free again, and seat 0 runs
-            assert!(rt; has(&core, &[(WORLD, 1), (PHASE, 0), (HELP, 0), (EMPTY, 66)]));
-            assert!(rt;
-                has(
-                    &core,
-                    &[(ALLOC, 1), (ALLOC + 1, 1), (MARK, 0), (MARK + 1, 0)]
-                )
-            );
-        }
-    }
-}
+pub const HELPED: &str = "
+$ two helpers trace and sweep in one stop, each a block of its own
+heap two 4
+# block 1 has cell 64, which variable 1 names, and cell 65, which nobody names
+0 raise_step, 0 observe, 0 next_season, 0 drop_step, 0 leave_step, 1 enter_step, 1 read_season, 1 claim_block 1
+1 read_free
+1 store_new 64 0 0, 1 store_new 64 1 5, 1 store_new 64 2 4294967296, 1 store_root 1 65
+1 store_new 65 0 0, 1 store_new 65 1 5, 1 store_new 65 2 4294967297
+1 publish_cells, 1 release_block
+# block 0 has cell 0, which variable 0 names and whose field alone names cell 64, and cell 1, which nobody names
+1 claim_block 0, 1 read_free
+1 store_new 0 0 0, 1 store_new 0 1 5, 1 store_new 0 2 4294967298
+1 store_root 0 1, 1 store_field 0 0 1, 1 store_root 1 0
+1 store_new 1 0 0, 1 store_new 1 1 5, 1 store_new 1 2 4294967299
+1 publish_cells, 1 release_block
+1 leave_step
+# two cells in each block; nobody runs
+words world 0, 79 3, 80 3
+# seat 0 stops the world, begins to drain and opens the stop; seats 2 and 3 are admitted and read its phase
+0 raise_step, 0 observe, 0 store_phase 2
+0 open_step, 2 join_help_step, 3 join_help_step, 2 read_phase, 3 read_phase
+words world 4294967296, phase 2, 485 4294967298
+# seat 2 traces cell 0, and gives its packet away with cell 64 in it: cell 64 is marked, and waits in the pool
+2 reserve, 2 take 0 0, 2 read_length 0
+2 read_root 1 0
+2 set_mark 0, 2 push 0 0
+2 pop 0, 2 read_alloc 0, 2 read_field 0 0
+2 set_mark 64, 2 push 0 64
+2 store_length 0, 2 give 0 0
+words 81 1, 82 1, 483 1, empty 65
+# seat 3 takes this packet from the high pool, since one of two cells is half of it, and traces cell 64; the helpers leave, and seat 0 closes
+3 take 2 0, 3 read_length 0
+3 pop 0, 3 read_alloc 1, 3 read_field 64 0
+3 store_length 0, 3 give 0 0, 3 credit
+2 leave_help_step, 3 leave_help_step, 0 close_step
+words 483 0, empty 66, 485 0
+# until seat 0 has read that nobody helps, it doesn't move the phase
+0 store_phase 3 => 30 3
+0 see_help, 0 store_phase 3
+0 open_step, 2 join_help_step, 3 join_help_step, 2 read_phase, 3 read_phase
+# the blocks are handed out in order, and swept in any
+2 read_stat 1, 2 next_block, 3 read_stat 1, 3 next_block
+3 read_alloc 1, 3 read_block_marks, 3 store_alloc, 3 clear_marks
+2 read_alloc 0, 2 read_block_marks, 2 store_alloc, 2 clear_marks
+2 leave_help_step, 3 leave_help_step, 0 close_step
+0 see_help, 0 store_phase 0
+0 drop_step
+# cells 1 and 65 are free again, and seat 0 runs
+words world 1, phase 0, 485 0, empty 66
+words 79 1, 80 1, 81 0, 82 0
+";
