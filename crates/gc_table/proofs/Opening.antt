@@ -38,7 +38,7 @@ use Rattle.gc_table.proofs.History.Moments.{leads-on}
 use Rattle.gc_table.proofs.History.Past.{led-on, log-none, log-still}
 use Rattle.gc_table.proofs.State.StateSteps.{Goes, event, may-happen, sections-left}
 use Rattle.gc_table.proofs.State.StateKept.{whole-kept}
-use Rattle.gc_table.proofs.State.StateStart.{whole-starts}
+use Rattle.gc_table.proofs.State.StateStart.{whole_starts}
 
 pub at-end : {A : Type 0} (l : List A) (a b : A) (j : ℕ) → get_elem? (l ++ a ∷ []) j ≡ some b → (get_elem? l j ≡ some b) ⊎ ((j ≡ length l) × (a ≡ b))
 at-end [] a b zero e = inr (refl, some-injective a b e)
@@ -97,7 +97,7 @@ newcomer-possible sh plan k z h =
     record {
       state = start_state sh plan (k + 1);
       index = k;
-      whole = whole-starts sh plan (k + 1) z (omega (arith, h)) (omega (arith, h));
+      whole = whole_starts sh plan (k + 1) z (omega (arith, h)) (omega (arith, h));
       agrees = newcomer-agrees sh plan k;
       live = refl;
     }

@@ -1,9 +1,12 @@
 -- An operation of the table as one step of a seat: what it asks, and what the seat is afterwards.
-use Rattle.std.specs.Prelude.{ℕ, ◌≡◌, ◌<◌, [], false}
+use Rattle.std.specs.Prelude.{ℕ, ◌≡◌, ◌+◌, ◌-◌, ◌%◌, ◌^◌, ◌==◌, ◌<◌, [], false, bit_and, bit_or}
+use prog.Atomic.{either}
 use Rattle.atomic_table.specs.declared.shared.Seat.{Seat}
 use Rattle.mark_core.specs.Layout.{address}
 use Rattle.mark_core.specs.Effects.{place, written}
 use Rattle.mark_core.specs.declared.kinds.Step.{Step}
+use Rattle.gc_table.specs.declared.operations.Operation.{Operation}
+use Rattle.gc_table.specs.declared.operations.Operation.TheVariants.{Add, Exchange, Keep, Load, Set, Sub, Swap}
 use Rattle.gc_table.specs.declared.view.View.{View}
 use Rattle.gc_table.specs.declared.seat.Heap.{Heap}
 use Rattle.gc_table.specs.Rule.{IsPossible}
@@ -28,6 +31,16 @@ pub record MayTake (h : Heap) (t : Token) (word : ℕ) (step : Step) : Type 0 wh
   pub may : May step t.me.0
   pub own : IsOwn step
   pub asked : Asked step t.me.0
+
+-- the word that the operation leaves where it finds n
+abbrev pub left_by : Operation → ℕ → ℕ
+left_by Load n = n
+left_by (Swap new) n = new
+left_by (Add by) n = (n + by) % 2 ^ 64
+left_by (Sub by) n = (n + (2 ^ 64 - by)) % 2 ^ 64
+left_by (Keep bits) n = bit_and n bits
+left_by (Set bits) n = bit_or n bits
+left_by (Exchange old new) n = either (n == old) new n
 
 -- where the step finds a word n it leaves f n
 abbrev pub Writes : Step → (ℕ → ℕ) → View → Type 0

@@ -18,21 +18,25 @@ pub fn stands_starts()
 
 /// Each event that is allowed, and whose step meets what is asked besides, leads to a state that stands for the plain heaps after the step.
 /// A store changes the plain heap of its seat's section by one plain step, and every other step leaves all plain heaps.
+#[tactic(auto, using(crate::proofs::Stands::StandsKept::stands_kept))]
 pub fn stands_is_kept()
     ensures { EventsKeepStands }
 {}
 
 /// The plain step of a store is one that a script may have: its variables, its field and its value are in range.
+#[tactic(auto, using(crate::proofs::Stands::StandsRanges::steps_in_range))]
 pub fn plain_steps_are_in_range()
     ensures { PlainStepsAreInRange }
 {}
 
 /// A step of a section's seat changes what this section's words mean and no other, so a seat can tell it by itself.
+#[tactic(auto, using(crate::proofs::Stands::StandsOne::one_changes))]
 pub fn one_meaning_changes()
     ensures { OneMeaningChanges }
 {}
 
 /// At most one cell in use of a section has no object yet.
+#[tactic(auto, using(crate::proofs::Stands::StandsOne::one_next))]
 pub fn one_cell_is_next()
     ensures { OneCellIsNext }
 {}
@@ -50,6 +54,7 @@ pub fn reachable_cells_have_objects()
 /// What the seats of a closed heap did, each by its log, is one run of the core in some order, from the state in which the first seat alone
 /// has done nothing: each event is allowed in its turn, each step found or stored the word that its entry tells, every state on the way is
 /// sound, and the words in the end are those that `close` gave.
+#[tactic(auto, using(crate::proofs::History::Ran::closed_ran))]
 pub fn closed_heaps_ran()
     ensures { ClosedHeapsRan }
 {}

@@ -3,6 +3,7 @@ ghost use Rattle.std.specs.Prelude.{◌≡◌};
 ghost use Rattle.gc_table.specs.Seats.{Across, Answered, Found, IsPlainStep, Sits, Stored, view_of};
 ghost use Rattle.gc_table.specs.Taking.{Asked, May, won};
 
+use crate::operations::Operation;
 use crate::seat::{Heap, HeapSeat};
 use mark_core::{Cell, Step, used_bits, variable_or_nil};
 
@@ -14,7 +15,7 @@ impl Heap {
         ensures seat { Sits self.now seat.new }
         ensures view { Across (Found (Step.ReadOwn c i) result) seat.old seat.new }
     {
-        self.load_step(seat, Step::ReadOwn { c, i })
+        self.take_step(seat, Operation::Load, Step::ReadOwn { c, i })
     }
 
     /// The value of an object that the seat's variables or register name.
@@ -24,7 +25,7 @@ impl Heap {
         ensures seat { Sits self.now seat.new }
         ensures view { Across (Found (Step.ReadValue c) result) seat.old seat.new }
     {
-        self.load_step(seat, Step::ReadValue { c })
+        self.take_step(seat, Operation::Load, Step::ReadValue { c })
     }
 
     /// Whose object it is, and which.
@@ -34,7 +35,7 @@ impl Heap {
         ensures seat { Sits self.now seat.new }
         ensures view { Across (Found (Step.ReadIdent c) result) seat.old seat.new }
     {
-        self.load_step(seat, Step::ReadIdent { c })
+        self.take_step(seat, Operation::Load, Step::ReadIdent { c })
     }
 
     /// Variable v of the catalogue, 0 to 31, for a warehouse in its turn. The register has what was read.
@@ -44,7 +45,7 @@ impl Heap {
         ensures seat { Sits self.now seat.new }
         ensures view { Across (Found (Step.ReadCat v) result) seat.old seat.new }
     {
-        self.load_step(seat, Step::ReadCat { v })
+        self.take_step(seat, Operation::Load, Step::ReadCat { v })
     }
 
     /// Stores variable w, or nil, in field i of variable v's object, which is of the seat's section. The seat owes the object's card then, unless it made the
@@ -96,7 +97,7 @@ impl Heap {
             expected,
             new,
         };
-        self.compare_exchange_step(seat, old, word, step)
+        self.take_step(seat, Operation::Exchange { old, new: word }, step)
     }
 
     /// Where the value of variable v's object is the expected one, stores a new one there: true where it was. Only where objects are shared.
@@ -108,7 +109,14 @@ impl Heap {
         ensures view { Across (Answered (Step.ExchangeValue v expected new) (λ n. result ≡ won (Step.ExchangeValue v expected new) n)) seat.old seat.new }
     {
         let step = Step::ExchangeValue { v, expected, new };
-        let found = self.compare_exchange_step(seat, u64::from(expected), u64::from(new), step);
+        let found = self.take_step(
+            seat,
+            Operation::Exchange {
+                old: u64::from(expected),
+                new: u64::from(new),
+            },
+            step,
+        );
         found == u64::from(expected)
     }
 
@@ -142,7 +150,7 @@ impl Heap {
         ensures seat { Sits self.now seat.new }
         ensures view { Across (Found (Step.ReadSlot k) result) seat.old seat.new }
     {
-        self.load_step(seat, Step::ReadSlot { k })
+        self.take_step(seat, Operation::Load, Step::ReadSlot { k })
     }
 
     /// Claims block b to make cells in, for a seat without a cache: true where nobody had it.
@@ -152,10 +160,12 @@ impl Heap {
         ensures seat { Sits self.now seat.new }
         ensures view { Across (Answered (Step.ClaimBlock b) (λ n. result ≡ won (Step.ClaimBlock b) n)) seat.old seat.new }
     {
-        let found = self.compare_exchange_step(
+        let found = self.take_step(
             seat,
-            0,
-            u64::from(seat.state.number) + 1,
+            Operation::Exchange {
+                old: 0,
+                new: u64::from(seat.state.number) + 1,
+            },
             Step::ClaimBlock { b },
         );
         found == 0
@@ -178,7 +188,7 @@ impl Heap {
         ensures seat { Sits self.now seat.new }
         ensures view { Across (Found Step.ReadFree result) seat.old seat.new }
     {
-        self.load_step(seat, Step::ReadFree)
+        self.take_step(seat, Operation::Load, Step::ReadFree)
     }
 
     /// Stores a word of a new cell: the fields, then the value, then the identity.
@@ -199,6 +209,10 @@ impl Heap {
         ensures seat { Sits self.now seat.new }
         ensures view { Across (Found Step.PublishCells result) seat.old seat.new }
     {
-        self.fetch_or_step(seat, used_bits(seat.state.cache), Step::PublishCells)
+        self.take_step(
+            seat,
+            Operation::Set(used_bits(seat.state.cache)),
+            Step::PublishCells,
+        )
     }
 }

@@ -1,12 +1,11 @@
 //! The operations of the table, each as one step: the rule is told which. The step is a value that nothing reads as the
-//! program runs: it is handed down for the rule alone (see `PicksStep`).
+//! program runs: it is handed down for the rule only (see `PicksStep`).
 //!
-//! All of them ask the same, that their seat may take the step at this word (`MayTake`), and promise the same, that
-//! it has taken it (`HasTaken`); they differ in what they make of the word.
-ghost use Rattle.std.specs.Prelude.{◌≡◌, ◌+◌, ◌-◌, ◌%◌, ◌^◌, ◌==◌, IsFalse, IsTrue, bit_or, bit_and};
-ghost use prog.Atomic.{either};
+//! Both calls ask the same, that their seat may take the step at this word (`MayTake`), and promise the same, that
+//! it has taken it (`HasTaken`).
+ghost use Rattle.std.specs.Prelude.{◌≡◌, IsFalse, IsTrue};
 ghost use Rattle.gc_table.specs.Entries.{is_store};
-ghost use Rattle.gc_table.specs.Operations.{HasTaken, MayTake, Writes};
+ghost use Rattle.gc_table.specs.Operations.{HasTaken, left_by, MayTake, Writes};
 ghost use Rattle.gc_table.specs.Taking.{Finds, IsBlind};
 
 use crate::rule::{AtFound, AtStored, PicksStep};
@@ -15,133 +14,59 @@ use crate::view::View;
 use atomic_table::Seat;
 use mark_core::Step;
 
-impl Heap {
-    /// Reads the word.
-    pub(crate) fn load_told<T: PicksStep>(
-        &self,
-        token: &mut Seat<(), View>,
-        word: usize,
-        _step: Step,
-    ) -> u64
-        requires step { _step ≡ T.step }
-        requires take { MayTake self.now token.old word T.step }
-        requires kind { Writes T.step (λ n. n) token.old.me.0 }
-        requires told { IsFalse (is_store T.step) }
-        ensures taken { HasTaken T.step result token.old token.new }
-        ensures finds { Finds T.step result token.old.me.0 }
-    {
-        self.table.shared.load::<AtFound<T>>(token, word)
-    }
-
-    /// Stores a word, and tells the one that it found.
-    pub(crate) fn swap_told<T: PicksStep>(
-        &self,
-        token: &mut Seat<(), View>,
-        word: usize,
-        new: u64,
-        _step: Step,
-    ) -> u64
-        requires step { _step ≡ T.step }
-        requires take { MayTake self.now token.old word T.step }
-        requires kind { Writes T.step (λ _. new) token.old.me.0 }
-        requires told { IsFalse (is_store T.step) }
-        ensures taken { HasTaken T.step result token.old token.new }
-        ensures finds { Finds T.step result token.old.me.0 }
-    {
-        self.table.shared.swap::<AtFound<T>>(token, word, new)
-    }
-
-    /// Adds to the word.
-    pub(crate) fn fetch_add_told<T: PicksStep>(
-        &self,
-        token: &mut Seat<(), View>,
-        word: usize,
-        by: u64,
-        _step: Step,
-    ) -> u64
-        requires step { _step ≡ T.step }
-        requires take { MayTake self.now token.old word T.step }
-        requires kind { Writes T.step (λ n. (n + by) % 2 ^ 64) token.old.me.0 }
-        requires told { IsFalse (is_store T.step) }
-        ensures taken { HasTaken T.step result token.old token.new }
-        ensures finds { Finds T.step result token.old.me.0 }
-    {
-        self.table.shared.fetch_add::<AtFound<T>>(token, word, by)
-    }
-
-    /// Takes from the word.
-    pub(crate) fn fetch_sub_told<T: PicksStep>(
-        &self,
-        token: &mut Seat<(), View>,
-        word: usize,
-        by: u64,
-        _step: Step,
-    ) -> u64
-        requires step { _step ≡ T.step }
-        requires take { MayTake self.now token.old word T.step }
-        requires kind { Writes T.step (λ n. (n + (2 ^ 64 - by)) % 2 ^ 64) token.old.me.0 }
-        requires told { IsFalse (is_store T.step) }
-        ensures taken { HasTaken T.step result token.old token.new }
-        ensures finds { Finds T.step result token.old.me.0 }
-    {
-        self.table.shared.fetch_sub::<AtFound<T>>(token, word, by)
-    }
-
-    /// Keeps these bits of the word alone.
-    pub(crate) fn fetch_and_told<T: PicksStep>(
-        &self,
-        token: &mut Seat<(), View>,
-        word: usize,
-        by: u64,
-        _step: Step,
-    ) -> u64
-        requires step { _step ≡ T.step }
-        requires take { MayTake self.now token.old word T.step }
-        requires kind { Writes T.step (λ n. bit_and n by) token.old.me.0 }
-        requires told { IsFalse (is_store T.step) }
-        ensures taken { HasTaken T.step result token.old token.new }
-        ensures finds { Finds T.step result token.old.me.0 }
-    {
-        self.table.shared.fetch_and::<AtFound<T>>(token, word, by)
-    }
-
-    /// Sets these bits of the word.
-    pub(crate) fn fetch_or_told<T: PicksStep>(
-        &self,
-        token: &mut Seat<(), View>,
-        word: usize,
-        by: u64,
-        _step: Step,
-    ) -> u64
-        requires step { _step ≡ T.step }
-        requires take { MayTake self.now token.old word T.step }
-        requires kind { Writes T.step (λ n. bit_or n by) token.old.me.0 }
-        requires told { IsFalse (is_store T.step) }
-        ensures taken { HasTaken T.step result token.old token.new }
-        ensures finds { Finds T.step result token.old.me.0 }
-    {
-        self.table.shared.fetch_or::<AtFound<T>>(token, word, by)
-    }
-
-    /// Stores a word where it finds `old`.
-    pub(crate) fn compare_exchange_told<T: PicksStep>(
-        &self,
-        token: &mut Seat<(), View>,
-        word: usize,
+/// What an operation that tells the word it finds makes of this word.
+#[derive(Clone, Copy)]
+pub enum Operation {
+    /// It leaves the word.
+    Load,
+    /// It stores this word.
+    Swap(u64),
+    /// It adds this.
+    Add(u64),
+    /// It takes this away.
+    Sub(u64),
+    /// It keeps these bits, and clears all others.
+    Keep(u64),
+    /// It sets these bits.
+    Set(u64),
+    /// It stores another word if it finds the one that it expects.
+    Exchange {
+        /// The word that it expects.
         old: u64,
+        /// The word from then on.
         new: u64,
+    },
+}
+
+impl Heap {
+    /// An operation that tells the word that it finds. Each caller names the operation, so none is chosen as the program runs.
+    #[inline(always)]
+    pub(crate) fn take_told<T: PicksStep>(
+        &self,
+        token: &mut Seat<(), View>,
+        word: usize,
+        operation: Operation,
         _step: Step,
     ) -> u64
         requires step { _step ≡ T.step }
         requires take { MayTake self.now token.old word T.step }
-        requires kind { Writes T.step (λ n. either (n == old) new n) token.old.me.0 }
+        requires kind { Writes T.step (left_by operation) token.old.me.0 }
         requires told { IsFalse (is_store T.step) }
         ensures taken { HasTaken T.step result token.old token.new }
         ensures finds { Finds T.step result token.old.me.0 }
     {
-        self.table
-            .shared
-            .compare_exchange::<AtFound<T>>(token, word, old, new)
+        let table = &self.table.shared;
+        match operation {
+            Operation::Load => table.load::<AtFound<T>>(token, word),
+            Operation::Swap(new) => table.swap::<AtFound<T>>(token, word, new),
+            Operation::Add(by) => table.fetch_add::<AtFound<T>>(token, word, by),
+            Operation::Sub(by) => table.fetch_sub::<AtFound<T>>(token, word, by),
+            Operation::Keep(bits) => table.fetch_and::<AtFound<T>>(token, word, bits),
+            Operation::Set(bits) => table.fetch_or::<AtFound<T>>(token, word, bits),
+            Operation::Exchange { old, new } => {
+                table.compare_exchange::<AtFound<T>>(token, word, old, new)
+            }
+        }
     }
 
     /// Stores a word, whatever is there: it is told nothing of what it overwrites, so the step has to be blind to it.

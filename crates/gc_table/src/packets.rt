@@ -6,6 +6,7 @@ ghost use Rattle.gc_table.specs.Seats.{Across, Answered, Found, Sits, state_of, 
 ghost use Rattle.gc_table.specs.Taking.{May, won};
 
 use crate::masks::{all_but, bit};
+use crate::operations::Operation;
 use crate::seat::{Heap, HeapSeat};
 use mark_core::{Cell, Step, WORD_BITS, cell_of, has_bit, pop_at, push_at};
 use std::marker::Brand;
@@ -18,7 +19,7 @@ impl Heap {
         ensures seat { Sits self.now seat.new }
         ensures view { Across (Took Step.Reserve) seat.old seat.new }
     {
-        self.fetch_sub_step(seat, 1, Step::Reserve);
+        self.take_step(seat, Operation::Sub(1), Step::Reserve);
     }
 
     /// Takes packet p out of pool q: true where it was there.
@@ -28,7 +29,11 @@ impl Heap {
         ensures seat { Sits self.now seat.new }
         ensures view { Across (Answered (Step.Take q p) (λ n. result ≡ won (Step.Take q p) n)) seat.old seat.new }
     {
-        let found = self.fetch_and_step(seat, all_but(p % WORD_BITS), Step::Take { q, p });
+        let found = self.take_step(
+            seat,
+            Operation::Keep(all_but(p % WORD_BITS)),
+            Step::Take { q, p },
+        );
         has_bit(found, p % WORD_BITS)
     }
 
@@ -39,7 +44,11 @@ impl Heap {
         ensures seat { Sits self.now seat.new }
         ensures view { Across (Took (Step.Give p deferred)) seat.old seat.new }
     {
-        self.fetch_or_step(seat, bit(p % WORD_BITS), Step::Give { p, deferred });
+        self.take_step(
+            seat,
+            Operation::Set(bit(p % WORD_BITS)),
+            Step::Give { p, deferred },
+        );
     }
 
     /// Counts the empty packet that the seat gave back, or reserved and found none of.
@@ -49,7 +58,7 @@ impl Heap {
         ensures seat { Sits self.now seat.new }
         ensures view { Across (Took Step.Credit) seat.old seat.new }
     {
-        self.fetch_add_step(seat, 1, Step::Credit);
+        self.take_step(seat, Operation::Add(1), Step::Credit);
     }
 
     /// Puts a grey cell into packet p: the call of its kind of step, for a caller that doesn't know the packet's
@@ -87,7 +96,7 @@ impl Heap {
         ensures seat { Sits self.now seat.new }
         ensures view { Across (Answered (Step.Pop p) (λ n. result ≡ cell_of_word n)) seat.old seat.new }
     {
-        cell_of(self.load_step(seat, Step::Pop { p }))
+        cell_of(self.take_step(seat, Operation::Load, Step::Pop { p }))
     }
 
     /// Takes the grey cell that was put into packet p last, for a caller that knows how many cells are in it, as
@@ -101,7 +110,12 @@ impl Heap {
         ensures view { Across (Answered (Step.Pop p) (λ n. result ≡ cell_of_word n)) seat.old seat.new }
     {
         let word = self.bases.entry_at(p, length.saturating_sub(1));
-        let cell = cell_of(self.load_told::<Brand>(&mut seat.token, word, Step::Pop { p }));
+        let cell = cell_of(self.take_told::<Brand>(
+            &mut seat.token,
+            word,
+            Operation::Load,
+            Step::Pop { p },
+        ));
         pop_at(&mut seat.state, p, length, cell);
         cell
     }
@@ -113,7 +127,7 @@ impl Heap {
         ensures seat { Sits self.now seat.new }
         ensures view { Across (Found (Step.Look q g) result) seat.old seat.new }
     {
-        self.load_step(seat, Step::Look { q, g })
+        self.take_step(seat, Operation::Load, Step::Look { q, g })
     }
 
     /// The count of empty packets, and [`mark_core::EMPTY_OFFSET`].
@@ -123,7 +137,7 @@ impl Heap {
         ensures seat { Sits self.now seat.new }
         ensures view { Across (Found Step.ReadCount result) seat.old seat.new }
     {
-        self.load_step(seat, Step::ReadCount)
+        self.take_step(seat, Operation::Load, Step::ReadCount)
     }
 
     /// Stores the length of packet p in its head.
@@ -143,6 +157,6 @@ impl Heap {
         ensures seat { Sits self.now seat.new }
         ensures view { Across (Found (Step.ReadLength p) result) seat.old seat.new }
     {
-        self.load_step(seat, Step::ReadLength { p })
+        self.take_step(seat, Operation::Load, Step::ReadLength { p })
     }
 }

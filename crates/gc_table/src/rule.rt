@@ -31,8 +31,8 @@ impl TableRule<(), View, Key> for Rule {
 /// Which step an operation of the table is: the rule is told by this type, since the program needs no such value.
 ///
 /// Each call of an operation is made at [`Brand`], whose step is picked anew there. It is the value that is handed to
-/// the operation as `_step`: `ghosts-load_told a = record { step = a._step }`, in
-/// `proofs/seat/Heap/load_step/Invariants.antt`, and so at each caller.
+/// the operation as `_step`: `ghosts-take_told a = record { step = a._step }`, in
+/// `proofs/seat/Heap/take_step/Invariants.antt`, and so at each caller.
 pub trait PicksStep {
     ghost use Rattle.mark_core.specs.declared.kinds.Step.{Step};
 

@@ -4,6 +4,7 @@ ghost use Rattle.mark_core.specs.Steps.SweepSteps.{survivors};
 ghost use Rattle.gc_table.specs.Seats.{Across, Found, Sits, state_of, Stored, Took, view_of};
 ghost use Rattle.gc_table.specs.Taking.{May};
 
+use crate::operations::Operation;
 use crate::seat::{Heap, HeapSeat};
 use mark_core::Step;
 
@@ -16,7 +17,11 @@ impl Heap {
         ensures seat { Sits self.now seat.new }
         ensures view { Across (Found Step.NextBlock result) seat.old seat.new }
     {
-        self.fetch_add_step(seat, u64::from(self.shape.stretch), Step::NextBlock)
+        self.take_step(
+            seat,
+            Operation::Add(u64::from(self.shape.stretch)),
+            Step::NextBlock,
+        )
     }
 
     /// Draws the next card of the pass, by its number (`CARD_CELLS` cells a card); the counter may be at its end already. The seat is a tracer that has read
@@ -27,7 +32,7 @@ impl Heap {
         ensures seat { Sits self.now seat.new }
         ensures view { Across (Found Step.NextOfCards result) seat.old seat.new }
     {
-        self.fetch_add_step(seat, 1, Step::NextOfCards)
+        self.take_step(seat, Operation::Add(1), Step::NextOfCards)
     }
 
     /// The mark bits of the block in hand, a bit for each of its 64 cells, in Sweep.
@@ -37,7 +42,7 @@ impl Heap {
         ensures seat { Sits self.now seat.new }
         ensures view { Across (Found Step.ReadBlockMarks result) seat.old seat.new }
     {
-        self.load_step(seat, Step::ReadBlockMarks)
+        self.take_step(seat, Operation::Load, Step::ReadBlockMarks)
     }
 
     /// Frees the white cells of the block in hand, and answers the bits of those that stay. Both words of the block were read, and it is not swept yet.
@@ -108,7 +113,7 @@ impl Heap {
         ensures seat { Sits self.now seat.new }
         ensures view { Across (Found (Step.ReadStat which) result) seat.old seat.new }
     {
-        self.load_step(seat, Step::ReadStat { which })
+        self.take_step(seat, Operation::Load, Step::ReadStat { which })
     }
 
     /// Adds to a statistic, `LAST` to `DONE`, or takes from it.
@@ -119,9 +124,17 @@ impl Heap {
         ensures view { Across (Took (Step.AddStat which by down)) seat.old seat.new }
     {
         if down {
-            self.fetch_sub_step(seat, u64::from(by), Step::AddStat { which, by, down });
+            self.take_step(
+                seat,
+                Operation::Sub(u64::from(by)),
+                Step::AddStat { which, by, down },
+            );
         } else {
-            self.fetch_add_step(seat, u64::from(by), Step::AddStat { which, by, down });
+            self.take_step(
+                seat,
+                Operation::Add(u64::from(by)),
+                Step::AddStat { which, by, down },
+            );
         }
     }
 }

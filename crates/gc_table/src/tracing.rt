@@ -5,6 +5,7 @@ ghost use Rattle.gc_table.specs.Seats.{Across, Answered, Found, Sits, Stored, vi
 ghost use Rattle.gc_table.specs.Taking.{May, won};
 
 use crate::masks::bit;
+use crate::operations::Operation;
 use crate::seat::{Heap, HeapSeat};
 use mark_core::{BLOCK_CELLS, Cell, Phase, Step, has_bit, phase_of};
 
@@ -16,7 +17,7 @@ impl Heap {
         ensures seat { Sits self.now seat.new }
         ensures view { Across (Found (Step.ReadAlloc b) result) seat.old seat.new }
     {
-        self.load_step(seat, Step::ReadAlloc { b })
+        self.take_step(seat, Operation::Load, Step::ReadAlloc { b })
     }
 
     /// The next field of the cell in scan, or the first one of a cell left in cleaning. The cell that it names is in hand then, to be marked.
@@ -26,7 +27,7 @@ impl Heap {
         ensures seat { Sits self.now seat.new }
         ensures view { Across (Found (Step.ReadField c i) result) seat.old seat.new }
     {
-        self.load_step(seat, Step::ReadField { c, i })
+        self.take_step(seat, Operation::Load, Step::ReadField { c, i })
     }
 
     /// Variable v of a section, 0 to 31, for a tracer that holds a packet. The cell that it names is in hand then, to be marked.
@@ -36,7 +37,7 @@ impl Heap {
         ensures seat { Sits self.now seat.new }
         ensures view { Across (Found (Step.ReadRoot section v) result) seat.old seat.new }
     {
-        self.load_step(seat, Step::ReadRoot { section, v })
+        self.take_step(seat, Operation::Load, Step::ReadRoot { section, v })
     }
 
     /// Slot k of a section, for a tracer that holds a packet, as a variable.
@@ -46,7 +47,7 @@ impl Heap {
         ensures seat { Sits self.now seat.new }
         ensures view { Across (Found (Step.LoadSlot section k) result) seat.old seat.new }
     {
-        self.load_step(seat, Step::LoadSlot { section, k })
+        self.take_step(seat, Operation::Load, Step::LoadSlot { section, k })
     }
 
     /// Marks the cell that was loaded: true where it was white, and then it is in hand until it is pushed or its card is dirty.
@@ -56,7 +57,11 @@ impl Heap {
         ensures seat { Sits self.now seat.new }
         ensures view { Across (Answered (Step.SetMark c) (λ n. result ≡ won (Step.SetMark c) n)) seat.old seat.new }
     {
-        let found = self.fetch_or_step(seat, bit(c.number() % BLOCK_CELLS), Step::SetMark { c });
+        let found = self.take_step(
+            seat,
+            Operation::Set(bit(c.number() % BLOCK_CELLS)),
+            Step::SetMark { c },
+        );
         !has_bit(found, c.number() % BLOCK_CELLS)
     }
 
@@ -77,7 +82,7 @@ impl Heap {
         ensures seat { Sits self.now seat.new }
         ensures view { Across (Answered (Step.ClearCard card) (λ n. result ≡ won (Step.ClearCard card) n)) seat.old seat.new }
     {
-        let found = self.swap_step(seat, 0, Step::ClearCard { card });
+        let found = self.take_step(seat, Operation::Swap(0), Step::ClearCard { card });
         found == 1
     }
 
@@ -88,7 +93,7 @@ impl Heap {
         ensures seat { Sits self.now seat.new }
         ensures view { Across (Found (Step.ReadMarks b) result) seat.old seat.new }
     {
-        self.load_step(seat, Step::ReadMarks { b })
+        self.take_step(seat, Operation::Load, Step::ReadMarks { b })
     }
 
     /// Whether a card is dirty.
@@ -98,7 +103,7 @@ impl Heap {
         ensures seat { Sits self.now seat.new }
         ensures view { Across (Answered (Step.ReadCard card) (λ n. result ≡ won (Step.ReadCard card) n)) seat.old seat.new }
     {
-        let found = self.load_step(seat, Step::ReadCard { card });
+        let found = self.take_step(seat, Operation::Load, Step::ReadCard { card });
         found == 1
     }
 
@@ -109,6 +114,6 @@ impl Heap {
         ensures seat { Sits self.now seat.new }
         ensures view { Across (Answered Step.ReadPhase (λ n. result ≡ phase_of_word n)) seat.old seat.new }
     {
-        phase_of(self.load_step(seat, Step::ReadPhase))
+        phase_of(self.take_step(seat, Operation::Load, Step::ReadPhase))
     }
 }

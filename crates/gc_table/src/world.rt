@@ -3,6 +3,7 @@ ghost use Rattle.std.specs.Prelude.{◌≡◌};
 ghost use Rattle.gc_table.specs.Seats.{Across, Answered, Found, Sits, Took, view_of};
 ghost use Rattle.gc_table.specs.Taking.{Asked, May, won};
 
+use crate::operations::Operation;
 use crate::seat::{Heap, HeapSeat};
 use mark_core::{FLAG, Phase, Step, has_flag, phase_number};
 
@@ -14,7 +15,7 @@ impl Heap {
         ensures seat { Sits self.now seat.new }
         ensures view { Across (Answered Step.EnterStep (λ n. result ≡ won Step.EnterStep n)) seat.old seat.new }
     {
-        let found = self.fetch_add_step(seat, 1, Step::EnterStep);
+        let found = self.take_step(seat, Operation::Add(1), Step::EnterStep);
         !has_flag(found)
     }
 
@@ -25,7 +26,7 @@ impl Heap {
         ensures seat { Sits self.now seat.new }
         ensures view { Across (Took Step.LeaveStep) seat.old seat.new }
     {
-        self.fetch_sub_step(seat, 1, Step::LeaveStep);
+        self.take_step(seat, Operation::Sub(1), Step::LeaveStep);
     }
 
     /// Raises the stop flag, from outside the world: true where it is now the seat's own, and false where another seat's was up.
@@ -35,7 +36,7 @@ impl Heap {
         ensures seat { Sits self.now seat.new }
         ensures view { Across (Answered Step.RaiseStep (λ n. result ≡ won Step.RaiseStep n)) seat.old seat.new }
     {
-        let found = self.fetch_or_step(seat, FLAG, Step::RaiseStep);
+        let found = self.take_step(seat, Operation::Set(FLAG), Step::RaiseStep);
         !has_flag(found)
     }
 
@@ -46,7 +47,7 @@ impl Heap {
         ensures seat { Sits self.now seat.new }
         ensures view { Across (Found Step.Observe result) seat.old seat.new }
     {
-        self.load_step(seat, Step::Observe)
+        self.take_step(seat, Operation::Load, Step::Observe)
     }
 
     /// Resumes the world, in Idle or Full: the flag is cleared and the seat runs, in one step, so no other stop comes between. The seat is alone, with nothing
@@ -57,7 +58,7 @@ impl Heap {
         ensures seat { Sits self.now seat.new }
         ensures view { Across (Took Step.DropStep) seat.old seat.new }
     {
-        self.fetch_sub_step(seat, FLAG - 1, Step::DropStep);
+        self.take_step(seat, Operation::Sub(FLAG - 1), Step::DropStep);
     }
 
     /// Opens the stopped world to helpers, in Drain or Sweep. The seat is not alone then, until it has closed help and seen that no helper is left.
@@ -67,7 +68,7 @@ impl Heap {
         ensures seat { Sits self.now seat.new }
         ensures view { Across (Took Step.OpenStep) seat.old seat.new }
     {
-        self.fetch_or_step(seat, FLAG, Step::OpenStep);
+        self.take_step(seat, Operation::Set(FLAG), Step::OpenStep);
     }
 
     /// Joins the helpers, from outside the world: true where help is open. Else the seat has to leave them again.
@@ -77,7 +78,7 @@ impl Heap {
         ensures seat { Sits self.now seat.new }
         ensures view { Across (Answered Step.JoinHelpStep (λ n. result ≡ won Step.JoinHelpStep n)) seat.old seat.new }
     {
-        let found = self.fetch_add_step(seat, 1, Step::JoinHelpStep);
+        let found = self.take_step(seat, Operation::Add(1), Step::JoinHelpStep);
         has_flag(found)
     }
 
@@ -88,7 +89,7 @@ impl Heap {
         ensures seat { Sits self.now seat.new }
         ensures view { Across (Took Step.LeaveHelpStep) seat.old seat.new }
     {
-        self.fetch_sub_step(seat, 1, Step::LeaveHelpStep);
+        self.take_step(seat, Operation::Sub(1), Step::LeaveHelpStep);
     }
 
     /// Closes help to further helpers. Those that were admitted may go on.
@@ -98,7 +99,7 @@ impl Heap {
         ensures seat { Sits self.now seat.new }
         ensures view { Across (Took Step.CloseStep) seat.old seat.new }
     {
-        self.fetch_sub_step(seat, FLAG, Step::CloseStep);
+        self.take_step(seat, Operation::Sub(FLAG), Step::CloseStep);
     }
 
     /// The word of help. The seat that stopped the world learns from it that no helper is left.
@@ -108,7 +109,7 @@ impl Heap {
         ensures seat { Sits self.now seat.new }
         ensures view { Across (Found Step.SeeHelp result) seat.old seat.new }
     {
-        self.load_step(seat, Step::SeeHelp)
+        self.take_step(seat, Operation::Load, Step::SeeHelp)
     }
 
     /// The season word, even in the catalogue's turn and odd in the warehouses', for a seat that runs: it holds until the seat leaves.
@@ -118,7 +119,7 @@ impl Heap {
         ensures seat { Sits self.now seat.new }
         ensures view { Across (Found Step.ReadSeason result) seat.old seat.new }
     {
-        self.load_step(seat, Step::ReadSeason)
+        self.take_step(seat, Operation::Load, Step::ReadSeason)
     }
 
     /// Turns the season, between the catalogue's turn and the warehouses', at most 128 times. The seat has stopped the world, in Idle.
@@ -129,7 +130,7 @@ impl Heap {
         ensures seat { Sits self.now seat.new }
         ensures view { Across (Took Step.NextSeason) seat.old seat.new }
     {
-        self.fetch_add_step(seat, 1, Step::NextSeason);
+        self.take_step(seat, Operation::Add(1), Step::NextSeason);
     }
 
     /// Moves the phase. The move to Marking is a try of a mutator: false where the phase wasn't Idle. Any other move is of the seat that stopped the world, and
@@ -143,11 +144,19 @@ impl Heap {
     {
         match to {
             Phase::Marking => {
-                let found = self.compare_exchange_step(seat, 0, 1, Step::StorePhase { to });
+                let found = self.take_step(
+                    seat,
+                    Operation::Exchange { old: 0, new: 1 },
+                    Step::StorePhase { to },
+                );
                 found == 0
             }
             _ => {
-                self.swap_step(seat, phase_number(to), Step::StorePhase { to });
+                self.take_step(
+                    seat,
+                    Operation::Swap(phase_number(to)),
+                    Step::StorePhase { to },
+                );
                 true
             }
         }

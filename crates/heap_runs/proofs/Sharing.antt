@@ -5,7 +5,7 @@ use Rattle.mark_core.specs.Laws.{IsCore}
 use Rattle.mark_core.specs.Steps.{Core, after_event, failing_part, run_of, start_core}
 use Rattle.mark_core.specs.declared.kinds.Event.{Event}
 use Rattle.gc_table.proofs.History.Past.{run-first}
-use Rattle.gc_table.proofs.History.Ran.{closed-ran}
+use Rattle.gc_table.proofs.History.Ran.{closed_ran}
 use Rattle.heap_runs.specs.Agreement.{AgreesWith}
 use Rattle.heap_runs.specs.Laws.{TellsOf, world_after, world_run}
 use Rattle.heap_runs.specs.World.{World, start_world}
@@ -57,7 +57,7 @@ tells-on (e ∷ es) c world core ok a (suc k) f at =
 
 pub threads-share-one-heap : ThreadsShareOneHeap
 threads-share-one-heap sh seats w end =
-    let ran = closed-ran sh seats w end in
+    let ran = closed_ran sh seats w end in
     let all : AreAllowed (start_core sh 1) ran.0 = allowed 0 ran.0 (start_core sh 1) ran.1.allowed in
     let start : AgreesWith (start_core sh 1) (start_world sh) = agrees-starts sh 1 (ran.1.sound 0).formed.shaped in
     (ran.0, ran.1, agree-on ran.0 (start_core sh 1) (start_world sh) ran.1.sound all start, tells-on ran.0 (start_core sh 1) (start_world sh) ran.1.sound all start)

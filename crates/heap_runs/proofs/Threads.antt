@@ -4,7 +4,7 @@ use Rattle.std.specs.Prelude.{None}
 use Rattle.mark_core.specs.Steps.{Core, first_refused, start_core}
 use Rattle.mark_core.specs.declared.kinds.Event.{Event}
 use Rattle.gc_table.proofs.History.Past.{first-allowed}
-use Rattle.gc_table.proofs.History.Ran.{closed-ran}
+use Rattle.gc_table.proofs.History.Ran.{closed_ran}
 use Rattle.heap_runs.specs.Runs.{AreAllowed}
 use Rattle.heap_runs.specs.Threads.{ThreadsFreeNone}
 use Rattle.heap_runs.proofs.Freeing.{stays}
@@ -15,5 +15,5 @@ allowed i (e ∷ es) c h = let first = first-allowed i e es c h in (first.0, all
 
 pub threads-free-none : ThreadsFreeNone
 threads-free-none sh seats w end =
-    let ran = closed-ran sh seats w end in
+    let ran = closed_ran sh seats w end in
     (ran.0, ran.1, λ k x below. stays (start_core sh 1) ran.0 ran.1.sound (allowed 0 ran.0 (start_core sh 1) ran.1.allowed) k x below)

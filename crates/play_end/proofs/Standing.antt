@@ -21,7 +21,7 @@ use Rattle.gc_table.specs.Rule.{Leads}
 use Rattle.gc_table.specs.StandsFor.{heaps_of, name_at}
 use Rattle.gc_table.specs.TableState.{TableState, meanings_of, section_at}
 use Rattle.gc_table.proofs.Stands.StandsNamed.{heap-there}
-use Rattle.gc_table.proofs.Stands.StandsReached.{objects-have-cells}
+use Rattle.gc_table.proofs.Stands.StandsReached.{objects_have_cells}
 use Rattle.gc_table.proofs.Stands.StandsStores.{used-exists}
 use Rattle.play_end.specs.Alike.{AreAlike, AreAmong}
 use Rattle.play_end.specs.Done.{IsQuiet, Follow}
@@ -87,7 +87,7 @@ module _ (s : Sections) (f : TableState) (places : List (List ℕ)) (g : IsPlaye
   free-cell es y w heaps l low among new name cell reach lies there =
       let whole = way-whole f o.heap.whole o.heap.owned es y l in
       let alone = way-alone f o.heap.whole o.heap.owned es y l in
-      let found = objects-have-cells y.core (meanings_of y.sections) whole.core (whole.stands alone) name (alike-reached heaps (heaps_of (meanings_of y.sections)) name among reach) in
+      let found = objects_have_cells y.core (meanings_of y.sections) whole.core (whole.stands alone) name (alike-reached heaps (heaps_of (meanings_of y.sections)) name among reach) in
       let used : IsUsed y.core found.0 = found.1.0 in
       let next : Name = record { section = w; number = length (section_at y.sections w).meaning.heap.objects } in
       let same : found.0 ≡ new.0 = sym (in-cell es y found.0 name cell l used found.1.1 lies) ∙ in-cell es y new.0 next cell l new.1 new.2 there in

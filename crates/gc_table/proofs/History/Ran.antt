@@ -7,8 +7,8 @@ use Rattle.gc_table.specs.Ends.{AreWords}
 use Rattle.gc_table.specs.Laws.{ClosedHeapsRan}
 use Rattle.gc_table.proofs.History.Past.{run-sound}
 
-pub closed-ran : ClosedHeapsRan
-closed-ran sh seats w e =
+pub closed_ran : ClosedHeapsRan
+closed_ran sh seats w e =
     let shaped : IsShape sh = subst IsShape e.shape e.whole.core.formed.shaped in (
       e.past,
       record {

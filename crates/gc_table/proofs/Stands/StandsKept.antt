@@ -40,8 +40,8 @@ stands_at c i s ReadFree op ms alone k st asks = still-seat c i s ReadFree ms k 
 stands_at c i s PublishCells op ms alone k st asks = still-seat c i s PublishCells ms k st refl refl (λ x e. e) refl refl refl (published-making s.cache)
 stands_at c i s step op ms alone k st asks = still-seat c i s step ms k st refl refl (λ x e. e) refl refl refl (same-making s.cache)
 
-pub stands-kept : EventsKeepStands
-stands-kept c e s op ms alone k st g asks f =
+pub stands_kept : EventsKeepStands
+stands_kept c e s op ms alone k st g asks f =
     kept-after (λ sh w seats. StandsIn sh w seats (meanings_after c.shape s e.step op ms)) c e k f
     (λ x a t.
     subst (λ (y : SeatState). Taken c e.seat y e.step → StandsIn c.shape (words_left c y e.step) (seats_left c e.seat y e.step) (meanings_after c.shape s e.step op ms)) (same_Some s x (sym g ∙ t.got))

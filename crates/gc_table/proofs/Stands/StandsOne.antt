@@ -20,15 +20,15 @@ own_changes sh s step op ms w m e g =
     let mine : meaning_of ms w ≡ m = get_or_from_slice_get ms w m no_meaning g in
     ap (λ (k : ℕ). set ms k (meaning_after sh s (catalogue_seen ms k) step op (meaning_of ms k))) own ∙ ap (λ (x : Meaning). set ms w (meaning_after sh s (catalogue_seen ms w) step op x)) mine
 
-pub one-changes : OneMeaningChanges
-one-changes sh s (StoreField v i o) op ms w m e g = own_changes sh s (StoreField v i o) op ms w m e g
-one-changes sh s (StoreValue v n) op ms w m e g = own_changes sh s (StoreValue v n) op ms w m e g
-one-changes sh s (StoreRoot v r) op ms w m e g = own_changes sh s (StoreRoot v r) op ms w m e g
-one-changes sh s (ReadOwn x i) op ms w m e g = own_changes sh s (ReadOwn x i) op ms w m e g
-one-changes sh s (ReadCat v) op ms w m e g = own_changes sh s (ReadCat v) op ms w m e g
-one-changes sh s (ReadSlot k) op ms w m e g = own_changes sh s (ReadSlot k) op ms w m e g
-one-changes sh s (StoreNew x part word) op ms w m e g = own_changes sh s (StoreNew x part word) op ms w m e g
-one-changes sh s step op ms w m e g = sym (subst (λ (x : Meaning). set ms w x ≡ ms) (get_or_from_slice_get ms w m m g) (set-get_or ms w m))
+pub one_changes : OneMeaningChanges
+one_changes sh s (StoreField v i o) op ms w m e g = own_changes sh s (StoreField v i o) op ms w m e g
+one_changes sh s (StoreValue v n) op ms w m e g = own_changes sh s (StoreValue v n) op ms w m e g
+one_changes sh s (StoreRoot v r) op ms w m e g = own_changes sh s (StoreRoot v r) op ms w m e g
+one_changes sh s (ReadOwn x i) op ms w m e g = own_changes sh s (ReadOwn x i) op ms w m e g
+one_changes sh s (ReadCat v) op ms w m e g = own_changes sh s (ReadCat v) op ms w m e g
+one_changes sh s (ReadSlot k) op ms w m e g = own_changes sh s (ReadSlot k) op ms w m e g
+one_changes sh s (StoreNew x part word) op ms w m e g = own_changes sh s (StoreNew x part word) op ms w m e g
+one_changes sh s step op ms w m e g = sym (subst (λ (x : Meaning). set ms w x ≡ ms) (get_or_from_slice_get ms w m m g) (set-get_or ms w m))
 
-pub one-next : OneCellIsNext
-one-next c m x y k u v e a b = k.sound.caches.distinct x (used-exists c k x u) y (used-exists c k y v) u v (omega (arith, e, a.number, b.number))
+pub one_next : OneCellIsNext
+one_next c m x y k u v e a b = k.sound.caches.distinct x (used-exists c k x u) y (used-exists c k y v) u v (omega (arith, e, a.number, b.number))

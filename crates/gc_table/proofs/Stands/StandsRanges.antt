@@ -54,8 +54,8 @@ range_at c i s (StoreRoot v r) op ms k st asks e =
     assignment_range c.shape.fields v r s (meaning_of ms i) (catalogue_seen ms i) op (ltb-true v 32 a.0) formed.2 formed.3 asked
 range_at c i s step op ms k st asks e = absurd (false≢true e)
 
-pub steps-in-range : PlainStepsAreInRange
-steps-in-range c e s op ms k st g asks f h =
+pub steps_in_range : PlainStepsAreInRange
+steps_in_range c e s op ms k st g asks f h =
     let r : (x : SeatState) × Acted c e x = acts c e k f in
     let same : r.0 ≡ s = same_Some r.0 s (sym r.1.seat ∙ g) in
     range_at c e.seat s e.step op ms (subst (λ (x : SeatState). Taken c e.seat x e.step) same (record { core = k; got = r.1.seat; live = r.1.live; ok = r.1.ok })) st asks h

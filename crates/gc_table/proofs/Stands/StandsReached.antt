@@ -132,8 +132,8 @@ along c ms x [] core st p = rooted c ms x p.0 core st p.1 p.2
 along c ms x (d ∷ ds) core st p = fielded c ms x d p.0.0 core st (ds, p.1) (along c ms d ds core st p.1) p.0.1 p.0.2
 
 -- a reachable cell holds an object, which is reachable
-pub cells-have-objects : ReachableCellsHaveObjects
-cells-have-objects c ms core st x reach = let a = along c ms x reach.0 core st reach.1 in (cell_holds c ms x core st reach a.0, a.1)
+pub cells_have_objects : ReachableCellsHaveObjects
+cells_have_objects c ms core st x reach = let a = along c ms x reach.0 core st reach.1 in (cell_holds c ms x core st reach a.0, a.1)
 
 -- a reachable cell for an object
 abbrev HasCell : Core → List Meaning → Name → Type 0
@@ -183,6 +183,6 @@ referred_cell c ms from to core st (x, cell, reach) (object, has, ref, (j, below
     of (inr l) = absurd (subst (λ (r : Ref). Names from.section r to) (sym ref_is ∙ h.rest j l) names)
 
 -- each reachable object has a cell, which is reachable
-pub objects-have-cells : ReachableObjectsHaveCells
-objects-have-cells c ms core st name reach =
+pub objects_have_cells : ReachableObjectsHaveCells
+objects_have_cells c ms core st name reach =
     of_reachable (heaps_of ms) (HasCell c ms) (λ n object held. held_cell c ms n core st held) (λ from to cell refers object. referred_cell c ms from to core st cell refers) name reach

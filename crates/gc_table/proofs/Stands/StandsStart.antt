@@ -28,8 +28,8 @@ meaning_at sh a (suc n) (suc w) m e = meaning_at sh (a + 1) n w m e ∙ ap (star
 meaning_is : (sh : Shape) (w : ℕ) (m : Meaning) → slice_get (start_meanings sh) w ≡ Some m → m ≡ start_meaning sh w
 meaning_is sh w m e = meaning_at sh 0 sh.sections w m e ∙ ap (start_meaning sh) (omega arith)
 
-pub stands-starts : StartStands
-stands-starts sh n z =
+pub stands_starts : StartStands
+stands_starts sh n z =
     let w : Words = words_of sh (start_words sh) in
     let p : ℕ → ℕ = object_count (start_meanings sh) in
     record {

@@ -87,8 +87,8 @@ whole-kept x i s step g =
     }
 
 -- an event that is allowed, and whose step meets what is asked besides, keeps the rule
-pub rule-kept_by : EventsKeepRule
-rule-kept_by x e s whole got f fits asks =
+pub rule_kept_by : EventsKeepRule
+rule_kept_by x e s whole got f fits asks =
     let r : (t : SeatState) × Acted x.core e t = acts x.core e whole.core f in
     let same : r.0 ≡ s = some-same r.0 s (sym r.1.seat ∙ got) in
     let live : s.spent ≡ false = subst (λ (t : SeatState). t.spent ≡ false) same r.1.live in

@@ -16,7 +16,7 @@ use Rattle.gc_table.specs.declared.view.SectionState.{SectionState}
 use Rattle.gc_table.specs.PlainSteps.{catalogue_seen, own_section, meaning_of, no_meaning, meaning_after, changed_by, meanings_after, Asks, AsksIn}
 use Rattle.gc_table.specs.Sections.{seen_by, meaning_by, section_after}
 use Rattle.gc_table.specs.TableState.{TableState, meanings_of, section_at, with_section, state_after}
-use Rattle.gc_table.proofs.Stands.StandsKept.{stands-kept}
+use Rattle.gc_table.proofs.Stands.StandsKept.{stands_kept}
 use Rattle.gc_table.proofs.Stands.StandsSeat.{Mutates, mutates}
 use Rattle.gc_table.proofs.State.StateSeen.{meaning-at, seen-is}
 use Rattle.gc_table.proofs.State.StateSteps.{Goes, event, taken, may-happen, sections_left, sections-left}
@@ -95,4 +95,4 @@ stands-whole x i s step alone g =
     let m : Means x s step = means-left x i s step alone g in
     let after : meanings_of (state_after x (event i step)).sections ≡ meanings_after x.core.shape s step m.0 (meanings_of x.sections) = ap meanings_of (sections-left x i s step g) ∙ m.2 in
     subst (λ (ms : List Meaning). StandsFor (state_after x (event i step)).core ms) (sym after)
-    (stands-kept x.core (event i step) s m.0 (meanings_of x.sections) alone g.whole.core (g.whole.stands alone) g.got m.1 (may-happen x i s step g))
+    (stands_kept x.core (event i step) s m.0 (meanings_of x.sections) alone g.whole.core (g.whole.stands alone) g.got m.1 (may-happen x i s step g))

@@ -26,7 +26,7 @@ use Rattle.gc_table.specs.Sections.{start_section, start_sections}
 use Rattle.gc_table.specs.TableState.{start_state, meanings_of, no_section, section_at}
 use Rattle.gc_table.specs.Told.{EachSection, IsTold}
 use Rattle.gc_table.specs.Rule.{IsState}
-use Rattle.gc_table.proofs.Stands.StandsStart.{stands-starts}
+use Rattle.gc_table.proofs.Stands.StandsStart.{stands_starts}
 
 -- a section at the start
 section_from : (sh : Shape) (a n w : ℕ) (x : SectionState) → slice_get (map (start_section sh) (range_with_len a n)) w ≡ Some x → x ≡ start_section sh (a + w)
@@ -98,12 +98,12 @@ meanings_from : (sh : Shape) (a n : ℕ) → meanings_of (map (start_section sh)
 meanings_from sh a zero = refl
 meanings_from sh a (suc n) = ap (λ ms. start_meaning sh a ∷ ms) (meanings_from sh (a + 1) n)
 
-pub whole-starts : (sh : Shape) (plan : List (List Op)) (n : ℕ) → IsShape sh → 1 ≤ n → n ≤ 41 → IsState (start_state sh plan n)
-whole-starts sh plan n z some few =
+pub whole_starts : (sh : Shape) (plan : List (List Op)) (n : ℕ) → IsShape sh → 1 ≤ n → n ≤ 41 → IsState (start_state sh plan n)
+whole_starts sh plan n z some few =
     record {
       core = core-starts sh n z some few;
       swept = swept_starts sh n z;
       sections = length-map-range_with_len (start_section sh) 0 sh.sections;
-      stands = λ alone. subst (λ (ms : List Meaning). StandsFor (start_state sh plan n).core ms) (sym (meanings_from sh 0 sh.sections)) (stands-starts sh n z);
+      stands = λ alone. subst (λ (ms : List Meaning). StandsFor (start_state sh plan n).core ms) (sym (meanings_from sh 0 sh.sections)) (stands_starts sh n z);
       told = told-starts sh plan n z some few;
     }

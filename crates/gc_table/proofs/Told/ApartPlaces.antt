@@ -24,7 +24,7 @@ use Rattle.gc_table.specs.declared.view.PlainStep.{PlainStep}
 use Rattle.gc_table.specs.declared.view.SectionState.{SectionState}
 use Rattle.gc_table.proofs.Told.ApartHeaps.{reach-more, before-next, heaps-now}
 use Rattle.gc_table.proofs.Stands.StandsNamed.{heap-there}
-use Rattle.gc_table.proofs.Stands.StandsReached.{objects-have-cells}
+use Rattle.gc_table.proofs.Stands.StandsReached.{objects_have_cells}
 use Rattle.gc_table.proofs.Stands.StandsSeat.{making-is-free, free-not-used}
 use Rattle.gc_table.proofs.Stands.StandsStores.{used-exists}
 use Rattle.gc_table.proofs.State.StateSteps.{Goes, taken}
@@ -123,7 +123,7 @@ reached_lies : (x : TableState) (i : ℕ) (s : SeatState) (step : Step) (w m : �
     → IsReachable (heaps_of (meanings_of x.sections)) (record { section = w; number = m }) → Used x.core o.cell ≡ true
 reached_lies x i s step w m y o alone g there at reach =
     let ids : List ℕ = (words_of x.core.shape x.core.words).identities in
-    let d = objects-have-cells x.core (meanings_of x.sections) g.whole.core (g.whole.stands alone) (record { section = w; number = m }) reach in
+    let d = objects_have_cells x.core (meanings_of x.sections) g.whole.core (g.whole.stands alone) (record { section = w; number = m }) reach in
     let used : Used x.core d.0 ≡ true = d.1.0 in
     let lies = g.whole.told.placed.at_place d.0 (used-exists x.core g.whole.core d.0 used) used in
     let section : section_of_cell ids d.0 ≡ w = ap (λ (n : Name). n.section) d.1.1 in

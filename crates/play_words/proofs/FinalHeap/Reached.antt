@@ -23,7 +23,7 @@ use Rattle.gc_table.specs.declared.words.Words.{Words}
 use Rattle.gc_table.specs.Laws.{IsCellOfObject}
 use Rattle.gc_table.specs.StandsFor.{name_at}
 use Rattle.gc_table.specs.TableState.{TableState, meanings_of, section_at}
-use Rattle.gc_table.proofs.Stands.StandsReached.{objects-have-cells, cells-have-objects}
+use Rattle.gc_table.proofs.Stands.StandsReached.{objects_have_cells, cells_have_objects}
 use Rattle.gc_table.proofs.Stands.StandsStores.{used-exists}
 use Rattle.gc_table.proofs.Stands.StandsUsed.{reachable-used}
 use Rattle.play_end.specs.Ended.{IsStateOf, IsUsed, AreCellsOfPlaces}
@@ -110,7 +110,7 @@ module _ (s : Sections) (r : Report) (w : Words) (e : IsEndOf s r w) where
       let name : Name = name_at (the_words x).identities c in
       let reached : IsReachable (last_heaps s) name =
       subst (λ (hs : List Heap). IsReachable hs name) (last-done s (end-positions s) (end-position s))
-      (reached-run s e.shape.cells (end-positions s) x name stands (cells-have-objects x.core (meanings_of x.sections) e.closed.end.whole.core (e.closed.end.whole.stands stands.heap.owned) c reach).1) in
+      (reached-run s e.shape.cells (end-positions s) x name stands (cells_have_objects x.core (meanings_of x.sections) e.closed.end.whole.core (e.closed.end.whole.stands stands.heap.owned) c reach).1) in
       let y = reached-survivor name reached in
       let at = in-cell y.0 y.1 y.2 in
       (y.0, y.1, y.2, one-cell (cell_of_survivor r y.1) c at.0 (reachable-used x.core c e.closed.end.whole.core reach) (at.1 ∙ y.3))
@@ -126,7 +126,7 @@ module _ (s : Sections) (r : Report) (w : Words) (e : IsEndOf s r w) where
       let x : TableState = end_state s r w e in
       let ms : List Meaning = meanings_of x.sections in
       let cell =
-      objects-have-cells x.core ms e.closed.end.whole.core (e.closed.end.whole.stands stands.heap.owned) (named y)
+      objects_have_cells x.core ms e.closed.end.whole.core (e.closed.end.whole.stands stands.heap.owned) (named y)
       (reached-stand s e.shape.cells (end-positions s) x (named y) stands (subst (λ (hs : List Heap). IsReachable hs (named y)) (sym (last-done s (end-positions s) (end-position s))) (survivor-reached j y at))) in
       let here = in-cell j y at in
       let same : cell.0 ≡ cell_of_survivor r y = one-cell cell.0 (cell_of_survivor r y) cell.1.0 here.0 (cell.1.1 ∙ sym here.1) in

@@ -1,5 +1,5 @@
-use Rattle.gc_table.proofs.Stands.StandsReached.{cells-have-objects}
+use Rattle.gc_table.proofs.Stands.StandsReached.{cells_have_objects}
 use Rattle.gc_table.proofs.laws.reachable_cells_have_objects.Goals as goal
 
 pub returns : goal.returns
-returns c = cells-have-objects
+returns c = cells_have_objects

@@ -1,5 +1,5 @@
-use Rattle.gc_table.proofs.State.StateStart.{whole-starts}
+use Rattle.gc_table.proofs.State.StateStart.{whole_starts}
 use Rattle.gc_table.proofs.laws.rule_starts.Goals as goal
 
 pub returns : goal.returns
-returns c = whole-starts
+returns c = whole_starts

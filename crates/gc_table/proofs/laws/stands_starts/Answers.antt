@@ -1,5 +1,5 @@
-use Rattle.gc_table.proofs.Stands.StandsStart.{stands-starts}
+use Rattle.gc_table.proofs.Stands.StandsStart.{stands_starts}
 use Rattle.gc_table.proofs.laws.stands_starts.Goals as goal
 
 pub returns : goal.returns
-returns c = stands-starts
+returns c = stands_starts

@@ -9,8 +9,8 @@ use Rattle.mark_core.specs.declared.seat.SeatState.{SeatState}
 use Rattle.gc_table.proofs.Fitting.{may-take}
 use Rattle.gc_table.proofs.seat.Heap.pop_at.Goals as goal
 
-pub load_told-requires-clause-take : goal.load_told-requires-clause-take
-load_told-requires-clause-take c =
+pub take_told-requires-clause-take : goal.take_told-requires-clause-take
+take_told-requires-clause-take c =
     let q = c.requires in
     let s = c.args.seat.now in
     let h = c.args.self.now in
@@ -22,7 +22,7 @@ pub invariant_of-seat-clause-agrees : goal.invariant_of-seat-clause-agrees
 invariant_of-seat-clause-agrees c =
     let s = c.args.seat.now in
     let p : ℕ = c.args.p in
-    let n : ℕ = c.load_told.result in
+    let n : ℕ = c.take_told.result in
     c.pop_at.ensures
     ∙ (ap (λ (k : ℕ). record s.state { held = set_length s.state.held p (length_in_hand s.state.held p - 1) false; popped = Some (k, false) }) c.cell_of-cell.ensures
-    ∙ ((λ i. seat_after (sym c.requires.seat.1 i) (s.agrees i) (Pop p) n) ∙ sym (ap (λ m. m.0.state) c.load_told.ensures.taken.2)))
+    ∙ ((λ i. seat_after (sym c.requires.seat.1 i) (s.agrees i) (Pop p) n) ∙ sym (ap (λ m. m.0.state) c.take_told.ensures.taken.2)))

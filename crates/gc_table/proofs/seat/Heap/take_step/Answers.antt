@@ -1,8 +1,8 @@
 use Rattle.gc_table.proofs.Fitting.{may-take, step-number, step-room}
-use Rattle.gc_table.proofs.seat.Heap.fetch_sub_step.Goals as goal
+use Rattle.gc_table.proofs.seat.Heap.take_step.Goals as goal
 
-pub fetch_sub_told-found-requires-clause-take : goal.fetch_sub_told-found-requires-clause-take
-fetch_sub_told-found-requires-clause-take c = let q = c.requires in may-take c.args.self.now c.args.seat.now c.args.step _ c.address-word.ensures q.seat q.may q.own q.asked
+pub take_told-found-requires-clause-take : goal.take_told-found-requires-clause-take
+take_told-found-requires-clause-take c = let q = c.requires in may-take c.args.self.now c.args.seat.now c.args.step _ c.address-word.ensures q.seat q.may q.own q.asked
 
 pub act-requires : goal.act-requires
 act-requires c =
