@@ -8,7 +8,7 @@ ghost use Rattle.gc_table.specs.Rule.{KnowsFull};
 ghost use Rattle.gc_table.specs.Running.{Ran};
 ghost use Rattle.gc_table.specs.Seats.{Across, did, view_of};
 ghost use Rattle.mutator_ops.specs.Few.{AtMost};
-ghost use Rattle.mutator_turns.specs.Coming.{CollectsAtTurn, CollectsNone, EntersFull, EntersTurn, GivesCache, GoesIn, LeavesTurn, PollsOutWith, PollsWith, StepsOut, WithOwn};
+ghost use Rattle.mutator_turns.specs.Coming.{CollectsAtTurn, CollectsNone, EntersFull, EntersTurn, GivesCache, LeavesTurn, PollsOutWith, PollsWith, StepsOut, WithOwn};
 ghost use Rattle.mutator_turns.specs.Halting.{LeftFull};
 ghost use Rattle.mutator_turns.specs.declared.refused.Refused.TheVariants as refusals;
 ghost use Rattle.mutator_turns.specs.Sharing.{LeavesHeap};
@@ -20,17 +20,6 @@ use alloc_cache::{Cache, cache_of};
 use gc_cycle::{Safe, collect, go_in, go_out};
 use gc_table::{Heap, HeapSeat};
 use std::sync::Wait;
-
-/// Enters the world, as soon as no stop is under way.
-fn enter<R: Wait>(rt: &R, heap: &Heap, seat: &mut HeapSeat)
-    requires waits { IsMutatorOutside heap.now seat.old }
-    ensures halts { Halts heap.now seat.new }
-    ensures same { plain_of seat.new ≡ plain_of seat.old }
-    ensures leaves { Across LeavesHeap seat.old seat.new }
-    ensures goes { Across GoesIn seat.old seat.new }
-{
-    go_in(rt, heap, seat);
-}
 
 /// Leaves the world without a cache.
 pub fn leave(heap: &Heap, seat: &mut HeapSeat)
@@ -115,7 +104,7 @@ fn come_to_turn<R: Wait>(
     }
 }
 
-/// Enters the world, and comes to its turn. Refused only where the heap is full; the seat is outside then.
+/// Enters the world, as soon as no stop is under way, and comes to its turn. Refused only where the heap is full; the seat is outside then.
 pub fn enter_turn<R: Wait>(rt: &R, heap: &Heap, seat: &mut HeapSeat) -> Result<(), Refused>
     requires waits { IsMutatorOutside heap.now seat.old }
     ensures ok { IfOk result (λ _. IsAtTurn heap.now seat.new) }
@@ -125,7 +114,7 @@ pub fn enter_turn<R: Wait>(rt: &R, heap: &Heap, seat: &mut HeapSeat) -> Result<(
     ensures enters { IfOk result (λ _. Across EntersTurn seat.old seat.new) }
     ensures full { IfErr result (λ _. Across EntersFull seat.old seat.new) }
 {
-    enter(rt, heap, seat);
+    go_in(rt, heap, seat);
     come_to_turn(rt, heap, seat, None)
 }
 

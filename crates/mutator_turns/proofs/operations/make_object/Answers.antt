@@ -1,4 +1,3 @@
-use Rattle.std.proofs.Common.{refl}
 use Rattle.gc_table.specs.Seats.{view_of}
 use Rattle.gc_table.proofs.Running.{ran-join, ran-only}
 use Rattle.mutator_turns.specs.Sharing.{spares_tracers}
