@@ -65,6 +65,7 @@ pub fn read_dump<'a>(bytes: &'a [u8]) -> Result<Dump<'a>, DumpError>
 
 impl<'a> Dump<'a> {
     /// How many fields each object has.
+    #[tactic(auto, using(crate::proofs::Places::places))]
     pub fn fields(&self) -> u32
         ensures { result ≡ (heap_of_dump self.now).fields }
     {
@@ -72,6 +73,7 @@ impl<'a> Dump<'a> {
     }
 
     /// How many sections there are.
+    #[tactic(auto, using(crate::proofs::Places::places))]
     pub fn sections(&self) -> u32
         ensures { result ≡ (heap_of_dump self.now).sections }
     {
@@ -79,6 +81,7 @@ impl<'a> Dump<'a> {
     }
 
     /// How many records there are.
+    #[tactic(auto, using(crate::proofs::Places::places))]
     pub fn records(&self) -> u32
         ensures count { result ≡ length (heap_of_dump self.now).records }
         // What a dump tells is a legal heap.
