@@ -1,4 +1,3 @@
 mod Beginning
-mod Gathering
 mod Threads
 mod Turning

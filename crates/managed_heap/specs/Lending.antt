@@ -1,23 +1,25 @@
 -- What a world has, and what is so when it is opened and closed.
 use Rattle.std.specs.Prelude.{ℕ, ◌≡◌, ◌⊎◌, ◌≤◌, ◌+◌, ◌<◌, ◌++◌, [], ◌∷◌, false, replicate, Bool, vec_len}
 use Rattle.std.specs.Arc.{arc_value}
-use Rattle.mark_core.specs.Numbers.{free_count, last_count, section_variables}
+use Rattle.mark_core.specs.Numbers.{section_variables}
 use Rattle.mark_core.specs.Shapes.{usual_stretch}
 use Rattle.mark_core.specs.declared.kinds.Shape.{Shape}
-use Rattle.mark_core.specs.declared.kinds.Step.TheVariants.{ReadStat}
 use Rattle.plain_heap.specs.declared.object.Ref.TheVariants.{Nil}
 use Rattle.gc_table.specs.SeatRecords.{At, resting}
-use Rattle.gc_table.specs.Seats.{Found, view_of}
+use Rattle.gc_table.specs.Seats.{view_of}
 use Rattle.gc_table.specs.declared.seat.Heap.{Heap}
-use Rattle.gc_table.specs.declared.view.View.{View}
 use Rattle.managed_heap.specs.Calls.{MutatorLeft, heap_of}
-use Rattle.managed_heap.specs.Opening.{AreNumbered, IsNewSeat}
-use Rattle.tracer_turns.specs.declared.background.Tracer.{Tracer}
+use Rattle.managed_heap.specs.Opening.{IsNewSeat}
 use Rattle.managed_heap.specs.declared.mutator.Mutator.{Mutator}
 use Rattle.managed_heap.specs.declared.mutator.Place.TheVariants.{Outside}
-use Rattle.managed_heap.specs.declared.sizes.Sizes.{Sizes}
-use Rattle.managed_heap.specs.declared.world.Statistics.{Statistics}
 use Rattle.managed_heap.specs.declared.world.World.{World}
+use Rattle.world_seats.specs.Opening.{AreNumbered, IsFreshTracer}
+use Rattle.world_seats.specs.Sizing.{Fits}
+use Rattle.world_seats.specs.declared.sizes.Sizes.{Sizes}
+
+-- each size is in its range, and no slots are asked for
+abbrev pub FitsWorld : Sizes → Type 0
+FitsWorld s = Fits s × (s.slots ≡ 0)
 
 -- the mutator of section k of this heap, with this name, that has done nothing, and collects in stops alone where that is asked for
 pub record IsFreshMutator (h : Heap) (name : ℕ) (in_stops : Bool) (k : ℕ) (m : Mutator) : Type 0 where
@@ -28,13 +30,6 @@ pub record IsFreshMutator (h : Heap) (name : ℕ) (in_stops : Bool) (k : ℕ) (m
   pub seat : IsNewSeat h k m.seat
   pub objects : (heap_of m).objects ≡ []
   pub variables : (heap_of m).variables ≡ replicate section_variables Nil
-
--- the tracer with seat k of this heap and with this name, that has done nothing
-pub record IsFreshTracer (h : Heap) (name k : ℕ) (t : Tracer) : Type 0 where
-  pub heap : arc_value t.heap ≡ h
-  pub name_is : t.name ≡ name
-  pub traced : t.traced ≡ 0
-  pub seat : IsNewSeat h k t.seat
 
 -- all mutators and tracers are back
 abbrev pub AreAllBack : World → Type 0
@@ -52,7 +47,7 @@ pub record IsOpened (sizes : Sizes) (w : World) : Type 0 where
   pub zero : At (arc_value w.heap) resting 0 w.zero
   pub season : (view_of w.zero).own.seasons ≡ 1
   pub mutators_are : AreNumbered (IsFreshMutator (arc_value w.heap) sizes.name sizes.in_stops) 1 w.mutators.items
-  pub tracers_are : AreNumbered (IsFreshTracer (arc_value w.heap) sizes.name) (1 + sizes.mutators) w.tracers.items
+  pub tracers_are : AreNumbered (IsFreshTracer [] (arc_value w.heap) sizes.name) (1 + sizes.mutators) w.tracers.items
   pub all : AreAllBack w
 
 -- the heap, its sizes and what is known of it are as before
@@ -83,10 +78,3 @@ TakesNoMutator name w = (name ≡ w.sizes.name → ⊥) ⊎ (w.sizes.mutators �
 -- why no tracer of this name is taken back
 abbrev pub TakesNoTracer : ℕ → World → Type 0
 TakesNoTracer name w = (name ≡ w.sizes.name → ⊥) ⊎ (w.sizes.tracers ≤ vec_len w.tracers)
-
--- the number of free cells was read, and then the number of those that the last cycle marked
-pub record ReadsStatistics (s : Statistics) (h : Heap) (v w : View) : Type 0 where
-  pub cells : s.cells ≡ h.shape.cells
-  pub between : View
-  pub free : Found (ReadStat free_count) s.free v between
-  pub marked : Found (ReadStat last_count) s.marked between w

@@ -2,5 +2,4 @@ pub mod Calls
 pub mod Closing
 pub mod Lending
 pub mod Opening
-pub mod Sizing
 pub mod Threads

@@ -1,24 +1,25 @@
-//! The seats of a new heap are dealt out to mutators and tracers.
+//! The seats of a new heap are dealt out, and a world is made of it.
 ghost use Rattle.std.specs.Prelude.{◌≡◌, ◌+◌, ◌<◌, ◌≤◌, IfErr, IfOk, IsFalse, IsTrue, is_some, vec_len};
 ghost use Rattle.std.specs.Arc.{arc_value};
 ghost use Rattle.gc_table.specs.SeatRecords.{At, resting};
 ghost use Rattle.gc_table.specs.Seats.{state_of, view_of};
-ghost use Rattle.managed_heap.specs.Lending.{IsFreshMutator, IsFreshTracer, IsOpened, shape_for};
-ghost use Rattle.managed_heap.specs.Opening.{AreNew, AreNumbered, IsFirstSeat, IsNewSeat};
-ghost use Rattle.managed_heap.specs.Sizing.{Fits};
+ghost use Rattle.managed_heap.specs.Lending.{IsFreshMutator, IsOpened, shape_for};
+ghost use Rattle.managed_heap.specs.Opening.{AreNew, IsNewSeat};
 ghost use Rattle.mutator_turns.specs.Standing.{RestsOutside};
 ghost use Rattle.mutator_turns.specs.declared.refused.NotOpened.TheVariants.{OutOfMemory};
+ghost use Rattle.world_seats.specs.Gathering.{IsFirstSeat};
+ghost use Rattle.world_seats.specs.Opening.{AreNumbered};
+ghost use Rattle.world_seats.specs.Sizing.{Fits};
 
 use crate::mutator::{Mutator, Place};
 use crate::opening::{open, open_turn};
-use crate::sizes::Sizes;
-use crate::taking::first_of;
 use crate::world::World;
 use gc_table::{Heap, HeapSeat};
 use mutator_turns::NotOpened;
+use plain_heap::NoPlan;
 use std::alloc::{AllocError, Global};
 use std::sync::Arc;
-use tracer_turns::Tracer;
+use world_seats::{Sizes, deal_tracers, first_of};
 
 /// A mutator that has done nothing.
 fn mutator_of(
@@ -40,19 +41,6 @@ fn mutator_of(
         name,
         in_stops,
     })
-}
-
-/// A tracer that has done nothing.
-fn tracer_of(
-    heap: &Arc<Heap, Global>,
-    seat: HeapSeat,
-    name: u32,
-    _k: u32,
-) -> Result<Tracer, AllocError>
-    requires seat { IsNewSeat (arc_value heap.now) _k seat }
-    ensures fresh { IfOk result (IsFreshTracer (arc_value heap.now) name _k) }
-{
-    Ok(Tracer::of_seat(Arc::try_clone(heap)?, seat, name))
 }
 
 /// Deals so many seats out to mutators, one after the other.
@@ -82,29 +70,6 @@ fn deal_mutators(
     Ok(all)
 }
 
-/// Deals so many seats, which are those from `first` on, out to tracers.
-fn deal_tracers(
-    alloc: Global,
-    heap: &Arc<Heap, Global>,
-    first: u32,
-    tracers: u32,
-    name: u32,
-    seats: &mut Vec<HeapSeat>,
-) -> Result<Vec<Tracer>, AllocError>
-    requires new { AreNew (arc_value heap.now) first seats.old.items }
-    requires enough { tracers ≤ vec_len seats.old }
-    requires few { (first ≤ 33) × (tracers ≤ 8) }
-    ensures fresh { IfOk result (λ r. AreNumbered (IsFreshTracer (arc_value heap.now) name) first r.items) }
-    ensures count { IfOk result (λ r. vec_len r ≡ tracers) }
-{
-    let mut all = Vec::new(alloc);
-    for at in 0..tracers {
-        let seat = first_of(seats);
-        all.push(tracer_of(heap, seat, name, first + at)?)?;
-    }
-    Ok(all)
-}
-
 /// A world over this heap.
 fn share(
     alloc: Global,
@@ -126,7 +91,15 @@ fn share(
     let heap = Arc::new(alloc, heap)?;
     let name = sizes.name;
     let mutators = deal_mutators(alloc, &heap, sizes.mutators, name, sizes.in_stops, seats)?;
-    let tracers = deal_tracers(alloc, &heap, 1 + sizes.mutators, sizes.tracers, name, seats)?;
+    let tracers = deal_tracers(
+        alloc,
+        &heap,
+        &NoPlan,
+        1 + sizes.mutators,
+        sizes.tracers,
+        name,
+        seats,
+    )?;
     Ok(World {
         heap,
         zero,

@@ -7,37 +7,20 @@ ghost use Rattle.mark_core.specs.declared.kinds.Step.TheVariants.{ReadStat};
 ghost use Rattle.gc_table.specs.Running.{Ran};
 ghost use Rattle.gc_table.specs.Seats.{Across, Found, state_of, view_of};
 ghost use Rattle.managed_heap.specs.Calls.{MutatorLeft};
-ghost use Rattle.managed_heap.specs.Lending.{AreAllBack, HasAllStill, ReadsStatistics, IsBack, IsOpened, KeepsRest, TakesNoMutator, TakesNoTracer};
-ghost use Rattle.managed_heap.specs.Sizing.{Fits};
+ghost use Rattle.managed_heap.specs.Lending.{AreAllBack, FitsWorld, HasAllStill, IsBack, IsOpened, KeepsRest, TakesNoMutator, TakesNoTracer};
 ghost use Rattle.mutator_turns.specs.Standing.{RestsOutside};
 ghost use Rattle.mutator_turns.specs.declared.refused.NotOpened.TheVariants.{OutOfRange};
+ghost use Rattle.world_seats.specs.Numbers.{ReadsStatistics};
 
 use crate::dealing::open_fitting;
 use crate::mutator::Mutator;
-use crate::sizes::Sizes;
-use crate::world::{Statistics, World};
+use crate::world::World;
 use gc_table::{Heap, HeapSeat};
-use mark_core::{FREE, LAST, NAMED_SECTION};
+use mark_core::NAMED_SECTION;
 use mutator_turns::NotOpened;
 use std::alloc::Global;
 use tracer_turns::Tracer;
-
-/// Reads the numbers of the heap.
-fn read_statistics(heap: &Heap, seat: &mut HeapSeat) -> Statistics
-    requires rests { RestsOutside heap.now seat.old }
-    ensures rests { RestsOutside heap.now seat.new }
-    ensures read { Across (ReadsStatistics result heap.now) seat.old seat.new }
-    ensures ran { Across Ran seat.old seat.new }
-    ensures section { (state_of seat.new).section ≡ (state_of seat.old).section }
-{
-    let free = heap.read_stat(seat, FREE);
-    let marked = heap.read_stat(seat, LAST);
-    Statistics {
-        cells: heap.shape().cells,
-        free,
-        marked,
-    }
-}
+use world_seats::{Sizes, Statistics, read_statistics};
 
 /// Reads which section found the heap full.
 fn read_named(heap: &Heap, seat: &mut HeapSeat) -> u64
@@ -51,13 +34,13 @@ fn read_named(heap: &Heap, seat: &mut HeapSeat) -> u64
 }
 
 impl World {
-    /// A world of these sizes, in which nothing has happened. It has all its mutators and tracers. It is refused where a size is out of its range, or where
-    /// there is no memory.
+    /// A world of these sizes, in which nothing has happened. It has all its mutators and tracers. It is refused where a size is out of its range, where
+    /// slots are asked for, or where there is no memory.
     pub fn open(alloc: Global, sizes: Sizes) -> Result<World, NotOpened>
         ensures opened { IfOk result (λ w. IsOpened sizes w) }
-        ensures refused { IfErr result (λ e. e ≡ OutOfRange → Fits sizes → ⊥) }
+        ensures refused { IfErr result (λ e. e ≡ OutOfRange → FitsWorld sizes → ⊥) }
     {
-        if !sizes.fit() {
+        if !sizes.fit() || sizes.slots != 0 {
             return Err(NotOpened::OutOfRange);
         }
         open_fitting(alloc, sizes)

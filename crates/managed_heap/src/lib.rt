@@ -37,10 +37,10 @@
 //!
 //! # Where things are
 //!
-//! `sizes` has the sizes, `world` the heap with those of its mutators and tracers that nobody has, `lending` how they are
+//! `world` has the heap with those of its mutators and tracers that nobody has, `lending` how they are
 //! taken and given back, and `closing` how a world hands out the run of its threads; `mutator` has the type, `calls` what a mutator does, and `reading` what it
 //! reads. Below them `opening` makes a heap, and `dealing` deals its seats out. What a mutator does with its seat is in `mutator_turns`, and so is why a call did
-//! nothing. A mutator that doesn't wait is in `seat_steps`, a tracer in `tracer_turns`; `handing` turns a mutator into such a one and back, and `dismissing` ends the tracers.
+//! nothing. The sizes, and what either kind of world does with its seats, are in `world_seats`. A mutator that doesn't wait is in `seat_steps`, a tracer in `tracer_turns`; `handing` turns a mutator into such a one and back, and `dismissing` ends the tracers.
 #![tactic(auto)]
 
 ghost use Rattle.managed_heap.specs.Threads.{ThreadsRun};
@@ -54,21 +54,18 @@ mod lending;
 mod mutator;
 mod opening;
 mod reading;
-mod sizes;
-mod taking;
 mod world;
 
 pub use cache_refills::Watch;
-pub use closing::{NotClosed, Unclosed};
 pub use gc_cycle::{Counts, Paid};
 pub use gc_table::Words;
 pub use mutator::Mutator;
 pub use mutator_turns::{NotOpened, Refused};
 pub use seat_steps::{Stage, Stepper};
 pub use seat_tries::Came;
-pub use sizes::Sizes;
 pub use tracer_turns::{Tracer, TryTurn, Turn};
-pub use world::{Statistics, World};
+pub use world::World;
+pub use world_seats::{NotClosed, Sizes, Statistics, Unclosed};
 
 /// Whatever the threads of a closed world did, it is one run of the core, in which each thread's steps come in their order and nobody else takes part. No event of
 /// it frees a cell that is reachable just before it.

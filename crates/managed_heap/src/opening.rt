@@ -8,18 +8,18 @@ ghost use Rattle.gc_table.specs.Seats.{Across, view_of};
 ghost use Rattle.gc_table.specs.Stopping.{has_moved};
 ghost use Rattle.gc_table.specs.SeatRecords.{At, resting};
 ghost use Rattle.gc_table.specs.declared.seat.HeapSeat.{HeapSeat};
-ghost use Rattle.managed_heap.specs.Sizing.{Fits};
 ghost use Rattle.managed_heap.specs.Lending.{shape_for};
 ghost use Rattle.managed_heap.specs.Opening.{AreNew, Opens};
 ghost use Rattle.stop_world.specs.StopRecords.{flagged, stopped, KeepsMeaningAndPlan};
+ghost use Rattle.world_seats.specs.Sizing.{Fits};
 
-use crate::sizes::Sizes;
 use gc_table::{Heap, HeapSeat};
 use mark_core::{Phase, Shape, usual_stretch};
 use mutator_turns::NotOpened;
 use plain_heap::NoPlan;
 use std::alloc::Global;
 use stop_world::{Raised, leave, raise, resume};
+use world_seats::Sizes;
 
 /// The sizes of the heap: a section for each mutator besides section 0, which is the catalogue's and has nothing to do.
 fn shape_of(sizes: &Sizes) -> Shape

@@ -2,26 +2,15 @@
 ghost use Rattle.std.specs.Arc.{arc_value};
 ghost use Rattle.std.specs.Prelude.{◌≤◌, IsTrue, is_some, vec_capacity};
 ghost use Rattle.gc_table.specs.Seats.{state_of};
-ghost use Rattle.managed_heap.specs.Opening.{IsFirstSeat};
+ghost use Rattle.world_seats.specs.Gathering.{IsFirstSeat};
 ghost use Rattle.mutator_turns.specs.Standing.{RestsOutside};
 
 use crate::mutator::Mutator;
-use crate::sizes::Sizes;
 use gc_table::{Heap, HeapSeat};
 use std::alloc::Global;
 use std::sync::Arc;
 use tracer_turns::Tracer;
-
-/// Numbers of a world, each as it was read.
-#[derive(Clone, Copy, Debug, PartialEq, Eq, Drop)]
-pub struct Statistics {
-    /// How many cells there are.
-    pub cells: u32,
-    /// How many cells are free in blocks that no mutator has claimed.
-    pub free: u64,
-    /// How many cells the last cycle marked.
-    pub marked: u64,
-}
+use world_seats::Sizes;
 
 /// A heap that threads share. It has those of its mutators and tracers that nobody has taken. The heap is freed when the world is closed.
 #[derive(Drop)]

@@ -10,10 +10,11 @@ use Rattle.seat_steps.specs.Stepping.{heap_of_stepper, shares}
 use Rattle.seat_steps.specs.declared.stepper.Stage.TheVariants.{Outside}
 use Rattle.seat_steps.specs.declared.stepper.Stepper.{Stepper}
 use Rattle.managed_heap.specs.Calls.{heap_of}
-use Rattle.managed_heap.specs.Lending.{HasAllStill, IsBack, KeepsRest, ReadsStatistics}
+use Rattle.managed_heap.specs.Lending.{HasAllStill, IsBack, KeepsRest}
 use Rattle.managed_heap.specs.declared.mutator.Mutator.{Mutator}
 use Rattle.managed_heap.specs.declared.mutator.Place.TheVariants as places
-use Rattle.managed_heap.specs.declared.world.Statistics.{Statistics}
+use Rattle.world_seats.specs.Numbers.{ReadsStatistics}
+use Rattle.world_seats.specs.declared.numbers.Statistics.{Statistics}
 use Rattle.managed_heap.specs.declared.world.World.{World}
 use Rattle.managed_heap_c.specs.declared.sizes.CNumbers.{CNumbers}
 

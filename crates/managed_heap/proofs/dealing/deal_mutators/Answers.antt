@@ -1,12 +1,13 @@
-use Rattle.std.proofs.Common.{ℕ, ◌≡◌, ◌+◌, List, length, subst, sym, arith}
+use Rattle.std.proofs.Common.{ℕ, ◌≡◌, ◌+◌, [], List, length, subst, sym, arith}
 use Rattle.std.proofs.lemmas.Grind.{common_steps}
 use Rattle.std.specs.Arc.{arc_value}
 use Rattle.gc_table.specs.declared.seat.Heap.{Heap}
 use Rattle.gc_table.specs.declared.seat.HeapSeat.{HeapSeat}
 use Rattle.managed_heap.specs.Lending.{IsFreshMutator}
 use Rattle.managed_heap.specs.declared.mutator.Mutator.{Mutator}
-use Rattle.managed_heap.specs.Opening.{AreNew, AreNumbered}
-use Rattle.managed_heap.proofs.Beginning.{first-new, numbered-push, rest-new}
+use Rattle.managed_heap.specs.Opening.{AreNew}
+use Rattle.world_seats.specs.Opening.{AreNumbered}
+use Rattle.world_seats.proofs.Beginning.{first-new, numbered-push, rest-new}
 use Rattle.managed_heap.proofs.dealing.deal_mutators.Goals as goal
 
 pub loop-at-preserved : goal.loop-at-preserved
@@ -15,7 +16,7 @@ loop-at-preserved c =
     let i = c.loop-at.invariant in
     let xs : List HeapSeat = c.first_of-seat.new.all.items in
     let next : 1 + c.loop-at.at + 1 ≡ 1 + (c.loop-at.at + 1) = omega arith in
-    let rest = rest-new h (1 + c.loop-at.at) c.first_of-seat.result xs c.loop-at.seats.items c.first_of-seat.ensures.first i.new in
+    let rest = rest-new [] h (1 + c.loop-at.at) c.first_of-seat.result xs c.loop-at.seats.items c.first_of-seat.ensures.first i.new in
     let fresh : ℕ → Mutator → Type 0 = IsFreshMutator h c.args.name c.args.in_stops in
     let ms : List Mutator = c.loop-at.all.items in
     let m : Mutator = c.in_ok-mutator.mutator in
@@ -28,4 +29,4 @@ loop-at-preserved c =
     }
 
 pub mutator_of-requires-clause-seat : goal.mutator_of-requires-clause-seat
-mutator_of-requires-clause-seat c = first-new (arc_value c.args.heap.now) (1 + c.loop-at.at) c.first_of-seat.result c.first_of-seat.new.all.items c.loop-at.seats.items c.first_of-seat.ensures.first c.loop-at.invariant.new
+mutator_of-requires-clause-seat c = first-new [] (arc_value c.args.heap.now) (1 + c.loop-at.at) c.first_of-seat.result c.first_of-seat.new.all.items c.loop-at.seats.items c.first_of-seat.ensures.first c.loop-at.invariant.new
