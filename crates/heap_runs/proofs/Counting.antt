@@ -13,7 +13,7 @@ use Rattle.mark_core.specs.declared.seat.SeatState.{SeatState}
 use Rattle.gc_table.specs.Entries.{won}
 use Rattle.heap_runs.specs.Laws.{FindsValue, StoresIn, StoresOf, TellsOf, found_of, world_after, world_of}
 use Rattle.heap_runs.specs.World.{World, WorldObject, is_same, object_of, own_section, variable_of, with_exchanged_value, with_object, with_value, world_by}
-use Rattle.heap_runs.proofs.Forgetting.{none-forgotten, same-is}
+use Rattle.heap_runs.proofs.Forgetting.{none_forgotten, same-is}
 use Rattle.heap_runs.proofs.Heap.{object-changed}
 use Rattle.heap_runs.proofs.Telling.{tells-once}
 use Rattle.heap_runs.specs.Counting.{IsRaise, RaisesCounted, WinsTold, has_value, wins_in}
@@ -41,7 +41,7 @@ module _ (sh : Shape) (w : Words) (s : SeatState) (v m n : ℕ) (world : World) 
 
   lost_by : (to ≡ Some name → object.value ≡ m → ⊥) → Raised (world_by sh w s (ExchangeValue v m n) world) name object false
   lost_by not_won =
-      let r = none-forgotten sh w s (ExchangeValue v m n) world name object there in
+      let r = none_forgotten sh w s (ExchangeValue v m n) world name object there in
       ⊎_elim
       (λ (same : r.0 ≡ object). (r.0, r.1, let e = ap (λ (p : WorldObject). p.value) same in omega (arith, e)))
       (λ (stores : StoresIn world (own_section s) (ExchangeValue v m n) name).
@@ -60,7 +60,7 @@ module _ (sh : Shape) (w : Words) (s : SeatState) (v m n : ℕ) (world : World) 
 -- another step leaves the object
 left_by : (sh : Shape) (w : Words) (s : SeatState) (step : Step) (world : World) (name : Name) (object : WorldObject) → object_of world name ≡ Some object → (StoresIn world (own_section s) step name → ⊥) → Raised (world_by sh w s step world) name object false
 left_by sh w s step world name object there none =
-    let r = none-forgotten sh w s step world name object there in
+    let r = none_forgotten sh w s step world name object there in
     ⊎_elim (λ (same : r.0 ≡ object). (r.0, r.1, let e = ap (λ (p : WorldObject). p.value) same in omega (arith, e))) (λ (stores : StoresIn world (own_section s) step name). absurd (none stores)) r.2
 
 raised_at : (c : Core) (s : SeatState) (step : Step) (world : World) (name : Name) (object : WorldObject) → object_of world name ≡ Some object → (StoresIn world (own_section s) step name → IsRaise step)
@@ -72,13 +72,13 @@ raised_of : (c : Core) (o : Option SeatState) (step : Step) (world : World) (nam
 raised_of c None step world name object there only = (object, there, omega arith)
 raised_of c (Some s) step world name object there only = raised_at c s step world name object there only
 
-pub raises-counted : RaisesCounted
-raises-counted c world [] ok name object there only = (object, there, omega arith)
-raises-counted c world (e ∷ es) ok name object there only =
+pub raises_counted : RaisesCounted
+raises_counted c world [] ok name object there only = (object, there, omega arith)
+raises_counted c world (e ∷ es) ok name object there only =
     let d : Core = after_event c e in
     let next : World = world_after c e world in
     let one = raised_of c (slice_get c.seats e.seat) e.step world name object there only.0 in
-    let rest = raises-counted d next es ok.1 name one.0 one.1 only.1 in
+    let rest = raises_counted d next es ok.1 name one.0 one.1 only.1 in
     let grown = one.2 in
     let later = rest.2 in
     (rest.0, ap (λ (x : World). object_of x name) (world-first c e es world ok.0) ∙ rest.1, omega (arith, grown, later))

@@ -14,7 +14,7 @@ use Rattle.gc_table.proofs.State.StateSteps.{some-same}
 use Rattle.heap_runs.specs.Agreement.{AgreesWith}
 use Rattle.heap_runs.specs.Laws.{TellsIn, TellsOf, found_of}
 use Rattle.heap_runs.specs.World.{World}
-use Rattle.heap_runs.proofs.Kept.{runs-agree}
+use Rattle.heap_runs.proofs.Kept.{runs_agree}
 use Rattle.heap_runs.proofs.Telling.{tells-once}
 use Rattle.heap_runs.specs.Finding.{StepsFind, heap_found}
 
@@ -23,7 +23,7 @@ steps-find step n v f =
     let c : Core = f.state.core in
     let world : World = heap_found step n v f in
     let e : Event = record { seat = f.index; step = step } in
-    let agrees : AgreesWith c world = subst (λ (d : Core). AgreesWith d world) f.led.leads (runs-agree c.shape 1 f.past f.whole.core.formed.shaped (omega arith) (omega arith) f.led.fit) in
+    let agrees : AgreesWith c world = subst (λ (d : Core). AgreesWith d world) f.led.leads (runs_agree c.shape 1 f.past f.whole.core.formed.shaped (omega arith) (omega arith) f.led.fit) in
     let tells : TellsIn c world v.state step (found_of c (Some v.state) step) = subst (λ (o : Option SeatState). TellsOf c world o step) f.agrees.seat (tells-once c world e f.whole.core agrees f.allowed) in
     let acted : (s : SeatState) × Acted c e s = acts c e f.whole.core f.allowed in
     let same : acted.0 ≡ v.state = some-same acted.0 v.state (sym acted.1.seat ∙ f.agrees.seat) in

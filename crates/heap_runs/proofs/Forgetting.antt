@@ -96,26 +96,26 @@ part_keeps world i fields part word name object true b e h = object-kept world i
 part_keeps world i fields part word name object false true e h = object-kept world i (λ (x : WorldSection). record x { coming = word }) name h refl ∙ e
 part_keeps world i fields part word name object false false e h = before-new world i fields name object h e
 
-pub none-forgotten : NoneForgotten
-none-forgotten sh w s (StoreField v i x) world name object e = changes world (variable_of world (own_section s) v) (with_reference i (stored world (own_section s) x)) name object e
-none-forgotten sh w s (StoreValue v n) world name object e = changes world (variable_of world (own_section s) v) (with_value n) name object e
-none-forgotten sh w s (ExchangeField v i x y) world name object e =
+pub none_forgotten : NoneForgotten
+none_forgotten sh w s (StoreField v i x) world name object e = changes world (variable_of world (own_section s) v) (with_reference i (stored world (own_section s) x)) name object e
+none_forgotten sh w s (StoreValue v n) world name object e = changes world (variable_of world (own_section s) v) (with_value n) name object e
+none_forgotten sh w s (ExchangeField v i x y) world name object e =
     let from : Option Name = stored world (own_section s) x in
     let to : Option Name = stored world (own_section s) y in
     exchanged world (variable_of world (own_section s) v) (is_same (reference_of object i) from) (with_exchanged i from to) (with_reference i to) name object (HasReference world name i from) e refl (λ b. (object, e, same-is (reference_of object i) from b))
-none-forgotten sh w s (ExchangeValue v m n) world name object e =
+none_forgotten sh w s (ExchangeValue v m n) world name object e =
     exchanged world (variable_of world (own_section s) v) (eqb object.value m) (with_exchanged_value m n) (with_value n) name object (HasValue world name m) e refl (λ b. (object, e, eqb-true object.value m b))
-none-forgotten sh w s (StoreRoot v r) world name object e = keeps world (own_section s) (own_section s) (StoreRoot v r) (with_variable v (referred w.identities r)) name object (λ h. object-kept world (own_section s) (with_variable v (referred w.identities r)) name h refl ∙ e) e
-none-forgotten sh w s (StoreSlot j r) world name object e =
+none_forgotten sh w s (StoreRoot v r) world name object e = keeps world (own_section s) (own_section s) (StoreRoot v r) (with_variable v (referred w.identities r)) name object (λ h. object-kept world (own_section s) (with_variable v (referred w.identities r)) name h refl ∙ e) e
+none_forgotten sh w s (StoreSlot j r) world name object e =
     let f : WorldSection → WorldSection = with_variable (32 + j) (referred w.identities r) in keeps world (own_section s) (own_section s) (StoreSlot j r) f name object (λ h. object-kept world (own_section s) f name h refl ∙ e) e
-none-forgotten sh w s (ReadSlot j) world name object e =
+none_forgotten sh w s (ReadSlot j) world name object e =
     let f : WorldSection → WorldSection = with_register (variable_of world (own_section s) (32 + j)) in keeps world (own_section s) (own_section s) (ReadSlot j) f name object (λ h. object-kept world (own_section s) f name h refl ∙ e) e
-none-forgotten sh w s (ReadOwn c i) world name object e =
+none_forgotten sh w s (ReadOwn c i) world name object e =
     let f : WorldSection → WorldSection = with_register (followed (object_of world (name_at w.identities c)) i) in
     keeps world (own_section s) (own_section s) (ReadOwn c i) f name object (λ h. object-kept world (own_section s) f name h refl ∙ e) e
-none-forgotten sh w s (ReadCat v) world name object e =
+none_forgotten sh w s (ReadCat v) world name object e =
     let f : WorldSection → WorldSection = with_register (variable_of world 0 v) in keeps world (own_section s) (own_section s) (ReadCat v) f name object (λ h. object-kept world (own_section s) f name h refl ∙ e) e
-none-forgotten sh w s (StoreNew c part word) world name object e =
+none_forgotten sh w s (StoreNew c part word) world name object e =
     keeps world (own_section s) (own_section s) (StoreNew c part word) (with_part sh.fields part word) name object
     (part_keeps world (own_section s) sh.fields part word name object (nat_lt part sh.fields) (eqb part sh.fields) e) e
-none-forgotten sh w s step world name object e = (object, e, inl refl)
+none_forgotten sh w s step world name object e = (object, e, inl refl)

@@ -33,5 +33,5 @@ stays c (e ∷ es) core ok k x below =
         (subst (λ (d : Core). Stays (run_of (take k es) (after_event c e)) d x) (sym then)
         (later k x (omega arith)))
 
-pub none-freed : NoneFreed
-none-freed sh n es run k x below = stays (start_core sh n) es (λ m. run-sound m es (start_core sh n) (core-starts sh n run.shape run.seats.0 run.seats.1) run.fit) run.allowed k x below
+pub none_freed : NoneFreed
+none_freed sh n es run k x below = stays (start_core sh n) es (λ m. run-sound m es (start_core sh n) (core-starts sh n run.shape run.seats.0 run.seats.1) run.fit) run.allowed k x below

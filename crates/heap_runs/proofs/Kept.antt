@@ -100,5 +100,5 @@ run_from (e ∷ es) c world k a fit =
     run_from es (after_event c e) (world_after c e world) (core_kept c e k (All-head (λ (x : Event). NumbersFit x.step) e es fit) f) (agrees-kept c e world k a f)
     (All-tail (λ (x : Event). NumbersFit x.step) e es fit)) (failing_part c e) refl
 
-pub runs-agree : RunsAgree
-runs-agree sh n es z some few fit = run_from es (start_core sh n) (start_world sh) (core-starts sh n z some few) (agrees-starts sh n z) fit
+pub runs_agree : RunsAgree
+runs_agree sh n es z some few fit = run_from es (start_core sh n) (start_world sh) (core-starts sh n z some few) (agrees-starts sh n z) fit

@@ -24,7 +24,7 @@ use Rattle.heap_runs.specs.World.{World, WorldObject, object_of, reference_of, n
 use Rattle.heap_runs.specs.Agreement.{HoldsObject, AgreesWith}
 use Rattle.heap_runs.specs.Laws.{IsWorldPath, IsCellFor, ReachedHaveCells, world_run}
 use Rattle.heap_runs.proofs.Heap.{none-some}
-use Rattle.heap_runs.proofs.Kept.{runs-agree}
+use Rattle.heap_runs.proofs.Kept.{runs_agree}
 use Rattle.heap_runs.proofs.Seats.{used-exists}
 
 either_used : (b u m : Bool) → (m ≡ true → u ≡ true) → cond b u m ≡ true → u ≡ true
@@ -90,4 +90,4 @@ along c world name (before ∷ path) k a (leads, p) =
 
 pub reached-cells : ReachedHaveCells
 reached-cells sh n es z some few fit name reached =
-    along (run_of es (start_core sh n)) (world_run es (start_core sh n) (start_world sh)) name reached.0 (runs_sound sh n es z some few fit) (runs-agree sh n es z some few fit) reached.1
+    along (run_of es (start_core sh n)) (world_run es (start_core sh n) (start_world sh)) name reached.0 (runs_sound sh n es z some few fit) (runs_agree sh n es z some few fit) reached.1

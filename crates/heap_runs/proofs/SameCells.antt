@@ -24,5 +24,5 @@ words-same c (suc x) (suc y) k u v e =
     let name : name_at (words_of c.shape c.words).identities x ≡ name_at (words_of c.shape c.words).identities y = same_Some _ _ e in
     ap (λ (n : ℕ). suc n) (k.sound.caches.distinct x (used-exists c k x a) y (used-exists c k y b) a b (omega (arith, ap (λ (n : Name). n.section) name, ap (λ (n : Name). n.number) name)))
 
-pub same-words : SameWords
-same-words sh n es z some few fit r q u v e = words-same (run_of es (start_core sh n)) r q (runs_sound sh n es z some few fit) u v e
+pub same_words : SameWords
+same_words sh n es z some few fit r q u v e = words-same (run_of es (start_core sh n)) r q (runs_sound sh n es z some few fit) u v e

@@ -55,8 +55,8 @@ tells-on (e ∷ es) c world core ok a (suc k) f at =
     subst (λ (x : Core). TellsOf x (world_run (e ∷ take k es) c world) (slice_get x.seats f.seat) f.step) (sym (run-first c e (take k es) ok.0))
     (subst (λ (y : World). TellsOf (run_of (take k es) (after_event c e)) y (slice_get (run_of (take k es) (after_event c e)).seats f.seat) f.step) (sym (world-first c e (take k es) world ok.0)) rest)
 
-pub threads-share-one-heap : ThreadsShareOneHeap
-threads-share-one-heap sh seats w end =
+pub threads_share_one_heap : ThreadsShareOneHeap
+threads_share_one_heap sh seats w end =
     let ran = closed_ran sh seats w end in
     let all : AreAllowed (start_core sh 1) ran.0 = allowed 0 ran.0 (start_core sh 1) ran.1.allowed in
     let start : AgreesWith (start_core sh 1) (start_world sh) = agrees-starts sh 1 (ran.1.sound 0).formed.shaped in

@@ -26,7 +26,7 @@ use Rattle.heap_runs.specs.World.{World, WorldObject, section_of, variable_of, o
 use Rattle.heap_runs.specs.Agreement.{HoldsObject, SeatAgrees, AgreesWith}
 use Rattle.heap_runs.specs.Laws.{KnowsName, MayHold, TellsIn, TellsOf, ReadsTell, world_run}
 use Rattle.heap_runs.proofs.Frame.{IsLast}
-use Rattle.heap_runs.proofs.Kept.{runs-agree}
+use Rattle.heap_runs.proofs.Kept.{runs_agree}
 use Rattle.heap_runs.proofs.Reading.{own-found, cat-found, slot-found}
 use Rattle.heap_runs.proofs.Seats.{Mutates, mutates}
 use Rattle.heap_runs.proofs.Stores.{env-agrees, not-nil}
@@ -147,4 +147,4 @@ tells-once c world e k a f =
 
 pub reads-tell : ReadsTell
 reads-tell sh n es z some few fit e f =
-    tells-once (run_of es (start_core sh n)) (world_run es (start_core sh n) (start_world sh)) e (runs_sound sh n es z some few fit) (runs-agree sh n es z some few fit) f
+    tells-once (run_of es (start_core sh n)) (world_run es (start_core sh n) (start_world sh)) e (runs_sound sh n es z some few fit) (runs_agree sh n es z some few fit) f

@@ -13,7 +13,7 @@ pub allowed : (i : ℕ) (es : List Event) (c : Core) → first_refused i es c �
 allowed i [] c h = tt
 allowed i (e ∷ es) c h = let first = first-allowed i e es c h in (first.0, allowed (i + 1) es _ first.1)
 
-pub threads-free-none : ThreadsFreeNone
-threads-free-none sh seats w end =
+pub threads_free_none : ThreadsFreeNone
+threads_free_none sh seats w end =
     let ran = closed_ran sh seats w end in
     (ran.0, ran.1, λ k x below. stays (start_core sh 1) ran.0 ran.1.sound (allowed 0 ran.0 (start_core sh 1) ran.1.allowed) k x below)

@@ -19,7 +19,7 @@ use Rattle.mark_core.specs.declared.seat.SeatState.{SeatState}
 use Rattle.heap_runs.specs.World.{World, variable_of, name_at, own_section, start_world}
 use Rattle.heap_runs.specs.Agreement.{AgreesWith}
 use Rattle.heap_runs.specs.Laws.{StoresIn, UnsharedStores, world_run}
-use Rattle.heap_runs.proofs.Kept.{runs-agree}
+use Rattle.heap_runs.proofs.Kept.{runs_agree}
 use Rattle.heap_runs.proofs.Seats.{Mutates, mutates}
 use Rattle.heap_runs.proofs.Stores.{Refers, refers}
 
@@ -53,4 +53,4 @@ unshared-stores sh n es z some few fit e s f g unshared name stores =
     let r : (t : SeatState) × Acted c e t = acts c e (runs_sound sh n es z some few fit) f in
     let same : r.0 ≡ s = same_Some r.0 s (sym r.1.seat ∙ g) in
     let taken : Taken c e.seat s e.step = subst (λ (t : SeatState). Taken c e.seat t e.step) same (record { core = runs_sound sh n es z some few fit; got = r.1.seat; live = r.1.live; ok = r.1.ok }) in
-    unshared_at c e.seat s e.step (world_run es (start_core sh n) (start_world sh)) name taken (runs-agree sh n es z some few fit) unshared stores
+    unshared_at c e.seat s e.step (world_run es (start_core sh n) (start_world sh)) name taken (runs_agree sh n es z some few fit) unshared stores

@@ -23,14 +23,14 @@ use Rattle.heap_runs.specs.Agreement.{AgreesWith}
 use Rattle.heap_runs.specs.Laws.{StoresIn, StoresOf, ObjectsStay, FindsReference, FindsValue, Exchanges, WonOnce, ExchangesField, FieldWonOnce, found_of, world_of, world_after, world_run}
 use Rattle.heap_runs.proofs.Exchanges.{same-as}
 use Rattle.heap_runs.proofs.ExchangesFind.{finds-value, finds-reference}
-use Rattle.heap_runs.proofs.Forgetting.{none-forgotten}
+use Rattle.heap_runs.proofs.Forgetting.{none_forgotten}
 use Rattle.heap_runs.proofs.Kept.{agrees-kept}
 
 -- one step that doesn't store in the object
 step_stays : (c : Core) (o : Option SeatState) (step : Step) (world : World) (name : Name) (object : WorldObject) → object_of world name ≡ Some object → (StoresOf world o step name → ⊥) → object_of (world_of c o step world) name ≡ Some object
 step_stays c None step world name object e none = e
 step_stays c (Some s) step world name object e none =
-    let r = none-forgotten c.shape (words_of c.shape c.words) s step world name object e in
+    let r = none_forgotten c.shape (words_of c.shape c.words) s step world name object e in
     ⊎_elim
     (λ (same : r.0 ≡ object). r.1 ∙ ap (λ (x : WorldObject). Some x) same)
     (λ (stores : StoresIn world (own_section s) step name). absurd (none stores))
@@ -40,11 +40,11 @@ stays_by : (es : List Event) (c d : Core) (world after : World) (name : Name) (o
 stays_by es c d world after name object true e f = f
 stays_by es c d world after name object false e f = e
 
-pub objects-stay : ObjectsStay
-objects-stay c world [] name object e none = e
-objects-stay c world (x ∷ es) name object e none =
+pub objects_stay : ObjectsStay
+objects_stay c world [] name object e none = e
+objects_stay c world (x ∷ es) name object e none =
     stays_by es c (after_event c x) world (world_after c x world) name object (is_none (failing_part c x)) e
-    (objects-stay (after_event c x) (world_after c x world) es name object (step_stays c (slice_get c.seats x.seat) x.step world name object e none.0) none.1)
+    (objects_stay (after_event c x) (world_after c x world) es name object (step_stays c (slice_get c.seats x.seat) x.step world name object e none.0) none.1)
 
 -- what is known of an exchange of a value
 record Told (c : Core) (world : World) (e : Event) (name : Name) (m n word : ℕ) : Type 0 where
@@ -96,7 +96,7 @@ won-once c world e name m n k a fit x es fits none f l word y =
     let first : Told c world e name m n m = told c world e name m n m k a x in
     let held : WorldObject = with_value n first.object in
     let won : object_of after name ≡ Some held = first.after ∙ ap (λ (b : Bool). Some (cond b held first.object)) (eq-eqb m m refl) in
-    let stays : object_of (world_run es d after) name ≡ Some held = objects-stay d after es name held won none in
+    let stays : object_of (world_run es d after) name ≡ Some held = objects_stay d after es name held won none in
     let whole = run_whole es d after (core_kept c e k fit x.allowed) (agrees-kept c e world k a x.allowed) fits in
     let second : Told (run_of es d) (world_run es d after) f name m l word = told (run_of es d) (world_run es d after) f name m l word whole.0 whole.1 y in
     second.value ∙ ap (λ (o : WorldObject). o.value) (same_Some second.object held (sym second.there ∙ stays))
@@ -145,7 +145,7 @@ field-won-once c world e name i from to word k a fit x won es fits none f asked 
     let was : reference_of first.object i ≡ from = sym first.refers ∙ won in
     let yes : is_same (reference_of first.object i) from ≡ true = subst (λ (o : Option Name). is_same (reference_of first.object i) o ≡ true) was (same-as (reference_of first.object i)) in
     let there : object_of after name ≡ Some held = first.after ∙ ap (λ (b : Bool). Some (cond b held first.object)) yes in
-    let stays : object_of (world_run es d after) name ≡ Some held = objects-stay d after es name held there none in
+    let stays : object_of (world_run es d after) name ≡ Some held = objects_stay d after es name held there none in
     let whole = run_whole es d after (core_kept c e k fit x.allowed) (agrees-kept c e world k a x.allowed) fits in
     let second : ToldField (run_of es d) (world_run es d after) f name i asked given word2 = told_field (run_of es d) (world_run es d after) f name i asked given word2 whole.0 whole.1 y in
     second.refers ∙ (ap (λ (o : WorldObject). reference_of o i) (same_Some second.object held (sym second.there ∙ stays)) ∙ get_or-set_same first.object.refs i to None first.exists)

@@ -19,18 +19,21 @@ ghost use Rattle.heap_runs.specs.Single.{CounterTold, LockHeld};
 ghost use Rattle.heap_runs.specs.Threads.{ThreadsFreeNone};
 
 /// On each run of the core, whichever seats act and in whatever order, no event frees a cell that is reachable just before it.
+#[tactic(auto, using(crate::proofs::Freeing::none_freed))]
 pub fn none_freed()
     ensures { NoneFreed }
 {}
 
 /// Whatever threads did with the seats of a heap that was closed, it is one run of the core, and no event of it frees a cell that is reachable just
 /// before it.
+#[tactic(auto, using(crate::proofs::Threads::threads_free_none))]
 pub fn threads_free_none()
     ensures { ThreadsFreeNone }
 {}
 
 /// Whatever threads did with the seats of a heap that was closed, also where they shared its objects, it is one run of the core, in which each thread's steps
 /// come in their order. After each step the words agree with one plain heap that forgets nothing, and whatever a step read is what this heap had just before.
+#[tactic(auto, using(crate::proofs::Sharing::threads_share_one_heap))]
 pub fn threads_share_one_heap()
     ensures { ThreadsShareOneHeap }
 {}
@@ -55,6 +58,7 @@ pub fn root_found()
 
 /// An object in which nobody stores but by exchanges, each of a number for the next, is a counter: its value has grown by the number of exchanges that were won,
 /// whichever threads took them and in whatever order.
+#[tactic(auto, using(crate::proofs::Counting::raises_counted))]
 pub fn raises_counted()
     ensures { RaisesCounted }
 {}
@@ -87,6 +91,7 @@ pub fn events_agree()
 {}
 
 /// Every run, whichever seats act and in whatever order, leads to a state that agrees with the heap that its events make.
+#[tactic(auto, using(crate::proofs::Kept::runs_agree))]
 pub fn runs_agree()
     ensures { RunsAgree }
 {}
@@ -103,11 +108,13 @@ pub fn reached_have_cells()
 {}
 
 /// No step forgets an object, and none changes one but a store in it, or an exchange that finds there what it expects, by a seat one of whose variables refers to it.
+#[tactic(auto, using(crate::proofs::Forgetting::none_forgotten))]
 pub fn none_forgotten()
     ensures { NoneForgotten }
 {}
 
 /// An object stays as it is over events none of which stores in it; an exchange stores where it finds what it expects.
+#[tactic(auto, using(crate::proofs::Winning::objects_stay))]
 pub fn objects_stay()
     ensures { ObjectsStay }
 {}
@@ -125,6 +132,7 @@ pub fn field_won_once()
 {}
 
 /// After every run two references to cells in use are the same word exactly where they refer to the same object: so a seat can compare them.
+#[tactic(auto, using(crate::proofs::SameCells::same_words))]
 pub fn same_words()
     ensures { SameWords }
 {}
