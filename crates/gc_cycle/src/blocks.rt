@@ -1,50 +1,20 @@
-//! Blocks are cleared of their marks, and swept: the calls of `sweeper`, told in the words of this crate.
+//! Blocks are swept: a call of `sweeper`, told in the words of this crate.
 ghost use Rattle.std.specs.Prelude.{◌≡◌, ◌<◌, ◌≤◌, ◌+◌, ◌&&◌, ◌⊎◌, None, IsTrue, IsFalse, IfSome, IfNone, ◌*◌, length};
 ghost use Rattle.mark_core.specs.Layout.{block_count};
 ghost use Rattle.mark_core.specs.Places.{the_phase};
 ghost use Rattle.mark_core.specs.Seats.{cleaning_left, is_the, phase_number, saw};
-ghost use Rattle.mark_core.specs.declared.kinds.Phase.TheVariants.{Clear, Sweep};
+ghost use Rattle.mark_core.specs.declared.kinds.Phase.TheVariants.{Sweep};
 ghost use Rattle.gc_table.specs.Log.{Only};
 ghost use Rattle.gc_table.specs.Notes.{look};
-ghost use Rattle.gc_table.specs.Running.{Known, Ran};
+ghost use Rattle.gc_table.specs.Running.{Ran};
 ghost use Rattle.gc_table.specs.Seats.{Across, did, Sits, state_of, view_of};
 ghost use Rattle.packet_pools.specs.Counts.{count_of};
 ghost use Rattle.packet_pools.specs.Seeking.{some_event};
-ghost use Rattle.card_clean.specs.Leaving.{rescanned_in};
 ghost use Rattle.sweeper.specs.Freeing.{freed_in, block_floor};
-ghost use Rattle.sweeper.specs.Sweepers.{is_sweeping};
-ghost use Rattle.gc_cycle.specs.Finishing.{IsAloneIn, IsPart};
 ghost use Rattle.gc_cycle.specs.Lower.{sweeps_next};
 ghost use Rattle.gc_cycle.specs.Sorts.{draws_block, sees_last_block};
 
 use gc_table::{Heap, HeapSeat};
-
-/// Clears the marks of every block.
-pub(crate) fn clear_rest(heap: &Heap, seat: &mut HeapSeat)
-    requires seat { Sits heap.now seat.old }
-    requires alone { IsAloneIn Clear (view_of seat.old) }
-    ensures seat { Sits heap.now seat.new }
-    ensures part { Across (IsPart Clear) seat.old seat.new }
-    ensures end { block_count heap.now.shape ≤ block_floor (view_of seat.new) }
-    ensures rescanned { rescanned_in (view_of seat.old) (did seat.old seat.new) ≡ 0 }
-{
-    sweeper::clear_rest(heap, seat);
-}
-
-/// Sweeps every block that is left: how many cells were freed.
-pub(crate) fn sweep_rest(heap: &Heap, seat: &mut HeapSeat) -> u32
-    requires seat { Sits heap.now seat.old }
-    requires sweeps { IsTrue (state_of seat.old).knows × Known (view_of seat.old) the_phase (phase_number Sweep) × ((state_of seat.old).block ≡ None) }
-    ensures seat { Sits heap.now seat.new }
-    ensures ran { Across Ran seat.old seat.new }
-    ensures only { Across (Only is_sweeping) seat.old seat.new }
-    ensures state { state_of seat.new ≡ record (state_of seat.old) { below_block = (state_of seat.new).below_block; cleaning = (state_of seat.new).cleaning } }
-    ensures left { IsFalse (cleaning_left (state_of seat.old).cleaning) → IsFalse (cleaning_left (state_of seat.new).cleaning) }
-    ensures end { block_count heap.now.shape ≤ block_floor (view_of seat.new) }
-    ensures freed { freed_in (view_of seat.old) (did seat.old seat.new) ≡ result }
-{
-    sweeper::sweep_rest(heap, seat)
-}
 
 /// Sweeps the next stretch of blocks: how many of their cells were freed. None where no block is left.
 pub fn sweep_next(heap: &Heap, seat: &mut HeapSeat) -> Option<u32>

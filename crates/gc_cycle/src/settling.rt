@@ -68,19 +68,6 @@ fn set_statistic(heap: &Heap, seat: &mut HeapSeat, which: u8, number: u32)
     heap.add_stat(seat, which, number, false);
 }
 
-/// Sets the counter of cards, or a statistic up to `FREE`, to 0.
-fn clear_statistic(heap: &Heap, seat: &mut HeapSeat, which: u8)
-    requires seat { Sits heap.now seat.old }
-    requires alone { IsAloneIn Idle (view_of seat.old) }
-    requires which { which ≤ free_count }
-    ensures seat { Sits heap.now seat.new }
-    ensures sets { Across (Sets which 0) seat.old seat.new }
-    ensures numbers { Across (ChangesBy (Reset which ∷ [])) seat.old seat.new }
-    ensures few { length (did seat.old seat.new) ≤ 1 }
-{
-    heap.reset(seat, which);
-}
-
 /// Sets the numbers that pace the next cycle, once the cells in use were counted.
 pub fn set_numbers(
     heap: &Heap,
@@ -105,8 +92,8 @@ pub fn set_numbers(
     set_statistic(heap, seat, LAST, marked);
     set_statistic(heap, seat, RESCANNED, rescanned);
     set_statistic(heap, seat, FREE, free);
-    clear_statistic(heap, seat, TRACED);
-    clear_statistic(heap, seat, CARD_COUNTER);
+    heap.reset(seat, TRACED);
+    heap.reset(seat, CARD_COUNTER);
     Counts {
         marked,
         freed,

@@ -1,18 +1,32 @@
 use Rattle.std.proofs.Common.{[], ◌∷◌, ◌++◌, refl, ap, ◌∙◌, arith, not}
 use Rattle.mark_core.specs.declared.kinds.Phase.TheVariants.{Clear, Drain}
 use Rattle.mark_core.specs.declared.kinds.Step.TheVariants.{StorePhase}
+use Rattle.mark_core.specs.Layout.{block_count}
 use Rattle.gc_table.specs.Seats.{view_of}
 use Rattle.gc_table.specs.declared.view.View.{View}
 use Rattle.gc_table.specs.Log.{event, events}
 use Rattle.gc_table.proofs.Running.{ran-events, ran-join, ran-only}
+use Rattle.sweeper.specs.Sweepers.{is_clearing}
 use Rattle.gc_cycle.specs.Events.{never}
 use Rattle.gc_cycle.specs.Finishing.{finishes}
 use Rattle.card_clean.specs.Leaving.{rescans}
 use Rattle.gc_cycle.specs.Sorts.{ends_cycle, tells_full, tries_marking}
+use Rattle.gc_cycle.proofs.ClearedBlocks.{cleared-part, clearing-rescans, may-clear}
+use Rattle.gc_cycle.proofs.Ends.Swept.{floor-above}
+use Rattle.gc_cycle.proofs.Sequences.{total-none}
 use Rattle.gc_cycle.proofs.Ends.Completing.{freed-move, freed-none, freed-run, move-total, part-unended, part-untold, part-untried, total-run}
 use Rattle.gc_cycle.proofs.Ends.Finishes.{begins-later, never-both}
 use Rattle.gc_cycle.proofs.Parts.{move-finishes, part-finishes}
 use Rattle.gc_cycle.proofs.clearing.clear_all_marks.Goals as goal
+
+pub clear_rest-requires : goal.clear_rest-requires
+clear_rest-requires c = let b = c.begin_clear.ensures in record { seat = (b.seat, may-clear (view_of c.begin_clear.new.seat) b.moved.alone) }
+
+pub begin_again-requires-clause-alone : goal.begin_again-requires-clause-alone
+begin_again-requires-clause-alone c = let r = c.clear_rest.ensures in (cleared-part (view_of c.begin_clear.new.seat) (view_of c.clear_rest.new.seat) c.begin_clear.ensures.moved.alone r.ran r.only r.state).alone
+
+pub begin_again-requires-clause-end : goal.begin_again-requires-clause-end
+begin_again-requires-clause-end c = floor-above (block_count c.args.heap.now.shape) (view_of c.clear_rest.new.seat) c.clear_rest.ensures.end
 
 pub returns-clause-begun : goal.returns-clause-begun
 returns-clause-begun c =
@@ -21,7 +35,8 @@ returns-clause-begun c =
     let x : View = view_of c.clear_rest.new.seat in
     let y : View = view_of c.begin_again.new.seat in
     let m = c.begin_clear.ensures.moved in
-    let p = c.clear_rest.ensures.part in
+    let r = c.clear_rest.ensures in
+    let p = cleared-part w x m.alone r.ran r.only r.state in
     begins-later v x y (ran-join v w x m.ran p.ran)
     (ran-only finishes v w x m.ran p.ran (move-finishes Drain Clear v w m) (part-finishes Clear w x p))
     (ap (never tells_full) (ran-events v w x m.ran p.ran) ∙ never-both tells_full (events v w) (events w x) (ap (never tells_full) m.events_are) (ap not (part-untold Clear w x p)))
@@ -36,12 +51,13 @@ returns-clause-rescanned c =
     let x : View = view_of c.clear_rest.new.seat in
     let y : View = view_of c.begin_again.new.seat in
     let m = c.begin_clear.ensures.moved in
-    let p = c.clear_rest.ensures.part in
+    let r = c.clear_rest.ensures in
+    let p = cleared-part w x m.alone r.ran r.only r.state in
     let b = c.begin_again.ensures.begun in
     let all = total-run rescans v w y m.ran (ran-join w x y p.ran b.ran) in
     let later = total-run rescans w x y p.ran b.ran in
     let one = move-total rescans Drain Clear (λ s n. refl) v w m in
-    let two = c.clear_rest.ensures.rescanned in
+    let two = total-none rescans is_clearing clearing-rescans (events w x) w r.only in
     let three = c.begin_again.ensures.rescanned in
     omega (arith, all, later, one, two, three)
 
@@ -52,7 +68,8 @@ returns-clause-freed c =
     let x : View = view_of c.clear_rest.new.seat in
     let y : View = view_of c.begin_again.new.seat in
     let m = c.begin_clear.ensures.moved in
-    let p = c.clear_rest.ensures.part in
+    let r = c.clear_rest.ensures in
+    let p = cleared-part w x m.alone r.ran r.only r.state in
     let b = c.begin_again.ensures.begun in
     let all = freed-run v w y m.ran (ran-join w x y p.ran b.ran) in
     let later = freed-run w x y p.ran b.ran in
@@ -68,5 +85,5 @@ returns-clause-clears c =
     let x : View = view_of c.clear_rest.new.seat in
     let y : View = view_of c.begin_again.new.seat in
     let m = c.begin_clear.ensures.moved in
-    let rest = ran-join w x y c.clear_rest.ensures.part.ran c.begin_again.ensures.begun.ran in
+    let rest = ran-join w x y c.clear_rest.ensures.ran c.begin_again.ensures.begun.ran in
     (events w y, ran-events v w y m.ran rest ∙ ap (λ es. es ++ events w y) (m.events_are ∙ ap (λ n. event (StorePhase Clear) n ∷ []) m.from_is))

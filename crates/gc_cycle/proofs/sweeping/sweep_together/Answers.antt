@@ -1,8 +1,8 @@
 use Rattle.std.proofs.Common.{ℕ, ◌≡◌, ◌≤◌, refl, sym, subst, ap, ◌∙◌, Bool, true, false, Option}
-use Rattle.std.proofs.lemmas.Bool.{false≢true}
+use Rattle.std.proofs.lemmas.Bool.{and_from, false≢true, or_left}
 use Rattle.mark_core.specs.Layout.{block_count}
 use Rattle.mark_core.specs.Places.{the_phase}
-use Rattle.mark_core.specs.Seats.{cleaning_left}
+use Rattle.mark_core.specs.Seats.{cleaning_left, is_the}
 use Rattle.mark_core.specs.Steps.WorldSteps.{has_nothing}
 use Rattle.mark_core.specs.declared.kinds.Phase.TheVariants.{Sweep}
 use Rattle.mark_core.specs.declared.kinds.Shape.{Shape}
@@ -25,7 +25,7 @@ use Rattle.gc_cycle.proofs.Stops.Opened.{closed, closes-block_floor, open-event,
 use Rattle.gc_cycle.proofs.Stops.Unopened.{openable}
 use Rattle.gc_cycle.proofs.Sequences.{freed-same}
 use Rattle.gc_table.specs.Log.{events}
-use Rattle.gc_cycle.proofs.Ends.Swept.{done-of, nothing_by, sweeps-quiet, sweeps-stay}
+use Rattle.gc_cycle.proofs.Ends.Swept.{cleaning-done, done-of, floor-above, nothing_by, sweeps-quiet, sweeps-stay}
 use Rattle.gc_cycle.proofs.sweeping.sweep_together.Goals as goal
 
 closes-none : (s : SeatState) (step : Step) (n : ℕ) → closes step ≡ true → frees s step n ≡ 0
@@ -48,14 +48,15 @@ swept-open v w o sh b y e left k =
 pub open_help-requires-clause-openable : goal.open_help-requires-clause-openable
 open_help-requires-clause-openable g c = openable Sweep (view_of c.args.seat.now) c.args.seat.now.possible c.requires.alone refl
 
-pub sweep_rest-freed-requires-clause-sweeps : goal.sweep_rest-freed-requires-clause-sweeps
-sweep_rest-freed-requires-clause-sweeps g c =
+pub sweep_rest-freed-requires : goal.sweep_rest-freed-requires
+sweep_rest-freed-requires g c =
     let v : View = view_of c.args.seat.now in
     let w : View = view_of c.open_help.new.seat in
     let a = c.requires.alone in
     let known = c.open_help.ensures.phase Sweep (alone-phase Sweep v a.alone) in
     let o = opened Sweep v w a c.open_help.ensures.step known in
-    (o.knows, known, ap (λ (x : View). x.state.block) c.open_help.ensures.step.1.0 ∙ no-block v a.rest)
+    let may = or_left _ _ (and_from _ _ o.knows (ap (λ (n : Option ℕ). is_the n 3) known.0)) in
+    record { seat = (c.open_help.ensures.seat, record { may = may; free = ap (λ (x : View). x.state.block) c.open_help.ensures.step.1.0 ∙ no-block v a.rest }) }
 
 pub returns-clause-part : goal.returns-clause-part
 returns-clause-part g c =
@@ -68,7 +69,7 @@ returns-clause-part g c =
     let q = c.close_help.ensures in
     let o = opened Sweep v w a c.open_help.ensures.step (c.open_help.ensures.phase Sweep (alone-phase Sweep v a.alone)) in
     let known : Known x the_phase 3 = phase-kept is_sweeping 3 sweeps-quiet w x r.ran r.only o.knows o.phase in
-    let z = swept-open w x o (ran-shape w x r.ran) x.state.below_block x.state.cleaning r.state (r.left (done-of w o.rest)) known in
+    let z = swept-open w x o (ran-shape w x r.ran) false x.state.cleaning r.state (cleaning-done w x r.ran r.only (done-of w o.rest)) known in
     open-part Sweep v w x y c.open_help.ensures.step r.ran (only-more is_sweeping (stays_in Sweep) sweeps-stay w x r.only) q.ran q.only (closed Sweep x y z q.ran q.state q.phase)
 
 -- the seat has opened
@@ -87,7 +88,7 @@ returns-clause-end g c =
     let w : View = view_of c.open_help.new.seat in
     let x : View = view_of c.sweep_rest-freed.new.seat in
     let knows = there (view_of c.args.seat.now) w c.requires.alone c.open_help.ensures.step in
-    closes-block_floor (block_count c.args.heap.now.shape) x (view_of c.close_help.new.seat) c.close_help.ensures.ran c.close_help.ensures.only (ap (λ (s : SeatState). s.knows) c.sweep_rest-freed.ensures.state ∙ knows) c.sweep_rest-freed.ensures.end
+    closes-block_floor (block_count c.args.heap.now.shape) x (view_of c.close_help.new.seat) c.close_help.ensures.ran c.close_help.ensures.only (ap (λ (s : SeatState). s.knows) c.sweep_rest-freed.ensures.state ∙ knows) (floor-above (block_count c.args.heap.now.shape) x c.sweep_rest-freed.ensures.end)
 
 pub returns-clause-freed : goal.returns-clause-freed
 returns-clause-freed g c =
@@ -110,6 +111,6 @@ returns-clause-sweeps g c =
       part = returns-clause-part g c;
       opens = c.open_help.ensures.step;
       sweeps = (r.ran, r.only);
-      end = subst (λ (sh : Shape). block_count sh ≤ block_floor x) (sym c.requires.seat.1) r.end;
+      end = subst (λ (sh : Shape). block_count sh ≤ block_floor x) (sym c.requires.seat.1) (floor-above (block_count c.args.heap.now.shape) x r.end);
       closes = (q.ran, q.only);
     }
