@@ -21,10 +21,9 @@ mod storing;
 mod stretches;
 
 use runs::all_hold;
-use std::test::Fail;
 
 #[test]
-fn each_run_goes_as_told(rt: HostRuntime) -> Result<(), Fail> {
+fn each_run_goes_as_told(rt: HostRuntime) {
     for runs in [
         first::FIRST,
         barrier::BARRIER,
@@ -38,12 +37,14 @@ fn each_run_goes_as_told(rt: HostRuntime) -> Result<(), Fail> {
         exchanging::EXCHANGING,
         slots::SLOTS,
     ] {
-        all_hold(&rt, runs)?;
+        all_hold(&rt, runs);
     }
-    Ok(())
 }
 
 #[test]
-fn full_heap_is_found(rt: HostRuntime) -> Result<(), Fail> {
-    all_hold(&rt, filled::filled(rt.alloc())?.as_str())
+fn full_heap_is_found(rt: HostRuntime) {
+    let Ok(run) = filled::filled(rt.alloc()) else {
+        panic!(rt; "memory")
+    };
+    all_hold(&rt, run.as_str());
 }

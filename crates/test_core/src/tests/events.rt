@@ -2,149 +2,161 @@
 //! no schedule names, stand beside the others.
 use mark_core::{Cell, CoreState, Event, Rule, Step, phase_of};
 use std::str::SplitWhitespace;
-use std::test::Fail;
 
-fn number(words: &mut SplitWhitespace<'_>) -> Result<u32, Fail> {
-    Ok(words.next().ok_or("number")?.parse::<u32>()?)
+/// The parameters of a step in order. One that is no number is as great as may be, and so is one that is left out: no allowed step has it.
+#[derive(Clone, Copy)]
+struct Parameters {
+    words: [u64; 4],
 }
 
-fn byte(words: &mut SplitWhitespace<'_>) -> Result<u8, Fail> {
-    Ok(words.next().ok_or("byte")?.parse::<u8>()?)
-}
+impl Parameters {
+    fn read(told: SplitWhitespace<'_>) -> Parameters {
+        let mut words = [u64::MAX; 4];
+        for (word, number) in words.iter_mut().zip(told) {
+            *word = number.parse::<u64>().unwrap_or(u64::MAX);
+        }
+        Parameters { words }
+    }
 
-fn slot(words: &mut SplitWhitespace<'_>) -> Result<u16, Fail> {
-    Ok(words.next().ok_or("slot")?.parse::<u16>()?)
-}
+    fn long(&self, i: usize) -> u64 {
+        self.words.get(i).copied().unwrap_or(u64::MAX)
+    }
 
-fn long(words: &mut SplitWhitespace<'_>) -> Result<u64, Fail> {
-    Ok(words.next().ok_or("word")?.parse::<u64>()?)
-}
+    fn number(&self, i: usize) -> u32 {
+        u32::try_from(self.long(i)).unwrap_or(u32::MAX)
+    }
 
-fn cell(words: &mut SplitWhitespace<'_>) -> Result<Cell, Fail> {
-    Ok(Cell::make(number(words)?))
-}
+    fn slot(&self, i: usize) -> u16 {
+        u16::try_from(self.long(i)).unwrap_or(u16::MAX)
+    }
 
-/// A variable, or none.
-fn variable(words: &mut SplitWhitespace<'_>) -> Result<Option<u8>, Fail> {
-    match words.next().ok_or("variable")? {
-        "-" => Ok(None),
-        told => Ok(Some(told.parse::<u8>()?)),
+    fn byte(&self, i: usize) -> u8 {
+        u8::try_from(self.long(i)).unwrap_or(u8::MAX)
+    }
+
+    fn cell(&self, i: usize) -> Cell {
+        Cell::make(self.number(i))
+    }
+
+    /// A variable, or none.
+    fn variable(&self, i: usize) -> Option<u8> {
+        u8::try_from(self.long(i)).ok()
     }
 }
 
-fn of_packets(name: &str, words: &mut SplitWhitespace<'_>) -> Result<Option<Step>, Fail> {
-    Ok(Some(match name {
+fn of_packets(name: &str, told: Parameters) -> Option<Step> {
+    Some(match name {
         "reserve" => Step::Reserve,
         "take" => Step::Take {
-            q: byte(words)?,
-            p: number(words)?,
+            q: told.byte(0),
+            p: told.number(1),
         },
         "give" => Step::Give {
-            p: number(words)?,
-            deferred: number(words)? == 1,
+            p: told.number(0),
+            deferred: told.number(1) == 1,
         },
         "credit" => Step::Credit,
         "push" => Step::Push {
-            p: number(words)?,
-            cell: cell(words)?,
+            p: told.number(0),
+            cell: told.cell(1),
         },
-        "pop" => Step::Pop { p: number(words)? },
+        "pop" => Step::Pop { p: told.number(0) },
         "read_count" => Step::ReadCount,
-        "store_length" => Step::StoreLength { p: number(words)? },
-        "read_length" => Step::ReadLength { p: number(words)? },
-        _ => return Ok(None),
-    }))
+        "store_length" => Step::StoreLength { p: told.number(0) },
+        "read_length" => Step::ReadLength { p: told.number(0) },
+        _ => return None,
+    })
 }
 
-fn of_marking(name: &str, words: &mut SplitWhitespace<'_>) -> Result<Option<Step>, Fail> {
-    Ok(Some(match name {
-        "read_alloc" => Step::ReadAlloc { b: number(words)? },
+fn of_marking(name: &str, told: Parameters) -> Option<Step> {
+    Some(match name {
+        "read_alloc" => Step::ReadAlloc { b: told.number(0) },
         "read_field" => Step::ReadField {
-            c: cell(words)?,
-            i: byte(words)?,
+            c: told.cell(0),
+            i: told.byte(1),
         },
         "read_root" => Step::ReadRoot {
-            section: number(words)?,
-            v: byte(words)?,
+            section: told.number(0),
+            v: told.byte(1),
         },
         "load_slot" => Step::LoadSlot {
-            section: number(words)?,
-            k: slot(words)?,
+            section: told.number(0),
+            k: told.slot(1),
         },
-        "set_mark" => Step::SetMark { c: cell(words)? },
+        "set_mark" => Step::SetMark { c: told.cell(0) },
         "dirty_card" => Step::DirtyCard {
-            card: number(words)?,
+            card: told.number(0),
         },
         "clear_card" => Step::ClearCard {
-            card: number(words)?,
+            card: told.number(0),
         },
-        "read_marks" => Step::ReadMarks { b: number(words)? },
+        "read_marks" => Step::ReadMarks { b: told.number(0) },
         "read_phase" => Step::ReadPhase,
-        _ => return Ok(None),
-    }))
+        _ => return None,
+    })
 }
 
-fn of_mutators(name: &str, words: &mut SplitWhitespace<'_>) -> Result<Option<Step>, Fail> {
-    Ok(Some(match name {
+fn of_mutators(name: &str, told: Parameters) -> Option<Step> {
+    Some(match name {
         "read_own" => Step::ReadOwn {
-            c: cell(words)?,
-            i: byte(words)?,
+            c: told.cell(0),
+            i: told.byte(1),
         },
-        "read_value" => Step::ReadValue { c: cell(words)? },
-        "read_cat" => Step::ReadCat { v: byte(words)? },
+        "read_value" => Step::ReadValue { c: told.cell(0) },
+        "read_cat" => Step::ReadCat { v: told.byte(0) },
         "store_field" => Step::StoreField {
-            v: byte(words)?,
-            i: byte(words)?,
-            w: variable(words)?,
+            v: told.byte(0),
+            i: told.byte(1),
+            w: told.variable(2),
         },
         "store_value" => Step::StoreValue {
-            v: byte(words)?,
-            n: number(words)?,
+            v: told.byte(0),
+            n: told.number(1),
         },
         "store_root" => Step::StoreRoot {
-            v: byte(words)?,
-            r: long(words)?,
+            v: told.byte(0),
+            r: told.long(1),
         },
         "store_new" => Step::StoreNew {
-            c: cell(words)?,
-            part: byte(words)?,
-            word: long(words)?,
+            c: told.cell(0),
+            part: told.byte(1),
+            word: told.long(2),
         },
-        _ => return Ok(None),
-    }))
+        _ => return None,
+    })
 }
 
-fn of_sharers(name: &str, words: &mut SplitWhitespace<'_>) -> Result<Option<Step>, Fail> {
-    Ok(Some(match name {
+fn of_sharers(name: &str, told: Parameters) -> Option<Step> {
+    Some(match name {
         "exchange_field" => Step::ExchangeField {
-            v: byte(words)?,
-            i: byte(words)?,
-            expected: variable(words)?,
-            new: variable(words)?,
+            v: told.byte(0),
+            i: told.byte(1),
+            expected: told.variable(2),
+            new: told.variable(3),
         },
         "exchange_value" => Step::ExchangeValue {
-            v: byte(words)?,
-            expected: number(words)?,
-            new: number(words)?,
+            v: told.byte(0),
+            expected: told.number(1),
+            new: told.number(2),
         },
         "store_slot" => Step::StoreSlot {
-            k: slot(words)?,
-            r: long(words)?,
+            k: told.slot(0),
+            r: told.long(1),
         },
-        "read_slot" => Step::ReadSlot { k: slot(words)? },
-        _ => return Ok(None),
-    }))
+        "read_slot" => Step::ReadSlot { k: told.slot(0) },
+        _ => return None,
+    })
 }
 
-fn of_the_world(name: &str, words: &mut SplitWhitespace<'_>) -> Result<Option<Step>, Fail> {
-    Ok(Some(match name {
+fn of_the_world(name: &str, told: Parameters) -> Option<Step> {
+    Some(match name {
         "enter_step" => Step::EnterStep,
         "leave_step" => Step::LeaveStep,
         "raise_step" => Step::RaiseStep,
         "observe" => Step::Observe,
         "drop_step" => Step::DropStep,
         "store_phase" => Step::StorePhase {
-            to: phase_of(long(words)?),
+            to: phase_of(told.long(0)),
         },
         "open_step" => Step::OpenStep,
         "join_help_step" => Step::JoinHelpStep,
@@ -153,13 +165,13 @@ fn of_the_world(name: &str, words: &mut SplitWhitespace<'_>) -> Result<Option<St
         "see_help" => Step::SeeHelp,
         "read_season" => Step::ReadSeason,
         "next_season" => Step::NextSeason,
-        _ => return Ok(None),
-    }))
+        _ => return None,
+    })
 }
 
-fn of_blocks(name: &str, words: &mut SplitWhitespace<'_>) -> Result<Option<Step>, Fail> {
-    Ok(Some(match name {
-        "claim_block" => Step::ClaimBlock { b: number(words)? },
+fn of_blocks(name: &str, told: Parameters) -> Option<Step> {
+    Some(match name {
+        "claim_block" => Step::ClaimBlock { b: told.number(0) },
         "release_block" => Step::ReleaseBlock,
         "read_free" => Step::ReadFree,
         "publish_cells" => Step::PublishCells,
@@ -169,42 +181,32 @@ fn of_blocks(name: &str, words: &mut SplitWhitespace<'_>) -> Result<Option<Step>
         "clear_marks" => Step::ClearMarks,
         "store_named" => Step::StoreNamed,
         "reset" => Step::Reset {
-            which: byte(words)?,
+            which: told.byte(0),
         },
         "read_stat" => Step::ReadStat {
-            which: byte(words)?,
+            which: told.byte(0),
         },
-        _ => return Ok(None),
-    }))
+        _ => return None,
+    })
 }
 
-fn step_of(name: &str, words: &mut SplitWhitespace<'_>) -> Result<Step, Fail> {
-    if let Some(step) = of_packets(name, words)? {
-        return Ok(step);
-    }
-    if let Some(step) = of_marking(name, words)? {
-        return Ok(step);
-    }
-    if let Some(step) = of_mutators(name, words)? {
-        return Ok(step);
-    }
-    if let Some(step) = of_sharers(name, words)? {
-        return Ok(step);
-    }
-    if let Some(step) = of_the_world(name, words)? {
-        return Ok(step);
-    }
-    Ok(of_blocks(name, words)?.ok_or("step")?)
+fn step_of(name: &str, told: Parameters) -> Option<Step> {
+    of_packets(name, told)
+        .or(of_marking(name, told))
+        .or(of_mutators(name, told))
+        .or(of_sharers(name, told))
+        .or(of_the_world(name, told))
+        .or(of_blocks(name, told))
 }
 
-/// Applies the event of these words: the rule by which it is refused, or nothing where it is allowed.
-pub fn refusal_of(core: &mut CoreState, told: &str) -> Result<Option<Rule>, Fail> {
+/// Applies the event of these words: whether it is allowed, or the rule by which it is refused. None where there is no such event.
+pub fn applied(core: &mut CoreState, told: &str) -> Option<Result<(), Rule>> {
     let mut words = told.split_whitespace();
-    let seat = number(&mut words)?;
-    let name = words.next().ok_or("name")?;
-    let step = step_of(name, &mut words)?;
+    let seat = words.next()?.parse::<u32>().ok()?;
+    let name = words.next()?;
+    let step = step_of(name, Parameters::read(words))?;
     match core.apply(Event { seat, step }) {
-        Ok(()) => Ok(None),
-        Err(refusal) => Ok(Some(refusal.rule)),
+        Ok(()) => Some(Ok(())),
+        Err(refusal) => Some(Err(refusal.rule)),
     }
 }

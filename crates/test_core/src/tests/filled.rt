@@ -1,7 +1,6 @@
 //! Every cell is reachable: a precise collection finds the heap full.
 use mark_core::SECTION_SPAN;
 use std::alloc::{AllocError, Global};
-use std::test::Fail;
 
 /// In the line `chain` all cells are made, and in the lines `traced` they are scanned.
 const FILLED: &str = "
@@ -64,7 +63,7 @@ fn traced(alloc: Global) -> Result<String, AllocError> {
 }
 
 /// The run with all its lines.
-pub fn filled(alloc: Global) -> Result<String, Fail> {
+pub fn filled(alloc: Global) -> Result<String, AllocError> {
     let (chain, traced) = (chain(alloc)?, traced(alloc)?);
     let mut whole = String::new(alloc);
     for line in FILLED.lines() {

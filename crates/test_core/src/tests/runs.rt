@@ -12,58 +12,59 @@
 //!
 //! The first events are allowed, each in its turn, and the next is refused by that part of that rule, and changes nothing. Then the words have these values, and this
 //! stands in the seat's record: a number, 1 for yes, or `-` for nothing.
-use super::events::refusal_of;
+use super::events::applied;
 use super::heaps::{index_of, shape_of};
 use mark_core::{Cell, CoreState, Phase, SEATS, SeatState};
 use std::alloc::Global;
 use std::process::Abort;
-use std::test::Fail;
 
-/// The state in which nothing has happened.
-fn start(alloc: Global, heap: &str) -> Result<CoreState, Fail> {
-    let (name, seats) = heap
-        .strip_prefix("heap ")
-        .ok_or("heap")?
-        .split_once(' ')
-        .ok_or("seats")?;
-    let shape = shape_of(name).ok_or("shape")?;
-    let seats = seats.parse::<u32>()?;
+/// The state in which nothing has happened, on the heap of that name with so many seats.
+fn start(alloc: Global, heap: &str) -> Option<CoreState> {
+    let (name, seats) = heap.split_once(' ')?;
+    let shape = shape_of(name)?;
+    let seats = seats.parse::<u32>().ok()?;
     if seats == 0 || SEATS < seats {
-        return Err(Fail::from("seats"));
+        return None;
     }
-    Ok(CoreState::start(alloc, shape, seats).ok().ok_or("memory")?)
+    CoreState::start(alloc, shape, seats).ok()
 }
 
 /// Whether the events are allowed, each in its turn.
-fn allows(core: &mut CoreState, events: &str) -> Result<bool, Fail> {
-    for event in events.split(", ") {
-        if refusal_of(core, event)?.is_some() {
-            return Ok(false);
+fn allows(core: &mut CoreState, events: &str) -> bool {
+    for told in events.split(", ") {
+        if applied(core, told) != Some(Ok(())) {
+            return false;
         }
     }
-    Ok(true)
+    true
 }
 
 /// Whether the event is refused by this rule and part.
-fn refuses(core: &mut CoreState, event: &str, broken: &str) -> Result<bool, Fail> {
-    let (kind, part) = broken.split_once(' ').ok_or("part")?;
-    let (kind, part) = (kind.parse::<u8>()?, part.parse::<u8>()?);
-    match refusal_of(core, event)? {
-        None => Ok(false),
-        Some(rule) => Ok(rule.kind == kind && rule.part == part),
+fn refuses(core: &mut CoreState, told: &str, broken: &str) -> Option<bool> {
+    let (kind, part) = broken.split_once(' ')?;
+    let kind = kind.parse::<u8>().ok()?;
+    let part = part.parse::<u8>().ok()?;
+    match applied(core, told)? {
+        Ok(()) => Some(false),
+        Err(rule) => Some(rule.kind == kind && rule.part == part),
     }
 }
 
+/// Whether the word has this value.
+fn has_word(core: &CoreState, told: &str) -> Option<bool> {
+    let (name, value) = told.split_once(' ')?;
+    let value = value.parse::<u64>().ok()?;
+    Some(core.word(index_of(name)?)? == value)
+}
+
 /// Whether the words have these values.
-fn has_words(core: &CoreState, words: &str) -> Result<bool, Fail> {
+fn has_words(core: &CoreState, words: &str) -> bool {
     for told in words.split(", ") {
-        let (name, value) = told.split_once(' ').ok_or("value")?;
-        let index = index_of(name).ok_or("word")?;
-        if core.word(index) != Some(value.parse::<u64>()?) {
-            return Ok(false);
+        if has_word(core, told) != Some(true) {
+            return false;
         }
     }
-    Ok(true)
+    true
 }
 
 fn number_of(cell: Option<Cell>) -> Option<u32> {
@@ -73,77 +74,90 @@ fn number_of(cell: Option<Cell>) -> Option<u32> {
     }
 }
 
-/// What the seat has in hand.
-fn in_hand(s: &SeatState, what: &str) -> Result<Option<u32>, Fail> {
+/// What the seat has in hand under this name.
+fn in_hand(s: &SeatState, what: &str) -> Option<Option<u32>> {
     match (what, s.popped, s.scan, s.block) {
-        ("popped", Some((cell, _)), _, _) => Ok(Some(cell.number())),
-        ("unpublished", Some((_, is_so)), _, _) => Ok(Some(u32::from(is_so))),
-        ("scan", _, Some((cell, _)), _) => Ok(Some(cell.number())),
-        ("field", _, Some((_, i)), _) => Ok(Some(u32::from(i))),
-        ("block", _, _, Some(x)) => Ok(Some(x.block)),
-        ("until", _, _, Some(x)) => Ok(Some(x.until)),
-        ("popped", None, _, _) | ("scan", _, None, _) | ("block", _, _, None) => Ok(None),
-        _ => Err(Fail::from("record")),
+        ("popped", Some((cell, _)), _, _) => Some(Some(cell.number())),
+        ("unpublished", Some((_, is_so)), _, _) => Some(Some(u32::from(is_so))),
+        ("scan", _, Some((cell, _)), _) => Some(Some(cell.number())),
+        ("field", _, Some((_, i)), _) => Some(Some(u32::from(i))),
+        ("block", _, _, Some(x)) => Some(Some(x.block)),
+        ("until", _, _, Some(x)) => Some(Some(x.until)),
+        ("popped", None, _, _) | ("scan", _, None, _) | ("block", _, _, None) => Some(None),
+        _ => None,
     }
 }
 
 /// What stands in the seat's record under this name.
-fn in_record(s: &SeatState, what: &str) -> Result<Option<u32>, Fail> {
+fn in_record(s: &SeatState, what: &str) -> Option<Option<u32>> {
     match what {
-        "number" => Ok(Some(s.number)),
-        "active" => Ok(Some(u32::from(s.active))),
-        "knows" => Ok(Some(u32::from(s.knows))),
-        "exact" => Ok(Some(u32::from(s.exact))),
-        "saw_full" => Ok(Some(u32::from(s.phase_seen == Some(Phase::Full)))),
-        "got" => Ok(Some(s.got)),
-        "owes" => Ok(s.owes),
-        "value" => Ok(number_of(s.value)),
-        "fresh" => Ok(number_of(s.fresh)),
+        "number" => Some(Some(s.number)),
+        "active" => Some(Some(u32::from(s.active))),
+        "knows" => Some(Some(u32::from(s.knows))),
+        "exact" => Some(Some(u32::from(s.exact))),
+        "saw_full" => Some(Some(u32::from(s.phase_seen == Some(Phase::Full)))),
+        "got" => Some(Some(s.got)),
+        "owes" => Some(s.owes),
+        "value" => Some(number_of(s.value)),
+        "fresh" => Some(number_of(s.fresh)),
         _ => in_hand(s, what),
     }
 }
 
 /// Whether this stands in the seat's record, or nothing, also where there is no such seat.
-fn has_record(core: &CoreState, told: &str) -> Result<bool, Fail> {
-    let (seat, rest) = told.split_once(' ').ok_or("seat")?;
-    let (what, wanted) = rest.split_once(' ').ok_or("record")?;
-    let found = match core.seat(seat.parse::<u32>()?) {
+fn has_record(core: &CoreState, told: &str) -> Option<bool> {
+    let (seat, rest) = told.split_once(' ')?;
+    let (what, wanted) = rest.split_once(' ')?;
+    let found = match core.seat(seat.parse::<u32>().ok()?) {
         None => None,
         Some(s) => in_record(s, what)?,
     };
     match found {
-        None => Ok(wanted == "-"),
-        Some(number) => Ok(wanted != "-" && wanted.parse::<u32>()? == number),
+        None => Some(wanted == "-"),
+        Some(number) => Some(wanted.parse::<u32>().ok()? == number),
     }
 }
 
-/// Whether the line holds.
-fn holds(core: &mut CoreState, line: &str) -> Result<bool, Fail> {
+/// Whether the line holds; None where it has no such form.
+fn holds(core: &mut CoreState, line: &str) -> Option<bool> {
     if line.is_empty() || line.starts_with('#') {
-        return Ok(true);
+        return Some(true);
     }
     if let Some(words) = line.strip_prefix("words ") {
-        return has_words(core, words);
+        return Some(has_words(core, words));
     }
     if let Some(told) = line.strip_prefix("seat ") {
         return has_record(core, told);
     }
     match line.split_once(" => ") {
-        None => allows(core, line),
+        None => Some(allows(core, line)),
         Some((event, broken)) => refuses(core, event, broken),
     }
 }
 
-/// Fails where a line of one of the runs doesn't hold.
-pub fn all_hold<R: Abort + AllocGlobal>(rt: &R, runs: &str) -> Result<(), Fail> {
-    for run in runs.split("$ ").skip(1) {
-        let (what, rest) = run.split_once('\n').ok_or("run")?;
-        let (heap, lines) = rest.split_once('\n').ok_or("heap")?;
-        let mut core = start(rt.alloc(), heap)?;
-        for line in lines.lines() {
-            let is_so = holds(&mut core, line)?;
-            assert!(rt; is_so, "{what}: {line}");
+/// The first line of the run that doesn't hold, or its head where it has no such form; nothing where all hold.
+fn first_wrong<'a>(alloc: Global, run: &'a str) -> Option<&'a str> {
+    let Some((head, lines)) = run.split_once("\nheap ") else {
+        return Some(run);
+    };
+    let Some((heap, lines)) = lines.split_once('\n') else {
+        return Some(head);
+    };
+    let Some(mut core) = start(alloc, heap) else {
+        return Some(head);
+    };
+    for line in lines.lines() {
+        if holds(&mut core, line) != Some(true) {
+            return Some(line);
         }
     }
-    Ok(())
+    None
+}
+
+/// Fails where a line of one of the runs doesn't hold.
+pub fn all_hold<R: Abort + AllocGlobal>(rt: &R, runs: &str) {
+    for run in runs.split("$ ").skip(1) {
+        let wrong = first_wrong(rt.alloc(), run).unwrap_or("");
+        assert!(rt; wrong.is_empty(), "{wrong}");
+    }
 }
