@@ -8,7 +8,7 @@ from pages import stands, text_of  # noqa: E402
 
 CORE, OWN, SHARED, SEATS, FOR_C = (f"crates/{it}/" for it in ("mark_core", "managed_heap", "shared_heap", "world_seats", "managed_heap_c"))
 PAGE, PAGE_C, HEADER, RUST = "docs/EMBEDDING.md", "docs/EMBEDDING_C.md", "c/include/managed_heap.h", "rust/managed_heap/src/"
-WORLD = ["cells", "fields", "mutators", "tracers", "packets", "entries"]
+WORLD = ["cells", "fields", "mutators", "tracers", "slots", "packets", "entries"]
 LOWEST = ["fields", "mutators", "packets", "entries"]
 SPENT = "has made @most objects"
 
@@ -62,9 +62,9 @@ PLACES = [
 ]
 
 
-def places_of(crate, sizes):
-    """Where the sizes of a library's worlds stand."""
-    specs, code = crate + "specs/Sizing.antt", crate + "src/sizes.rt"
+def places_of(sizes):
+    """Where the sizes of the libraries' worlds stand."""
+    specs, code = SEATS + "specs/Sizing.antt", SEATS + "src/sizes.rt"
     several = [it for it in sizes if it not in ("packets", "entries", "cells")]
     return [
         (specs, "pub NAME : (@least ≤ s.NAME) × (s.NAME ≤ @most)", LOWEST),
@@ -126,7 +126,7 @@ def check_structs():
 
 def main():
     found = {**sizes(), "room": room()}
-    for page, told, names in PLACES + places_of(SEATS, [*WORLD, "slots"]) + places_of(SHARED, [*WORLD, "slots"]):
+    for page, told, names in PLACES + places_of(WORLD):
         for name in names:
             stands(name, page, told.replace("NAME", name), found[name])
     check_structs()

@@ -19,7 +19,7 @@ use Rattle.shared_heap.specs.Lending.{IsFreshSharer, IsSharedOpened, KeepsRest}
 use Rattle.shared_heap.specs.Logs.{Adds, Locks, Raises}
 use Rattle.shared_heap.specs.Threads.{ThreadsRun}
 use Rattle.shared_heap.specs.declared.mutator.SharedMutator.{SharedMutator}
-use Rattle.shared_heap.specs.declared.sizes.SharedSizes.{SharedSizes}
+use Rattle.world_seats.specs.declared.sizes.Sizes.{Sizes}
 use Rattle.shared_heap.specs.declared.world.SharedWorld.{SharedWorld}
 use Rattle.example_counter.specs.Locking.{IsAlone}
 use Rattle.example_counter.specs.Pairs.{AreNew}
@@ -46,10 +46,10 @@ if-some (Some a) P Q f k = f a k
 if-some None P Q f k = tt
 
 -- the first two mutators of a new world
-pub are-new : (sizes : SharedSizes) (u v w : SharedWorld) (a b : SharedMutator) → IsSharedOpened sizes u → u.mutators.items ≡ a ∷ v.mutators.items → KeepsRest u v → v.mutators.items ≡ b ∷ w.mutators.items → KeepsRest v w → AreNew w a b
+pub are-new : (sizes : Sizes) (u v w : SharedWorld) (a b : SharedMutator) → IsSharedOpened sizes u → u.mutators.items ≡ a ∷ v.mutators.items → KeepsRest u v → v.mutators.items ≡ b ∷ w.mutators.items → KeepsRest v w → AreNew w a b
 are-new sizes u v w a b opened one k two l =
     let heap : arc_value w.heap ≡ arc_value u.heap = ap (λ h. arc_value h) (l.heap ∙ k.heap) in
-    let name : w.sizes.name ≡ sizes.name = ap (λ (s : SharedSizes). s.name) (l.sizes_are ∙ (k.sizes_are ∙ opened.sizes_are)) in
+    let name : w.sizes.name ≡ sizes.name = ap (λ (s : Sizes). s.name) (l.sizes_are ∙ (k.sizes_are ∙ opened.sizes_are)) in
     let first : IsFreshSharer (arc_value u.heap) sizes.name 1 a = opened.fresh 0 a (ap (λ (s : List SharedMutator). slice_get s 0) one) in
     let second : IsFreshSharer (arc_value u.heap) sizes.name 2 b = opened.fresh 1 b (ap (λ (s : List SharedMutator). slice_get s 1) (one ∙ ap (λ (s : List SharedMutator). a ∷ s) two)) in
     record {

@@ -9,10 +9,11 @@ use Rattle.tracer_turns.specs.Trying.{Dismisses}
 use Rattle.tracer_turns.specs.declared.background.Tracer.{Tracer}
 use Rattle.seat_steps.specs.declared.stepper.Stepper.{Stepper}
 use Rattle.shared_heap.specs.Handing.{IsInSteps, IsOfSteps}
-use Rattle.shared_heap.specs.Lending.{HasAllStill, IsBack, KeepsRest, ReadsNumbers}
+use Rattle.shared_heap.specs.Lending.{HasAllStill, IsBack, KeepsRest}
 use Rattle.shared_heap.specs.declared.mutator.Place.TheVariants.{Outside}
 use Rattle.shared_heap.specs.declared.mutator.SharedMutator.{SharedMutator}
-use Rattle.shared_heap.specs.declared.world.SharedStatistics.{SharedStatistics}
+use Rattle.world_seats.specs.Numbers.{ReadsStatistics}
+use Rattle.world_seats.specs.declared.numbers.Statistics.{Statistics}
 use Rattle.shared_heap.specs.declared.world.SharedWorld.{SharedWorld}
 use Rattle.managed_heap_c.specs.declared.sizes.CNumbers.{CNumbers}
 
@@ -77,9 +78,9 @@ abbrev pub FindsStop : SharedWorld → SharedWorld → Type 0
 FindsStop w x = Across TurnsBack w.zero x.zero × HasAllStill w x
 
 -- the numbers that C has
-abbrev pub numbers_of : CNumbers → SharedStatistics
+abbrev pub numbers_of : CNumbers → Statistics
 numbers_of out = record { cells = out.cells; free = out.free; marked = out.marked }
 
 -- the numbers that C got are those that were read
 abbrev pub Counts : SharedWorld → SharedWorld → CNumbers → Type 0
-Counts w x out = ReadsNumbers (numbers_of out) (arc_value w.heap) (view_of w.zero) (view_of x.zero) × HasAllStill w x
+Counts w x out = ReadsStatistics (numbers_of out) (arc_value w.heap) (view_of w.zero) (view_of x.zero) × HasAllStill w x

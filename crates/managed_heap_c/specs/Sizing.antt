@@ -1,8 +1,7 @@
 -- The sizes that C asks for.
 use Rattle.std.specs.Prelude.{◌≡◌, ◌⊎◌, false}
 use Rattle.managed_heap.specs.Lending.{FitsWorld}
-use Rattle.shared_heap.specs.Sizing.{Fits as SharedFits, usual_entries as usual_in_shared}
-use Rattle.shared_heap.specs.declared.sizes.SharedSizes.{SharedSizes}
+use Rattle.shared_heap.specs.Lending.{FitsShared}
 use Rattle.world_seats.specs.Sizing.{usual_entries}
 use Rattle.world_seats.specs.declared.sizes.Sizes.{Sizes}
 use Rattle.managed_heap_c.specs.declared.sizes.CSizes.{CSizes}
@@ -12,8 +11,8 @@ abbrev pub sizes_of : CSizes → Sizes
 sizes_of c = record { cells = c.cells; fields = c.fields; mutators = c.mutators; tracers = c.tracers; slots = 0; packets = 64; entries = usual_entries c.cells; name = c.name; in_stops = false }
 
 -- those of a world whose mutators share all objects
-abbrev pub shared_sizes_of : CSizes → SharedSizes
-shared_sizes_of c = record { cells = c.cells; fields = c.fields; mutators = c.mutators; tracers = c.tracers; slots = c.slots; packets = 64; entries = usual_in_shared c.cells; name = c.name }
+abbrev pub shared_sizes_of : CSizes → Sizes
+shared_sizes_of c = record (sizes_of c) { slots = c.slots }
 
 -- a world is asked for whose mutators have objects of their own, and have no slots
 abbrev pub AsksOwn : CSizes → Type 0
@@ -21,4 +20,4 @@ AsksOwn c = (c.shared ≡ 0) × (c.slots ≡ 0)
 
 -- each size is in its range, for one kind of world or the other
 abbrev pub FitEither : CSizes → Type 0
-FitEither c = (AsksOwn c × FitsWorld (sizes_of c)) ⊎ ((c.shared ≡ 1) × SharedFits (shared_sizes_of c))
+FitEither c = (AsksOwn c × FitsWorld (sizes_of c)) ⊎ ((c.shared ≡ 1) × FitsShared (shared_sizes_of c))

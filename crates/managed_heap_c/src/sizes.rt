@@ -42,10 +42,5 @@ pub fn own_sizes(sizes: &CSizes) -> Sizes
 pub fn shared_sizes(sizes: &CSizes) -> SharedSizes
     ensures wanted { result ≡ shared_sizes_of sizes.now }
 {
-    SharedSizes::of_cells(sizes.cells)
-        .fields(sizes.fields)
-        .mutators(sizes.mutators)
-        .tracers(sizes.tracers)
-        .slots(sizes.slots)
-        .named(sizes.name)
+    own_sizes(sizes).slots(sizes.slots)
 }

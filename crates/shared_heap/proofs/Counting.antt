@@ -21,12 +21,14 @@ use Rattle.heap_runs.proofs.Counted.{counter-told, won_join}
 use Rattle.heap_runs.proofs.Locked.{lock-held}
 use Rattle.mutator_turns.specs.Sharing.{spares_heap}
 use Rattle.tracer_turns.specs.declared.background.Tracer.{Tracer}
-use Rattle.shared_heap.specs.Closing.{AreLeft, HasLeft, IsSharedEnd, all_seats, seats_of}
+use Rattle.shared_heap.specs.Closing.{HasLeft, IsSharedEnd, all_seats}
 use Rattle.shared_heap.specs.Counting.{CounterClosed, EachLog, LockClosed, OnlyExchanges, won_by}
 use Rattle.shared_heap.specs.Threads.{IsWhole}
 use Rattle.shared_heap.specs.declared.mutator.SharedMutator.{SharedMutator}
 use Rattle.shared_heap.specs.declared.world.SharedWorld.{SharedWorld}
-use Rattle.shared_heap.proofs.Gathering.{got-past, left-at, left-long, split-at}
+use Rattle.world_seats.specs.Gathering.{AreLeft, seats_of}
+use Rattle.world_seats.proofs.Gathered.{left-at, left-long}
+use Rattle.world_seats.proofs.Lists.{got-past, split-at}
 use Rattle.shared_heap.proofs.Keeping.{made-more, spared-values}
 use Rattle.shared_heap.proofs.Rooted.{all-join, all-more}
 
@@ -80,10 +82,10 @@ left_log m s h =
     )
 
 -- what such steps leave of a log they leave of each
-each_left : (P : List Entry → Type 0) → ((xs ys : List Entry) → all_steps spares_heap ys ≡ true → P xs → P (xs ++ ys)) → (ms : List SharedMutator) (ss : List HeapSeat) → AreLeft ms ss → EachLog P ms
+each_left : (P : List Entry → Type 0) → ((xs ys : List Entry) → all_steps spares_heap ys ≡ true → P xs → P (xs ++ ys)) → (ms : List SharedMutator) (ss : List HeapSeat) → AreLeft HasLeft ms ss → EachLog P ms
     → (i : ℕ) (s : HeapSeat) → slice_get ss i ≡ Some s → P (view_of s).log
 each_left P grows ms ss left all i s at =
-    let it = left-at ms ss left i s at in
+    let it = left-at HasLeft ms ss left i s at in
     let g = left_log it.0 s it.2 in
     subst P (sym g.1) (grows (view_of it.0.seat).log g.0 g.2 (all i it.0 it.1))
 
@@ -101,7 +103,7 @@ each_seat P root rest more first others spared are (suc i) s at =
 are_spared : (world : SharedWorld) (mutators : List SharedMutator) (tracers : List Tracer) (w : Words) (end : IsSharedEnd world mutators tracers w) (es : List Event) → IsWhole (arc_value world.heap).shape (all_seats world end.rest tracers) w es
     → AreSpared end.rest (seats_of tracers)
 are_spared world mutators tracers w end es whole i s past at =
-    let long = left-long mutators end.rest end.left in
+    let long = left-long HasLeft mutators end.rest end.left in
     whole.tracers (suc i) s (omega (arith, long, past, end.workers)) at
 
 steps_more : (fields : ℕ) (P : Step → Bool) → ((step : Step) → spares_values fields step ≡ true → P step ≡ true) → (xs ys : List Entry) → all_steps spares_heap ys ≡ true → all_steps P xs ≡ true → all_steps P (xs ++ ys) ≡ true
@@ -139,7 +141,7 @@ has_one world mutators tracers w end es whole all =
         let none = none_made i s at in
         subst (λ (z : Bool). made_count fields (view_of s).log ≤ (if z then 1 else 0)) (sym (ne_eqb (suc i) 0 (λ e. omega (arith, e)))) (omega (arith, none))
 
-won_left : (fields : ℕ) (ms : List SharedMutator) (ss : List HeapSeat) → AreLeft ms ss → all_won ss ≡ won_by ms
+won_left : (fields : ℕ) (ms : List SharedMutator) (ss : List HeapSeat) → AreLeft HasLeft ms ss → all_won ss ≡ won_by ms
 won_left fields [] [] k = refl
 won_left fields [] (t ∷ ts) k = absurd k
 won_left fields (m ∷ ms) [] k = absurd k

@@ -1,4 +1,4 @@
--- Seats that have done nothing are dealt out to mutators and tracers.
+-- Seats that have done nothing are dealt out to mutators.
 use Rattle.std.proofs.Common.{ℕ, ◌≡◌, ◌+◌, ◌<◌, ◌∙◌, List, [], ◌∷◌, ◌++◌, ap, cond, length, subst, sym, ⊎_elim, Bool, Option, None, Some}
 use Rattle.std.specs.Prelude.{nat_lt, slice_get}
 use Rattle.std.specs.Arc.{arc_value}
@@ -7,8 +7,7 @@ use Rattle.mark_core.specs.declared.kinds.Shape.{Shape}
 use Rattle.mark_core.specs.declared.seat.SeatState.{SeatState}
 use Rattle.gc_table.specs.declared.seat.Heap.{Heap}
 use Rattle.gc_table.proofs.Records.{got-snoc}
-use Rattle.tracer_turns.specs.declared.background.Tracer.{Tracer}
-use Rattle.shared_heap.specs.Lending.{AreFresh, AreNewTracers, IsFreshSharer, IsNewTracer}
+use Rattle.shared_heap.specs.Lending.{AreFresh, IsFreshSharer}
 use Rattle.shared_heap.specs.Opening.{IsNewSeat}
 use Rattle.shared_heap.specs.declared.mutator.Place.TheVariants.{Outside}
 use Rattle.shared_heap.specs.declared.mutator.SharedMutator.{SharedMutator}
@@ -36,14 +35,3 @@ fresh-push h name k ms all m fresh new e i x at =
     ⊎_elim (λ (old : slice_get ms i ≡ Some x). fresh i x old)
     (λ (last : (i ≡ length ms) × (m ≡ x)). subst (λ (q : ℕ × SharedMutator). IsFreshSharer h name (k + q.0) q.1) (λ j. (sym last.0 j, last.1 j)) new)
     (got-snoc ms m x i (ap (λ (l : List SharedMutator). slice_get l i) (sym e) ∙ at))
-
--- a tracer with such a seat has done nothing
-pub tracer-of : (h : Heap) (name k : ℕ) (t : Tracer) → IsNewSeat h k t.seat → arc_value t.heap ≡ h → t.name ≡ name → t.traced ≡ 0 → IsNewTracer h name k t
-tracer-of h name k t new heap named none = record { heap = heap; name_is = named; number = ap (λ (s : SeatState). s.number) new.1.state; traced = none; log = new.1.log }
-
--- one more
-pub tracer-push : (h : Heap) (name k : ℕ) (ts all : List Tracer) (t : Tracer) → AreNewTracers h name k ts → IsNewTracer h name (k + length ts) t → all ≡ ts ++ t ∷ [] → AreNewTracers h name k all
-tracer-push h name k ts all t fresh new e i x at =
-    ⊎_elim (λ (old : slice_get ts i ≡ Some x). fresh i x old)
-    (λ (last : (i ≡ length ts) × (t ≡ x)). subst (λ (q : ℕ × Tracer). IsNewTracer h name (k + q.0) q.1) (λ j. (sym last.0 j, last.1 j)) new)
-    (got-snoc ts t x i (ap (λ (l : List Tracer). slice_get l i) (sym e) ∙ at))

@@ -1,8 +1,6 @@
-mod Beginning
 mod Counting
 mod Dealt
 mod Finding
-mod Gathering
 mod Keeping
 pub mod Logs
 mod Once

@@ -112,9 +112,3 @@ makes-then u v w m b = record { before = m.before; comes = m.comes; cell = m.cel
 
 pub makes-ran : (u w : View) → MakesRoot u w → Ran u w
 makes-ran u w m = ran-join u m.before w m.comes.ran (ran-join m.before m.made w m.creates.ran m.rest.ran)
-
--- two numbers were read
-pub spares-read : (one two : ℕ) (u v w : View) (m n : ℕ) → Found (ReadStat one) m u v → Found (ReadStat two) n v w → Spares u w
-spares-read one two u v w m n a b =
-    spares-join u v w (record { ran = ran-found u v (ReadStat one) m refl a; only = only-after spares_heap u v (ReadStat one) m refl a.0 })
-    (record { ran = ran-found v w (ReadStat two) n refl b; only = only-after spares_heap v w (ReadStat two) n refl b.0 })

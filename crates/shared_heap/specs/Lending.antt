@@ -1,18 +1,21 @@
 -- What is so of a new shared world, and of one that lends its mutators and takes them back.
-use Rattle.std.specs.Prelude.{ℕ, ◌≡◌, ◌⊎◌, ◌≤◌, ◌<◌, ◌+◌, ◌++◌, List, [], ◌∷◌, IsTrue, Some, replicate, slice_get, vec_len}
+use Rattle.std.specs.Prelude.{ℕ, ◌≡◌, ◌⊎◌, ◌≤◌, ◌<◌, ◌+◌, ◌++◌, List, [], ◌∷◌, IsFalse, IsTrue, Some, replicate, slice_get, vec_len}
 use Rattle.std.specs.Arc.{arc_value}
-use Rattle.mark_core.specs.Numbers.{free_count, last_count, section_variables}
-use Rattle.mark_core.specs.declared.kinds.Step.TheVariants.{ReadStat}
-use Rattle.gc_table.specs.Seats.{Found, state_of, view_of}
+use Rattle.mark_core.specs.Numbers.{section_variables}
+use Rattle.gc_table.specs.Seats.{state_of, view_of}
 use Rattle.gc_table.specs.declared.seat.Heap.{Heap}
-use Rattle.gc_table.specs.declared.view.View.{View}
-use Rattle.tracer_turns.specs.declared.background.Tracer.{Tracer}
 use Rattle.shared_heap.specs.Calls.{SharerLeft}
+use Rattle.shared_heap.specs.Planning.{root_plan}
 use Rattle.shared_heap.specs.declared.mutator.Place.TheVariants.{Outside}
 use Rattle.shared_heap.specs.declared.mutator.SharedMutator.{SharedMutator}
-use Rattle.shared_heap.specs.declared.sizes.SharedSizes.{SharedSizes}
-use Rattle.shared_heap.specs.declared.world.SharedStatistics.{SharedStatistics}
 use Rattle.shared_heap.specs.declared.world.SharedWorld.{SharedWorld}
+use Rattle.world_seats.specs.Opening.{AreNumbered, IsFreshTracer}
+use Rattle.world_seats.specs.Sizing.{Fits}
+use Rattle.world_seats.specs.declared.sizes.Sizes.{Sizes}
+
+-- each size is in its range, and mutators collecting in stops aren't asked for
+abbrev pub FitsShared : Sizes → Type 0
+FitsShared s = Fits s × IsFalse s.in_stops
 
 -- mutator k of this heap, counted from 1, with this name, which has done nothing: all its variables are nil
 pub record IsFreshSharer (h : Heap) (name k : ℕ) (m : SharedMutator) : Type 0 where
@@ -29,20 +32,8 @@ pub record IsFreshSharer (h : Heap) (name k : ℕ) (m : SharedMutator) : Type 0 
 abbrev pub AreFresh : Heap → ℕ → ℕ → List SharedMutator → Type 0
 AreFresh h name k ms = (i : ℕ) (m : SharedMutator) → slice_get ms i ≡ Some m → IsFreshSharer h name (k + i) m
 
--- the tracer with seat k of this heap and with this name, which has done nothing
-pub record IsNewTracer (h : Heap) (name k : ℕ) (t : Tracer) : Type 0 where
-  pub heap : arc_value t.heap ≡ h
-  pub name_is : t.name ≡ name
-  pub number : (state_of t.seat).number ≡ k
-  pub traced : t.traced ≡ 0
-  pub log : (view_of t.seat).log ≡ []
-
--- none of these has done anything; they stand in the order of their numbers, the first of which is k
-abbrev pub AreNewTracers : Heap → ℕ → ℕ → List Tracer → Type 0
-AreNewTracers h name k ts = (i : ℕ) (t : Tracer) → slice_get ts i ≡ Some t → IsNewTracer h name (k + i) t
-
 -- a new world of these sizes: nobody has one of its mutators or tracers, and section 0 has ended its turn once, so that the mutators' season has come
-pub record IsSharedOpened (sizes : SharedSizes) (w : SharedWorld) : Type 0 where
+pub record IsSharedOpened (sizes : Sizes) (w : SharedWorld) : Type 0 where
   pub sizes_are : w.sizes ≡ sizes
   pub cells : (arc_value w.heap).shape.cells ≡ sizes.cells
   pub fields : (arc_value w.heap).shape.fields ≡ sizes.fields
@@ -51,7 +42,7 @@ pub record IsSharedOpened (sizes : SharedSizes) (w : SharedWorld) : Type 0 where
   pub season : (view_of w.zero).own.seasons ≡ 1
   pub fresh : AreFresh (arc_value w.heap) sizes.name 1 w.mutators.items
   pub count : vec_len w.mutators ≡ sizes.mutators
-  pub tracers : AreNewTracers (arc_value w.heap) sizes.name (1 + sizes.mutators) w.tracers.items
+  pub tracers : AreNumbered (IsFreshTracer root_plan (arc_value w.heap) sizes.name) (1 + sizes.mutators) w.tracers.items
   pub tracer_count : vec_len w.tracers ≡ sizes.tracers
 
 -- the heap, its sizes and what is known of it are as before
@@ -75,13 +66,6 @@ TakesNoMutator name w = (name ≡ w.sizes.name → ⊥) ⊎ (w.sizes.mutators �
 -- why no tracer of this name is taken back
 abbrev pub TakesNoTracer : ℕ → SharedWorld → Type 0
 TakesNoTracer name w = (name ≡ w.sizes.name → ⊥) ⊎ (w.sizes.tracers ≤ vec_len w.tracers)
-
--- the number of free cells was read, and then the number of those that the last cycle marked
-pub record ReadsNumbers (s : SharedStatistics) (h : Heap) (v w : View) : Type 0 where
-  pub cells : s.cells ≡ h.shape.cells
-  pub between : View
-  pub free : Found (ReadStat free_count) s.free v between
-  pub marked : Found (ReadStat last_count) s.marked between w
 
 -- the world has all that it had, but for what is known of its heap
 abbrev pub HasAllStill : SharedWorld → SharedWorld → Type 0

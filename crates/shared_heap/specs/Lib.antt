@@ -8,7 +8,6 @@ pub mod Logs
 pub mod Opening
 pub mod Planning
 pub mod Rooting
-pub mod Sizing
 pub mod Spilling
 pub mod Threads
 pub mod Wanting

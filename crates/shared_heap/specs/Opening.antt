@@ -1,5 +1,5 @@
 -- The seats of a new shared heap, and what the seat of section 0 comes to while it makes the root and moves the season on.
-use Rattle.std.specs.Prelude.{ℕ, ◌≡◌, ◌+◌, List, None, Some, IsFalse, length, slice_get}
+use Rattle.std.specs.Prelude.{ℕ, ◌≡◌, List, None, Some, IsFalse, length}
 use Rattle.mark_core.specs.declared.kinds.Phase.TheVariants.{Idle}
 use Rattle.mark_core.specs.declared.kinds.Shape.{Shape}
 use Rattle.plain_heap.specs.PlainHeap.{Heap as PlainHeap, empty_heap}
@@ -7,22 +7,23 @@ use Rattle.alloc_cache.specs.Caching.{IsCached}
 use Rattle.alloc_cache.specs.declared.cache.Cache.{Cache}
 use Rattle.gc_table.specs.PlainSteps.{HasSeenPhase}
 use Rattle.gc_table.specs.Running.{Alone}
-use Rattle.gc_table.specs.Seats.{IsFresh, Sits, view_of}
+use Rattle.gc_table.specs.Seats.{Sits, view_of}
 use Rattle.gc_table.specs.Sections.{planned}
 use Rattle.gc_table.specs.declared.seat.Heap.{Heap}
 use Rattle.gc_table.specs.declared.seat.HeapSeat.{HeapSeat}
 use Rattle.gc_table.specs.declared.view.View.{View}
 use Rattle.gc_cycle.specs.Standing.{IsAlone, Mutates}
 use Rattle.mutator_ops.specs.Sharing.{SharesReady}
+use Rattle.world_seats.specs.Opening.{AreNewOf, IsNewSeatOf}
 use Rattle.shared_heap.specs.Planning.{root_plan}
 
 -- seat k of the heap has done nothing
 abbrev pub IsNewSeat : Heap → ℕ → HeapSeat → Type 0
-IsNewSeat h k s = Sits h s × IsFresh h.shape root_plan k (view_of s)
+IsNewSeat = IsNewSeatOf root_plan
 
 -- so are these, counted from k
 abbrev pub AreNew : Heap → ℕ → List HeapSeat → Type 0
-AreNew h k xs = (i : ℕ) (s : HeapSeat) → slice_get xs i ≡ Some s → IsNewSeat h (k + i) s
+AreNew = AreNewOf root_plan
 
 -- the seat of section 0 in the first season: what it keeps of its section is this plain heap
 pub record IsFirst (p : PlainHeap) (v : View) : Type 0 where

@@ -1,24 +1,23 @@
-//! The seats of a new heap are dealt out to mutators and tracers.
+//! The seats of a new heap are dealt out, and a shared world is made of it.
 ghost use Rattle.std.specs.Arc.{arc_value};
 ghost use Rattle.std.specs.Prelude.{◌≡◌, ◌+◌, ◌<◌, ◌≤◌, IfErr, IfOk, IsTrue, vec_len};
 ghost use Rattle.gc_table.specs.Seats.{view_of};
 ghost use Rattle.mutator_turns.specs.Standing.{RestsOutside};
 ghost use Rattle.mutator_turns.specs.declared.refused.NotOpened.TheVariants.{OutOfMemory};
-ghost use Rattle.shared_heap.specs.Lending.{AreFresh, AreNewTracers, IsFreshSharer, IsNewTracer, IsSharedOpened};
+ghost use Rattle.shared_heap.specs.Lending.{AreFresh, IsFreshSharer, IsSharedOpened};
 ghost use Rattle.shared_heap.specs.Opening.{AreNew, IsNewSeat};
 ghost use Rattle.shared_heap.specs.Rooting.{HasSeats, IsRootSeat};
-ghost use Rattle.shared_heap.specs.Sizing.{Fits};
+ghost use Rattle.world_seats.specs.Sizing.{Fits};
 
 use crate::mutator::{Place, SharedMutator};
 use crate::opening::{open, open_turn};
-use crate::sizes::SharedSizes;
-use crate::taking::first_of;
+use crate::planning::RootPlan;
 use crate::world::SharedWorld;
 use gc_table::{Heap, HeapSeat};
 use mutator_turns::NotOpened;
 use std::alloc::{AllocError, Global};
 use std::sync::Arc;
-use tracer_turns::Tracer;
+use world_seats::{Sizes, deal_tracers, first_of};
 
 /// A mutator that has done nothing.
 fn mutator_of(
@@ -40,24 +39,11 @@ fn mutator_of(
     })
 }
 
-/// A tracer that has done nothing.
-fn tracer_of(
-    heap: &Arc<Heap, Global>,
-    seat: HeapSeat,
-    _k: u32,
-    name: u32,
-) -> Result<Tracer, AllocError>
-    requires seat { IsNewSeat (arc_value heap.now) _k seat }
-    ensures fresh { IfOk result (IsNewTracer (arc_value heap.now) name _k) }
-{
-    Ok(Tracer::of_seat(Arc::try_clone(heap)?, seat, name))
-}
-
 /// Deals so many seats out to mutators, one after the other.
 fn deal_mutators(
     alloc: Global,
     heap: &Arc<Heap, Global>,
-    sizes: SharedSizes,
+    sizes: Sizes,
     seats: &mut Vec<HeapSeat>,
 ) -> Result<Vec<SharedMutator>, AllocError>
     requires new { AreNew (arc_value heap.now) 1 seats.old.items }
@@ -78,36 +64,13 @@ fn deal_mutators(
     Ok(all)
 }
 
-/// Deals so many seats, which are those from `first` on, out to tracers.
-fn deal_tracers(
-    alloc: Global,
-    heap: &Arc<Heap, Global>,
-    first: u32,
-    sizes: SharedSizes,
-    seats: &mut Vec<HeapSeat>,
-) -> Result<Vec<Tracer>, AllocError>
-    requires new { AreNew (arc_value heap.now) first seats.old.items }
-    requires enough { sizes.tracers ≤ vec_len seats.old }
-    requires few { (first ≤ 33) × (sizes.tracers ≤ 8) }
-    ensures fresh { IfOk result (λ r. AreNewTracers (arc_value heap.now) sizes.name first r.items) }
-    ensures count { IfOk result (λ r. vec_len r ≡ sizes.tracers) }
-{
-    let mut all = Vec::new(alloc);
-    for at in 0..sizes.tracers {
-        let seat = first_of(seats);
-        let tracer = tracer_of(heap, seat, first + at, sizes.name)?;
-        all.push(tracer)?;
-    }
-    Ok(all)
-}
-
 /// A world over this heap.
 fn share(
     alloc: Global,
     heap: Heap,
     zero: HeapSeat,
     seats: &mut Vec<HeapSeat>,
-    sizes: SharedSizes,
+    sizes: Sizes,
 ) -> Result<SharedWorld, AllocError>
     requires fits { Fits sizes }
     requires zero { RestsOutside heap zero × IsRootSeat heap zero }
@@ -122,7 +85,15 @@ fn share(
 {
     let heap = Arc::new(alloc, heap)?;
     let mutators = deal_mutators(alloc, &heap, sizes, seats)?;
-    let tracers = deal_tracers(alloc, &heap, 1 + sizes.mutators, sizes, seats)?;
+    let tracers = deal_tracers(
+        alloc,
+        &heap,
+        &RootPlan,
+        1 + sizes.mutators,
+        sizes.tracers,
+        sizes.name,
+        seats,
+    )?;
     Ok(SharedWorld {
         heap,
         zero,
@@ -133,7 +104,7 @@ fn share(
 }
 
 /// A world of these sizes, which fit. Out of memory is the only refusal.
-pub fn open_fitting(alloc: Global, sizes: SharedSizes) -> Result<SharedWorld, NotOpened>
+pub fn open_fitting(alloc: Global, sizes: Sizes) -> Result<SharedWorld, NotOpened>
     requires fits { Fits sizes }
     ensures opened { IfOk result (λ w. IsSharedOpened sizes w) }
     ensures refused { IfErr result (λ e. e ≡ OutOfMemory) }

@@ -5,47 +5,25 @@ ghost use Rattle.std.specs.Bool.{OnFalse, OnTrue};
 ghost use Rattle.gc_table.specs.Seats.{Across, view_of};
 ghost use Rattle.mutator_turns.specs.Standing.{RestsOutside};
 ghost use Rattle.shared_heap.specs.Calls.{SharerLeft};
-ghost use Rattle.shared_heap.specs.Lending.{HasAllStill, IsBack, IsSharedOpened, KeepsRest, ReadsNumbers, TakesNoMutator};
+ghost use Rattle.shared_heap.specs.Lending.{FitsShared, HasAllStill, IsBack, IsSharedOpened, KeepsRest, TakesNoMutator};
 ghost use Rattle.mutator_turns.specs.declared.refused.NotOpened.TheVariants.{OutOfRange};
-ghost use Rattle.shared_heap.specs.Rooting.{IsRootSeat};
-ghost use Rattle.shared_heap.specs.Sizing.{Fits};
+ghost use Rattle.world_seats.specs.Numbers.{ReadsStatistics};
 
 use crate::dealing::open_fitting;
 use crate::mutator::SharedMutator;
-use crate::sizes::SharedSizes;
-use crate::taking::first_of;
-use crate::world::{SharedStatistics, SharedWorld};
-use gc_table::{Heap, HeapSeat};
-use mark_core::{FREE, LAST};
+use crate::world::SharedWorld;
 use mutator_turns::NotOpened;
 use std::alloc::Global;
-
-/// Reads the numbers of the heap.
-fn read_numbers(heap: &Heap, seat: &mut HeapSeat) -> SharedStatistics
-    requires rests { RestsOutside heap.now seat.old }
-    requires first { IsRootSeat heap.now seat.old }
-    ensures rests { RestsOutside heap.now seat.new }
-    ensures first { IsRootSeat heap.now seat.new }
-    ensures opened { (view_of seat.new).opened ≡ (view_of seat.old).opened }
-    ensures read { Across (ReadsNumbers result heap.now) seat.old seat.new }
-{
-    let free = heap.read_stat(seat, FREE);
-    let marked = heap.read_stat(seat, LAST);
-    SharedStatistics {
-        cells: heap.shape().cells,
-        free,
-        marked,
-    }
-}
+use world_seats::{Sizes, Statistics, first_of, read_statistics};
 
 impl SharedWorld {
-    /// A world of these sizes with its root, an object with value 0 whose references refer to nothing. It is refused where a size is out of its range, or where
-    /// there is no memory.
-    pub fn open(alloc: Global, sizes: SharedSizes) -> Result<SharedWorld, NotOpened>
+    /// A world of these sizes with its root, an object with value 0 whose references refer to nothing. It is refused where a size is out of its range, where
+    /// stops are asked for, or where there is no memory.
+    pub fn open(alloc: Global, sizes: Sizes) -> Result<SharedWorld, NotOpened>
         ensures opened { IfOk result (λ w. IsSharedOpened sizes w) }
-        ensures refused { IfErr result (λ e. e ≡ OutOfRange → Fits sizes → ⊥) }
+        ensures refused { IfErr result (λ e. e ≡ OutOfRange → FitsShared sizes → ⊥) }
     {
-        if !sizes.fit() {
+        if !sizes.fit() || sizes.in_stops {
             return Err(NotOpened::OutOfRange);
         }
         open_fitting(alloc, sizes)
@@ -92,10 +70,10 @@ impl SharedWorld {
     }
 
     /// Numbers of the heap. Where others act on it meanwhile, each is of another moment.
-    pub fn statistics(&mut self) -> SharedStatistics
-        ensures read { ReadsNumbers result (arc_value self.old.heap) (view_of self.old.zero) (view_of self.new.zero) }
+    pub fn statistics(&mut self) -> Statistics
+        ensures read { ReadsStatistics result (arc_value self.old.heap) (view_of self.old.zero) (view_of self.new.zero) }
         ensures rest { HasAllStill self.old self.new }
     {
-        read_numbers(&self.heap, &mut self.zero)
+        read_statistics(&self.heap, &mut self.zero)
     }
 }

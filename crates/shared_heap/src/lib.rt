@@ -19,7 +19,7 @@
 //!
 //! # Where things are
 //!
-//! `world` and `mutator` have the two types, and `sizes` the sizes. `opening` makes a heap with its root, `dealing` deals its seats out to mutators and tracers, `lending`
+//! `world` and `mutator` have the two types. `opening` makes a heap with its root, `dealing` deals its seats out to mutators and tracers, `lending`
 //! lends these and takes them back, as `tracing` does with the tracers, and `closing` closes the world. What a mutator does is in `calls`, `comparing`, `exchanging`,
 //! `slots` and `identity`. A mutator that doesn't wait is in `seat_steps`, a tracer in `tracer_turns`; `handing` turns a mutator into such a one and back.
 #![tactic(auto)]
@@ -40,22 +40,19 @@ mod mutator;
 mod opening;
 mod planning;
 mod reading;
-mod sizes;
 mod slots;
-mod taking;
 mod tracing;
 mod world;
 
-pub use closing::{NotClosed, Unclosed};
 pub use gc_table::Words;
 pub use mutator::{Place, SharedMutator};
 pub use mutator_turns::{NotOpened, Refused};
 pub use reading::root_value;
 pub use seat_steps::{Stage, Stepper};
 pub use seat_tries::Came;
-pub use sizes::SharedSizes;
 pub use tracer_turns::{Tracer, TryTurn, Turn};
-pub use world::{SharedStatistics, SharedWorld};
+pub use world::SharedWorld;
+pub use world_seats::{NotClosed, Sizes as SharedSizes, Statistics as SharedStatistics, Unclosed};
 
 /// Whatever the threads of a closed world did, it is one run, in which each thread's steps come in their order and nobody else takes part. After each step the
 /// words agree with one plain heap that forgets nothing, whatever a step found is what this heap had just before, and there is one root: no thread that asked for

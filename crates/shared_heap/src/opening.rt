@@ -7,10 +7,9 @@ ghost use Rattle.gc_table.specs.declared.seat.HeapSeat.{HeapSeat};
 ghost use Rattle.mutator_turns.specs.Standing.{RestsOutside};
 ghost use Rattle.shared_heap.specs.Opening.{AreNew, HasFirstCache, HasRoot, IsAloneInIdle, IsAtFirstTurn, IsNewSeat, StopsWithRoot};
 ghost use Rattle.shared_heap.specs.Rooting.{MakesRoot, Spares, SparesSeason};
-ghost use Rattle.shared_heap.specs.Sizing.{Fits};
+ghost use Rattle.world_seats.specs.Sizing.{Fits};
 
 use crate::planning::RootPlan;
-use crate::sizes::SharedSizes;
 use alloc_cache::{Cache, claim, leave_with_seat, retire};
 use cache_refills::{Pass, try_enter};
 use cycle_steps::{ask_to_stop, finds_stopped};
@@ -21,9 +20,10 @@ use mutator_turns::NotOpened;
 use seat_turns::is_turn;
 use std::alloc::Global;
 use stop_world::{leave, resume};
+use world_seats::Sizes;
 
 /// The sizes of the heap: a section for each mutator besides section 0, which has the root.
-fn shape_of(sizes: &SharedSizes) -> Shape
+fn shape_of(sizes: &Sizes) -> Shape
     requires fits { Fits sizes.now }
     ensures shape { IsShape result }
     ensures cells { result.cells ≡ sizes.now.cells }
@@ -47,7 +47,7 @@ fn shape_of(sizes: &SharedSizes) -> Shape
 }
 
 /// The heap, with a seat for each section and each tracer.
-pub fn open(alloc: Global, sizes: &SharedSizes) -> Result<(Heap, Vec<HeapSeat>), NotOpened>
+pub fn open(alloc: Global, sizes: &Sizes) -> Result<(Heap, Vec<HeapSeat>), NotOpened>
     requires fits { Fits sizes.now }
     ensures cells { IfOk result (λ r. r.0.shape.cells ≡ sizes.now.cells) }
     ensures fields { IfOk result (λ r. r.0.shape.fields ≡ sizes.now.fields) }

@@ -5,22 +5,11 @@ ghost use Rattle.mutator_turns.specs.Standing.{RestsOutside};
 ghost use Rattle.shared_heap.specs.Rooting.{HasSeats, IsRootSeat};
 
 use crate::mutator::SharedMutator;
-use crate::sizes::SharedSizes;
 use gc_table::{Heap, HeapSeat};
 use std::alloc::Global;
 use std::sync::Arc;
 use tracer_turns::Tracer;
-
-/// Numbers of a world, each as it was read.
-#[derive(Clone, Copy, Debug, PartialEq, Eq, Drop)]
-pub struct SharedStatistics {
-    /// How many cells there are.
-    pub cells: u32,
-    /// How many cells are free in blocks that no mutator has claimed.
-    pub free: u64,
-    /// How many cells the last cycle marked.
-    pub marked: u64,
-}
+use world_seats::Sizes;
 
 /// A heap whose objects threads share. It has those of its mutators and tracers that nobody has taken.
 #[derive(Drop)]
@@ -34,7 +23,7 @@ pub struct SharedWorld {
     /// The tracers that nobody has taken, with room for all.
     pub(crate) tracers: Vec<Tracer>,
     /// The sizes that it was opened with.
-    pub(crate) sizes: SharedSizes,
+    pub(crate) sizes: Sizes,
     ghost rests: { RestsOutside (arc_value heap) zero },
     ghost first: { IsRootSeat (arc_value heap) zero },
     ghost opened: { HasSeats (arc_value heap) sizes.tracers zero },

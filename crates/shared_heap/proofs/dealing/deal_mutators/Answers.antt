@@ -5,7 +5,8 @@ use Rattle.gc_table.specs.declared.seat.Heap.{Heap}
 use Rattle.gc_table.specs.declared.seat.HeapSeat.{HeapSeat}
 use Rattle.shared_heap.specs.Lending.{IsFreshSharer}
 use Rattle.shared_heap.specs.Opening.{AreNew}
-use Rattle.shared_heap.proofs.Beginning.{first-new, rest-new}
+use Rattle.shared_heap.specs.Planning.{root_plan}
+use Rattle.world_seats.proofs.Beginning.{first-new, rest-new}
 use Rattle.shared_heap.proofs.Dealt.{fresh-push}
 use Rattle.shared_heap.proofs.dealing.deal_mutators.Goals as goal
 
@@ -16,7 +17,7 @@ loop-at-preserved c =
     let name : ℕ = c.args.sizes.name in
     let xs : List HeapSeat = c.first_of-seat.new.all.items in
     let next : 1 + c.loop-at.at + 1 ≡ 1 + (c.loop-at.at + 1) = omega arith in
-    let rest = rest-new h (1 + c.loop-at.at) c.first_of-seat.result xs c.loop-at.seats.items c.first_of-seat.ensures.first i.new in
+    let rest = rest-new root_plan h (1 + c.loop-at.at) c.first_of-seat.result xs c.loop-at.seats.items c.first_of-seat.ensures.first i.new in
     let last : IsFreshSharer h name (1 + length c.loop-at.all.items) c.in_ok-mutator.mutator =
     subst (λ (n : ℕ). IsFreshSharer h name (1 + n) c.in_ok-mutator.mutator) (sym i.long) c.in_ok-mutator.ensures.fresh in
     record {
@@ -28,4 +29,4 @@ loop-at-preserved c =
     }
 
 pub mutator_of-requires-clause-seat : goal.mutator_of-requires-clause-seat
-mutator_of-requires-clause-seat c = first-new (arc_value c.args.heap.now) (1 + c.loop-at.at) c.first_of-seat.result c.first_of-seat.new.all.items c.loop-at.seats.items c.first_of-seat.ensures.first c.loop-at.invariant.new
+mutator_of-requires-clause-seat c = first-new root_plan (arc_value c.args.heap.now) (1 + c.loop-at.at) c.first_of-seat.result c.first_of-seat.new.all.items c.loop-at.seats.items c.first_of-seat.ensures.first c.loop-at.invariant.new

@@ -1,7 +1,8 @@
 use Rattle.std.proofs.Common.{◌∙◌, List, ap, arith}
 use Rattle.std.specs.Prelude.{slice_get}
 use Rattle.gc_table.specs.declared.seat.HeapSeat.{HeapSeat}
-use Rattle.shared_heap.proofs.Beginning.{first-new, rest-new}
+use Rattle.world_seats.proofs.Beginning.{first-new, rest-new}
+use Rattle.shared_heap.specs.Planning.{root_plan}
 use Rattle.gc_table.specs.Seats.{view_of}
 use Rattle.gc_table.proofs.Running.{ran-opened}
 use Rattle.shared_heap.proofs.Keeping.{root-seat}
@@ -10,16 +11,16 @@ use Rattle.shared_heap.proofs.dealing.open_fitting.Goals as goal
 
 pub open_turn-requires-clause-new : goal.open_turn-requires-clause-new
 open_turn-requires-clause-new c =
-    (first-new c.in-Ok.made.0 0 c.first_of-zero.result c.first_of-zero.new.all.items c.in-Ok.made.1.items c.first_of-zero.ensures.first c.in-Ok.ensures.seats, omega (arith, c.in-Ok.ensures.sections))
+    (first-new root_plan c.in-Ok.made.0 0 c.first_of-zero.result c.first_of-zero.new.all.items c.in-Ok.made.1.items c.first_of-zero.ensures.first c.in-Ok.ensures.seats, omega (arith, c.in-Ok.ensures.sections))
 
 pub share-requires-clause-new : goal.share-requires-clause-new
-share-requires-clause-new c = rest-new c.in-Ok.made.0 0 c.first_of-zero.result c.first_of-zero.new.all.items c.in-Ok.made.1.items c.first_of-zero.ensures.first c.in-Ok.ensures.seats
+share-requires-clause-new c = rest-new root_plan c.in-Ok.made.0 0 c.first_of-zero.result c.first_of-zero.new.all.items c.in-Ok.made.1.items c.first_of-zero.ensures.first c.in-Ok.ensures.seats
 
 pub share-requires-clause-zero : goal.share-requires-clause-zero
 share-requires-clause-zero c =
     let x = c.first_of-zero.result in
     let y = c.open_turn.new.seat in
-    let new = first-new c.in-Ok.made.0 0 x c.first_of-zero.new.all.items c.in-Ok.made.1.items c.first_of-zero.ensures.first c.in-Ok.ensures.seats in
+    let new = first-new root_plan c.in-Ok.made.0 0 x c.first_of-zero.new.all.items c.in-Ok.made.1.items c.first_of-zero.ensures.first c.in-Ok.ensures.seats in
     (c.if-not-open_turn.ensures.rests, root-seat c.in-Ok.made.0 x y new (omega (arith, c.in-Ok.ensures.sections)) c.if-not-open_turn.ensures.makes)
 
 pub share-requires-clause-opened : goal.share-requires-clause-opened

@@ -1,16 +1,14 @@
-use Rattle.std.proofs.Common.{◌≡◌, ◌∙◌, rules, subst}
+use Rattle.std.proofs.Common.{◌≡◌, rules, subst}
 use Rattle.std.specs.Arc.{arc_value}
 use Rattle.gc_table.specs.declared.seat.Heap.{Heap}
 use Rattle.mutator_turns.specs.Standing.{RestsOutside}
-use Rattle.shared_heap.specs.Rooting.{IsRootSeat}
+use Rattle.shared_heap.proofs.Telling.{zero-told}
 use Rattle.shared_heap.proofs.world.SharedWorld.statistics.Goals as goal
 
 pub invariant_of-self : goal.invariant_of-self
 invariant_of-self c =
-    let same : c.deref.result.now ≡ arc_value c.args.self.now.heap = search rules in
-    record {
-      rests = subst (λ (h : Heap). RestsOutside h c.read_numbers.new.seat) same c.read_numbers.ensures.rests;
-      first = subst (λ (h : Heap). IsRootSeat h c.read_numbers.new.seat) same c.read_numbers.ensures.first;
-      opened = c.read_numbers.ensures.opened ∙ c.args.self.now.opened;
-      room = c.args.self.now.room;
-    }
+    let h : Heap = arc_value c.args.self.now.heap in
+    let same : c.deref.result.now ≡ h = search rules in
+    let e = c.read_statistics.ensures in
+    let z = zero-told h c.args.self.now.sizes.tracers c.args.self.now.zero c.read_statistics.new.seat c.args.self.now.first c.args.self.now.opened (subst (λ (x : Heap). RestsOutside x c.read_statistics.new.seat) same e.rests) e.ran e.spares in
+    record { rests = z.rests; first = z.first; opened = z.opened; room = c.args.self.now.room }
