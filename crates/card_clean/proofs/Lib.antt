@@ -1,7 +1,4 @@
 pub mod Owned
-pub mod Exchanging
-mod Words
-mod CardCells
 mod Steps
 mod Between
 mod Learning

@@ -1,15 +1,67 @@
 -- The commands by their names.
-use Rattle.std.proofs.Common.{◌≡◌, ◌∙◌, ◌&&◌, Bool, true, false, not, cond, refl, sym, ap, List, [], ◌∷◌, map, Option, Some, None, bytes_eq, codes, true≢false, if◌then◌else◌, subst}
+use Rattle.std.proofs.Common.{◌≡◌, ◌∙◌, true, false, refl, sym, ap, List, [], ◌∷◌, map, Option, Some, None, codes, true≢false, ◌&&◌, Bool, not, cond, bytes_eq, if◌then◌else◌, subst}
 use Rattle.std.specs.Prelude.{option_and_then}
-use Rattle.std.specs.List.{list_all}
 use Rattle.clap.specs.Walk.{Text}
-use Rattle.command_words.specs.Words.{Census, Command, Convert, Dump, Gen, Run, Schedule, Setting, Undump, allowing, by_name, number, options, runners, size}
-use Rattle.command_words.specs.Parsing.{Form, batch_options, dashed, form_named, forms, load_options, made_options, play_options, run_options}
+use Rattle.command_words.specs.Words.{Command, Dump, Gen, Run, Setting, allowing, chosen, given, number, options, runners, size, Census, Convert, Schedule, Undump, by_name}
+use Rattle.command_words.specs.Parsing.{are_allowed, batch_options, dashed, is_required, load_options, made_options, play_options, run_options, Form, form_named, forms}
 use Rattle.command_words.proofs.NamedRules.{has_name}
+use Rattle.command_words.proofs.TopWalk.{Keeps, Covers, CoversAt}
+use Rattle.command_words.proofs.Refusing.{IsStrict, batches_by, either_name, loads_by, no_load_number, no_load_size, no_second, none_either, numbers_by, refuses_by, bare_strict, batch_strict, dump_strict, gen_strict, load_strict, run_strict}
+use Rattle.std.specs.List.{list_all}
 use Rattle.command_words.proofs.LeafRefused.{flip}
-use Rattle.command_words.proofs.TopWalk.{Covers, CoversAt}
-use Rattle.command_words.proofs.Refusing.{IsStrict, bare_strict, batch_strict, batches_by, dump_strict, gen_strict, load_strict, loads_by, numbers_by, run_strict}
-use Rattle.command_words.proofs.Requiring.{NeedsAll, bare_needs, batch_needs, dump_needs, gen_needs, keeps_by, load_needs, run_needs}
+
+-- The definition refuses a command that lacks an option which it needs.
+-- the command is none where a required option is missing
+abbrev pub NeedsAll : List Text → (List Setting → Option Command) → Type 0
+NeedsAll names inner = (all : List Setting) (n : Text) → has_name names n ≡ true → is_required n ≡ true → given (dashed n) all ≡ [] → inner all ≡ None
+
+not_needed : {P : Type 0} (m n : Text) → is_required m ≡ false → is_required n ≡ true → m ≡ n → P
+not_needed m n free needed e = absurd (true≢false (sym needed ∙ (ap is_required (sym e) ∙ free)))
+
+play_free : {P : Type 0} (n : Text) → is_required n ≡ true → has_name play_options n ≡ true → P
+play_free n needed =
+    either_name (codes "cells") n (codes "workers" ∷ codes "tracers" ∷ codes "packets" ∷ codes "entries" ∷ []) (not_needed (codes "cells") n refl needed)
+    (either_name (codes "workers") n (codes "tracers" ∷ codes "packets" ∷ codes "entries" ∷ []) (not_needed (codes "workers") n refl needed)
+    (either_name (codes "tracers") n (codes "packets" ∷ codes "entries" ∷ []) (not_needed (codes "tracers") n refl needed)
+    (either_name (codes "packets") n (codes "entries" ∷ []) (not_needed (codes "packets") n refl needed)
+    (either_name (codes "entries") n [] (not_needed (codes "entries") n refl needed)
+    (λ h. absurd (true≢false (sym h)))))))
+
+pub run_needs : NeedsAll run_options (λ all. option_and_then (λ o. Some (Run o)) (options all))
+run_needs all n known needed missing = either_name (codes "place") n play_options (not_needed (codes "place") n refl needed) (play_free n needed) known
+
+pub gen_needs : NeedsAll made_options (λ all. numbers_by Gen (number all) (size all))
+gen_needs all n known needed missing =
+    either_name (codes "number") n (codes "size" ∷ [])
+    (λ e. ap (λ l. numbers_by Gen (chosen 0 4294967295 None l) (size all)) (ap (λ m. given (dashed m) all) e ∙ missing))
+    (either_name (codes "size") n []
+    (λ e. ap (λ l. numbers_by Gen (number all) (chosen 1 20000 None l)) (ap (λ m. given (dashed m) all) e ∙ missing) ∙ no_second Gen (number all))
+    (λ h. absurd (true≢false (sym h)))) known
+
+pub load_needs : NeedsAll load_options (λ all. loads_by (options all) (number all) (size all))
+load_needs all n known needed missing =
+    either_name (codes "number") n (codes "size" ∷ play_options)
+    (λ e. ap (λ l. loads_by (options all) (chosen 0 4294967295 None l) (size all)) (ap (λ m. given (dashed m) all) e ∙ missing) ∙ no_load_number (options all) (size all))
+    (either_name (codes "size") n play_options
+    (λ e. ap (λ l. loads_by (options all) (number all) (chosen 1 20000 None l)) (ap (λ m. given (dashed m) all) e ∙ missing) ∙ no_load_size (options all) (number all))
+    (play_free n needed)) known
+
+pub bare_needs : (command : Command) → NeedsAll [] (λ all. Some command)
+bare_needs command all n known needed missing = absurd (true≢false (sym known))
+
+pub dump_needs : NeedsAll play_options (λ all. option_and_then (λ o. Some (Dump o)) (options all))
+dump_needs all n known needed missing = play_free n needed known
+
+pub batch_needs : NeedsAll batch_options (λ all. batches_by (options all) (runners all))
+batch_needs all n known needed missing = either_name (codes "runners") n play_options (not_needed (codes "runners") n refl needed) (play_free n needed) known
+
+pub keeps_by : (names : List Text) (inner : List Setting → Option Command) → has_name names [] ≡ false → IsStrict names inner → NeedsAll names inner
+    → Keeps names (λ all. allowing (map dashed names) all (inner all))
+keeps_by names inner named strict needs = record {
+  named = named;
+  refuses = refuses_by names inner strict;
+  needs = λ all n known needed missing. none_either (are_allowed names all) (inner all) (needs all n known needed missing);
+}
 
 -- ---- the table
 

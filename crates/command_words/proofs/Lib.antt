@@ -7,9 +7,7 @@ pub mod LeafWalk
 pub mod LeafMatches
 pub mod TopWalk
 pub mod Refusing
-pub mod Requiring
 pub mod CommandTable
-pub mod BuiltProgram
 pub mod Answered
 pub mod Builders
 pub mod InRange

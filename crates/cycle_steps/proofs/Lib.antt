@@ -1,7 +1,6 @@
 pub mod Courses
 mod Exactly
 mod Stepped
-mod RootPieces
 mod CardPieces
 mod ClearPieces
 mod CountPieces

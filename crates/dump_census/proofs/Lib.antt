@@ -4,4 +4,3 @@ pub mod Leveling
 pub mod Tally
 pub mod Adding
 pub mod Reached
-pub mod OneCensus

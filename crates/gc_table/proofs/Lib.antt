@@ -5,7 +5,6 @@ pub mod Asking
 pub mod State
 pub mod Closing
 pub mod Joining
-pub mod Ending
 pub mod Fetching
 pub mod Unmoved
 pub mod Noting

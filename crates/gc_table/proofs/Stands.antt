@@ -2,8 +2,6 @@
 pub mod StandsAgree
 pub mod StandsFrame
 pub mod StandsWords
-pub mod StandsSeats
-pub mod StandsStill
 pub mod StandsCells
 pub mod StandsSeat
 pub mod StandsMoves
@@ -12,7 +10,6 @@ pub mod StandsRoots
 pub mod StandsObjects
 pub mod StandsStores
 pub mod StandsMaking
-pub mod StandsMade
 pub mod StandsNew
 pub mod StandsKept
 pub mod StandsStart

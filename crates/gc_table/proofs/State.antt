@@ -4,6 +4,5 @@ pub mod StateStart
 pub mod StateSteps
 pub mod StateStores
 pub mod StateSeen
-pub mod StateStands
 pub mod StatePlain
 pub mod StateReads

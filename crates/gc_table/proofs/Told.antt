@@ -1,16 +1,11 @@
 -- What the rule tells of each section: where its objects lie, its position, its turns, and whether it found the heap full.
 pub mod PlainTold
 pub mod ApartHeaps
-pub mod ApartPlaces
 pub mod ApartKept
 pub mod PositionedKept
 pub mod SeasonsKept
 pub mod TurnsKept
 pub mod SettledKept
-pub mod FullSeen
-pub mod FullStays
 pub mod FullKept
 pub mod PlacedLeft
-pub mod PlacedMore
-pub mod PlacedNew
 pub mod PlacedKept

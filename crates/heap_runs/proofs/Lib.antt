@@ -1,11 +1,9 @@
 pub mod Heap
 pub mod Making
-pub mod CellWords
 pub mod Seats
 pub mod Frame
 pub mod Still
 pub mod Reading
-pub mod Roots
 pub mod Stores
 pub mod NewParts
 pub mod NewObjects
@@ -15,8 +13,6 @@ pub mod Exchanges
 pub mod ExchangesFind
 pub mod Kept
 pub mod Telling
-pub mod Reached
-pub mod Unshared
 pub mod Winning
 pub mod Freeing
 pub mod Threads

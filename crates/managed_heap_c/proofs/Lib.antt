@@ -6,7 +6,6 @@ pub mod Numbered
 pub mod Stored
 pub mod Tested
 pub mod Told
-pub mod Turned
 pub mod Used
 pub mod Values
 pub mod Widened

@@ -6,12 +6,10 @@ pub mod CachesOwners
 pub mod CachesClaims
 pub mod CachesNames
 pub mod CachesUses
-pub mod CachesNew
 pub mod CachesMakes
 pub mod CachesSteps
 pub mod CachesStores
 pub mod CachesPublish
 pub mod CachesAt
-pub mod CachesCells
 pub mod CachesKept
 pub mod CachesStart

@@ -1,15 +1,30 @@
 -- The rule of the core, part by part: each event that is allowed keeps it, and the state in which nothing has happened meets it.
-use Rattle.std.proofs.Common.{ℕ, ◌≡◌, List, [], ◌∷◌, get_or, refl, sym, subst, Option, None, Some}
-use Rattle.std.specs.Prelude.{is_none, if◌then◌else◌}
+use Rattle.std.proofs.Common.{ℕ, ◌≡◌, ◌<◌, List, set, get_or, length, arith, refl, sym, ap, ◌∙◌, subst, false, Some, None, [], ◌∷◌, Option}
+use Rattle.std.specs.Prelude.{IfSome, IsTrue, IsFalse, slice_get, is_none, if◌then◌else◌}
 use Rattle.std.specs.List.{All}
-use Rattle.std.proofs.lemmas.Bool.{false≢true}
-use Rattle.std.proofs.lemmas.List.Elements.{All-head, All-tail}
-use Rattle.mark_core.specs.Layout.{Words, words_of}
-use Rattle.mark_core.specs.Rules.WorldRules.{Season}
+use Rattle.std.proofs.lemmas.Bool.{true≢false, false≢true}
+use Rattle.std.proofs.lemmas.List.Elements.{All-get_or, All-set, All-head, All-tail}
+use Rattle.std.proofs.lemmas.List.{get_or-map, length-map}
+use Rattle.std.proofs.lemmas.Option.{slice_get_within, get_or_from_slice_get}
+use Rattle.mark_core.specs.Layout.{Words, words_of, put_word, region_sizes}
+use Rattle.mark_core.specs.Views.{Standing, standings, standing_of}
+use Rattle.mark_core.specs.Parts.{parts}
+use Rattle.mark_core.specs.Effects.{place, written, seat_after}
+use Rattle.mark_core.specs.Steps.{Core, AllTrue, failing_part, after_event, others_after, start_core, run_of}
+use Rattle.mark_core.specs.Rules.WorldRules.{Season, NoneActive}
+use Rattle.mark_core.specs.Laws.{IsCore, StartIsCore, EventsKeepCore, RunsAreSound, NumbersFit, AllNumbersFit, ArePacketsSound}
+use Rattle.mark_core.proofs.Writing.Regions.{words-get}
+use Rattle.mark_core.proofs.Acting.{Acted, found}
+use Rattle.mark_core.proofs.Core.{acts}
+use Rattle.mark_core.proofs.Writing.Writes.{touches_season, season-kept}
+use Rattle.mark_core.proofs.Locals.{local-kept}
+use Rattle.mark_core.specs.declared.kinds.Shape.{Shape}
+use Rattle.mark_core.specs.declared.kinds.Event.{Event}
+use Rattle.mark_core.specs.declared.kinds.Step.{Step}
+use Rattle.mark_core.specs.declared.kinds.Step.TheVariants.{EnterStep, LeaveStep, DropStep, ReadSeason, NextSeason}
+use Rattle.mark_core.specs.declared.seat.SeatState.{SeatState}
 use Rattle.mark_core.specs.Start.{start_words, start_seats}
 use Rattle.mark_core.specs.Strong.{IsStrongSeat}
-use Rattle.mark_core.specs.Steps.{Core, failing_part, after_event, start_core, run_of}
-use Rattle.mark_core.specs.Laws.{IsCore, StartIsCore, EventsKeepCore, RunsAreSound, NumbersFit, AllNumbersFit, ArePacketsSound}
 use Rattle.mark_core.proofs.Blocks.BlocksKept.{BlocksSound, blocks-kept_by}
 use Rattle.mark_core.proofs.Blocks.BlocksStart.{blocks-starts}
 use Rattle.mark_core.proofs.Caches.CachesFacts.{SeatFacts, facts-kept_by, facts-starts}
@@ -30,14 +45,74 @@ use Rattle.mark_core.proofs.Pool.PoolStart.{start, each-seat}
 use Rattle.mark_core.proofs.Pool.PoolsKept.{packets_kept, shape-kept}
 use Rattle.mark_core.proofs.References.ReferencesKept.{references-kept_by}
 use Rattle.mark_core.proofs.References.ReferencesStart.{references-starts}
-use Rattle.mark_core.proofs.SeasonKept.{KnowsSeason, season-kept_by}
 use Rattle.mark_core.proofs.Sweeps.SweepsKept.{sweeping-kept_by}
 use Rattle.mark_core.proofs.Sweeps.SweepsStart.{sweeping-starts}
 use Rattle.mark_core.proofs.World.WorldKept.{WorldSound, world-kept_by}
 use Rattle.mark_core.proofs.World.WorldStart.{world-starts}
-use Rattle.mark_core.specs.declared.kinds.Shape.{Shape}
-use Rattle.mark_core.specs.declared.kinds.Event.{Event}
-use Rattle.mark_core.specs.declared.seat.SeatState.{SeatState}
+
+-- Each event that is allowed keeps the rule of the season.
+abbrev pub KnowsSeason : ℕ → SeatState → Type 0
+KnowsSeason z s = IsTrue s.active → IfSome s.season_seen (λ y. z ≡ y)
+
+-- a step that leaves the season leaves what its seat knows of it
+known_after : (sh : Shape) (s : SeatState) (step : Step) (old z : ℕ) → touches_season step ≡ false → KnowsSeason z s → KnowsSeason z (seat_after sh s step old)
+known_after sh s ReadSeason old z t h = absurd (true≢false t)
+known_after sh s NextSeason old z t h = absurd (true≢false t)
+known_after sh s EnterStep old z t h = λ e. tt
+known_after sh s LeaveStep old z t h = λ e. tt
+known_after sh s DropStep old z t h = λ e. tt
+known_after sh s step old z t h = h
+
+none_knows : (z : ℕ) (s : SeatState) → IsFalse s.active → KnowsSeason z s
+none_knows z s h = λ e. absurd (true≢false (sym e ∙ h))
+
+-- while a seat knows that the world is stopped, no seat is active
+all_inactive : (c : Core) (i : ℕ) (s : SeatState) → IsCore c → slice_get c.seats i ≡ Some s → IsTrue s.knows → All (λ (t : SeatState). IsFalse t.active) c.seats
+all_inactive c i s k g h j d l =
+    let ss : List Standing = standings c.seats in
+    let hi : i < length ss = rw length-map (slice_get_within c.seats i s g) in
+    let mine : get_or ss i (standing_of s) ≡ standing_of s = get_or-map standing_of c.seats i s (standing_of s) (slice_get_within c.seats i s g) ∙ ap standing_of (get_or_from_slice_get c.seats i s s g) in
+    let P : Standing → Type 0 = λ (t : Standing). IsTrue t.knows → NoneActive ss in
+    let none : NoneActive ss = subst P mine (All-get_or P ss i (standing_of s) hi k.sound.world.knows_stopped) h in
+    let yours : get_or ss j (standing_of d) ≡ standing_of (get_or c.seats j d) = get_or-map standing_of c.seats j d (standing_of d) l in
+    subst (λ (t : Standing). IsFalse t.active) yours (none j (standing_of d) (rw length-map l))
+
+-- a step that doesn't touch the season
+other_season : (c : Core) (i : ℕ) (s : SeatState) (step : Step) → IsCore c → slice_get c.seats i ≡ Some s → touches_season step ≡ false
+    → Season (put_word (place c.shape s step) (written c.shape s step (found c s step)) (words_of c.shape c.words)).season (others_after c.shape step (set c.seats i (seat_after c.shape s step (found c s step))))
+other_season c i s step k g t =
+    let w : Words = words_of c.shape c.words in
+    let P : SeatState → Type 0 = KnowsSeason w.season in
+    let mine : P s = subst P (get_or_from_slice_get c.seats i s s g) (All-get_or P c.seats i s (slice_get_within c.seats i s g) k.sound.season.season_known) in
+    let after : All P (others_after c.shape step (set c.seats i (seat_after c.shape s step (found c s step)))) = local-kept P c.shape step c.seats i _ (λ j. λ e. absurd (true≢false (sym e))) (λ j. λ e. absurd (true≢false (sym e))) k.sound.season.season_known (known_after c.shape s step (found c s step) w.season t mine) in
+    rw (season-kept c.shape s step (written c.shape s step (found c s step)) w t) (record { season_known = after })
+
+season_at : (c : Core) (i : ℕ) (s : SeatState) (step : Step) → IsCore c → slice_get c.seats i ≡ Some s → AllTrue (parts c.shape (words_of c.shape c.words) c.seats s step)
+    → Season (put_word (place c.shape s step) (written c.shape s step (found c s step)) (words_of c.shape c.words)).season (others_after c.shape step (set c.seats i (seat_after c.shape s step (found c s step))))
+season_at c i s NextSeason k g ok =
+    let w : Words = words_of c.shape c.words in
+    let P : SeatState → Type 0 = KnowsSeason (written c.shape s NextSeason (found c s NextSeason)) in
+    let none = all_inactive c i s k g ok.0 in
+    let mine : IsFalse s.active = subst (λ (t : SeatState). IsFalse t.active) (get_or_from_slice_get c.seats i s s g) (none i s (slice_get_within c.seats i s g)) in
+    record { season_known = All-set P c.seats i s (none_knows _ s mine) (λ j d l. none_knows _ (get_or c.seats j d) (none j d l)) }
+season_at c i s ReadSeason k g ok =
+    let w : Words = words_of c.shape c.words in
+    let same : w.season ≡ found c s ReadSeason = sym (words-get (region_sizes c.shape) 13 c.words 1 0 (omega arith)) in
+    let P : SeatState → Type 0 = KnowsSeason (found c s ReadSeason) in
+    let before : All P c.seats = subst (λ (z : ℕ). All (KnowsSeason z) c.seats) same k.sound.season.season_known in
+    record { season_known = All-set P c.seats i (seat_after c.shape s ReadSeason (found c s ReadSeason)) (λ e. refl) before }
+season_at c i s step k g ok = other_season c i s step k g refl
+
+-- each event that is allowed keeps the rule of the season
+pub season-kept_by : (c : Core) (e : Event) → IsCore c → failing_part c e ≡ None → Season (words_of c.shape (after_event c e).words).season (after_event c e).seats
+season-kept_by c e k f =
+    let r : (s : SeatState) × Acted c e s = acts c e k f in
+    let a : Acted c e r.0 = r.1 in
+    let s : SeatState = r.0 in
+    let w : Words = put_word (place c.shape s e.step) (written c.shape s e.step (found c s e.step)) (words_of c.shape c.words) in
+    let P : List SeatState → Type 0 = λ seats. Season w.season seats in
+    let Q : Words → Type 0 = λ x. Season x.season (after_event c e).seats in
+    subst Q (sym a.words) (subst P (sym a.seats) (season_at c e.seat s e.step k a.seat a.ok))
 
 -- the facts of one seat, gathered
 strong_seats : (sh : Shape) (w : Words) (seats : List SeatState) → WorldSound sh w seats → BlocksSound w seats → All (HandRight sh) seats → All (HandApart sh) seats → All SeatFacts seats → All (IsStrongSeat sh) seats

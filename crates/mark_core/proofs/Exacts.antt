@@ -1,6 +1,5 @@
 -- The files on exact cycles.
 pub mod ExactsReach
-pub mod ExactsStill
 pub mod ExactsDrain
 pub mod ExactsMoves
 pub mod ExactsKept

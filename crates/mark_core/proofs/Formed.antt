@@ -2,7 +2,6 @@
 pub mod FormedSlots
 pub mod FormedBits
 pub mod FormedGrasps
-pub mod FormedCache
 pub mod FormedAfter
 pub mod FormedSeats
 pub mod FormedLearns

@@ -2,9 +2,7 @@
 pub mod MarksAny
 pub mod MarksCells
 pub mod MarksIdle
-pub mod MarksUse
 pub mod MarksWords
-pub mod MarksLengths
 pub mod MarksEntries
 pub mod MarksQueues
 pub mod MarksHands

@@ -1,6 +1,5 @@
 -- The files on what a seat may rely on between its steps.
 pub mod NotesBeside
-pub mod NotesWrites
 pub mod NotesKept
 pub mod NotesBounds
 pub mod NotesOwn

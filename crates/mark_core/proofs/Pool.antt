@@ -6,9 +6,7 @@ pub mod PoolPlaces
 pub mod PoolChoice
 pub mod PoolMoves
 pub mod PoolSteps
-pub mod PoolTake
 pub mod PoolGive
 pub mod PoolLengths
-pub mod PoolSeats
 pub mod PoolsKept
 pub mod PoolStart

@@ -3,6 +3,5 @@ pub mod ReferencesRoots
 pub mod ReferencesNames
 pub mod ReferencesEnv
 pub mod ReferencesFields
-pub mod ReferencesSwept
 pub mod ReferencesKept
 pub mod ReferencesStart

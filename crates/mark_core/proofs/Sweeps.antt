@@ -2,7 +2,6 @@
 pub mod SweepsBounds
 pub mod SweepsSpared
 pub mod SweepsUsed
-pub mod SweepsStored
 pub mod SweepsSteps
 pub mod SweepsClosed
 pub mod SweepsPhase

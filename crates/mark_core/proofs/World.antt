@@ -1,10 +1,8 @@
 -- The files on the number of seats, the stop and the phase.
 pub mod WorldTally
-pub mod WorldWords
 pub mod WorldMoves
 pub mod WorldNumbers
 pub mod WorldReading
-pub mod WorldStandings
 pub mod WorldSeats
 pub mod WorldLocals
 pub mod WorldSights

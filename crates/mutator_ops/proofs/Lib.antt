@@ -5,7 +5,6 @@ pub mod Holdings
 pub mod Knowing
 mod Listing
 pub mod Once
-mod Places
 pub mod Readying
 mod ShareCreating
 pub mod ShareReady

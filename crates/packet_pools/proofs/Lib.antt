@@ -1,4 +1,3 @@
-pub mod Keeping
 pub mod TracedSteps
 pub mod Conditions
 pub mod Searches
@@ -12,7 +11,6 @@ pub mod WordSearch
 pub mod PoolSearch
 pub mod Choices
 pub mod Given
-pub mod Quiets
 pub mod Exchanged
 pub mod Filled
 pub mod Few

@@ -1,7 +1,15 @@
 -- One step of tracing leaves the rest as it was, and so do many.
-use Rattle.std.proofs.Common.{ℕ, ◌≡◌, ◌/◌, ◌%◌, ◌^◌, ◌∷◌, refl, sym, ap, ◌∙◌, subst, Bool, true, false, cond, Some, None, ⊎_elim, eq-eqb}
+use Rattle.std.proofs.Common.{◌≡◌, ℕ, List, [], ◌∷◌, ◌++◌, refl, sym, ap, ◌∙◌, true, ◌/◌, ◌%◌, ◌^◌, subst, Bool, false, cond, Some, None, ⊎_elim, eq-eqb}
+use Rattle.std.proofs.lemmas.Bool.{and_parts, and_from, cases_Bool, true≢false, false≢true, false_from_ne_true}
+use Rattle.mark_core.specs.declared.kinds.Step.{Step}
+use Rattle.gc_table.specs.declared.view.Entry.{Entry}
+use Rattle.gc_table.specs.declared.view.View.{View}
+use Rattle.gc_table.specs.Log.{events}
+use Rattle.gc_table.specs.Running.{after_all, Ran, is_store, IsSeen}
+use Rattle.gc_table.specs.Taking.{after, Finds}
+use Rattle.gc_table.proofs.History.Log.{events-after, events-none, grows-refl, grows-join, grows-after, only-none, only-after, only-join}
+use Rattle.packet_pools.specs.Keeping.{all_keep, keeps_cells}
 use Rattle.std.specs.Prelude.{◌||◌}
-use Rattle.std.proofs.lemmas.Bool.{cases_Bool, and_parts, and_from, true≢false, false≢true, false_from_ne_true}
 use Rattle.mark_core.specs.Cards.{block_cells}
 use Rattle.mark_core.specs.Effects.{place, written, seat_after}
 use Rattle.mark_core.specs.Notes.{same_place, steady, keeps_bound, keeps_single, is_counter}
@@ -9,20 +17,27 @@ use Rattle.mark_core.specs.Bits.{has_bit, with_bit}
 use Rattle.mark_core.specs.Places.{mark_at}
 use Rattle.mark_core.specs.declared.kinds.Step.TheVariants.{SetMark}
 use Rattle.mark_core.proofs.Writing.CellBits.{bit-more, with_same}
-use Rattle.mark_core.specs.declared.kinds.Step.{Step}
 use Rattle.mark_core.specs.declared.seat.SeatState.{SeatState}
-use Rattle.gc_table.specs.declared.view.View.{View}
 use Rattle.gc_table.specs.Sections.{section_after}
 use Rattle.gc_table.specs.Notes.{Notes, look, if_kept, noting}
-use Rattle.gc_table.specs.Taking.{after, Finds}
 use Rattle.gc_table.proofs.Noting.{place-same, look-map}
-use Rattle.gc_table.specs.Running.{is_store, IsSeen}
-use Rattle.gc_table.proofs.History.Log.{grows-refl, grows-join, grows-after, only-none, only-after, only-join}
 use Rattle.gc_table.proofs.Noticing.{found-noted}
 use Rattle.gc_table.proofs.Running.{ran-refl, ran-after, ran-join, ran-events}
-use Rattle.packet_pools.specs.Keeping.{keeps_cells}
 use Rattle.packet_pools.specs.OnlyTraced.{is_traced, rest_of, IsNotedMarked, traces_cells, OnlyTracedBy, OnlyTraced, OnlyCleaned}
-use Rattle.packet_pools.proofs.Keeping.{keep-none, keep-one, keep-join}
+
+-- The steps of one call, and those of another after them, lose no cell in hand.
+pub keep-append : (xs ys : List Entry) (v : View) → all_keep v xs ≡ true → all_keep (after_all xs v) ys ≡ true → all_keep v (xs ++ ys) ≡ true
+keep-append [] ys v a b = b
+keep-append (x ∷ xs) ys v a b = let h = and_parts (keeps_cells v.state x.step) (all_keep (after x.step x.found v) xs) a in and_from _ _ h.0 (keep-append xs ys (after x.step x.found v) h.1 b)
+
+pub keep-none : (v : View) → all_keep v (events v v) ≡ true
+keep-none v = ap (all_keep v) (events-none v)
+
+pub keep-one : (v : View) (step : Step) (n : ℕ) → keeps_cells v.state step ≡ true → all_keep v (events v (after step n v)) ≡ true
+keep-one v step n e = ap (all_keep v) (events-after v (after step n v) step n refl) ∙ and_from _ _ e refl
+
+pub keep-join : (u v w : View) → events u w ≡ events u v ++ events v w → Ran u v → all_keep u (events u v) ≡ true → all_keep v (events v w) ≡ true → all_keep u (events u w) ≡ true
+keep-join u v w all a x y = ap (all_keep u) all ∙ keep-append (events u v) (events v w) u x (ap (λ z. all_keep z (events v w)) (sym a.steps) ∙ y)
 
 -- what was noted of another place stays, where it may be kept
 note-stays : (keeps : ℕ × ℕ → ℕ → Bool) (to at : ℕ × ℕ) (word n : ℕ) (xs : Notes) → same_place to at ≡ false → keeps at n ≡ true → look at xs ≡ Some n → look at (noting keeps to word xs) ≡ Some n

@@ -2,4 +2,3 @@ pub mod Ends
 pub mod Taking
 pub mod Plays
 pub mod Faulted
-pub mod Asking

@@ -1,7 +1,6 @@
 -- Why what is made of a play's end is its final heap.
 pub mod Lists
 pub mod Loops
-pub mod Counting
 pub mod Closing
 pub mod Objects
 pub mod Reached

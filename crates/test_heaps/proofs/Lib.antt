@@ -1,2 +1,1 @@
-pub mod DrainBegins
 pub mod Turning

@@ -11,5 +11,4 @@ pub mod Moments
 pub mod Whole
 pub mod RootScans
 pub mod Recycled
-pub mod Ending
 pub mod TraceRows

@@ -1,17 +1,23 @@
-use Rattle.std.proofs.Common.{◌≡◌, ◌∙◌, sym, ap, subst, map, List, ℕ, Result, Ok, Err, IfOk, option_map, string_bytes, true, false, true≢false, is_some}
+use Rattle.std.proofs.Common.{◌≡◌, refl, true, ◌∙◌, sym, ap, subst, map, List, ℕ, Result, Ok, Err, IfOk, option_map, string_bytes, false, true≢false, is_some}
+use Rattle.clap.specs.Simple.{is_simple, App, HasMatchesOf}
+use Rattle.clap.specs.Faults.{is_simple_and_free, fault_of}
+use Rattle.command_words.specs.Parsing.{asked_program}
 use Rattle.clap.specs.Walk.{rows_of}
 use Rattle.clap.specs.Matches.{found_of, has_subcommand}
-use Rattle.clap.specs.Simple.{App, HasMatchesOf}
 use Rattle.clap.specs.Kinds.{FailsBy, HasKind}
-use Rattle.clap.specs.Faults.{fault_of, is_simple_and_free}
 use Rattle.clap.specs.declared.error.Error.{Error}
 use Rattle.clap.specs.declared.error.kind.ErrorKind.TheVariants.{OutOfMemory}
 use Rattle.clap.specs.declared.parser.matches.ArgMatches.{ArgMatches}
-use Rattle.command_words.specs.Parsing.{asked_program}
 use Rattle.command_words.proofs.Answered.{asked_is, none_after_fault, none_with_dashes, some_entered}
-use Rattle.command_words.proofs.BuiltProgram.{program_has_matches, program_is_simple}
 use Rattle.command_words.proofs.InRange.{all_in_range}
 use Rattle.command_words.proofs.command_of.Goals as goal
+
+-- The program as it is built is simple, and a parse reads it as its table says.
+program_is_simple : is_simple_and_free asked_program ≡ true
+program_is_simple = refl
+
+program_has_matches : is_simple asked_program ≡ true
+program_has_matches = refl
 
 -- what the parse says, of the program as it is asked for
 fails_as : (a : App) (words : List (List ℕ)) (r s : Result ArgMatches Error) → a ≡ asked_program → r ≡ s → (is_simple_and_free a ≡ true → FailsBy (fault_of a words) r)

@@ -1,14 +1,31 @@
 -- Each step that a seat may take keeps the rule.
-use Rattle.std.proofs.Common.{ℕ, ◌≡◌, ◌≤◌, ◌∷◌, [], List, set, length, arith, sym, ◌∙◌, length-set, length-append}
+use Rattle.std.proofs.Common.{ℕ, ◌≡◌, zero, suc, List, [], ◌∷◌, set, refl, sym, ap, ◌∙◌, subst, true, Option, Some, None, ◌≤◌, length, arith, length-set, length-append, false}
+use Rattle.std.specs.Prelude.{IsFalse}
+use Rattle.std.proofs.lemmas.Bool.{and_parts, true≢false}
+use Rattle.std.proofs.lemmas.List.{set-get_or}
+use Rattle.mark_core.specs.Seats.{may_mutate}
+use Rattle.mark_core.specs.declared.kinds.Step.{Step}
+use Rattle.mark_core.specs.declared.kinds.Step.TheVariants.{ReadOwn, ReadCat, StoreField, StoreValue, StoreRoot, StoreNew, StoreSlot, ReadSlot, Split, Join}
+use Rattle.mark_core.specs.declared.seat.SeatState.{SeatState}
+use Rattle.plain_heap.specs.declared.operation.Op.{Op}
+use Rattle.plain_heap.specs.PlainHeap.{Heap}
+use Rattle.gc_table.specs.StandsFor.{StandsFor}
+use Rattle.gc_table.specs.declared.view.Meaning.{Meaning}
+use Rattle.gc_table.specs.declared.view.SectionState.{SectionState}
+use Rattle.gc_table.specs.PlainSteps.{catalogue_seen, own_section, meaning_of, no_meaning, meaning_after, changed_by, meanings_after, Asks, AsksIn}
+use Rattle.gc_table.specs.Sections.{seen_by, meaning_by, section_after, start_section}
+use Rattle.gc_table.specs.TableState.{TableState, meanings_of, section_at, with_section, state_after}
+use Rattle.gc_table.proofs.Stands.StandsKept.{stands_kept}
+use Rattle.gc_table.proofs.Stands.StandsSeat.{Mutates, mutates}
+use Rattle.gc_table.proofs.State.StateSeen.{meaning-at, seen-is}
+use Rattle.gc_table.proofs.State.StateSteps.{Goes, event, taken, may-happen, sections_left, sections-left, kept-whole, each-left, some-same}
+use Rattle.gc_table.proofs.State.StateStores.{meaning-told}
 use Rattle.mark_core.specs.Start.{start_seat, spent_seat}
 use Rattle.mark_core.specs.Effects.{seat_after}
-use Rattle.mark_core.specs.Steps.{Core}
-use Rattle.std.proofs.Common.{subst, false, refl, Option, Some, None}
-use Rattle.std.specs.Prelude.{IsFalse}
+use Rattle.mark_core.specs.Steps.{Core, AllTrue}
 use Rattle.mark_core.proofs.Pool.PoolsKept.{shape-kept}
 use Rattle.mark_core.specs.Layout.{words_of}
 use Rattle.mark_core.specs.Parts.{parts}
-use Rattle.mark_core.specs.Steps.{AllTrue}
 use Rattle.mark_core.proofs.Acting.{Acted, found, seats_left}
 use Rattle.mark_core.proofs.Core.{acts}
 use Rattle.gc_table.specs.Laws.{EventsKeepRule}
@@ -16,12 +33,6 @@ use Rattle.mark_core.proofs.Blocks.BlocksTaken.{within}
 use Rattle.mark_core.proofs.CoreKept.{core_kept}
 use Rattle.mark_core.proofs.Swept.SweptKept.{swept_kept_by}
 use Rattle.mark_core.specs.declared.kinds.Shape.{Shape}
-use Rattle.mark_core.specs.declared.kinds.Step.{Step}
-use Rattle.mark_core.specs.declared.kinds.Step.TheVariants.{Split, Join}
-use Rattle.mark_core.specs.declared.seat.SeatState.{SeatState}
-use Rattle.gc_table.specs.declared.view.SectionState.{SectionState}
-use Rattle.gc_table.specs.Sections.{section_after, start_section}
-use Rattle.gc_table.specs.TableState.{TableState, section_at, state_after, with_section}
 use Rattle.gc_table.specs.Told.{EachSection}
 use Rattle.gc_table.specs.Rule.{IsState}
 use Rattle.gc_table.proofs.Told.ApartKept.{apart-kept}
@@ -32,8 +43,83 @@ use Rattle.gc_table.proofs.Told.PositionedKept.{positioned-kept}
 use Rattle.gc_table.proofs.Told.SeasonsKept.{seasons-kept}
 use Rattle.gc_table.proofs.Told.SettledKept.{settled-kept}
 use Rattle.gc_table.proofs.Told.TurnsKept.{turns-kept}
-use Rattle.gc_table.proofs.State.StateStands.{stands-whole}
-use Rattle.gc_table.proofs.State.StateSteps.{Goes, event, taken, may-happen, kept-whole, each-left, some-same}
+use Rattle.plain_heap.specs.declared.operation.Op.TheVariants as ops
+
+-- The words stand for what the sections say after each step that a seat may take.
+pub meanings-set : (xs : List SectionState) (w : ℕ) (y : SectionState) → meanings_of (set xs w y) ≡ set (meanings_of xs) w y.meaning
+meanings-set [] w y = refl
+meanings-set (x ∷ xs) zero y = refl
+meanings-set (x ∷ xs) (suc w) y = ap (λ ms. x.meaning ∷ ms) (meanings-set xs w y)
+
+-- a step after which the seat's section means what it meant
+still_means : (xs : List SectionState) (f : SectionState → SectionState) (o : Option ℕ) → ((y : SectionState) → (f y).meaning ≡ y.meaning) → meanings_of (with_section o f xs) ≡ meanings_of xs
+still_means xs f None same = refl
+still_means xs f (Some w) same =
+    meanings-set xs w (f (section_at xs w)) ∙ ap (λ m. set (meanings_of xs) w m) (same (section_at xs w) ∙ sym (meaning-at xs w)) ∙ set-get_or (meanings_of xs) w no_meaning
+
+-- the plain step of a step, and what the sections mean after it
+abbrev pub Means : TableState → SeatState → Step → Type 0
+Means x s step = (op : Op) × AsksIn s (meanings_of x.sections) step op × (meanings_of (sections_left x s step) ≡ meanings_after x.core.shape s step op (meanings_of x.sections))
+
+-- a step of a mutator
+mutating : (x : TableState) (i : ℕ) (s : SeatState) (step : Step) (op : Op) → IsFalse x.core.shape.sharing → Goes x i s step → may_mutate s ≡ true → Asks s (section_at x.sections (own_section s)).meaning (seen_by x.core.shape x.plan s) step op
+    → ((y : SectionState) → (section_after x.core.shape x.plan s step y).meaning ≡ meaning_by x.core.shape s (seen_by x.core.shape x.plan s) step y.meaning)
+    → (o : Op) × AsksIn s (meanings_of x.sections) step o × (meanings_of (sections_left x s step) ≡ changed_by x.core.shape s step o (meanings_of x.sections))
+mutating x i s step op alone g may asked means = (op, asks, meanings)
+  where
+    ms : List Meaning
+    ms = meanings_of x.sections
+
+    w : ℕ
+    w = own_section s
+
+    a : Mutates x.core i s ms
+    a = mutates x.core i s step ms (taken x i s step g) (g.whole.stands alone) may
+
+    seen : seen_by x.core.shape x.plan s ≡ catalogue_seen ms w
+    seen = seen-is x i s g.whole g.got g.live may
+
+    asks : AsksIn s ms step op
+    asks = subst (λ (c : Option Heap). Asks s (meaning_of ms w) c step op) seen (subst (λ (m : Meaning). Asks s m (seen_by x.core.shape x.plan s) step op) (sym (meaning-at x.sections w)) asked)
+
+    told : meaning_after x.core.shape s (catalogue_seen ms w) step op (meaning_of ms w) ≡ meaning_by x.core.shape s (catalogue_seen ms w) step (meaning_of ms w)
+    told =
+        subst (λ (k : ℕ). meaning_after x.core.shape s (catalogue_seen ms w) step op (meaning_of ms k) ≡ meaning_by x.core.shape s (catalogue_seen ms w) step (meaning_of ms k)) (sym a.own)
+        (meaning-told x.core i s step op ms (catalogue_seen ms w) (taken x i s step g) (g.whole.stands alone) (subst (λ (k : ℕ). Asks s (meaning_of ms k) (catalogue_seen ms w) step op) a.own asks))
+
+    section : s.section ≡ Some w
+    section = a.section ∙ ap (λ k. Some k) (sym a.own)
+
+    after : SectionState
+    after = section_after x.core.shape x.plan s step (section_at x.sections w)
+
+    mine : after.meaning ≡ meaning_after x.core.shape s (catalogue_seen ms w) step op (meaning_of ms w)
+    mine =
+        means (section_at x.sections w) ∙ ap (λ c. meaning_by x.core.shape s c step (section_at x.sections w).meaning) seen
+        ∙ ap (λ m. meaning_by x.core.shape s (catalogue_seen ms w) step m) (sym (meaning-at x.sections w)) ∙ sym told
+
+    meanings : meanings_of (sections_left x s step) ≡ changed_by x.core.shape s step op ms
+    meanings =
+        ap (λ o. meanings_of (with_section o (section_after x.core.shape x.plan s step) x.sections)) section ∙ meanings-set x.sections w after ∙ ap (λ m. set ms w m) mine
+
+means-left : (x : TableState) (i : ℕ) (s : SeatState) (step : Step) → IsFalse x.core.shape.sharing → Goes x i s step → Means x s step
+means-left x i s (ReadOwn c j) alone g = mutating x i s (ReadOwn c j) ops.Collect alone g (and_parts _ (may_mutate s) g.ok.0).1 tt (λ y. refl)
+means-left x i s (ReadCat v) alone g = mutating x i s (ReadCat v) ops.Collect alone g (and_parts _ (may_mutate s) g.ok.0).1 tt (λ y. refl)
+means-left x i s (ReadSlot j) alone g = mutating x i s (ReadSlot j) ops.Collect alone g (and_parts _ (may_mutate s) g.ok.0).1 tt (λ y. refl)
+means-left x i s (StoreSlot j r) alone g = absurd (true≢false (sym g.asks.1 ∙ alone))
+means-left x i s (StoreField v j o) alone g = mutating x i s (StoreField v j o) (g.asks.1 alone).0 alone g (and_parts _ (may_mutate s) g.ok.0).1 (g.asks.1 alone).1 (λ y. refl)
+means-left x i s (StoreValue v n) alone g = mutating x i s (StoreValue v n) (g.asks.1 alone).0 alone g (and_parts _ (may_mutate s) g.ok.0).1 (g.asks.1 alone).1 (λ y. refl)
+means-left x i s (StoreRoot v r) alone g = mutating x i s (StoreRoot v r) (g.asks.1 alone).0 alone g (and_parts _ (may_mutate s) g.ok.0).1 (g.asks.1 alone).1 (λ y. refl)
+means-left x i s (StoreNew c part word) alone g = mutating x i s (StoreNew c part word) ops.Collect alone g (and_parts _ (may_mutate s) g.ok.0).1 g.asks (λ y. refl)
+means-left x i s step alone g = (ops.Collect, tt, still_means x.sections (section_after x.core.shape x.plan s step) s.section (λ y. refl))
+
+-- each step keeps that the words stand for what the sections say
+pub stands-whole : (x : TableState) (i : ℕ) (s : SeatState) (step : Step) → IsFalse x.core.shape.sharing → Goes x i s step → StandsFor (state_after x (event i step)).core (meanings_of (state_after x (event i step)).sections)
+stands-whole x i s step alone g =
+    let m : Means x s step = means-left x i s step alone g in
+    let after : meanings_of (state_after x (event i step)).sections ≡ meanings_after x.core.shape s step m.0 (meanings_of x.sections) = ap meanings_of (sections-left x i s step g) ∙ m.2 in
+    subst (λ (ms : List Meaning). StandsFor (state_after x (event i step)).core ms) (sym after)
+    (stands_kept x.core (event i step) s m.0 (meanings_of x.sections) alone g.whole.core (g.whole.stands alone) g.got m.1 (may-happen x i s step g))
 
 -- no record goes
 seats_stay : (c : Core) (i : ℕ) (s : SeatState) (step : Step) → length c.seats ≤ length (seats_left c i s step)

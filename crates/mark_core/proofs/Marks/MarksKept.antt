@@ -1,36 +1,60 @@
 -- Each event that is allowed keeps the rule of marks.
-use Rattle.std.proofs.Common.{ℕ, ◌≡◌, ◌<◌, get_or, refl, sym, ◌∙◌, Bool, true, false, None, ⊎_elim}
-use Rattle.std.specs.Prelude.{IsTrue}
-use Rattle.std.specs.List.{All}
-use Rattle.std.proofs.lemmas.Bool.{true≢false, false≢true}
+use Rattle.std.proofs.Common.{ℕ, ◌≡◌, refl, sym, Bool, true, ⊎_elim, ◌<◌, get_or, ◌∙◌, false, None}
+use Rattle.std.specs.List.{list_any, All}
+use Rattle.std.proofs.lemmas.Bool.{or_cases, or_left, or_right, true≢false, false≢true}
 use Rattle.mark_core.specs.Layout.{Words, words_of}
 use Rattle.mark_core.specs.Bits.{cell_bit}
+use Rattle.mark_core.specs.Views.{makers, hands}
+use Rattle.mark_core.specs.Cells.{in_use, used_by}
+use Rattle.mark_core.specs.Steps.SweepSteps.{own_block, survivors}
+use Rattle.mark_core.specs.Steps.{Core, failing_part, after_event}
+use Rattle.mark_core.proofs.Acting.{words_left, seats_left, found}
+use Rattle.mark_core.proofs.Writing.CellBits.{bits-grow}
+use Rattle.mark_core.proofs.HeldBlock.{own-strong}
+use Rattle.mark_core.proofs.Consequences.Sparing.{survives}
+use Rattle.mark_core.proofs.Blocks.BlocksTaken.{Taken, kept-after}
+use Rattle.mark_core.proofs.Used.UsedKept.{still-made}
+use Rattle.mark_core.proofs.Used.UsedCells.{frees, alloc-on}
+use Rattle.mark_core.specs.declared.kinds.Step.{Step}
+use Rattle.mark_core.specs.declared.kinds.Step.TheVariants.{StoreAlloc}
+use Rattle.mark_core.specs.declared.seat.SeatState.{SeatState}
+use Rattle.std.specs.Prelude.{IsTrue}
 use Rattle.mark_core.specs.Seats.{is_the, work_in_hand}
-use Rattle.mark_core.specs.Views.{hands, makers}
-use Rattle.mark_core.specs.Cells.{in_use}
 use Rattle.mark_core.specs.Rules.WorldRules.{is_tracing}
 use Rattle.mark_core.specs.Effects.{seat_after}
-use Rattle.mark_core.specs.Steps.{Core, failing_part, after_event}
 use Rattle.mark_core.specs.Laws.{IsCore}
-use Rattle.mark_core.proofs.Acting.{found, words_left, seats_left}
 use Rattle.mark_core.proofs.Locals.{local-kept}
 use Rattle.mark_core.proofs.Count.CountWork.{work-marks}
 use Rattle.mark_core.proofs.Marks.MarksIdle.{at-seat, idle-seats, block-stops}
 use Rattle.mark_core.proofs.Marks.MarksWords.{marks-grow, marks-from, marks-value}
-use Rattle.mark_core.proofs.Marks.MarksUse.{use-kept}
 use Rattle.mark_core.proofs.Marks.MarksEntries.{EntriesGo, entries-more}
 use Rattle.mark_core.proofs.Marks.MarksQueues.{entries-after}
 use Rattle.mark_core.proofs.Marks.MarksHands.{HandMarked, HandPublished, HandUsed, marked-more, published-more, used-more, marked-after, published-after, used-after}
 use Rattle.mark_core.proofs.Marks.MarksBefore.{MarksOf, marked-now, published-now, used-now, entries-now, idle-published, idle-used, new-marked, ended-marked, new-published, ended-published, marks-of}
 use Rattle.mark_core.proofs.Marks.MarksComes.{comes-marked, comes-published, comes-used, comes-pushed, the-cell}
 use Rattle.mark_core.proofs.Blocks.BlocksWrites.{may-store-some}
-use Rattle.mark_core.proofs.Blocks.BlocksTaken.{Taken, kept-after}
-use Rattle.mark_core.proofs.Used.UsedCells.{frees, alloc-on}
 use Rattle.mark_core.specs.declared.kinds.Shape.{Shape}
 use Rattle.mark_core.specs.declared.kinds.Event.{Event}
-use Rattle.mark_core.specs.declared.kinds.Step.{Step}
-use Rattle.mark_core.specs.declared.kinds.Step.TheVariants.{StoreAlloc}
-use Rattle.mark_core.specs.declared.seat.SeatState.{SeatState}
+
+-- A cell in use stays in use over each step, unless its block is swept while it has no mark.
+-- an allocated cell stays so, where it is marked or no block is swept
+pub alloc-stays : (c : Core) (i : ℕ) (s : SeatState) (step : Step) → Taken c i s step → (x : ℕ) → (frees step ≡ true → cell_bit (words_of c.shape c.words).marks x ≡ true) → cell_bit (words_of c.shape c.words).allocs x ≡ true → cell_bit (words_left c s step).allocs x ≡ true
+alloc-stays c i s StoreAlloc t x f e =
+    let w : Words = words_of c.shape c.words in
+    bits-grow w.allocs (own_block s) (survivors s.block) x (λ here _. survives w.phase w.next_block w.allocs w.marks s.block x t.ok.1.0 (own-strong c i s StoreAlloc t) (sym here) e (λ _. f refl)) e
+alloc-stays c i s step t x f e = alloc-on c i s step x t refl e
+
+-- a cell in use stays in use, where it is marked or no block is swept
+pub use-kept : (c : Core) (i : ℕ) (s : SeatState) (step : Step) → Taken c i s step → (x : ℕ) → (frees step ≡ true → cell_bit (words_of c.shape c.words).marks x ≡ true) → in_use (words_of c.shape c.words).allocs (makers c.seats) x ≡ true
+    → in_use (words_left c s step).allocs (makers (seats_left c i s step)) x ≡ true
+use-kept c i s step t x f e =
+    let w : Words = words_of c.shape c.words in
+    let bit : Bool = cell_bit (words_left c s step).allocs x in
+    let some : Bool = list_any (used_by x) (makers (seats_left c i s step)) in
+    ⊎_elim
+    (λ (a : cell_bit w.allocs x ≡ true). or_left bit some (alloc-stays c i s step t x f a))
+    (λ (a : list_any (used_by x) (makers c.seats) ≡ true). ⊎_elim (λ (b : bit ≡ true). or_left bit some b) (λ (b : some ≡ true). or_right bit some b) (still-made c i s step x t a))
+    (or_cases (cell_bit w.allocs x) (list_any (used_by x) (makers c.seats)) e)
 
 -- the cell that the seat loaded stays in use
 value_stays : (c : Core) (i : ℕ) (s : SeatState) (step : Step) → Taken c i s step → (x : ℕ) → is_the s.value x ≡ true → in_use (words_left c s step).allocs (makers (seats_left c i s step)) x ≡ true

@@ -1,35 +1,197 @@
 -- Each event that is allowed keeps the rules of packets.
-use Rattle.std.proofs.Common.{ℕ, ◌≡◌, ◌+◌, ◌*◌, ◌/◌, ◌<◌, List, set, get_or, length, arith, refl, sym, subst, true, Option, Some, None}
-use Rattle.std.specs.Prelude.{slice_get, nat_lt}
-use Rattle.std.proofs.lemmas.Bool.{and_parts, ltb-true}
-use Rattle.std.proofs.lemmas.List.{set-get_or}
+use Rattle.std.proofs.Common.{ℕ, ◌≡◌, List, [], ◌∷◌, ◌++◌, set, arith, refl, sym, ◌∙◌, subst, Bool, true, false, not, ◌&&◌, eqb, Option, Some, None, ⊎_elim, ◌+◌, ◌*◌, ◌/◌, ◌<◌, get_or, length, ap, cond, ◌||◌}
+use Rattle.std.specs.Prelude.{IsTrue, IsFalse, slice_get, is_none, is_some, nat_lt}
+use Rattle.std.specs.List.{count_by}
+use Rattle.std.proofs.lemmas.Bool.{cases_Bool, true≢false, false≢true, and_parts, not-true, eqb-true, eqb-false, ltb-true}
+use Rattle.std.proofs.lemmas.List.{map_push, set-get_or}
+use Rattle.std.proofs.lemmas.List.Elements.{All-push}
+use Rattle.std.proofs.lemmas.List.Sums.{sum_by_push}
 use Rattle.std.proofs.lemmas.Option.{slice_get_within, get_or_from_slice_get}
-use Rattle.mark_core.specs.Layout.{Words, words_of, put_word, region_sizes, pool_words}
-use Rattle.mark_core.specs.Held.{length_in_hand}
-use Rattle.mark_core.specs.Steps.PacketSteps.{pool_for}
-use Rattle.mark_core.specs.Start.{spent_seat}
+use Rattle.mark_core.specs.Layout.{Words, pool_words, put_word, words_of, region_sizes}
+use Rattle.mark_core.specs.Held.{Slots, holds, holds_any, is_stored, has_free_slot, put_packet, length_in_hand}
+use Rattle.mark_core.specs.Seats.{work_in_hand, empty_handed}
+use Rattle.mark_core.specs.Views.{hands}
+use Rattle.mark_core.specs.Start.{start_seat, spent_seat}
+use Rattle.mark_core.specs.Rules.PacketRules.{Pools, HeadsAgree, has_reservation, has_credit}
+use Rattle.mark_core.specs.Steps.WorldSteps.{other_has_nothing}
+use Rattle.mark_core.specs.Laws.{PacketsSound, ArePacketsSound, EventsKeepPackets}
+use Rattle.mark_core.proofs.Count.CountTests.{bit}
+use Rattle.mark_core.proofs.Known.{unheld-unknown}
+use Rattle.mark_core.proofs.Pool.PoolSlots.{SameInHand, none-held, stored-held, put-other, known-put_same, any-put}
+use Rattle.mark_core.proofs.Pool.PoolHolders.{holders-push, among-push}
+use Rattle.mark_core.proofs.Pool.PoolPlaces.{pools-still, same-hands}
+use Rattle.mark_core.proofs.Pool.PoolSteps.{At, holding, sound-moved, mine, one-debt, work-holds}
+use Rattle.mark_core.specs.declared.kinds.Shape.{Shape}
+use Rattle.mark_core.specs.declared.seat.SeatState.{SeatState}
+use Rattle.mark_core.specs.Cells.{in_pool, empty_packets}
 use Rattle.mark_core.specs.Parts.{parts}
 use Rattle.mark_core.specs.Effects.{place, written, seat_after}
-use Rattle.mark_core.specs.Steps.{Core, AllTrue, after_event, after_of, others_after}
+use Rattle.mark_core.specs.Steps.{AllTrue, Core, after_event, after_of, others_after}
+use Rattle.mark_core.proofs.Count.CountMoves.{agrees-but-one}
+use Rattle.mark_core.proofs.Pool.PoolBits.{OneBit, pool-without, empty_packets-moves}
+use Rattle.mark_core.proofs.Pool.PoolMoves.{pools-take, pools-untaken, same-inside}
+use Rattle.mark_core.proofs.Writing.Ranges.{word-below, in-row, pool_for-below}
+use Rattle.mark_core.specs.declared.kinds.Step.TheVariants.{Take, Reserve, Give, Credit, Push, Pop, Look, ReadCount, ReadAlloc, ReadField, ReadRoot, SetMark, DirtyCard, ClearCard, ReadMarks, StoreField, Split, Join, StoreLength, ReadLength, ExchangeField, LoadSlot}
+use Rattle.mark_core.specs.Steps.PacketSteps.{pool_for}
 use Rattle.mark_core.specs.WellFormed.{IsWellFormed}
-use Rattle.mark_core.specs.Laws.{PacketsSound, ArePacketsSound, EventsKeepPackets}
 use Rattle.mark_core.proofs.Writing.Regions.{words-get}
 use Rattle.mark_core.proofs.Writing.Places.{region-length}
 use Rattle.mark_core.proofs.Acting.{Acted, acted, found, words_left}
 use Rattle.mark_core.proofs.Core.{reaches_from}
-use Rattle.mark_core.proofs.Pool.PoolSteps.{At, work-holds}
-use Rattle.mark_core.proofs.Pool.PoolTake.{sound-take}
 use Rattle.mark_core.proofs.Pool.PoolGive.{sound-give}
 use Rattle.mark_core.proofs.Pool.PoolLengths.{sound-push, sound-pop, sound-store_length, sound-read_length}
-use Rattle.mark_core.proofs.Pool.PoolSeats.{sound-split, sound-join}
 use Rattle.mark_core.proofs.Count.CountSteps.{sound-reserve, sound-credit, sound-work, sound-other, work-after, is_tracing}
 use Rattle.mark_core.proofs.Writing.Frames.{held_of, debts_of}
-use Rattle.mark_core.proofs.Writing.Ranges.{word-below, in-row, pool_for-below}
-use Rattle.mark_core.specs.declared.kinds.Shape.{Shape}
 use Rattle.mark_core.specs.declared.kinds.Event.{Event}
 use Rattle.mark_core.specs.declared.kinds.Step.{Step}
-use Rattle.mark_core.specs.declared.kinds.Step.TheVariants.{Reserve, Take, Give, Credit, Push, Pop, Look, ReadCount, ReadAlloc, ReadField, ReadRoot, SetMark, DirtyCard, ClearCard, ReadMarks, StoreField, Split, Join, StoreLength, ReadLength, ExchangeField, LoadSlot}
-use Rattle.mark_core.specs.declared.seat.SeatState.{SeatState}
+
+-- A further seat, and the end of a seat's record, keep the rules of packets.
+-- a hand with no packet
+abbrev nothing : Slots
+nothing = None ∷ None ∷ None ∷ None ∷ []
+
+no_reservation : (sh : Shape) (seats : List SeatState) (k : ℕ) → count_by has_reservation (seats ++ start_seat sh k ∷ []) ≡ count_by has_reservation seats
+no_reservation sh seats k = let e = sum_by_push (λ (x : SeatState). bit (has_reservation x)) seats (start_seat sh k) in omega (arith, e)
+
+no_credit : (sh : Shape) (seats : List SeatState) (k : ℕ) → count_by has_credit (seats ++ start_seat sh k ∷ []) ≡ count_by has_credit seats
+no_credit sh seats k = let e = sum_by_push (λ (x : SeatState). bit (has_credit x)) seats (start_seat sh k) in omega (arith, e)
+
+-- 31: a new seat
+pub sound-split : (sh : Shape) (w : Words) (seats : List SeatState) (k : ℕ) → PacketsSound sh w seats → PacketsSound sh w (seats ++ start_seat sh k ∷ [])
+sound-split sh w seats k p =
+    let c = p.counts in
+    let new : SeatState = start_seat sh k in
+    record {
+      pools =
+          subst (Pools sh w.heads w.pools) (sym (map_push (λ (x : SeatState). x.held) seats new))
+          (pools-still sh w.heads w.heads w.pools w.pools (hands seats) (hands seats ++ nothing ∷ []) p.pools (λ q x d l. refl)
+          (λ x h. record { inside = λ q. refl; head = refl; holders = omega (arith, holders-push (hands seats) nothing x); known = among-push (hands seats) nothing x refl }));
+      counts =
+          record {
+            counted = omega (arith, c.counted, no_reservation sh seats k, no_credit sh seats k);
+            one_debt = All-push (λ (x : SeatState). IsFalse (x.reserved && x.credit)) seats new c.one_debt refl;
+            heads_agree = All-push (HeadsAgree sh w.heads) seats new c.heads_agree (λ x h e. absurd (false≢true e));
+            work_holds = All-push (λ (x : SeatState). IsTrue (work_in_hand sh.fields x) → IsTrue (holds_any x.held)) seats new c.work_holds (λ e. absurd (false≢true e));
+          };
+    }
+
+not_stored : (hs : Slots) (x : ℕ) → holds hs x ≡ false → is_stored hs x ≡ false
+not_stored hs x h =
+    ⊎_elim
+    (λ (e : is_stored hs x ≡ true). absurd (true≢false (sym (stored-held hs x e) ∙ h)))
+    (λ (e : is_stored hs x ≡ false). e)
+    (cases_Bool (is_stored hs x))
+
+-- two hands with no packet
+same_nothing : (hs : Slots) (x : ℕ) → holds_any hs ≡ false → SameInHand hs nothing x
+same_nothing hs x e =
+    let h : holds hs x ≡ false = none-held hs x e in
+    record { holds_same = sym h; known_same = sym (unheld-unknown hs x h); stored_same = sym (not_stored hs x h) }
+
+-- a seat with nothing in hand ends
+ended : (sh : Shape) (w : Words) (seats : List SeatState) (i : ℕ) (s : SeatState) → At sh w seats i s → empty_handed s ≡ true → PacketsSound sh w (set seats i (spent_seat sh i))
+ended sh w seats i s a e =
+    let credit = and_parts (not (holds_any s.held) && not s.reserved) (not s.credit) e in
+    let hand = and_parts (not (holds_any s.held)) (not s.reserved) credit.0 in
+    let none : holds_any s.held ≡ false = not-true _ hand.0 in
+    let r : s.reserved ≡ false = not-true _ hand.1 in
+    let c : s.credit ≡ false = not-true _ credit.1 in
+    let k = holding sh w seats i s a in
+    sound-moved sh w w seats i s (spent_seat sh i) a
+    (pools-still sh w.heads w.heads w.pools w.pools (hands seats) (set (hands seats) i nothing) k.rule (λ q x d l. refl)
+    (λ x h. let m = same-hands (hands seats) i x s.held nothing k.seat k.is (same_nothing s.held x none) in record { inside = λ q. refl; head = refl; holders = m.0; known = m.1 }))
+    (record { counted = rw (r, c) refl; one_debt = refl; heads_agree = λ x h f. absurd (false≢true f); work_holds = λ f. absurd (false≢true f) })
+    (λ j d n l. a.packets.counts.heads_agree j d l)
+
+first_of : (a b c d e f : Bool) → (a && b && c && d && e && f) ≡ true → a ≡ true
+first_of true b c d e f h = refl
+first_of false b c d e f h = absurd (false≢true h)
+
+join_at : (sh : Shape) (w : Words) (seats : List SeatState) (i j : ℕ) (s : SeatState) (o : Option SeatState) → At sh w seats i s → slice_get seats j ≡ o → other_has_nothing sh o ≡ true → PacketsSound sh w (set seats j (spent_seat sh j))
+join_at sh w seats i j s None a g e = absurd (false≢true e)
+join_at sh w seats i j s (Some o) a g e =
+    let b : At sh w seats j o =
+    record {
+      shaped = a.shaped;
+      few = a.few;
+      pools_long = a.pools_long;
+      heads_long = a.heads_long;
+      packets = a.packets;
+      seat = slice_get_within seats j o g;
+      is = get_or_from_slice_get seats j o o g;
+    } in
+    ended sh w seats j o b (first_of (empty_handed o) (not (work_in_hand sh.fields o)) (is_none o.owes) (is_none o.cache) (is_none o.block) (eqb o.got 0) e)
+
+-- 32: the record of another seat ends
+pub sound-join : (sh : Shape) (w : Words) (seats : List SeatState) (i j : ℕ) (s : SeatState) → At sh w seats i s → other_has_nothing sh (slice_get seats j) ≡ true → PacketsSound sh w (set seats j (spent_seat sh j))
+sound-join sh w seats i j s a e = join_at sh w seats i j s (slice_get seats j) a refl e
+
+-- Taking a packet out of a pool keeps the rules of packets.
+-- a packet of the empty pool ends the reservation, and another leaves it
+take_counts : (e c n m : ℕ) (z r : Bool) → (z ≡ true → m + 1 ≡ n) → (z ≡ false → m ≡ n) → (not z || r) ≡ true → e + bit (r && not (z && true)) + c + n ≡ e + bit r + c + m
+take_counts e c n m true true f g h = omega (arith, f refl)
+take_counts e c n m true false f g h = absurd (false≢true h)
+take_counts e c n m false true f g h = omega (arith, g refl)
+take_counts e c n m false false f g h = omega (arith, g refl)
+
+still_one : (r c b : Bool) → (r && c) ≡ false → ((r && b) && c) ≡ false
+still_one true c true h = h
+still_one true c false h = refl
+still_one false c b h = refl
+
+kept : (z r : Bool) → (r && not (z && false)) ≡ r
+kept true true = refl
+kept true false = refl
+kept false true = refl
+kept false false = refl
+
+-- the seat that takes the packet, where its bit was set
+abbrev taker : SeatState → ℕ → ℕ → Bool → SeatState
+taker s q p b = record s { held = cond b (put_packet s.held p) s.held; reserved = s.reserved && not ((eqb q 0) && b) }
+
+take_by : (sh : Shape) (w w' : Words) (seats : List SeatState) (i q p : ℕ) (s : SeatState) (b : Bool) → At sh w seats i s → q < 4 → p < sh.packets → holds s.held p ≡ false → (not (eqb q 0) || s.reserved) ≡ true → has_free_slot s.held ≡ true
+    → w'.heads ≡ w.heads → w'.empty ≡ w.empty → OneBit sh w.pools w'.pools q p false → in_pool sh w.pools q p ≡ b → PacketsSound sh w' (set seats i (taker s q p b))
+take_by sh w w' seats i q p s true a hq hp n enough free heads empty o e =
+    let t : SeatState = taker s q p true in
+    let moves = empty_packets-moves sh w.pools w'.pools q p false hp o in
+    sound-moved sh w w' seats i s t a
+    (rw heads (pools-take sh w.heads w.pools w'.pools (hands seats) i q p s.held (holding sh w seats i s a) hq o e n free))
+    (record {
+      counted =
+          rw empty
+          (take_counts w.empty (bit s.credit) (empty_packets sh w.pools) (empty_packets sh w'.pools) (eqb q 0) s.reserved
+          (λ z. let f : q ≡ 0 = eqb-true q 0 z in omega (arith, moves, ap bit (rw f at e), ap bit (rw f at o.here)))
+          (λ z. omega (arith, moves, ap bit (o.there 0 p hp (λ f g. eqb-false q 0 z (sym f)))))
+          enough);
+      one_debt = still_one s.reserved s.credit (not (eqb q 0 && true)) (one-debt sh w seats i s a);
+      heads_agree = agrees-but-one sh w.heads w'.heads s t p (mine sh w seats i s a) (λ x d. rw heads refl) (λ x d. put-other s.held p x d) (λ _ f g. absurd (false≢true (sym (ap is_some (known-put_same s.held p n)) ∙ g)));
+      work_holds = λ f. any-put s.held p (work-holds sh w seats i s a f);
+    })
+    (λ j d f h. rw heads (a.packets.counts.heads_agree j d h))
+take_by sh w w' seats i q p s false a hq hp n enough free heads empty o e =
+    let t : SeatState = taker s q p false in
+    let same : empty_packets sh w'.pools ≡ empty_packets sh w.pools = omega (arith, empty_packets-moves sh w.pools w'.pools q p false hp o, ap bit (same-inside sh w.pools w'.pools q p o e 0 p hp)) in
+    let reserved : t.reserved ≡ s.reserved = kept (eqb q 0) s.reserved in
+    sound-moved sh w w' seats i s t a
+    (rw heads (pools-untaken sh w.heads w.pools w'.pools (hands seats) i q p s.held (holding sh w seats i s a) o e))
+    (record {
+      counted = rw (empty, same, reserved) refl;
+      one_debt = rw reserved (one-debt sh w seats i s a);
+      heads_agree = rw heads (mine sh w seats i s a);
+      work_holds = work-holds sh w seats i s a;
+    })
+    (λ j d f h. rw heads (a.packets.counts.heads_agree j d h))
+
+-- 2: a tracer takes a packet
+pub sound-take : (sh : Shape) (w : Words) (seats : List SeatState) (i q p : ℕ) (s : SeatState) → At sh w seats i s → AllTrue (parts sh w seats s (Take q p))
+    → PacketsSound sh (put_word (place sh s (Take q p)) (written sh s (Take q p) (get_or w.pools (q * pool_words sh + p / 64) 0)) w) (set seats i (seat_after sh s (Take q p) (get_or w.pools (q * pool_words sh + p / 64) 0)))
+sound-take sh w seats i q p s a ok =
+    let old : ℕ = get_or w.pools (q * pool_words sh + p / 64) 0 in
+    let range = and_parts (nat_lt q 4) (nat_lt p sh.packets) (and_parts _ _ ok.0).0 in
+    let hq : q < 4 = ltb-true q 4 range.0 in
+    let hp : p < sh.packets = ltb-true p sh.packets range.1 in
+    let inside : q * pool_words sh + p / 64 < length w.pools = rw a.pools_long (in-row q 4 (pool_words sh) (p / 64) hq (word-below sh p hp)) in
+    take_by sh w (put_word (place sh s (Take q p)) (written sh s (Take q p) old) w) seats i q p s (in_pool sh w.pools q p) a hq hp (not-true _ ok.1.0) ok.1.1.0 ok.1.1.1.0 refl refl (pool-without sh w.pools q p inside hp) refl
 
 -- what the proof needs of the state before
 at_seat : (c : Core) (i : ℕ) (s : SeatState) → IsWellFormed c → ArePacketsSound c → slice_get c.seats i ≡ Some s → At c.shape (words_of c.shape c.words) c.seats i s

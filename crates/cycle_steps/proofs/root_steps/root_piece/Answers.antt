@@ -1,26 +1,56 @@
-use Rattle.std.proofs.Common.{◌≤◌, ◌-◌, ◌+◌, ◌≡◌, ℕ, arith, ap, subst, sym, length}
-use Rattle.std.specs.List.{range_with_len}
+use Rattle.std.proofs.Common.{arith, Some, ℕ, ◌+◌, ◌<◌, ◌≡◌, ◌≤◌, ⊎_elim, ◌-◌, ap, subst, sym, length}
+use Rattle.std.proofs.lemmas.Bool.{cases_lt}
 use Rattle.mark_core.specs.Layout.{root_count}
+use Rattle.mark_core.specs.Places.{the_next_block}
 use Rattle.mark_core.specs.declared.kinds.Phase.TheVariants.{Drain}
+use Rattle.gc_table.specs.Notes.{look}
+use Rattle.gc_table.specs.declared.view.View.{View}
+use Rattle.card_clean.specs.Drained.{IsNotedRoot, RootsBetween, roots_read, sees_roots}
+use Rattle.gc_cycle.specs.Finishing.{IsPart}
+use Rattle.cycle_steps.specs.Pieces.{SeesRootsFrom}
+use Rattle.cycle_steps.specs.Stepping.{Drains}
+use Rattle.cycle_steps.proofs.Stepped.{notes-of, part-owner, root-noted, part-keeps}
+use Rattle.std.specs.List.{range_with_len}
 use Rattle.mark_core.specs.declared.kinds.Shape.{Shape}
 use Rattle.gc_table.specs.Log.{events}
 use Rattle.gc_table.specs.Seats.{view_of}
-use Rattle.gc_table.specs.declared.view.View.{View}
 use Rattle.gc_table.proofs.History.Log.{events-none, only-none}
 use Rattle.packet_pools.specs.Fields.{picked}
-use Rattle.card_clean.specs.Drained.{roots_read, sees_roots}
 use Rattle.gc_cycle.specs.Events.{never}
-use Rattle.cycle_steps.specs.Pieces.{SeesRootsFrom}
 use Rattle.gc_cycle.specs.Sorts.{pops}
 use Rattle.gc_cycle.specs.Statistics.{leaves_numbers}
 use Rattle.cycle_steps.proofs.Exactly.{exact-part}
 use Rattle.gc_cycle.proofs.Parts.{part-none}
-use Rattle.cycle_steps.proofs.RootPieces.{all-rooted, sees-further, sees-still}
-use Rattle.cycle_steps.proofs.Stepped.{part-keeps}
 use Rattle.card_clean.specs.StepBounds.{see_to_steps}
 use Rattle.tracer.specs.StepBounds.{recycle_steps}
 use Rattle.gc_cycle.proofs.Few.{roots-fewer}
 use Rattle.cycle_steps.proofs.root_steps.root_piece.Goals as goal
+
+-- A seat that is alone sees to the roots in pieces.
+-- the roots that were seen to stay so
+kept-below : (from : ℕ) (v w : View) → ((i : ℕ) → IsNotedRoot i v → IsNotedRoot i w) → SeesRootsFrom from v → (i : ℕ) → i < from → IsNotedRoot i w
+kept-below from v w k s i l = k i (root-noted i v (s.below i l))
+
+-- a piece that saw to none, or found no packet
+sees-still : (from : ℕ) (v w : View) → SeesRootsFrom from v → IsPart Drain v w → look the_next_block w.known ≡ Some 0 → ((i : ℕ) → IsNotedRoot i v → IsNotedRoot i w) → SeesRootsFrom from w
+sees-still from v w s p n k =
+    record {
+      roots = record { owner = part-owner Drain v w p s.roots.owner; alone = p.alone; next_block = n };
+      below = λ i l. notes-of i w (kept-below from v w k s i l);
+    }
+
+-- a piece that saw to some
+sees-further : (from n : ℕ) (v w : View) → SeesRootsFrom from v → IsPart Drain v w → look the_next_block w.known ≡ Some 0 → ((i : ℕ) → IsNotedRoot i v → IsNotedRoot i w) → RootsBetween from (from + n) w → SeesRootsFrom (from + n) w
+sees-further from n v w s p b k r =
+    record {
+      roots = record { owner = part-owner Drain v w p s.roots.owner; alone = p.alone; next_block = b };
+      below = λ i l. notes-of i w (⊎_elim (λ (h : i < from). kept-below from v w k s i h) (λ (h : from ≤ i). r i h l) (cases_lt i from));
+    }
+
+-- no root is left
+all-rooted : (n : ℕ) (v : View) → SeesRootsFrom n v → root_count v.shape ≤ n → Drains v
+all-rooted n v s all =
+    record { owner = s.roots.owner; rest = s.roots.alone.rest; drain = s.roots.alone.alone; next_block = s.roots.next_block; roots = λ i l. s.below i (omega (arith, all, l)) }
 
 pub returns-then-number-eq0-clause-part : goal.returns-then-number-eq0-clause-part
 returns-then-number-eq0-clause-part c = part-none Drain (view_of c.args.seat.now) c.requires.roots.roots.alone
