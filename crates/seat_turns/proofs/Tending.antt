@@ -42,7 +42,7 @@ tends-join m n k u v w e a b =
       own = b.own ∙ a.own;
     }
 
--- steps of tracing that popped so many cells
+-- steps of tracing that popped this many cells
 pub tends-by : {b : Bool} (n : ℕ) (v w : View) → OnlyTracedBy b v w → count_of pops (events v w) ≡ n → Tends n v w
 tends-by n v w k done = record { ran = k.ran; only = tends-later v w k; done = done; own = k.own }
 
@@ -86,7 +86,7 @@ one-pops sh card r es c =
     ap (count_of pops) c.events_are
     ∙ (count-join pops c.taking (c.cleaning ++ c.giving) ∙ (λ i. moves-pop output_pools c.taking c.takes i + (count-join pops c.cleaning c.giving ∙ (λ j. cleans-pop sh card r c.cleaning c.cleans j + moves-pop output_pools c.giving c.gives j)) i))
 
--- the drawing of a card reads the counter of cards alone, and changes nothing of what the section has come to
+-- the drawing of a card reads only the counter of cards, and changes nothing of what the section has come to
 draw-own : (step : Step) → draws_card step ≡ true → changes_section step ≡ false
 draw-own (ReadStat which) e = refl
 draw-own NextOfCards e = refl

@@ -18,6 +18,6 @@ cards_steps sh = turn_cards * card_steps sh
 abbrev pub late_steps : Shape → ℕ
 late_steps sh = 3 + cards_steps sh
 
--- the objects of a turn are traced, cards are passed where the cycle is far on, and what was deferred is brought back
+-- the objects of a turn are traced, cards are passed if the cycle is far on, and what was deferred is brought back
 abbrev pub turn_steps : Shape → ℕ
 turn_steps sh = trace_steps turn_quota sh + late_steps sh + recycle_steps sh

@@ -11,11 +11,11 @@ use Rattle.packet_pools.specs.OnlyTraced.{traces_cells}
 use Rattle.tracer.specs.Causes.{FoundNoWork}
 use Rattle.tracer.specs.Tally.{pops}
 
--- how many objects a turn traces, where there are as many
+-- how many objects a turn traces, if there are as many
 abbrev pub turn_quota : ℕ
 turn_quota = 64
 
--- how many cards a turn passes, where the cycle is far on and there are as many
+-- how many cards a turn passes, if the cycle is far on and there are as many
 abbrev pub turn_cards : ℕ
 turn_cards = 1024
 
@@ -26,7 +26,7 @@ tends_inside NextOfCards = true
 tends_inside (ReadStat which) = not (which == done_count)
 tends_inside step = traces_cells step
 
--- by such steps so many objects were traced, and what the seat's section has come to is as it was
+-- by such steps this many objects were traced, and what the seat's section has come to is as it was
 pub record Tends (traced : ℕ) (v w : View) : Type 0 where
   pub ran : Ran v w
   pub only : Only tends_inside v w
@@ -38,7 +38,7 @@ pub record TracesSome (traced : ℕ) (v w : View) : Type 0 where
   pub tends : Tends traced v w
   pub ends : (traced ≡ turn_quota) ⊎ ((traced < turn_quota) × FoundNoWork v w)
 
--- the seat traced so many objects, and then tended to cards and to what was deferred
+-- the seat traced this many objects, and then tended to cards and to what was deferred
 pub record MarksSome (traced : ℕ) (v w : View) : Type 0 where
   pub between : View
   pub traces : TracesSome traced v between

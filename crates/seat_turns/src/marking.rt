@@ -1,4 +1,4 @@
-//! A tracer inside the world: it reads the phase, traces a few objects, and where there are none, cleans a few cards.
+//! A tracer inside the world.
 ghost use Rattle.std.specs.Prelude.{◌≡◌, ◌<◌, ◌≤◌, ◌+◌, Some, length};
 ghost use Rattle.mark_core.specs.Cards.{card_cells};
 ghost use Rattle.mark_core.specs.Layout.{card_count};
@@ -20,10 +20,9 @@ use tracer::{Stopped, recycle_deferred, trace};
 /// How many objects a turn traces.
 const OBJECTS: u32 = 64;
 
-/// How many cards a turn passes. Most are clean, and a clean one costs one look.
 const CARDS: u32 = 1_024;
 
-/// Reads the phase, by one step of a seat in the world. Its record has the phase then.
+/// Reads the phase, by one step of a seat in the world. The record has the phase then.
 pub fn see_phase(heap: &Heap, seat: &mut HeapSeat) -> Phase
     requires { Goes heap.now seat.old }
     ensures seat { Goes heap.now seat.new }
@@ -33,7 +32,7 @@ pub fn see_phase(heap: &Heap, seat: &mut HeapSeat) -> Phase
     heap.read_phase(seat)
 }
 
-/// Cleans a card. False where no packet has room.
+/// Cleans a card. False if no packet has room.
 fn clean(heap: &Heap, seat: &mut HeapSeat, card: u32) -> bool
     requires seat { GoesMarking heap.now seat.old }
     requires card { card < card_count heap.now.shape }
@@ -47,7 +46,7 @@ fn clean(heap: &Heap, seat: &mut HeapSeat, card: u32) -> bool
     }
 }
 
-/// Looks at a card, and cleans it where it is dirty: a clean card costs one look and no packet. False where no packet has room.
+/// Cleans a card if it is dirty: a clean one costs one look and no packet. False if no packet has room.
 fn clean_where_dirty(heap: &Heap, seat: &mut HeapSeat, card: u32) -> bool
     requires seat { GoesMarking heap.now seat.old }
     requires card { card < card_count heap.now.shape }
@@ -61,7 +60,7 @@ fn clean_where_dirty(heap: &Heap, seat: &mut HeapSeat, card: u32) -> bool
     clean(heap, seat, card)
 }
 
-/// Cleans the next card of the cycle's pass, where it is dirty. False where no card is left, or no packet has room.
+/// Does so for the next card of the pass. False if none is left, or no packet has room.
 fn clean_next(heap: &Heap, seat: &mut HeapSeat) -> bool
     requires { GoesMarking heap.now seat.old }
     ensures seat { GoesMarking heap.now seat.new }
@@ -74,7 +73,6 @@ fn clean_next(heap: &Heap, seat: &mut HeapSeat) -> bool
     }
 }
 
-/// Cleans the cards of a turn.
 fn clean_cards(heap: &Heap, seat: &mut HeapSeat)
     requires { GoesMarking heap.now seat.old }
     ensures seat { GoesMarking heap.now seat.new }
@@ -88,7 +86,7 @@ fn clean_cards(heap: &Heap, seat: &mut HeapSeat)
     }
 }
 
-/// Cleans the cards of a turn, where the cycle is far on: a card that is cleaned early is dirtied again, and then the stop cleans it.
+/// Cleans the cards of a turn if the cycle is far on.
 fn clean_late(heap: &Heap, seat: &mut HeapSeat)
     requires { GoesMarking heap.now seat.old }
     ensures seat { GoesMarking heap.now seat.new }
@@ -100,7 +98,6 @@ fn clean_late(heap: &Heap, seat: &mut HeapSeat)
     }
 }
 
-/// Cleans cards, where a trace ended since there was nothing to trace.
 fn clean_after(heap: &Heap, seat: &mut HeapSeat, stopped: Stopped)
     requires { GoesMarking heap.now seat.old }
     ensures seat { GoesMarking heap.now seat.new }
@@ -112,7 +109,6 @@ fn clean_after(heap: &Heap, seat: &mut HeapSeat, stopped: Stopped)
     }
 }
 
-/// Cleans a few cards, where there was nothing to trace, and lets deferred cells be traced again.
 fn tend(heap: &Heap, seat: &mut HeapSeat, stopped: Stopped)
     requires { GoesMarking heap.now seat.old }
     ensures seat { GoesMarking heap.now seat.new }
@@ -123,8 +119,8 @@ fn tend(heap: &Heap, seat: &mut HeapSeat, stopped: Stopped)
     recycle_deferred(heap, seat);
 }
 
-/// Traces the 64 objects of a turn, and where there are fewer and the cycle is far on, cleans cards. Returns how many objects it traced, which the caller is to
-/// add to the number of traced objects.
+/// Traces the 64 objects of a turn; if there are fewer and the cycle is far on, cleans cards. The caller adds the
+/// answer to the number of traced objects.
 pub fn mark_some(heap: &Heap, seat: &mut HeapSeat) -> u32
     requires { GoesMarking heap.now seat.old }
     ensures seat { GoesMarking heap.now seat.new }

@@ -1,4 +1,4 @@
-//! A mutator at its turn: whether it is.
+//! Whether a mutator is at its turn.
 ghost use Rattle.std.specs.Prelude.{◌≡◌, Some, IsTrue, is_some};
 ghost use Rattle.std.specs.Bool.{OnFalse};
 ghost use Rattle.gc_table.specs.Seats.{Across, Sits, state_of, view_of};
@@ -7,7 +7,8 @@ ghost use Rattle.seat_turns.specs.Turning.{LooksAtSeason, SeesOther};
 
 use gc_table::{Heap, HeapSeat};
 
-/// Whether the season is this turn. It is read only where the seat doesn't know it any more: it moves on in a stop alone, and then the seat is outside.
+/// Whether the season is this turn. It is read only if the seat doesn't know it any more: it moves on only in a
+/// stop, and then the seat is outside.
 #[inline(always)]
 pub fn is_turn(heap: &Heap, seat: &mut HeapSeat, turn: u64) -> bool
     requires seat { Sits heap.now seat.old × Mutates (view_of seat.old) }

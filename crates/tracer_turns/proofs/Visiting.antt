@@ -16,7 +16,7 @@ use Rattle.tracer_turns.specs.Tracing.{HasMarked, MarksIn, Rounds, Tended, Trace
 use Rattle.tracer_turns.specs.Trying.{TriesTo, TriesTurn, tried_steps}
 use Rattle.tracer_turns.specs.declared.try_turns.TryTurn.{TryTurn}
 
--- where marking isn't under way nothing is done
+-- if marking isn't under way, nothing is done
 pub marks-none : (p : Phase) (v : View) → (p ≡ phases.Marking → ⊥) → MarksIn p v v
 marks-none phases.Marking v other = absurd (other refl)
 marks-none p v other = refl

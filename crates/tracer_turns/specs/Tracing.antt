@@ -1,5 +1,5 @@
--- What a tracer did in one turn, and in a run of turns. A turn reads whether the tracers were dismissed; where they weren't, the seat enters, reads the
--- phase, traces where a cycle is marking, and leaves; or it finds a stop under way, leaves at once and helps until that has ended. A run is a list of turns,
+-- What a tracer did in one turn, and in a run of turns. A turn reads whether the tracers were dismissed; if they weren't, the seat enters, reads the
+-- phase, traces if a cycle is marking, and leaves; or it finds a stop under way, leaves at once and helps until that has ended. A run is a list of turns,
 -- each of which starts where the one before ended: all but the last were to be followed by another, and the last found the tracers dismissed, or the heap full.
 -- Both are told of what the seat knew before and after: a view v, the log of which the turn's events were added to, and then w.
 use Rattle.std.specs.Prelude.{ℕ, ◌≡◌, ◌<◌, ◌+◌, ◌⊎◌, List, [], ◌∷◌, false, IsTrue}
@@ -31,7 +31,7 @@ pub record Tended (v w : View) : Type 0 where
   pub only : Only tends_inside v w
   pub none : count_of pops (events v w) ≡ 0
 
--- the seat traced so many objects inside the world: as many as a turn traces; or fewer, and then at some moment nothing was left in hand
+-- the seat traced this many objects inside the world: as many as a turn traces; or fewer, and then at some moment nothing was left in hand
 -- and no packet with a cell was found
 pub record TracesForTurn (traced : ℕ) (v w : View) : Type 0 where
   pub ran : Ran v w
@@ -53,7 +53,7 @@ abbrev pub MarksIn : Phase → View → View → Type 0
 MarksIn phases.Marking v w = HasMarked v w
 MarksIn p v w = w ≡ v
 
--- and so many steps are taken at most: those of a turn, and one that tells
+-- and this many steps are taken at most: those of a turn, and one that tells
 abbrev pub marking_steps : Phase → Shape → ℕ
 marking_steps phases.Marking sh = turn_steps sh + 1
 marking_steps p sh = 0
@@ -62,7 +62,7 @@ marking_steps p sh = 0
 abbrev pub Sees : Phase → View → View → Type 0
 Sees p v w = Answered ReadPhase (λ n. p ≡ phase_of n) v w
 
--- inside the world the seat read this phase, marked where it is Marking, and left
+-- inside the world the seat read this phase, marked if it is Marking, and left
 pub record Rounds (p : Phase) (v w : View) : Type 0 where
   pub read : View
   pub sees : Sees p v read
@@ -70,7 +70,7 @@ pub record Rounds (p : Phase) (v w : View) : Type 0 where
   pub marks : MarksIn p read marked
   pub leaves : Took LeaveStep marked w
 
--- the seat entered while no stop was under way, read this phase, marked where it is Marking, and left: one step each beside those of marking
+-- the seat entered while no stop was under way, read this phase, marked if it is Marking, and left: one step each beside those of marking
 pub record VisitsWorld (p : Phase) (v w : View) : Type 0 where
   pub entered : View
   pub enters : Enters v entered
@@ -85,13 +85,13 @@ pub record WaitsHelping (v w : View) : Type 0 where
   pub helps : HelpsInTurns back w
   pub resumed : IsTrue (saw_resumed (events back w))
 
--- what a turn came to by its first read: dismissed where a dismissal was counted; else full where the phase was Full; else going
+-- what a turn came to by its first read: dismissed if a dismissal was counted; else full if the phase was Full; else going
 abbrev pub TurnComesTo : Turn → ℕ → View → View → Type 0
 TurnComesTo turns.Dismissed n v w = (0 < n) × (w ≡ v)
 TurnComesTo turns.Full n v w = (n ≡ 0) × VisitsWorld phases.Full v w
 TurnComesTo turns.Going n v w = (n ≡ 0) × (WaitsHelping v w ⊎ ((p : Phase) × (p ≡ phases.Full → ⊥) × VisitsWorld p v w))
 
--- one turn, and what it came to: the seat read how many dismissals there were; where none, it visited the world, or helped in a stop
+-- one turn, and what it came to: the seat read how many dismissals there were; if none, it visited the world, or helped in a stop
 pub record TracerTakesTurn (turn : Turn) (v w : View) : Type 0 where
   pub dismissals : ℕ
   pub looked : View

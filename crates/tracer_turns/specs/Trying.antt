@@ -20,7 +20,7 @@ use Rattle.tracer_turns.specs.declared.try_turns.TryTurn.TheVariants as tries
 abbrev pub FindsNoCycle : View → View → Type 0
 FindsNoCycle v w = (p : Phase) × (p ≢ phases.Marking) × (p ≢ phases.Full) × VisitsWorld p v w
 
--- what a turn came to, where it found that number of dismissals
+-- what a turn came to, if it found that number of dismissals
 abbrev pub TriesTo : TryTurn → ℕ → View → View → Type 0
 TriesTo tries.Dismissed n v w = (0 < n) × (w ≡ v)
 TriesTo tries.Stopped n v w = (n ≡ 0) × TurnsBack v w
@@ -36,7 +36,7 @@ tried_steps tries.Marked sh = turn_steps sh + 5
 tried_steps tries.Idle sh = 4
 tried_steps tries.Full sh = 4
 
--- a turn: it read whether the tracers were dismissed, and where they weren't it tried to enter once, and marked and left where it was in
+-- a turn: it read whether the tracers were dismissed, and if they weren't, it tried to enter once, and marked and left if it was in
 pub record TriesTurn (tried : TryTurn) (v w : View) : Type 0 where
   pub dismissals : ℕ
   pub looked : View

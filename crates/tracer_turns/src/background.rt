@@ -21,22 +21,22 @@ pub enum Turn {
     Going,
     /// The world has dismissed its tracers.
     Dismissed,
-    /// The heap is full, for good: nothing more is to be traced.
+    /// The heap is full, for good.
     Full,
 }
 
-/// How often a tracer yields between two turns. A turn changes the word of the world, which each mutator reads at each safe point.
+/// How often a tracer yields between two turns. A turn changes the word of the world, which each mutator reads at
+/// each safe point.
 const YIELDS: u32 = 64;
 
-/// How long a tracer sleeps at most where no cycle marks, in microseconds. It is woken where one begins, and where the tracers are dismissed.
+/// How long a tracer sleeps at most while no cycle marks, in microseconds. It is woken if one begins, or the
+/// tracers are dismissed.
 const SLEEP: u64 = 2_000;
 
-/// What one thread marks with beside the mutators. It has no objects. Between two turns it is outside the world.
+/// What one thread marks with beside the mutators, outside the world between two turns.
 #[derive(Drop)]
 pub struct Tracer {
-    /// The world's heap.
     pub(crate) heap: Arc<Heap, Global>,
-    /// Its seat in the heap, of no section.
     pub(crate) seat: HeapSeat,
     /// The name of the world that lends it.
     pub(crate) name: u32,
@@ -45,7 +45,6 @@ pub struct Tracer {
     ghost rests: { RestsOutside (arc_value heap) seat },
 }
 
-/// Lets others run, and sleeps while no cycle marks.
 fn rest<R: Wait>(rt: &R, heap: &Heap) {
     for _ in 0..YIELDS {
         yield_now();
@@ -54,7 +53,7 @@ fn rest<R: Wait>(rt: &R, heap: &Heap) {
 }
 
 impl Tracer {
-    /// A tracer with this seat, which is outside the world. It has traced nothing.
+    /// A tracer with this seat, outside the world, that has traced nothing.
     pub fn of_seat(heap: Arc<Heap, Global>, seat: HeapSeat, name: u32) -> Tracer
         requires rests { RestsOutside (arc_value heap) seat }
         ensures new { (result.heap ≡ heap) × (result.seat ≡ seat) × (result.name ≡ name) × (result.traced ≡ 0) }
@@ -89,7 +88,8 @@ impl Tracer {
         self.seat.number()
     }
 
-    /// One turn: it enters, traces and cleans a little where a cycle is marking, and leaves. Where a stop is under way it helps until that has ended.
+    /// One turn: it enters, traces and cleans a little if a cycle is marking, and leaves. It helps if a stop is
+    /// under way.
     pub fn trace_turn<R: Wait>(&mut self, rt: &R) -> Turn
         ensures turn { Across (TracerTakesTurn result) self.old.seat self.new.seat }
         ensures tally { Across (Tallies self.old.traced self.new.traced) self.old.seat self.new.seat }
@@ -114,7 +114,8 @@ impl Tracer {
         self.traced
     }
 
-    /// Marks turn by turn, until the world dismisses its tracers or the heap is full. Between two turns it lets others run, and sleeps while no cycle marks.
+    /// Takes turns until the world dismisses its tracers or the heap is full. In between it lets others run, and
+    /// sleeps while no cycle marks.
     pub fn run<R: Wait>(&mut self, rt: &R) -> Turn
         ensures runs { Across (TracerRunsTo result) self.old.seat self.new.seat }
         ensures tally { Across (Tallies self.old.traced self.new.traced) self.old.seat self.new.seat }

@@ -1,4 +1,5 @@
-//! The seat of section 0 tells the tracers that they are dismissed: the count of played parts, of which worlds have no other use, is raised.
+//! The seat of section 0 dismisses the tracers: it raises the count of played parts, of which worlds have no other
+//! use.
 ghost use Rattle.std.specs.Prelude.{IsTrue, is_some};
 ghost use Rattle.std.specs.Bool.{OnFalse, OnTrue};
 ghost use Rattle.gc_table.specs.Log.{Only};
@@ -15,7 +16,7 @@ use gc_table::{Heap, HeapSeat};
 use mark_core::DONE;
 use std::sync::Wait;
 
-/// Tells the tracers that they are dismissed, as soon as no stop is under way, and wakes those that sleep.
+/// Dismisses the tracers as soon as no stop is under way, and wakes those that sleep.
 pub fn tell_dismissed<R: Wait>(rt: &R, heap: &Heap, seat: &mut HeapSeat)
     requires rests { RestsOutside heap.now seat.old }
     requires section { IsTrue (is_some (state_of seat.old).section) }
@@ -31,7 +32,7 @@ pub fn tell_dismissed<R: Wait>(rt: &R, heap: &Heap, seat: &mut HeapSeat)
     heap.wake_resting();
 }
 
-/// Tells the tracers that they are dismissed, where no stop is under way. False where one is, and nothing is told.
+/// Dismisses the tracers, or is false if a stop is under way.
 pub fn try_dismiss(heap: &Heap, seat: &mut HeapSeat) -> bool
     requires rests { RestsOutside heap.now seat.old }
     requires section { IsTrue (is_some (state_of seat.old).section) }

@@ -1,4 +1,4 @@
-//! What a tracer's turn is made of: it looks at the dismissals, enters, marks, and leaves.
+//! The parts of a tracer's turn.
 ghost use Rattle.std.specs.Prelude.{◌≡◌, ◌+◌, Some, IsTrue, IsFalse};
 ghost use Rattle.std.specs.Bool.{OnFalse, OnTrue};
 ghost use Rattle.mark_core.specs.Numbers.{done_count};
@@ -18,7 +18,7 @@ use mark_core::{DONE, Phase, TRACED};
 use seat_turns::{mark_some, see_phase};
 use stop_world::{enter, leave};
 
-/// Traces a few objects, and where there are none, cleans a few cards. How many it traced it tells, and adds to the tally.
+/// Traces a few objects, tells how many, and adds them to the tally.
 fn mark(heap: &Heap, seat: &mut HeapSeat, tally: &mut u64)
     requires { GoesMarking heap.now seat.old }
     ensures seat { Goes heap.now seat.new }
@@ -31,7 +31,6 @@ fn mark(heap: &Heap, seat: &mut HeapSeat, tally: &mut u64)
     *tally = tally.wrapping_add(u64::from(traced));
 }
 
-/// Marks, where marking is under way.
 fn mark_in(heap: &Heap, seat: &mut HeapSeat, phase: Phase, tally: &mut u64)
     requires seat { Goes heap.now seat.old }
     requires seen { (state_of seat.old).phase_seen ≡ Some phase }
@@ -45,7 +44,7 @@ fn mark_in(heap: &Heap, seat: &mut HeapSeat, phase: Phase, tally: &mut u64)
     }
 }
 
-/// Enters the world: true where no stop is under way, else the seat is outside again.
+/// Enters the world: true if no stop is under way; otherwise the seat is outside again.
 pub fn goes_in(heap: &Heap, seat: &mut HeapSeat) -> bool
     requires { RestsOutside heap.now seat.old }
     ensures inside { IsTrue result → Goes heap.now seat.new }
@@ -67,7 +66,7 @@ pub fn goes_out(heap: &Heap, seat: &mut HeapSeat)
     leave(heap, seat);
 }
 
-/// What a tracer does in the world. It returns the phase that it read there.
+/// Marks in the world if it can, and returns the phase that it read there.
 pub fn go_round(heap: &Heap, seat: &mut HeapSeat, tally: &mut u64) -> Phase
     requires { Goes heap.now seat.old }
     ensures seat { RestsOutside heap.now seat.new }

@@ -9,7 +9,7 @@ use crate::marking::{go_round, goes_in, see_dismissals};
 use gc_table::Heap;
 use mark_core::Phase;
 
-/// What a turn of a tracer that doesn't wait came to.
+/// How a turn ended.
 #[derive(Clone, Copy, Debug, PartialEq, Eq, Drop)]
 pub enum TryTurn {
     /// A cycle is marking: it traced and cleaned a little, and there may be more to trace.
@@ -20,14 +20,14 @@ pub enum TryTurn {
     Stopped,
     /// The world has dismissed its tracers.
     Dismissed,
-    /// The heap is full, for good: nothing more is to be traced.
+    /// The heap is full, for good.
     Full,
 }
 
 impl Tracer {
-    /// One turn that doesn't wait, for a thread without a runtime: it enters the world once, traces at most 64 objects where a cycle is marking, passes at most
-    /// 1,024 cards where that is far on, and leaves. Where a stop is under way it does nothing, and comes again. Between two turns its thread lets others run.
-    /// Each answer has its bound of steps (`tried_steps`), which doesn't grow with the heap.
+    /// One turn for a thread without a runtime: it traces at most 64 objects if a cycle is marking, and passes at
+    /// most 1,024 cards if that is far on. If a stop is under way it does nothing. Between two turns its thread
+    /// lets others run. Each answer has a bound of steps (`tried_steps`).
     pub fn try_turn(&mut self) -> TryTurn
         ensures turn { Across (TriesTurn result) self.old.seat self.new.seat }
         ensures tally { Across (Tallies self.old.traced self.new.traced) self.old.seat self.new.seat }
