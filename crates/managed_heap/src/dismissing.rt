@@ -3,11 +3,11 @@ ghost use Rattle.std.specs.Bool.{OnFalse, OnTrue};
 ghost use Rattle.gc_table.specs.Seats.{Across};
 ghost use Rattle.stop_world.specs.Gates.{TurnsBack};
 ghost use Rattle.managed_heap.specs.Lending.{HasAllStill};
-ghost use Rattle.tracer_turns.specs.Trying.{Dismisses, DismissesInside};
+ghost use Rattle.mutator_turns.specs.Trying.{Dismisses, DismissesInside};
 
 use crate::world::World;
+use mutator_turns::{tell_dismissed, try_dismiss};
 use std::sync::Wait;
-use tracer_turns::{tell_dismissed, try_dismiss};
 
 impl World {
     /// Tells the tracers that they are dismissed: each that runs ends, also one that sleeps, and each later turn answers so.

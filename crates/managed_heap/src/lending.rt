@@ -17,9 +17,8 @@ use crate::mutator::Mutator;
 use crate::world::World;
 use gc_table::{Heap, HeapSeat};
 use mark_core::NAMED_SECTION;
-use mutator_turns::NotOpened;
+use mutator_turns::{NotOpened, Tracer};
 use std::alloc::Global;
-use tracer_turns::Tracer;
 use world_seats::{Sizes, Statistics, read_statistics};
 
 /// Reads which section found the heap full.

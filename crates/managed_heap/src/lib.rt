@@ -60,10 +60,9 @@ pub use cache_refills::Watch;
 pub use gc_cycle::{Counts, Paid};
 pub use gc_table::Words;
 pub use mutator::Mutator;
-pub use mutator_turns::{NotOpened, Refused};
+pub use mutator_turns::{NotOpened, Refused, Tracer, TryTurn, Turn};
 pub use seat_steps::{Stage, Stepper};
 pub use seat_tries::Came;
-pub use tracer_turns::{Tracer, TryTurn, Turn};
 pub use world::World;
 pub use world_seats::{NotClosed, Sizes, Statistics, Unclosed};
 

@@ -7,9 +7,9 @@ ghost use Rattle.mutator_turns.specs.Standing.{RestsOutside};
 
 use crate::mutator::Mutator;
 use gc_table::{Heap, HeapSeat};
+use mutator_turns::Tracer;
 use std::alloc::Global;
 use std::sync::Arc;
-use tracer_turns::Tracer;
 use world_seats::Sizes;
 
 /// A heap that threads share. It has those of its mutators and tracers that nobody has taken. The heap is freed when the world is closed.

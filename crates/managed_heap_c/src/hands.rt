@@ -1,9 +1,9 @@
 //! What lies behind a handle.
 
 use managed_heap::World;
+use mutator_turns::Tracer;
 use seat_steps::Stepper;
 use shared_heap::SharedWorld;
-use tracer_turns::Tracer;
 
 /// A mutator, or none where it was given back.
 #[derive(Drop)]

@@ -10,10 +10,10 @@ use crate::own::{count_own, lend_own, take_own};
 use crate::sharing::{count_shared, lend_shared, take_shared};
 use crate::sizes::{CNumbers, CSizes, own_sizes, shared_sizes};
 use managed_heap::{NotOpened, World};
+use mutator_turns::Tracer;
 use seat_steps::Stepper;
 use shared_heap::SharedWorld;
 use std::alloc::Global;
-use tracer_turns::Tracer;
 
 /// Opens a world whose mutators have objects of their own.
 fn open_own(alloc: Global, sizes: &CSizes) -> Result<AnyWorld, NotOpened>

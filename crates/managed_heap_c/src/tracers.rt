@@ -5,8 +5,8 @@ ghost use Rattle.managed_heap_c.specs.Tracers.{AnswersTurn, Dismissing, GivesTra
 use crate::hands::{AnyWorld, TracerHand, Whole};
 use crate::slots::{TracerSlot, tracer_slot};
 use crate::statuses::{GIVEN_BACK, NONE_LEFT, OK, OUT_OF_MEMORY, REFUSED, STOPPED, turn_status};
+use mutator_turns::Tracer;
 use std::alloc::{AllocError, Global};
-use tracer_turns::Tracer;
 
 /// An empty hand in a box, which no call uses.
 fn boxed_hand(alloc: Global) -> Result<Box<TracerHand, Global>, AllocError>

@@ -13,7 +13,7 @@ use Rattle.gc_table.proofs.Running.{ran-found, ran-join, ran-only, ran-refl}
 use Rattle.gc_cycle.specs.Answering.{retires}
 use Rattle.gc_cycle.specs.Sparing.{fills_part, spares_part}
 use Rattle.gc_cycle.specs.Standing.{KeepsSeat}
-use Rattle.seat_turns.specs.Turning.{LooksAtSeason}
+use Rattle.mutator_turns.specs.Turning.{LooksAtSeason}
 use Rattle.mutator_turns.specs.Sharing.{LeavesHeap, spares_heap, spares_tracers}
 
 fills_spares : (step : Step) → fills_part step ≡ true → spares_heap step ≡ true

@@ -8,3 +8,10 @@ mod Naming
 pub mod Seats
 mod Taking
 mod Uncatalogued
+mod TurnSteps
+pub mod TracerStanding
+pub mod Tending
+mod Sparing
+mod Tallying
+mod Visiting
+mod TracerTurns

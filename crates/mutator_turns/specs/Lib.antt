@@ -6,3 +6,10 @@ pub mod Operating
 pub mod Plain
 pub mod Sharing
 pub mod Standing
+pub mod TracerStanding
+pub mod StepBounds
+pub mod Tending
+pub mod Turning
+pub mod Tallying
+pub mod Tracing
+pub mod Trying

@@ -10,15 +10,23 @@
 //! - `refused`: why a call did nothing
 #![tactic(auto)]
 
+mod background;
+mod dismissing;
 mod exchanging;
 mod gates;
 mod identity;
 mod operations;
+mod own_turn;
 mod refused;
 mod sharing;
 mod slots;
+mod tracer_marking;
+mod tracer_turn;
+mod try_turns;
 mod turns;
 
+pub use background::{Tracer, Turn};
+pub use dismissing::{tell_dismissed, try_dismiss};
 pub use exchanging::{exchange_shared, exchange_value_shared};
 pub use gates::{collect_turn, enter_turn, leave, leave_turn, pass_turn, retire_own_cache};
 pub use identity::identity_shared;
@@ -26,10 +34,13 @@ pub use operations::{
     copy_variable, forget_variable, get_field, make_in, make_object, put_value, read_value,
     refer_to_one, refers_to_nothing, set_field,
 };
+pub use own_turn::is_turn;
 pub use refused::{NotOpened, Refused};
 pub use sharing::{
     copy_shared, forget_shared, get_shared, lend_shared, make_shared, make_shared_in, put_shared,
     set_shared, value_shared, word_of,
 };
 pub use slots::{clear_slots_shared, fill_shared, spill_shared};
+pub use tracer_marking::{mark_some, see_phase};
+pub use try_turns::TryTurn;
 pub use turns::{TURN, keep_some, with_free};

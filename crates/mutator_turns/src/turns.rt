@@ -13,12 +13,12 @@ ghost use Rattle.mutator_turns.specs.Halting.{EndsFullOrSpent, HaltsFull};
 ghost use Rattle.mutator_turns.specs.Sharing.{LeavesHeap};
 ghost use Rattle.mutator_turns.specs.Standing.{Halts, IsAtTurn, LacksFree, Plays, Works, plain_of};
 
+use crate::own_turn::is_turn;
 use crate::refused::Refused;
 use alloc_cache::{Cache, leave_with_seat};
 use cache_refills::{Watch, refill_in_stops, refill_watched};
 use gc_cycle::{Refill, Safe, safe_point};
 use gc_table::{Heap, HeapSeat};
-use seat_turns::is_turn;
 use std::sync::Wait;
 
 /// The season in which the mutators play: the catalogue's section has ended its turn, in which it made nothing.

@@ -3,12 +3,12 @@ ghost use Rattle.std.specs.Prelude.{◌≡◌, ◌<◌, ◌++◌, [], ◌∷◌,
 ghost use Rattle.std.specs.Bool.{OnFalse, OnTrue};
 ghost use Rattle.gc_table.specs.Seats.{Across};
 ghost use Rattle.stop_world.specs.Gates.{TurnsBack};
-ghost use Rattle.tracer_turns.specs.Trying.{Dismisses, DismissesInside};
+ghost use Rattle.mutator_turns.specs.Trying.{Dismisses, DismissesInside};
 ghost use Rattle.shared_heap.specs.Lending.{AreAllBack, HasAllStill, KeepsRest, TakesNoTracer};
 
 use crate::world::SharedWorld;
+use mutator_turns::{Tracer, tell_dismissed, try_dismiss};
 use std::sync::Wait;
-use tracer_turns::{Tracer, tell_dismissed, try_dismiss};
 
 impl SharedWorld {
     /// One of the tracers that nobody has. None where all are taken.

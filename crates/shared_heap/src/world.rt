@@ -6,9 +6,9 @@ ghost use Rattle.shared_heap.specs.Rooting.{HasSeats, IsRootSeat};
 
 use crate::mutator::SharedMutator;
 use gc_table::{Heap, HeapSeat};
+use mutator_turns::Tracer;
 use std::alloc::Global;
 use std::sync::Arc;
-use tracer_turns::Tracer;
 use world_seats::Sizes;
 
 /// A heap whose objects threads share. It has those of its mutators and tracers that nobody has taken.

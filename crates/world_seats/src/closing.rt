@@ -10,9 +10,9 @@ ghost use Rattle.world_seats.specs.Gathering.{AreInOrder, AreOf, AreThere, IsEnd
 use crate::gathering::{are_all, gather};
 use crate::lent::{Lent, Opened};
 use gc_table::{Heap, HeapSeat, Words};
+use mutator_turns::Tracer;
 use std::alloc::Global;
 use std::sync::Arc;
-use tracer_turns::Tracer;
 
 /// A world that wasn't closed, and the mutators and tracers that were handed in.
 #[derive(Drop)]

@@ -5,10 +5,10 @@ ghost use Rattle.world_seats.specs.Opening.{AreNewOf, AreNumbered, IsFreshTracer
 
 use crate::taking::first_of;
 use gc_table::{Heap, HeapSeat};
+use mutator_turns::Tracer;
 use plain_heap::Plan;
 use std::alloc::{AllocError, Global};
 use std::sync::Arc;
-use tracer_turns::Tracer;
 
 /// A tracer that has done nothing.
 fn tracer_of<P: Plan>(

@@ -8,9 +8,9 @@ ghost use Rattle.mutator_turns.specs.Standing.{RestsOutside};
 ghost use Rattle.world_seats.specs.Gathering.{IsFirstSeat};
 
 use gc_table::{Heap, HeapSeat};
+use mutator_turns::Tracer;
 use std::alloc::Global;
 use std::sync::Arc;
-use tracer_turns::Tracer;
 
 /// A mutator or a tracer: it has a seat of a world's heap.
 pub trait Lent: Drop {

@@ -1,3 +1,0 @@
-mod Few
-pub mod Standing
-pub mod Tending

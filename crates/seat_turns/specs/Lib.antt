@@ -1,4 +1,0 @@
-pub mod Standing
-pub mod StepBounds
-pub mod Tending
-pub mod Turning

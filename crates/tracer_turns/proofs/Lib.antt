@@ -1,4 +1,0 @@
-mod Sparing
-mod Tallying
-mod Visiting
-mod Turns
