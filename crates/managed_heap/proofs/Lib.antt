@@ -1,4 +1,5 @@
 mod Beginning
+mod Doing
 mod Gathering
 mod Threads
 mod Turning
