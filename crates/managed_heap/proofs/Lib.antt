@@ -1,3 +1,4 @@
 mod Beginning
+mod Doing
 mod Threads
 mod Turning

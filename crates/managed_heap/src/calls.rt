@@ -13,10 +13,8 @@ ghost use Rattle.mutator_turns.specs.Sharing.{spares_tracers};
 use crate::mutator::{Mutator, Place};
 use cache_refills::{Unwatched, Watch};
 use mark_core::VARIABLES;
-use mutator_turns::{
-    Refused, collect_turn, copy_variable, enter_turn, forget_variable, get_field, leave_turn,
-    make_object, pass_turn, put_value, set_field,
-};
+use mutator_ops::{assign, clear, follow, put, set};
+use mutator_turns::{Refused, collect_turn, enter_turn, leave_turn, make_object, pass_turn};
 use std::sync::Wait;
 
 impl Mutator {
@@ -153,6 +151,7 @@ impl Mutator {
     }
 
     /// Reference i of variable v's object becomes what variable w refers to. Nothing happens where v refers to nothing.
+    #[tactic(auto, using(mutator_turns::proofs::Operating::operating))]
     pub fn set(&mut self, v: u8, i: u8, w: u8) -> Result<(), Refused>
         ensures done { IfOk result (λ _. MutatorDoes (ops.Set v i w) self.old self.new) }
         ensures refused { IfErr result (λ e. MutatorRefused e (ops.Set v i w) self.old self.new) }
@@ -167,13 +166,14 @@ impl Mutator {
         match self.place {
             Place::Outside => Err(Refused::Outside),
             Place::Inside => {
-                set_field(&self.heap, &mut self.seat, v, i, w);
+                set(&self.heap, &mut self.seat, v, i, w);
                 Ok(())
             }
         }
     }
 
     /// Variable w becomes what reference i of variable v's object refers to, or refers to nothing where v does.
+    #[tactic(auto, using(mutator_turns::proofs::Operating::operating))]
     pub fn get(&mut self, w: u8, v: u8, i: u8) -> Result<(), Refused>
         ensures done { IfOk result (λ _. MutatorDoes (ops.Get w v i) self.old self.new) }
         ensures refused { IfErr result (λ e. MutatorRefused e (ops.Get w v i) self.old self.new) }
@@ -188,13 +188,14 @@ impl Mutator {
         match self.place {
             Place::Outside => Err(Refused::Outside),
             Place::Inside => {
-                get_field(&self.heap, &mut self.seat, w, v, i);
+                follow(&self.heap, &mut self.seat, w, v, i);
                 Ok(())
             }
         }
     }
 
     /// Variable w becomes what variable v is. Refused where a number is out of range, or the mutator is outside.
+    #[tactic(auto, using(mutator_turns::proofs::Operating::operating))]
     pub fn copy(&mut self, w: u8, v: u8) -> Result<(), Refused>
         ensures done { IfOk result (λ _. MutatorDoes (ops.Let w v) self.old self.new) }
         ensures refused { IfErr result (λ e. MutatorRefused e (ops.Let w v) self.old self.new) }
@@ -209,13 +210,14 @@ impl Mutator {
         match self.place {
             Place::Outside => Err(Refused::Outside),
             Place::Inside => {
-                copy_variable(&self.heap, &mut self.seat, w, v);
+                assign(&self.heap, &mut self.seat, w, v);
                 Ok(())
             }
         }
     }
 
     /// Variable v refers to nothing any more. What only it reached is garbage from then on. Refused where v is out of range, or the mutator is outside.
+    #[tactic(auto, using(mutator_turns::proofs::Operating::operating))]
     pub fn forget(&mut self, v: u8) -> Result<(), Refused>
         ensures done { IfOk result (λ _. MutatorDoes (ops.Nil v) self.old self.new) }
         ensures refused { IfErr result (λ e. MutatorRefused e (ops.Nil v) self.old self.new) }
@@ -230,13 +232,14 @@ impl Mutator {
         match self.place {
             Place::Outside => Err(Refused::Outside),
             Place::Inside => {
-                forget_variable(&self.heap, &mut self.seat, v);
+                clear(&self.heap, &mut self.seat, v);
                 Ok(())
             }
         }
     }
 
     /// The value of variable v's object becomes this one. Nothing happens where v refers to nothing.
+    #[tactic(auto, using(mutator_turns::proofs::Operating::operating))]
     pub fn put(&mut self, v: u8, value: u32) -> Result<(), Refused>
         ensures done { IfOk result (λ _. MutatorDoes (ops.Put v value) self.old self.new) }
         ensures refused { IfErr result (λ e. MutatorRefused e (ops.Put v value) self.old self.new) }
@@ -251,7 +254,7 @@ impl Mutator {
         match self.place {
             Place::Outside => Err(Refused::Outside),
             Place::Inside => {
-                put_value(&self.heap, &mut self.seat, v, value);
+                put(&self.heap, &mut self.seat, v, value);
                 Ok(())
             }
         }

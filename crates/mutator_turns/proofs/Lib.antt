@@ -1,10 +1,11 @@
 mod Clearing
 mod Coming
-mod Done
+pub mod Done
 mod Few
 mod Fulls
 pub mod Leaving
 mod Naming
+pub mod Operating
 pub mod Seats
 mod Taking
 mod Uncatalogued

@@ -30,10 +30,7 @@ pub use dismissing::{tell_dismissed, try_dismiss};
 pub use exchanging::{exchange_shared, exchange_value_shared};
 pub use gates::{collect_turn, enter_turn, leave, leave_turn, pass_turn, retire_own_cache};
 pub use identity::identity_shared;
-pub use operations::{
-    copy_variable, forget_variable, get_field, make_in, make_object, put_value, read_value,
-    refer_to_one, refers_to_nothing, set_field,
-};
+pub use operations::{make_in, make_object, read_value, refer_to_one, refers_to_nothing};
 pub use own_turn::is_turn;
 pub use refused::{NotOpened, Refused};
 pub use sharing::{

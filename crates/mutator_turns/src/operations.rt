@@ -26,7 +26,7 @@ use crate::turns::come_to;
 use alloc_cache::{Cache, cache_of, leave_with_seat};
 use cache_refills::Watch;
 use gc_table::{Heap, HeapSeat};
-use mutator_ops::{assign, clear, create, follow, put, say, set};
+use mutator_ops::{create, say};
 use plain_heap::Line;
 use std::sync::Wait;
 
@@ -81,81 +81,6 @@ pub fn make_object<R: Wait, W: Watch>(
         Err(Refused::Full) => Err(leave_full(heap, seat)),
         Err(other) => Err(other),
     }
-}
-
-/// Reference i of variable v's object becomes what variable w is, by the barrier.
-pub fn set_field(heap: &Heap, seat: &mut HeapSeat, v: u8, i: u8, w: u8)
-    requires turn { IsAtTurn heap.now seat.old }
-    requires owned { IsFalse heap.now.shape.sharing }
-    requires range { (v < section_variables) × (i < heap.now.shape.fields) × (w < section_variables) }
-    ensures turn { IsAtTurn heap.now seat.new }
-    ensures steps { Steps (ops.Set v i w) (plain_of seat.old) (plain_of seat.new) }
-    ensures few { Across (AtMost 3) seat.old seat.new }
-    ensures ran { Across Ran seat.old seat.new }
-    ensures tracers { Across (Only spares_tracers) seat.old seat.new }
-    ensures takes { Across (TakesSteps (ops.Set v i w)) seat.old seat.new }
-{
-    set(heap, seat, v, i, w);
-}
-
-/// The value of variable v's object becomes this one, by the barrier.
-pub fn put_value(heap: &Heap, seat: &mut HeapSeat, v: u8, value: u32)
-    requires turn { IsAtTurn heap.now seat.old }
-    requires owned { IsFalse heap.now.shape.sharing }
-    requires range { v < section_variables }
-    ensures turn { IsAtTurn heap.now seat.new }
-    ensures steps { Steps (ops.Put v value) (plain_of seat.old) (plain_of seat.new) }
-    ensures few { Across (AtMost 2) seat.old seat.new }
-    ensures ran { Across Ran seat.old seat.new }
-    ensures tracers { Across (Only spares_tracers) seat.old seat.new }
-    ensures takes { Across (TakesSteps (ops.Put v value)) seat.old seat.new }
-{
-    put(heap, seat, v, value);
-}
-
-/// Variable w becomes reference i of variable v's object.
-pub fn get_field(heap: &Heap, seat: &mut HeapSeat, w: u8, v: u8, i: u8)
-    requires turn { IsAtTurn heap.now seat.old }
-    requires owned { IsFalse heap.now.shape.sharing }
-    requires range { (w < section_variables) × (v < section_variables) × (i < heap.now.shape.fields) }
-    ensures turn { IsAtTurn heap.now seat.new }
-    ensures steps { Steps (ops.Get w v i) (plain_of seat.old) (plain_of seat.new) }
-    ensures few { Across (AtMost 2) seat.old seat.new }
-    ensures ran { Across Ran seat.old seat.new }
-    ensures tracers { Across (Only spares_tracers) seat.old seat.new }
-    ensures takes { Across (TakesSteps (ops.Get w v i)) seat.old seat.new }
-{
-    follow(heap, seat, w, v, i);
-}
-
-/// Variable w becomes what variable v is.
-pub fn copy_variable(heap: &Heap, seat: &mut HeapSeat, w: u8, v: u8)
-    requires turn { IsAtTurn heap.now seat.old }
-    requires owned { IsFalse heap.now.shape.sharing }
-    requires range { (w < section_variables) × (v < section_variables) }
-    ensures turn { IsAtTurn heap.now seat.new }
-    ensures steps { Steps (ops.Let w v) (plain_of seat.old) (plain_of seat.new) }
-    ensures few { Across (AtMost 1) seat.old seat.new }
-    ensures ran { Across Ran seat.old seat.new }
-    ensures tracers { Across (Only spares_tracers) seat.old seat.new }
-    ensures takes { Across (TakesSteps (ops.Let w v)) seat.old seat.new }
-{
-    assign(heap, seat, w, v);
-}
-
-/// Variable v refers to nothing any more.
-pub fn forget_variable(heap: &Heap, seat: &mut HeapSeat, v: u8)
-    requires turn { IsAtTurn heap.now seat.old }
-    requires owned { IsFalse heap.now.shape.sharing }
-    requires range { v < section_variables }
-    ensures turn { IsAtTurn heap.now seat.new }
-    ensures steps { Steps (ops.Nil v) (plain_of seat.old) (plain_of seat.new) }
-    ensures few { Across (AtMost 1) seat.old seat.new }
-    ensures ran { Across Ran seat.old seat.new }
-    ensures tracers { Across (Only spares_tracers) seat.old seat.new }
-    ensures takes { Across (TakesSteps (ops.Nil v)) seat.old seat.new }
-{
-    clear(heap, seat, v);
 }
 
 /// The value of variable v's object. None where it refers to nothing.

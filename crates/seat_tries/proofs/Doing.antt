@@ -1,10 +1,11 @@
 -- An operation by the kind of heap.
-use Rattle.std.proofs.Common.{ℕ, ◌≡◌, ◌%◌, ◌∙◌, refl, sym, subst, Bool, true, false, None, Some}
+use Rattle.std.proofs.Common.{ℕ, ◌≡◌, ◌%◌, ◌∙◌, ap, refl, sym, subst, Bool, true, false, None, Some}
 use Rattle.std.proofs.lemmas.Bool.{false≢true}
 use Rattle.gc_table.specs.Seats.{state_of, view_of}
 use Rattle.gc_table.specs.declared.seat.Heap.{Heap}
 use Rattle.gc_table.specs.declared.seat.HeapSeat.{HeapSeat}
 use Rattle.mark_core.specs.Steps.MutatorSteps.{seat_variable as word_in}
+use Rattle.mark_core.specs.declared.kinds.Shape.{Shape}
 use Rattle.plain_heap.specs.declared.operation.Op.{Op}
 use Rattle.plain_heap.specs.declared.operation.Op.TheVariants as ops
 use Rattle.mutator_turns.specs.Plain.{Steps, value_in}
@@ -15,6 +16,10 @@ use Rattle.seat_tries.specs.Doing.{Does, DoesShared, FindsNone, FindsSome, Finds
 -- a heap isn't of both kinds
 both : (b : Bool) → b ≡ true → b ≡ false → ⊥
 both b t f = false≢true (sym f ∙ t)
+
+-- what its shape says, of the heap
+pub alone-of : (h : Heap) (s : Shape) → s ≡ h.shape → s.sharing ≡ false → h.shape.sharing ≡ false
+alone-of h s e f = ap (λ (s : Shape). s.sharing) (sym e) ∙ f
 
 module _ (h : Heap) (x y : HeapSeat) where
   pub does-shared : (op : Op) → h.shape.sharing ≡ true → DoesShared op (view_of x) (view_of y) → Does op h x y

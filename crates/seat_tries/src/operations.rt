@@ -13,10 +13,10 @@ ghost use Rattle.seat_tries.specs.Doing.{Does, FindsNone, FindsSome, MakesNow, R
 
 use alloc_cache::Cache;
 use gc_table::{Heap, HeapSeat};
+use mutator_ops::{assign, clear, follow, put, set};
 use mutator_turns::{
-    copy_shared, copy_variable, forget_shared, forget_variable, get_field, get_shared, make_in,
-    make_shared_in, put_shared, put_value, read_value, refer_to_one, refers_to_nothing, set_field,
-    set_shared, value_shared, word_of,
+    copy_shared, forget_shared, get_shared, make_in, make_shared_in, put_shared, read_value,
+    refer_to_one, refers_to_nothing, set_shared, value_shared, word_of,
 };
 
 /// Makes an object in variable v. The cache, which has a free cell, stays the seat's.
@@ -39,6 +39,7 @@ pub fn makes(heap: &Heap, seat: &mut HeapSeat, cache: Cache, v: u8, value: u32)
 }
 
 /// Reference i of variable v's object becomes what variable w is.
+#[tactic(auto, using(mutator_turns::proofs::Operating::operating))]
 pub fn sets(heap: &Heap, seat: &mut HeapSeat, v: u8, i: u8, w: u8)
     requires turn { IsAtTurn heap.now seat.old }
     requires range { (v < section_variables) × (i < heap.now.shape.fields) × (w < section_variables) }
@@ -49,11 +50,12 @@ pub fn sets(heap: &Heap, seat: &mut HeapSeat, v: u8, i: u8, w: u8)
     if heap.shape().sharing {
         set_shared(heap, seat, v, i, w);
     } else {
-        set_field(heap, seat, v, i, w);
+        set(heap, seat, v, i, w);
     }
 }
 
 /// Variable w becomes reference i of variable v's object, or nil where v is.
+#[tactic(auto, using(mutator_turns::proofs::Operating::operating))]
 pub fn gets(heap: &Heap, seat: &mut HeapSeat, w: u8, v: u8, i: u8)
     requires turn { IsAtTurn heap.now seat.old }
     requires range { (w < section_variables) × (v < section_variables) × (i < heap.now.shape.fields) }
@@ -64,11 +66,12 @@ pub fn gets(heap: &Heap, seat: &mut HeapSeat, w: u8, v: u8, i: u8)
     if heap.shape().sharing {
         get_shared(heap, seat, w, v, i);
     } else {
-        get_field(heap, seat, w, v, i);
+        follow(heap, seat, w, v, i);
     }
 }
 
 /// Variable w becomes what variable v is.
+#[tactic(auto, using(mutator_turns::proofs::Operating::operating))]
 pub fn copies(heap: &Heap, seat: &mut HeapSeat, w: u8, v: u8)
     requires turn { IsAtTurn heap.now seat.old }
     requires range { (w < section_variables) × (v < section_variables) }
@@ -79,11 +82,12 @@ pub fn copies(heap: &Heap, seat: &mut HeapSeat, w: u8, v: u8)
     if heap.shape().sharing {
         copy_shared(heap, seat, w, v);
     } else {
-        copy_variable(heap, seat, w, v);
+        assign(heap, seat, w, v);
     }
 }
 
 /// Variable v refers to nothing any more.
+#[tactic(auto, using(mutator_turns::proofs::Operating::operating))]
 pub fn forgets(heap: &Heap, seat: &mut HeapSeat, v: u8)
     requires turn { IsAtTurn heap.now seat.old }
     requires range { v < section_variables }
@@ -94,11 +98,12 @@ pub fn forgets(heap: &Heap, seat: &mut HeapSeat, v: u8)
     if heap.shape().sharing {
         forget_shared(heap, seat, v);
     } else {
-        forget_variable(heap, seat, v);
+        clear(heap, seat, v);
     }
 }
 
 /// The value of variable v's object becomes this one.
+#[tactic(auto, using(mutator_turns::proofs::Operating::operating))]
 pub fn puts(heap: &Heap, seat: &mut HeapSeat, v: u8, value: u32)
     requires turn { IsAtTurn heap.now seat.old }
     requires range { v < section_variables }
@@ -109,7 +114,7 @@ pub fn puts(heap: &Heap, seat: &mut HeapSeat, v: u8, value: u32)
     if heap.shape().sharing {
         put_shared(heap, seat, v, value);
     } else {
-        put_value(heap, seat, v, value);
+        put(heap, seat, v, value);
     }
 }
 

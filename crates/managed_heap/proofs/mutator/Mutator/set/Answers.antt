@@ -1,0 +1,27 @@
+use Rattle.std.proofs.Common.{refl, rules}
+use Rattle.plain_heap.specs.declared.operation.Op.TheVariants as ops
+use Rattle.gc_table.specs.Seats.{view_of}
+use Rattle.mutator_turns.proofs.Operating.{takes-spares}
+use Rattle.managed_heap.proofs.Doing.{done, ready}
+use Rattle.managed_heap.proofs.mutator.Mutator.set.Goals as goal
+
+pub set-requires-clause-seat : goal.set-requires-clause-seat
+set-requires-clause-seat c = ready c.args.self.now c.deref-2.result.now c.deref-2.ensures c.in-Inside.is
+
+pub invariant_of-self-clause-inside : goal.invariant_of-self-clause-inside
+invariant_of-self-clause-inside c = λ _. (done (ops.Set c.args.v c.args.i c.args.w) _ c.args.self.now c.deref-2.result.now c.set.new.seat refl c.deref-2.ensures c.in-Inside.is c.set.ensures.seat c.set.ensures.does).turn
+
+pub returns-in-Inside-clause-done : goal.returns-in-Inside-clause-done
+returns-in-Inside-clause-done c =
+    record {
+      range = search rules;
+      was = c.in-Inside.is;
+      inside = c.in-Inside.is;
+      steps = (done (ops.Set c.args.v c.args.i c.args.w) _ c.args.self.now c.deref-2.result.now c.set.new.seat refl c.deref-2.ensures c.in-Inside.is c.set.ensures.seat c.set.ensures.does).steps;
+      world = refl;
+      name_is = refl;
+      stops = refl;
+    }
+
+pub returns-in-Inside-clause-tracers : goal.returns-in-Inside-clause-tracers
+returns-in-Inside-clause-tracers c = takes-spares (ops.Set c.args.v c.args.i c.args.w) (view_of c.args.self.now.seat) (view_of c.set.new.seat) c.set.ensures.steps
