@@ -1,7 +1,7 @@
 //! Reads a batch.
 ghost use Rattle.std.specs.Prelude.{◌≡◌, ◌≤◌, [], true, min, length, position, not, option_map, IfSome, Err};
 ghost use Rattle.std.specs.Char.{is_ascii_digit};
-ghost use Rattle.job_pool.specs.Batch.{ReadsBatch, batch, jobs_from, job_line as job_line_of, digits_line as digits_line_of, decimal_value, begins_with as begins_of};
+ghost use Rattle.job_pool.specs.Batch.{ReadsBatch, batch, jobs_from, job_line as job_line_of, digits_line as digits_line_of, decimal_value};
 
 use crate::batch::Batch;
 use crate::fault::BatchError;
@@ -19,14 +19,6 @@ const MOST: u32 = 64;
 
 /// Past every number that a line may say.
 const LARGE: u64 = 1 << 32;
-
-/// Whether the bytes begin with this word.
-fn begins(word: &[u8], bytes: &[u8]) -> bool
-    ensures is { result ≡ begins_of word.now bytes.now }
-    ensures long { result ≡ true → length word.now ≤ length bytes.now }
-{
-    bytes.starts_with(word)
-}
 
 /// Where the first byte stands that is no digit.
 fn first_other(bytes: &[u8]) -> Option<usize>
@@ -67,7 +59,7 @@ fn job_line(bytes: &[u8]) -> Option<(usize, &[u8])>
     ensures line { option_map (λ r. (r.0, r.1.now)) result ≡ job_line_of bytes.now }
     ensures rest { IfSome result (λ r. length r.1.now ≤ length bytes.now) }
 {
-    if !begins(b"job ", bytes) {
+    if !bytes.starts_with(b"job ") {
         return None;
     }
     digits_line(&bytes[4..])
@@ -123,7 +115,7 @@ pub fn read_batch<'a>(alloc: Global, source: &'a [u8]) -> Result<Batch<'a>, Batc
     if source.len() > LONGEST {
         return Err(BatchError::BatchTooLong);
     }
-    if !begins(b"gcbatch 1\n", source) {
+    if !source.starts_with(b"gcbatch 1\n") {
         return Err(BatchError::BadBatch { offset: 0 });
     }
     read_jobs(alloc, source.len() as u32, &source[10..])
