@@ -1,5 +1,5 @@
 //! A section's seat, with what its player has.
-ghost use Rattle.std.specs.Prelude.{◌≡◌, ◌≤◌, [], length, IfOk, IfErr};
+ghost use Rattle.std.specs.Prelude.{◌≡◌, ◌≤◌, [], IfOk, IfErr};
 ghost use Rattle.gc_table.specs.Seats.{Sits, state_of, view_of};
 ghost use Rattle.plain_heap.specs.Sections.{joined};
 ghost use Rattle.warehouse.specs.Playing.{HasRoomForCommands};
@@ -32,13 +32,6 @@ pub struct Mutator<'a> {
     pub(crate) count: u32,
 }
 
-/// A section's commands are few: what the section itself tells.
-fn see_few(section: &Section<'_>)
-    ensures { length (joined section.now.parts) ≤ 2000000 }
-{
-    section.commands();
-}
-
 impl<'a> Mutator<'a> {
     /// Takes all the memory that the section needs. Where there is none, the seat comes back.
     pub fn make(
@@ -50,7 +43,7 @@ impl<'a> Mutator<'a> {
         ensures room { (state_of seat).made ≡ 0 → 2000000 ≤ (view_of seat).shape.objects → IfOk result (λ m. HasRoomForCommands (joined section.now.parts) m) }
         ensures refused { IfErr result (λ e. e.0 ≡ seat) }
     {
-        see_few(section);
+        section.commands();
         let Ok(said) = Vec::with_capacity(alloc, section.printed() as usize) else {
             return Err((seat, OutOfMemory));
         };

@@ -13,7 +13,7 @@ returns-in-Ok-with_capacity-clause-room c = λ none objects.
     record {
       said = omega (arith, said, c.in-Ok.ensures.capacity, c.printed.ensures);
       places = omega (arith, places, c.in-Ok-with_capacity.ensures.capacity, c.made.ensures);
-      count = omega (arith, c.see_few.ensures);
-      made = omega (arith, none, most, objects, c.see_few.ensures);
+      count = omega (arith, c.commands.ensures.few);
+      made = omega (arith, none, most, objects, c.commands.ensures.few);
       dropped = omega arith;
     }
