@@ -1,6 +1,14 @@
+mod Amounts
 mod Answered
 mod Counted
 pub mod Few
+mod Kept
+mod LookedAt
+mod Passes
 pub mod Places
+mod ReadFull
 mod Refilled
+mod SinceAsked
+mod Sparing
 mod Stages
+mod Undrawn

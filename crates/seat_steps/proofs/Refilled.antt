@@ -46,10 +46,10 @@ module _ (most : ℕ) (x : Stepper) (w : View) (shape : (view_of x.seat).shape �
   pub next-far : (n : ℕ) → SeeksOnce 3 GoesFreely x.block (reach most x) (pieces.Next n) (view_of x.seat) w → looked most x ≡ reach most x
   next-far n t =
       let sees = t.tries.sees in
-      let at = sees.0 in
+      let here = sees.0 in
       let below = sees.1 in
       let known = blocks_known (pieces.Next n) t in
-      omega (arith, at, below, known)
+      omega (arith, here, below, known)
 
   pub next-within : (n : ℕ) → SeeksOnce 3 GoesFreely x.block (reach most x) (pieces.Next n) (view_of x.seat) w → n ≤ blocks_of x
   next-within n t = let below = t.tries.sees.1 in let known = blocks_known (pieces.Next n) t in omega (arith, below, known)

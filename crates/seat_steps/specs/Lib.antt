@@ -1,7 +1,12 @@
 pub mod Acting
+pub mod Amounts
+pub mod Asked
 pub mod Asking
 pub mod Bounds
+pub mod Collecting
+pub mod Course
 pub mod Handing
+pub mod Passes
 pub mod Payments
 pub mod Refilling
 pub mod Stepping

@@ -17,8 +17,8 @@ use Rattle.gc_cycle.specs.RoundParts.{LacksPacket}
 use Rattle.cycle_steps.specs.Stepping.{FindsRunning}
 use Rattle.cycle_steps.specs.declared.card_steps.Look.TheVariants as looks
 use Rattle.gc_cycle.specs.declared.counts.Counts.{Counts}
-use Rattle.seat_tries.specs.Course.{AsksForStop, BeginsMarking, EndsBy, FindsHeapFull}
-use Rattle.seat_tries.specs.Passes.{BeginsAgain, BeginsClear, BeginsSweep, EndsSweep, FindsPacketLeft, SeesRoots, TracesFor}
+use Rattle.seat_steps.specs.Course.{AsksForStop, BeginsMarking, EndsBy, FindsHeapFull}
+use Rattle.seat_steps.specs.Passes.{BeginsAgain, BeginsClear, BeginsSweep, EndsSweep, FindsPacketLeft, SeesRoots, TracesFor}
 use Rattle.seat_tries.specs.declared.came.Came.{Came}
 use Rattle.seat_tries.specs.declared.came.Came.TheVariants as cames
 use Rattle.seat_steps.specs.Stepping.{KeepsAll}

@@ -2,9 +2,10 @@
 ghost use Rattle.std.specs.Arc.{arc_value};
 ghost use Rattle.std.specs.Prelude.{◌≡◌, ◌≤◌};
 ghost use Rattle.mark_core.specs.Layout.{block_count};
-ghost use Rattle.gc_table.specs.Seats.{view_of};
-ghost use Rattle.seat_tries.specs.Asked.{CountsSinceAsked, MarksSinceAsked, SweepsSinceAsked, WaitsSinceAsked};
-ghost use Rattle.seat_tries.specs.Collecting.{AsksStop, SitsAtClear, SitsAtCount, SitsAtDrain, SitsAtLook, SitsAtRoots, SitsAtSweep, SitsCounted};
+ghost use Rattle.cycle_steps.specs.Pieces.{CountsFrom, HasCounted, IsAtClear, LooksFrom, SeesRootsFrom};
+ghost use Rattle.cycle_steps.specs.Stepping.{AwaitsStop, Drains, IsAtSweep};
+ghost use Rattle.seat_steps.specs.Asked.{CountsSinceAsked, MarksSinceAsked, SweepsSinceAsked, WaitsSinceAsked};
+ghost use Rattle.seat_steps.specs.Collecting.{Collects};
 ghost use Rattle.mutator_turns.specs.Standing.{IsAtTurn, IsMutatorOutside};
 ghost use Rattle.seat_steps.specs.declared.stepper.Stage.TheVariants as stages;
 
@@ -75,22 +76,13 @@ pub struct Stepper {
     ghost within: { block ≤ block_count (arc_value heap).shape },
     ghost outside: { stage ≡ stages.Outside → IsMutatorOutside (arc_value heap) seat },
     ghost inside: { stage ≡ stages.Inside → IsAtTurn (arc_value heap) seat },
-    ghost stopping: { stage ≡ stages.Stopping → AsksStop (arc_value heap) seat },
-    ghost rooting: { stage ≡ stages.Rooting → SitsAtRoots next (arc_value heap) seat },
-    ghost draining: { stage ≡ stages.Draining → SitsAtDrain (arc_value heap) seat },
-    ghost looking: { stage ≡ stages.Looking → SitsAtLook next (arc_value heap) seat },
-    ghost cleaning: { stage ≡ stages.Cleaning → SitsAtDrain (arc_value heap) seat },
-    ghost clearing: { stage ≡ stages.Clearing → SitsAtClear (arc_value heap) seat },
-    ghost sweeping: { stage ≡ stages.Sweeping → SitsAtSweep (arc_value heap) seat },
-    ghost counting: { stage ≡ stages.Counting → SitsAtCount next counted (arc_value heap) seat },
-    ghost ending: { stage ≡ stages.Ending → SitsCounted counted (arc_value heap) seat },
-    ghost waits: { stage ≡ stages.Stopping → WaitsSinceAsked (view_of seat) },
-    ghost marks_roots: { stage ≡ stages.Rooting → MarksSinceAsked again (view_of seat) },
-    ghost marks: { stage ≡ stages.Draining → MarksSinceAsked again (view_of seat) },
-    ghost marks_looking: { stage ≡ stages.Looking → MarksSinceAsked again (view_of seat) },
-    ghost marks_cleaning: { stage ≡ stages.Cleaning → MarksSinceAsked again (view_of seat) },
-    ghost clears: { stage ≡ stages.Clearing → WaitsSinceAsked (view_of seat) },
-    ghost sweeps: { stage ≡ stages.Sweeping → SweepsSinceAsked (view_of seat) },
-    ghost counts: { stage ≡ stages.Counting → CountsSinceAsked (view_of seat) },
-    ghost ends: { stage ≡ stages.Ending → CountsSinceAsked (view_of seat) },
+    ghost stopping: { stage ≡ stages.Stopping → Collects AwaitsStop WaitsSinceAsked (arc_value heap) seat },
+    ghost rooting: { stage ≡ stages.Rooting → Collects (SeesRootsFrom next) (MarksSinceAsked again) (arc_value heap) seat },
+    ghost draining: { stage ≡ stages.Draining → Collects Drains (MarksSinceAsked again) (arc_value heap) seat },
+    ghost looking: { stage ≡ stages.Looking → Collects (LooksFrom next) (MarksSinceAsked again) (arc_value heap) seat },
+    ghost cleaning: { stage ≡ stages.Cleaning → Collects Drains (MarksSinceAsked again) (arc_value heap) seat },
+    ghost clearing: { stage ≡ stages.Clearing → Collects IsAtClear WaitsSinceAsked (arc_value heap) seat },
+    ghost sweeping: { stage ≡ stages.Sweeping → Collects IsAtSweep SweepsSinceAsked (arc_value heap) seat },
+    ghost counting: { stage ≡ stages.Counting → Collects (CountsFrom next counted) CountsSinceAsked (arc_value heap) seat },
+    ghost ending: { stage ≡ stages.Ending → Collects (HasCounted counted) CountsSinceAsked (arc_value heap) seat },
 }

@@ -1,39 +1,56 @@
 //! A stepper collects.
 ghost use Rattle.std.specs.Prelude.{ℕ, ◌≡◌};
-ghost use Rattle.gc_table.specs.Seats.{Across, view_of};
-ghost use Rattle.seat_tries.specs.Asked.{CountsSinceAsked};
-ghost use Rattle.seat_tries.specs.Collecting.{SitsCounted};
-ghost use Rattle.seat_tries.specs.Course.{EndsBy};
+ghost use Rattle.std.specs.Bool.{OnFalse, OnTrue};
+ghost use Rattle.gc_table.specs.Seats.{Across, state_of};
+ghost use Rattle.cycle_steps.specs.Pieces.{HasCounted};
+ghost use Rattle.cycle_steps.specs.Stepping.{AsksOnce, AwaitsStop};
+ghost use Rattle.seat_steps.specs.Asked.{CountsSinceAsked, WaitsSinceAsked};
+ghost use Rattle.seat_steps.specs.Collecting.{Collects};
+ghost use Rattle.seat_steps.specs.Course.{EndsBy};
 ghost use Rattle.seat_steps.specs.Bounds.{CollectsAtMost, EndsInFew, IsBoundedStep};
 ghost use Rattle.mutator_turns.specs.Sharing.{LeavesHeap};
-ghost use Rattle.mutator_turns.specs.Standing.{plain_of};
+ghost use Rattle.mutator_turns.specs.Standing.{Halts, IsMutatorOutside, plain_of};
 ghost use Rattle.seat_tries.specs.Arriving.{Arrives};
 ghost use Rattle.seat_steps.specs.Steps.{StepsCollection};
 ghost use Rattle.seat_steps.specs.declared.stepper.Stage.TheVariants as stages;
 
 use crate::stepper::{Stage, Stepper};
-use cycle_steps::{Look, stretches_of};
+use crate::telling::read_marking;
+use cycle_steps::{
+    Look, ask_to_stop, begin_collection, clean_step, clear_step, count_step, finds_all_marked,
+    finds_stopped, finish_clear, finish_count, look_step, root_piece, start_clear, start_count,
+    start_sweep, stretches_of, sweep_step, trace_step,
+};
 use gc_table::{Heap, HeapSeat};
 use mutator_turns::leave;
-use seat_tries::{
-    Came, arrive, asks, begins, begins_again, begins_clear, begins_sweep, cleans, clears, counts,
-    ends, ends_sweep, finds_marked, gives_own_up, looks, roots, saw_marking, stops, sweeps, traces,
-};
+use seat_tries::{Came, arrive, gives_own_up};
 
 /// How many roots, objects, cards or blocks a step does at most (or those of one stretch of blocks), where its caller says nothing of it.
 const STEP: u32 = 4_096;
 
+/// Asks for a stop, with the number of objects that were made. False where another's comes first, and then the seat is outside.
+fn asks(heap: &Heap, seat: &mut HeapSeat) -> bool
+    requires halts { Halts heap.now seat.old }
+    ensures yours { OnTrue result (Collects AwaitsStop WaitsSinceAsked heap.now seat.new) }
+    ensures theirs { OnFalse result (IsMutatorOutside heap.now seat.new) }
+    ensures same { plain_of seat.new ≡ plain_of seat.old }
+    ensures leaves { Across LeavesHeap seat.old seat.new }
+    ensures asks { Across (AsksOnce (state_of seat.old).made result) seat.old seat.new }
+{
+    let made = seat.state().made;
+    ask_to_stop(heap, seat, made)
+}
+
 /// Sets the numbers for the next cycle, lets the world go on, and comes to its turn.
 fn end_to_turn(heap: &Heap, seat: &mut HeapSeat, counted: u32, freed: u32) -> Came
-    requires counted { SitsCounted counted heap.now seat.old }
-    requires counts { CountsSinceAsked (view_of seat.old) }
+    requires counted { Collects (HasCounted counted) CountsSinceAsked heap.now seat.old }
     ensures arrives { Arrives result heap.now seat.new }
     ensures same { plain_of seat.new ≡ plain_of seat.old }
     ensures leaves { Across LeavesHeap seat.old seat.new }
     ensures ends { Across (EndsBy (record { marked = counted; freed = freed; rescanned = 0 }) result) seat.old seat.new }
     ensures few { Across EndsInFew seat.old seat.new }
 {
-    ends(heap, seat, counted, freed);
+    finish_count(heap, seat, counted, freed);
     arrive(heap, seat)
 }
 
@@ -99,11 +116,11 @@ impl Stepper {
         ensures collects { (most : ℕ) → StepsCollection most result self.old self.new }
         ensures bounded { (most : ℕ) → IsBoundedStep most self.old self.new }
     {
-        if !stops(&self.heap, &mut self.seat) {
+        if !finds_stopped(&self.heap, &mut self.seat) {
             return Came::NotYet;
         }
-        self.again = saw_marking(&self.seat);
-        if begins(&self.heap, &mut self.seat) {
+        self.again = read_marking(&self.seat);
+        if begin_collection(&self.heap, &mut self.seat) {
             self.next = 0;
             self.traced = 0;
             self.cleaned = 0;
@@ -121,7 +138,7 @@ impl Stepper {
         ensures collects { StepsCollection most result self.old self.new }
         ensures bounded { IsBoundedStep most self.old self.new }
     {
-        let Some(number) = roots(&self.heap, &mut self.seat, self.next, most) else {
+        let Some(number) = root_piece(&self.heap, &mut self.seat, self.next, most) else {
             return Came::NotYet;
         };
         if number == most {
@@ -138,7 +155,7 @@ impl Stepper {
         ensures collects { StepsCollection most result self.old self.new }
         ensures bounded { IsBoundedStep most self.old self.new }
     {
-        let popped = traces(&self.heap, &mut self.seat, most);
+        let popped = trace_step(&self.heap, &mut self.seat, most);
         self.traced = self.traced.saturating_add(popped);
         if popped != most {
             self.next = 0;
@@ -153,7 +170,7 @@ impl Stepper {
         ensures collects { StepsCollection most result self.old self.new }
         ensures bounded { IsBoundedStep most self.old self.new }
     {
-        let number = match looks(&self.heap, &mut self.seat, self.next, most) {
+        let number = match look_step(&self.heap, &mut self.seat, self.next, most) {
             Look::Clean(number) => number,
             Look::Dirty(card) => {
                 self.next = card;
@@ -165,16 +182,16 @@ impl Stepper {
             self.next += number;
             return Came::NotYet;
         }
-        if !finds_marked(&self.heap, &mut self.seat) {
+        if !finds_all_marked(&self.heap, &mut self.seat) {
             self.stage = Stage::Draining;
             return Came::NotYet;
         }
         if self.again {
-            begins_clear(&self.heap, &mut self.seat);
+            start_clear(&self.heap, &mut self.seat);
             self.stage = Stage::Clearing;
             return Came::NotYet;
         }
-        begins_sweep(&self.heap, &mut self.seat);
+        start_sweep(&self.heap, &mut self.seat);
         self.freed = 0;
         self.stage = Stage::Sweeping;
         Came::NotYet
@@ -186,7 +203,7 @@ impl Stepper {
         ensures collects { StepsCollection most result self.old self.new }
         ensures bounded { IsBoundedStep most self.old self.new }
     {
-        let Some(step) = cleans(&self.heap, &mut self.seat, self.next, most) else {
+        let Some(step) = clean_step(&self.heap, &mut self.seat, self.next, most) else {
             return Came::NotYet;
         };
         self.cleaned = self.cleaned.saturating_add(step.cleaned);
@@ -205,10 +222,10 @@ impl Stepper {
         ensures bounded { IsBoundedStep most self.old self.new }
     {
         let draws = stretches_of(&self.heap, most);
-        if clears(&self.heap, &mut self.seat, draws) == draws {
+        if clear_step(&self.heap, &mut self.seat, draws) == draws {
             return Came::NotYet;
         }
-        begins_again(&self.heap, &mut self.seat);
+        finish_clear(&self.heap, &mut self.seat);
         self.again = false;
         self.next = 0;
         self.stage = Stage::Rooting;
@@ -222,12 +239,12 @@ impl Stepper {
         ensures bounded { IsBoundedStep most self.old self.new }
     {
         let draws = stretches_of(&self.heap, most);
-        let step = sweeps(&self.heap, &mut self.seat, draws);
+        let step = sweep_step(&self.heap, &mut self.seat, draws);
         self.freed = self.freed.saturating_add(step.freed);
         if step.stretches == draws {
             return Came::NotYet;
         }
-        ends_sweep(&self.heap, &mut self.seat);
+        start_count(&self.heap, &mut self.seat);
         self.next = 0;
         self.counted = 0;
         self.stage = Stage::Counting;
@@ -240,7 +257,7 @@ impl Stepper {
         ensures collects { StepsCollection most result self.old self.new }
         ensures bounded { IsBoundedStep most self.old self.new }
     {
-        let step = counts(&self.heap, &mut self.seat, self.next, self.counted, most);
+        let step = count_step(&self.heap, &mut self.seat, self.next, self.counted, most);
         self.counted = step.counted;
         if step.blocks == most {
             self.next += step.blocks;

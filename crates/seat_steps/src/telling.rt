@@ -7,7 +7,18 @@ ghost use Rattle.seat_steps.specs.Steps.{counts_of};
 
 use crate::stepper::{Stage, Stepper};
 use gc_cycle::Counts;
-use seat_tries::saw_marking;
+use gc_table::HeapSeat;
+use mark_core::Phase;
+
+/// Whether a cycle was marking, as the seat read it last.
+pub(crate) fn read_marking(seat: &HeapSeat) -> bool
+    ensures marking { result ≡ saw (state_of seat.now).phase_seen Marking }
+{
+    match seat.state().phase_seen {
+        Some(Phase::Marking) => true,
+        _ => false,
+    }
+}
 
 impl Stepper {
     /// Where it stands.
@@ -61,6 +72,6 @@ impl Stepper {
     pub fn saw_marking(&self) -> bool
         ensures marking { result ≡ saw (state_of self.now.seat).phase_seen Marking }
     {
-        saw_marking(&self.seat)
+        read_marking(&self.seat)
     }
 }

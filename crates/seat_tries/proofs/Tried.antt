@@ -21,6 +21,7 @@ use Rattle.gc_cycle.specs.Sorts.{pops}
 use Rattle.gc_cycle.specs.Sparing.{SparesRefill}
 use Rattle.gc_cycle.specs.Standing.{KeepsSeat, KeepsSection}
 use Rattle.cache_refills.specs.Trying.{CallsForCollection, EntersTo, PassesTo}
+use Rattle.gc_cycle.proofs.Stops.Admitted.{count-none}
 use Rattle.gc_cycle.specs.declared.counts.Refill.{Refill}
 use Rattle.gc_cycle.specs.declared.counts.Refill.TheVariants as refills
 use Rattle.cache_refills.specs.declared.trying.Pass.{Pass}
@@ -30,7 +31,6 @@ use Rattle.mutator_turns.specs.Standing.{Halts, IsMutatorOutside, Works}
 use Rattle.seat_tries.specs.Filling.{TriesToFill, filling_steps, search_steps}
 use Rattle.seat_tries.specs.Arriving.{Passes, Refills, Tries}
 use Rattle.mutator_turns.proofs.Seats.{going-seen, kept-works, mutator-kept}
-use Rattle.seat_tries.proofs.Amounts.{unpopped}
 
 pub has-section : (o season : Option ℕ) → has_turn o season ≡ true → is_some o ≡ true
 has-section None season e = absurd (false≢true e)
@@ -70,7 +70,7 @@ fills-none (Some r) h x y k sits ran seat section p = tt
 pub fills-tries :
     (o : Option Refill) (done : ℕ) (sh : Shape) (v w : View) → v.shape ≡ sh → done ≡ v.state.made → IfSome o (λ r. RefillsTo r done v w × SparesRefill r v w) → IfNone o (CallsForCollection v w)
     → IsTrue (pops_where_paid (events v w)) → IfNone o (IsFalse (some_event pops (events v w))) → IfNone o (AtMost (search_steps sh) v w) → AtMost (filling_steps sh) v w → TriesToFill o v w
-fills-tries None done sh v w shape e some none paid calm few longest = (none.cause, unpopped v w (ap not calm), subst (λ (s : Shape). AtMost (search_steps s) v w) (sym shape) few)
+fills-tries None done sh v w shape e some none paid calm few longest = (none.cause, count-none pops (events v w) (ap not calm), subst (λ (s : Shape). AtMost (search_steps s) v w) (sym shape) few)
 fills-tries (Some r) done sh v w shape e some none paid calm few longest =
     (subst (λ n. RefillsTo r n v w) e some.0, paid, subst (λ (s : Shape). AtMost (filling_steps s) v w) (sym shape) longest)
 

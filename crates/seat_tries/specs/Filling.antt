@@ -1,18 +1,23 @@
 -- A try to get a cell: how many steps it takes at most, and how many are taken besides. It looks at each block at most, and may pay for a cache.
-use Rattle.std.specs.Prelude.{ℕ, ◌+◌, ◌*◌, ◌⊎◌, Option, None, Some, IsTrue}
+use Rattle.std.specs.Prelude.{ℕ, ◌≡◌, ◌+◌, ◌*◌, ◌⊎◌, Option, None, Some, IsTrue}
 use Rattle.mark_core.specs.Layout.{block_count}
 use Rattle.mark_core.specs.declared.kinds.Shape.{Shape}
 use Rattle.gc_table.specs.Log.{events}
 use Rattle.gc_table.specs.Running.{Ran}
 use Rattle.gc_table.specs.declared.view.View.{View}
+use Rattle.packet_pools.specs.Counts.{count_of}
 use Rattle.mutator_ops.specs.Few.{AtMost}
+use Rattle.gc_cycle.specs.Sorts.{pops}
 use Rattle.gc_cycle.specs.declared.counts.Refill.{Refill}
 use Rattle.cache_refills.specs.Getting.{RefillsTo}
 use Rattle.cache_refills.specs.Pace.Pacing.{card_looks}
 use Rattle.cache_refills.specs.Pace.Paying.{pops_where_paid}
 use Rattle.cache_refills.specs.Pace.StepBounds.{payment_steps}
 use Rattle.cache_refills.specs.Stops.{may_stop}
-use Rattle.seat_tries.specs.Amounts.{PopsNone}
+
+-- no cell was popped
+abbrev pub PopsNone : View → View → Type 0
+PopsNone v w = count_of pops (events v w) ≡ 0
 
 -- how many steps a try takes at most that gets no cell: three for each block, and five
 abbrev pub search_steps : Shape → ℕ

@@ -1,11 +1,6 @@
-pub mod Amounts
 pub mod Arriving
-pub mod Asked
 pub mod Causes
-pub mod Collecting
-pub mod Course
 pub mod Doing
 pub mod Filling
-pub mod Passes
 pub mod Payments
 pub mod Seeking

@@ -1,17 +1,60 @@
-use Rattle.mutator_turns.proofs.Leaving.{leaves-join}
+use Rattle.std.proofs.Common.{[], ◌∙◌, refl, sym, subst}
+use Rattle.mark_core.specs.declared.kinds.Phase.TheVariants.{Idle}
+use Rattle.mark_core.specs.declared.kinds.Shape.{Shape}
 use Rattle.gc_table.specs.Seats.{view_of}
+use Rattle.gc_cycle.specs.Courses.{TakesCourse, sets_numbers}
+use Rattle.gc_cycle.specs.declared.counts.Counts.{Counts}
+use Rattle.cycle_steps.specs.Stepping.{EndsCollection}
+use Rattle.mutator_turns.proofs.Leaving.{leaves-join}
 use Rattle.seat_tries.proofs.Found.{arrives-few}
+use Rattle.seat_steps.proofs.Kept.{Kept, course-kept, runs-again}
+use Rattle.seat_steps.proofs.Passes.{course-few}
+use Rattle.seat_steps.proofs.SinceAsked.{collects-all}
+use Rattle.seat_steps.proofs.Undrawn.{alone-apart}
 use Rattle.seat_steps.proofs.steps.end_to_turn.Goals as goal
+use Rattle.seat_steps.proofs.steps.end_to_turn.Goals.{After-finish_count}
+
+kept : (c : After-finish_count) → Kept c.args.seat.now c.finish_count.new.seat
+kept c = let e = c.finish_count.ensures in course-kept c.args.seat.now c.finish_count.new.seat e.ran e.course.only e.keeps
+
+pub arrive-requires : goal.arrive-requires
+arrive-requires c =
+    let e = c.finish_count.ensures in
+    record { halts = runs-again c.args.heap.now c.args.seat.now c.finish_count.new.seat c.requires.counted.mutator (kept (goal.at.arrive-requires c).After-finish_count) e.seat e.runs }
 
 pub returns-clause-ends : goal.returns-clause-ends
 returns-clause-ends c =
-    let e = c.ends.ensures in record { ended = view_of c.ends.new.seat; exact = c.requires.counts.1; ends = e.ends; course = e.course; collected = e.collects; arrives = c.arrive.ensures.found }
+    let e = c.finish_count.ensures in
+    let v = view_of c.args.seat.now in
+    let w = view_of c.finish_count.new.seat in
+    record {
+      ended = w;
+      exact = c.requires.counted.since.1;
+      ends = subst (λ (counts : Counts). EndsCollection counts v w) e.counts e.ends;
+      course =
+          subst (λ (sh : Shape). TakesCourse [] (sets_numbers sh (record { marked = c.args.counted; freed = c.args.freed; rescanned = 0 })) v w) (sym c.requires.counted.sits.1)
+          (subst (λ (counts : Counts). TakesCourse [] (sets_numbers c.args.heap.now.shape counts) v w) e.counts e.course);
+      collected = collects-all c.args.heap.now v c.finish_count.new.seat e.seat e.ran e.course.only e.collects c.requires.counted.since;
+      arrives = c.arrive.ensures.found;
+    }
+
+pub returns-clause-same : goal.returns-clause-same
+returns-clause-same c = c.arrive.ensures.same ∙ (kept (goal.at.returns-clause-same c).After-finish_count).same
 
 pub returns-clause-leaves : goal.returns-clause-leaves
-returns-clause-leaves c = leaves-join (view_of c.args.seat.now) (view_of c.ends.new.seat) (view_of c.arrive.new.seat) c.ends.ensures.leaves c.arrive.ensures.leaves
+returns-clause-leaves c = leaves-join (view_of c.args.seat.now) (view_of c.finish_count.new.seat) (view_of c.arrive.new.seat) (kept (goal.at.returns-clause-leaves c).After-finish_count).leaves c.arrive.ensures.leaves
 
 pub returns-clause-few : goal.returns-clause-few
 returns-clause-few c =
-    let v = view_of c.ends.new.seat in
+    let e = c.finish_count.ensures in
+    let v = view_of c.args.seat.now in
+    let w = view_of c.finish_count.new.seat in
     let a = c.arrive.ensures in
-    record { ended = v; ran = c.ends.ensures.leaves.ran; sets = c.ends.ensures.few; last = a.ran; few = arrives-few c.arrive.result v (view_of c.arrive.new.seat) a.found }
+    let r = c.requires.counted.stands in
+    record {
+      ended = w;
+      ran = e.ran;
+      sets = course-few 9 _ _ v w refl e.course (alone-apart Idle v refl refl r.owner.unhelping r.alone.alone) e.few;
+      last = a.ran;
+      few = arrives-few c.arrive.result w (view_of c.arrive.new.seat) a.found;
+    }

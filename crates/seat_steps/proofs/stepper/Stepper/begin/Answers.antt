@@ -2,67 +2,116 @@ use Rattle.std.proofs.Common.{◌∙◌, Bool, inl, refl, subst, sym}
 use Rattle.std.specs.Prelude.{if◌then◌else◌}
 use Rattle.gc_table.specs.Seats.{view_of}
 use Rattle.gc_table.proofs.Running.{ran-join}
+use Rattle.mutator_ops.specs.Few.{AtMost}
 use Rattle.mutator_turns.proofs.Leaving.{leaves-join}
-use Rattle.seat_tries.specs.Asked.{MarksSinceAsked}
-use Rattle.seat_tries.specs.Amounts.{DoesFew}
-use Rattle.seat_tries.proofs.Amounts.{few-join, looks-once, out-few, stopped-few}
-use Rattle.seat_tries.proofs.ReadFull.{begins-full}
+use Rattle.seat_steps.specs.Asked.{MarksSinceAsked, WaitsSinceAsked}
 use Rattle.seat_steps.specs.declared.stepper.Stage.TheVariants as stages
+use Rattle.seat_steps.proofs.Amounts.{few-join, looks-once, out-few, stopped-few}
+use Rattle.seat_steps.proofs.Kept.{Kept, course-kept, goes-on, keeps-all, kept-join, looks-kept, runs-again, sits-in, sits-on}
+use Rattle.seat_steps.proofs.Passes.{course-few, sees-first}
+use Rattle.seat_steps.proofs.ReadFull.{begins-full}
+use Rattle.seat_steps.proofs.SinceAsked.{marks-begun, waits-looked}
 use Rattle.seat_steps.proofs.Stages.{bounded-on, step-on}
+use Rattle.seat_steps.proofs.Undrawn.{holds-apart}
 use Rattle.seat_steps.proofs.stepper.Stepper.begin.Goals as goal
+use Rattle.seat_steps.proofs.stepper.Stepper.begin.Goals.{After-finds_stopped}
 
-pub returns-then-not-stops : goal.returns-then-not-stops
-returns-then-not-stops c =
+-- the look at the world
+kept : (c : After-finds_stopped) → Kept c.args.self.now.seat c.finds_stopped.new.seat
+kept c = let s = c.finds_stopped.ensures in looks-kept c.finds_stopped.result _ _ c.args.self.now.seat c.finds_stopped.new.seat s.ran s.stopped s.not_yet s.keeps
+
+waits : (c : After-finds_stopped) → WaitsSinceAsked (view_of c.finds_stopped.new.seat)
+waits c =
     let x = c.args.self.now in
-    let running = c.if-not-stops.ensures.running in
+    let s = c.finds_stopped.ensures in
+    waits-looked c.finds_stopped.result _ _ (view_of x.seat) (view_of c.finds_stopped.new.seat) s.stopped s.not_yet s.ran (x.stopping c.requires.stopping).since
+
+pub finds_stopped-requires : goal.finds_stopped-requires
+finds_stopped-requires c = let x = c.args.self.now in let s = x.stopping c.requires.stopping in record { seat = sits-in _ _ x.seat c.deref.ensures s.sits; asks = s.stands }
+
+pub returns-then-not-finds_stopped : goal.returns-then-not-finds_stopped
+returns-then-not-finds_stopped c =
+    let x = c.args.self.now in
+    let running = c.if-not-finds_stopped.ensures.not_yet.1 in
     record {
-      collects = λ most. step-on most x _ stages.Stopping stages.Stopping c.requires.stopping c.requires.stopping running (record { heap = c.stops.ensures.same; leaves = c.stops.ensures.leaves; world = refl; name_is = refl });
-      bounded = λ most. bounded-on most x _ stages.Stopping stages.Stopping c.requires.stopping c.requires.stopping (looks-once (view_of x.seat) (view_of c.stops.new.seat) running);
+      collects = λ most. step-on most x _ stages.Stopping stages.Stopping c.requires.stopping c.requires.stopping running (keeps-all x _ (kept (goal.at.returns-then-not-finds_stopped c).After-finds_stopped) refl refl);
+      bounded = λ most. bounded-on most x _ stages.Stopping stages.Stopping c.requires.stopping c.requires.stopping (looks-once (view_of x.seat) (view_of c.finds_stopped.new.seat) running);
     }
 
-pub returns-then-begins : goal.returns-then-begins
-returns-then-begins c =
+pub invariant_of-self-clause-stopping : goal.invariant_of-self-clause-stopping
+invariant_of-self-clause-stopping c = λ is.
+    let x = c.args.self.now in
+    let here = (goal.at.invariant_of-self-clause-stopping c).After-finds_stopped in
+    goes-on _ _ x.seat c.finds_stopped.new.seat c.deref.ensures (x.stopping c.requires.stopping).mutator (kept here) c.finds_stopped.ensures.seat c.if-not-finds_stopped.ensures.not_yet.0 (waits here)
+
+pub returns-then-begin_collection : goal.returns-then-begin_collection
+returns-then-begin_collection c =
     let x = c.args.self.now in
     let u = view_of x.seat in
-    let v = view_of c.stops.new.seat in
-    let w = view_of c.begins.new.seat in
-    let s = c.stops.ensures in
-    let b = c.begins.ensures in
+    let v = view_of c.finds_stopped.new.seat in
+    let w = view_of c.begin_collection.new.seat in
+    let stopped = c.if-not-finds_stopped.ensures.stopped in
+    let b = c.begin_collection.ensures in
+    let course = c.if-begin_collection.ensures.course in
+    let found = kept (goal.at.returns-then-begin_collection c).After-finds_stopped in
+    let begun = course-kept c.finds_stopped.new.seat c.begin_collection.new.seat b.ran course.only b.keeps in
     record {
       collects = λ most.
           step-on most x _ stages.Stopping stages.Rooting c.requires.stopping refl
-          (record { stopped = v; finds = c.if-not-stops.ensures.found; course = c.if-begins.ensures.course; marking = c.saw_marking-self.ensures.marking }, refl, refl, refl)
-          (record { heap = b.same ∙ s.same; leaves = leaves-join u v w s.leaves b.leaves; world = refl; name_is = refl });
+          (record { stopped = v; finds = stopped.1; course = course; marking = c.read_marking-self.ensures.marking }, refl, refl, refl)
+          (keeps-all x _ (kept-join x.seat c.finds_stopped.new.seat c.begin_collection.new.seat found begun) refl refl);
       bounded = λ most.
           bounded-on most x _ stages.Stopping stages.Rooting c.requires.stopping refl
-          (few-join 2 3 u v w s.leaves.ran b.leaves.ran (stopped-few u v c.if-not-stops.ensures.found) (subst (λ (is : Bool). DoesFew (if is then 3 else 1) v w) c.if-begins.true b.few));
+          (few-join 2 3 u v w found.leaves.ran b.ran (stopped-few u v stopped.1) (course-few 3 _ _ v w refl course (holds-apart v stopped.0) (subst (λ (is : Bool). AtMost (if is then 3 else 1) v w) c.if-begin_collection.true b.few)));
+    }
+
+pub invariant_of-self-then-begin_collection-clause-rooting : goal.invariant_of-self-then-begin_collection-clause-rooting
+invariant_of-self-then-begin_collection-clause-rooting c = λ is.
+    let x = c.args.self.now in
+    let y = c.finds_stopped.new.seat in
+    let z = c.begin_collection.new.seat in
+    let here = (goal.at.invariant_of-self-then-begin_collection-clause-rooting c).After-finds_stopped in
+    let b = c.begin_collection.ensures in
+    let i = c.if-begin_collection.ensures in
+    let marks = marks-begun (view_of y) (view_of z) c.if-not-finds_stopped.ensures.stopped.0 i.begun.1 (waits here) b.ran i.course.only i.exact in
+    goes-on _ _ x.seat z c.deref-2.ensures (x.stopping c.requires.stopping).mutator (kept-join x.seat y z (kept here) (course-kept y z b.ran i.course.only b.keeps)) b.seat (sees-first (view_of z) i.begun.0)
+    (subst (λ (again : Bool). MarksSinceAsked again (view_of z)) (sym c.read_marking-self.ensures.marking) marks)
+
+pub leave-requires : goal.leave-requires
+leave-requires c =
+    let x = c.args.self.now in
+    let y = c.finds_stopped.new.seat in
+    let z = c.begin_collection.new.seat in
+    let b = c.begin_collection.ensures in
+    let i = c.if-begin_collection.ensures in
+    let found = kept (goal.at.leave-requires c).After-finds_stopped in
+    record {
+      halts = runs-again _ x.seat z (x.stopping c.requires.stopping).mutator (kept-join x.seat y z found (course-kept y z b.ran i.over.only b.keeps)) (sits-in _ _ z c.deref-3.ensures (sits-on _ _ z c.deref-2.ensures b.seat)) i.full.0;
     }
 
 pub returns : goal.returns
 returns c =
     let x = c.args.self.now in
     let t = view_of x.seat in
-    let u = view_of c.stops.new.seat in
-    let v = view_of c.begins.new.seat in
+    let u = view_of c.finds_stopped.new.seat in
+    let v = view_of c.begin_collection.new.seat in
     let w = view_of c.leave.new.seat in
-    let s = c.stops.ensures in
-    let b = c.begins.ensures in
+    let b = c.begin_collection.ensures in
     let l = c.leave.ensures in
-    let found = c.if-not-stops.ensures.found in
-    let known = c.if-begins.ensures.full.1 in
-    let over = c.if-begins.ensures.over in
+    let stopped = c.if-not-finds_stopped.ensures.stopped in
+    let i = c.if-begin_collection.ensures in
+    let known = i.full.1 in
+    let found = kept (goal.at.returns c).After-finds_stopped in
+    let all = kept-join x.seat c.finds_stopped.new.seat c.begin_collection.new.seat found (course-kept c.finds_stopped.new.seat c.begin_collection.new.seat b.ran i.over.only b.keeps) in
     record {
       collects = λ most. (
-        inl (c.requires.stopping, record { stopped = u; finds = found; resumed = v; course = over; leaves = l.out; full = begins-full t u v w s.leaves.ran found over known l.ran (l.full known) }),
+        inl (c.requires.stopping, record { stopped = u; finds = stopped.1; resumed = v; course = i.over; leaves = l.out; full = begins-full t u v w found.leaves.ran stopped.1 i.over known l.ran (l.full known) }),
         l.full known,
         refl,
-        record { heap = l.same ∙ (b.same ∙ s.same); leaves = leaves-join t u w s.leaves (leaves-join u v w b.leaves l.leaves); world = refl; name_is = refl },
+        record { heap = l.same ∙ all.same; leaves = leaves-join t v w all.leaves l.leaves; world = refl; name_is = refl },
       );
       bounded = λ most.
           bounded-on most x _ stages.Stopping stages.Outside c.requires.stopping refl
-          (few-join 2 3 t u w s.leaves.ran (ran-join u v w b.leaves.ran l.ran) (stopped-few t u found)
-          (few-join 1 2 u v w b.leaves.ran l.ran (subst (λ (is : Bool). DoesFew (if is then 3 else 1) u v) c.if-begins.false b.few) (out-few v w l.out)));
+          (few-join 2 3 t u w found.leaves.ran (ran-join u v w b.ran l.ran) (stopped-few t u stopped.1)
+          (few-join 1 2 u v w b.ran l.ran (course-few 1 _ _ u v refl i.over (holds-apart u stopped.0) (subst (λ (is : Bool). AtMost (if is then 3 else 1) u v) c.if-begin_collection.false b.few)) (out-few v w l.out)));
     }
-
-pub invariant_of-self-then-begins-clause-marks_roots : goal.invariant_of-self-then-begins-clause-marks_roots
-invariant_of-self-then-begins-clause-marks_roots c = λ is. subst (λ (again : Bool). MarksSinceAsked again (view_of c.begins.new.seat)) (sym c.saw_marking-self.ensures.marking) c.if-begins.ensures.marks

@@ -1,142 +1,191 @@
-use Rattle.std.proofs.Common.{◌≡◌, ◌<◌, ◌+◌, ◌-◌, ◌∙◌, ap, arith, Bool, refl, subst, sym}
+use Rattle.std.proofs.Common.{◌<◌, ◌+◌, ◌-◌, ap, arith, Bool, refl, subst}
+use Rattle.std.specs.Arc.{arc_value}
 use Rattle.mark_core.specs.Layout.{card_count}
-use Rattle.gc_table.specs.Seats.{did, view_of}
+use Rattle.mark_core.specs.declared.kinds.Phase.TheVariants.{Clear, Drain, Sweep}
+use Rattle.gc_table.specs.Seats.{Across, did, view_of}
 use Rattle.gc_table.specs.declared.seat.Heap.{Heap}
-use Rattle.gc_table.proofs.Running.{ran-join}
+use Rattle.gc_table.specs.declared.view.View.{View}
+use Rattle.mutator_ops.proofs.Few.{at-most-more}
 use Rattle.cycle_steps.specs.Pieces.{LooksAt}
 use Rattle.cycle_steps.specs.declared.card_steps.Look.TheVariants as looks
-use Rattle.mark_core.specs.declared.kinds.Phase.TheVariants.{Clear, Drain, Sweep}
-use Rattle.mutator_turns.proofs.Leaving.{leaves-join}
-use Rattle.seat_tries.specs.Asked.{MarksSinceAsked}
-use Rattle.seat_tries.proofs.Amounts.{few-join, move-few}
-use Rattle.seat_tries.proofs.LookedAt.{all-empty, cards-left, packet-left}
-use Rattle.seat_tries.proofs.Passes.{cards-small}
+use Rattle.seat_steps.specs.Amounts.{DoesFew}
+use Rattle.seat_steps.specs.Asked.{MarksSinceAsked}
+use Rattle.seat_steps.specs.Collecting.{Collects}
 use Rattle.seat_steps.specs.declared.stepper.Stage.TheVariants as stages
+use Rattle.seat_steps.proofs.Amounts.{few-join, looks-neither, move-few, reads-few}
+use Rattle.seat_steps.proofs.Kept.{Kept, goes-on, keeps-all, kept-join, move-kept, part-kept, sits-in}
+use Rattle.seat_steps.proofs.LookedAt.{all-empty, cards-left, packet-left}
+use Rattle.seat_steps.proofs.Passes.{cards-small}
+use Rattle.seat_steps.proofs.SinceAsked.{clears-begun, marks-on, sweeps-begun}
 use Rattle.seat_steps.proofs.Stages.{bounded-on, step-on}
 use Rattle.seat_steps.proofs.stepper.Stepper.look.Goals as goal
+use Rattle.seat_steps.proofs.stepper.Stepper.look.Goals.{After-finds_all_marked, After-look_step}
+
+-- the look at the cards
+kept : (c : After-look_step) → Kept c.args.self.now.seat c.look_step.new.seat
+kept c = let e = c.look_step.ensures in part-kept Drain c.args.self.now.seat c.look_step.new.seat e.part e.keeps
+
+marks : (c : After-look_step) → MarksSinceAsked c.args.self.now.again (view_of c.look_step.new.seat)
+marks c = let x = c.args.self.now in let e = c.look_step.ensures in marks-on x.again (view_of x.seat) (view_of c.look_step.new.seat) e.part e.exact (x.looking c.requires.looking).since
+
+few : (c : After-look_step) → Across (DoesFew c.args.most) c.args.self.now.seat c.look_step.new.seat
+few c =
+    let x = c.args.self.now in
+    let e = c.look_step.ensures in
+    (looks-neither c.deref.result.now.shape x.next c.args.most c.look_step.result (view_of x.seat) (view_of c.look_step.new.seat) e.looked, e.few)
+
+on : (c : After-look_step) (Stands : View → Type 0) → Stands (view_of c.look_step.new.seat) → Collects Stands (MarksSinceAsked c.args.self.now.again) (arc_value c.args.self.now.heap) c.look_step.new.seat
+on c Stands stands = let x = c.args.self.now in goes-on _ _ x.seat c.look_step.new.seat c.deref.ensures (x.looking c.requires.looking).mutator (kept c) c.look_step.ensures.seat stands (marks c)
+
+pub look_step-requires : goal.look_step-requires
+look_step-requires c = let x = c.args.self.now in let s = x.looking c.requires.looking in record { seat = sits-in _ _ x.seat c.deref.ensures s.sits; looks = s.stands }
 
 pub returns-in-Dirty-clause-collects : goal.returns-in-Dirty-clause-collects
 returns-in-Dirty-clause-collects c =
     let x = c.args.self.now in
-    let e = c.in-Dirty.ensures in
     step-on c.args.most x _ stages.Looking stages.Cleaning c.requires.looking refl
-    (subst (λ (h : Heap). LooksAt h.shape x.next c.args.most (looks.Dirty c.in-Dirty.card) (did x.seat c.looks.new.seat)) c.deref.ensures e.looked, refl, (refl, refl))
-    (record { heap = e.same; leaves = e.leaves; world = refl; name_is = refl })
+    (subst (λ (h : Heap). LooksAt h.shape x.next c.args.most (looks.Dirty c.in-Dirty.card) (did x.seat c.look_step.new.seat)) c.deref.ensures c.in-Dirty.ensures.looked, refl, (refl, refl))
+    (keeps-all x _ (kept (goal.at.returns-in-Dirty-clause-collects c).After-look_step) refl refl)
 
 pub returns-in-Dirty-clause-bounded : goal.returns-in-Dirty-clause-bounded
-returns-in-Dirty-clause-bounded c = bounded-on c.args.most c.args.self.now _ stages.Looking stages.Cleaning c.requires.looking refl c.in-Dirty.ensures.few
+returns-in-Dirty-clause-bounded c = bounded-on c.args.most c.args.self.now _ stages.Looking stages.Cleaning c.requires.looking refl (few (goal.at.returns-in-Dirty-clause-bounded c).After-look_step)
+
+pub invariant_of-self-clause-cleaning : goal.invariant_of-self-clause-cleaning
+invariant_of-self-clause-cleaning c = λ is. on (goal.at.invariant_of-self-clause-cleaning c).After-look_step _ c.in-Dirty.ensures.stands
 
 pub returns-then-number-most-clause-collects : goal.returns-then-number-most-clause-collects
 returns-then-number-most-clause-collects c =
     let x = c.args.self.now in
-    let e = c.in-Clean.ensures in
     let is = c.if-number-most.true in
     step-on c.args.most x _ stages.Looking stages.Looking c.requires.looking c.requires.looking (
-      subst (λ (h : Heap). LooksAt h.shape x.next c.args.most (looks.Clean c.args.most) (did x.seat c.looks.new.seat)) c.deref.ensures
-          (subst (λ k. LooksAt c.deref.result.now.shape x.next c.args.most (looks.Clean k) (did x.seat c.looks.new.seat)) is e.looked),
+      subst (λ (h : Heap). LooksAt h.shape x.next c.args.most (looks.Clean c.args.most) (did x.seat c.look_step.new.seat)) c.deref.ensures
+          (subst (λ k. LooksAt c.deref.result.now.shape x.next c.args.most (looks.Clean k) (did x.seat c.look_step.new.seat)) is c.in-Clean.ensures.looked),
       ap (λ k. x.next + k) is,
       refl,
       (refl, refl),
     )
-    (record { heap = e.same; leaves = e.leaves; world = refl; name_is = refl })
+    (keeps-all x _ (kept (goal.at.returns-then-number-most-clause-collects c).After-look_step) refl refl)
 
 pub returns-then-number-most-clause-bounded : goal.returns-then-number-most-clause-bounded
-returns-then-number-most-clause-bounded c = bounded-on c.args.most c.args.self.now _ stages.Looking stages.Looking c.requires.looking c.requires.looking c.in-Clean.ensures.few
+returns-then-number-most-clause-bounded c = bounded-on c.args.most c.args.self.now _ stages.Looking stages.Looking c.requires.looking c.requires.looking (few (goal.at.returns-then-number-most-clause-bounded c).After-look_step)
 
-pub returns-then-not-finds_marked-clause-collects : goal.returns-then-not-finds_marked-clause-collects
-returns-then-not-finds_marked-clause-collects c =
+pub invariant_of-self-then-number-most-clause-looking : goal.invariant_of-self-then-number-most-clause-looking
+invariant_of-self-then-number-most-clause-looking c = λ is. on (goal.at.invariant_of-self-then-number-most-clause-looking c).After-look_step _ c.in-Clean.ensures.stands.0
+
+pub finds_all_marked-requires-clause-looked : goal.finds_all_marked-requires-clause-looked
+finds_all_marked-requires-clause-looked c = c.in-Clean.ensures.stands.1 c.if-number-most.false
+
+-- and the look at the count of packets
+read : (c : After-finds_all_marked) → Kept c.args.self.now.seat c.finds_all_marked.new.seat
+read c =
+    let f = c.finds_all_marked.ensures in
+    let e = c.look_step.ensures in
+    kept-join c.args.self.now.seat c.look_step.new.seat c.finds_all_marked.new.seat (part-kept Drain c.args.self.now.seat c.look_step.new.seat e.part e.keeps) (part-kept Drain c.look_step.new.seat c.finds_all_marked.new.seat f.part f.keeps)
+
+marked : (c : After-finds_all_marked) → MarksSinceAsked c.args.self.now.again (view_of c.finds_all_marked.new.seat)
+marked c =
     let x = c.args.self.now in
-    let u = view_of x.seat in
-    let v = view_of c.looks.new.seat in
-    let w = view_of c.finds_marked.new.seat in
-    let e = c.in-Clean.ensures in
-    let f = c.finds_marked.ensures in
-    let sh = c.deref.result.now.shape in
-    let shape = subst (λ (h : Heap). u.shape ≡ h.shape) (sym c.deref.ensures) (x.looking c.requires.looking).sits.1 in
+    let e = c.look_step.ensures in
+    let f = c.finds_all_marked.ensures in
+    let v = view_of c.look_step.new.seat in
+    marks-on x.again v (view_of c.finds_all_marked.new.seat) f.part f.exact (marks-on x.again (view_of x.seat) v e.part e.exact (x.looking c.requires.looking).since)
+
+left : (c : After-finds_all_marked) → card_count (arc_value c.args.self.now.heap).shape - c.args.self.now.next < c.args.most
+left c =
+    let x = c.args.self.now in
+    let e = c.look_step.ensures in
+    let f = c.finds_all_marked.ensures in
+    subst (λ (h : Heap). card_count h.shape - x.next < c.args.most) c.deref.ensures
+    (cards-left c.finds_all_marked.result c.deref.result.now.shape x.next c.in-Clean.number c.args.most (view_of x.seat) (view_of c.look_step.new.seat) (view_of c.finds_all_marked.new.seat) (sits-in _ _ x.seat c.deref.ensures (x.looking c.requires.looking).sits).1 e.part.ran f.part.ran c.in-Clean.ensures.looked c.if-number-most.false f.reads)
+
+pub returns-then-not-finds_all_marked-clause-collects : goal.returns-then-not-finds_all_marked-clause-collects
+returns-then-not-finds_all_marked-clause-collects c =
+    let x = c.args.self.now in
+    let here = (goal.at.returns-then-not-finds_all_marked-clause-collects c).After-finds_all_marked in
+    let e = c.look_step.ensures in
+    let f = c.finds_all_marked.ensures in
+    let shape = (sits-in _ _ x.seat c.deref.ensures (x.looking c.requires.looking).sits).1 in
     step-on c.args.most x _ stages.Looking stages.Draining c.requires.looking refl (
-      subst (λ (h : Heap). card_count h.shape - x.next < c.args.most) c.deref.ensures
-          (cards-left c.finds_marked.result sh x.next c.in-Clean.number c.args.most u v w shape e.leaves.ran f.leaves.ran e.looked c.if-number-most.false f.reads),
-      packet-left c.finds_marked.result sh x.next c.in-Clean.number c.args.most u v w shape e.leaves.ran f.leaves.ran e.looked c.if-number-most.false f.reads c.if-not-finds_marked.true,
+      left here,
+      packet-left c.finds_all_marked.result c.deref.result.now.shape x.next c.in-Clean.number c.args.most (view_of x.seat) (view_of c.look_step.new.seat) (view_of c.finds_all_marked.new.seat) shape e.part.ran f.part.ran c.in-Clean.ensures.looked c.if-number-most.false f.reads c.if-not-finds_all_marked.true,
       refl,
       (refl, refl),
     )
-    (record { heap = f.same ∙ e.same; leaves = leaves-join u v w e.leaves f.leaves; world = refl; name_is = refl })
+    (keeps-all x _ (read here) refl refl)
 
-pub returns-then-not-finds_marked-clause-bounded : goal.returns-then-not-finds_marked-clause-bounded
-returns-then-not-finds_marked-clause-bounded c =
-    let u = view_of c.args.self.now.seat in
-    let v = view_of c.looks.new.seat in
-    let w = view_of c.finds_marked.new.seat in
-    let e = c.in-Clean.ensures in
-    let f = c.finds_marked.ensures in
-    bounded-on c.args.most c.args.self.now _ stages.Looking stages.Draining c.requires.looking refl (few-join c.args.most 1 u v w e.leaves.ran f.leaves.ran e.few f.few)
-
-pub invariant_of-self-then-not-finds_marked-clause-marks : goal.invariant_of-self-then-not-finds_marked-clause-marks
-invariant_of-self-then-not-finds_marked-clause-marks c = λ is.
+fewer : (c : After-finds_all_marked) → Across (DoesFew (c.args.most + 1)) c.args.self.now.seat c.finds_all_marked.new.seat
+fewer c =
     let x = c.args.self.now in
-    c.finds_marked.ensures.marks x.again (c.looks.ensures.marks x.again (x.marks_looking c.requires.looking))
+    let v = view_of c.look_step.new.seat in
+    let w = view_of c.finds_all_marked.new.seat in
+    let e = c.look_step.ensures in
+    let f = c.finds_all_marked.ensures in
+    few-join c.args.most 1 (view_of x.seat) v w e.part.ran f.part.ran (looks-neither c.deref.result.now.shape x.next c.args.most c.look_step.result (view_of x.seat) v e.looked, e.few) (reads-few c.finds_all_marked.result v w f.reads)
+
+pub returns-then-not-finds_all_marked-clause-bounded : goal.returns-then-not-finds_all_marked-clause-bounded
+returns-then-not-finds_all_marked-clause-bounded c = bounded-on c.args.most c.args.self.now _ stages.Looking stages.Draining c.requires.looking refl (fewer (goal.at.returns-then-not-finds_all_marked-clause-bounded c).After-finds_all_marked)
+
+pub invariant_of-self-then-not-finds_all_marked-clause-draining : goal.invariant_of-self-then-not-finds_all_marked-clause-draining
+invariant_of-self-then-not-finds_all_marked-clause-draining c = λ is.
+    let x = c.args.self.now in
+    let here = (goal.at.invariant_of-self-then-not-finds_all_marked-clause-draining c).After-finds_all_marked in
+    goes-on _ _ x.seat c.finds_all_marked.new.seat c.deref-2.ensures (x.looking c.requires.looking).mutator (read here) c.finds_all_marked.ensures.seat c.if-not-finds_all_marked.ensures.not_yet (marked here)
 
 pub returns-then-self-clause-collects : goal.returns-then-self-clause-collects
 returns-then-self-clause-collects c =
     let x = c.args.self.now in
-    let u = view_of x.seat in
-    let v = view_of c.looks.new.seat in
-    let w = view_of c.finds_marked.new.seat in
-    let y = view_of c.begins_clear.new.seat in
-    let e = c.in-Clean.ensures in
-    let f = c.finds_marked.ensures in
-    let b = c.begins_clear.ensures in
-    let sh = c.deref.result.now.shape in
-    let shape = subst (λ (h : Heap). u.shape ≡ h.shape) (sym c.deref.ensures) (x.looking c.requires.looking).sits.1 in
+    let w = view_of c.finds_all_marked.new.seat in
+    let here = (goal.at.returns-then-self-clause-collects c).After-finds_all_marked in
+    let e = c.look_step.ensures in
+    let f = c.finds_all_marked.ensures in
+    let b = c.start_clear.ensures in
+    let shape = (sits-in _ _ x.seat c.deref.ensures (x.looking c.requires.looking).sits).1 in
     step-on c.args.most x _ stages.Looking stages.Clearing c.requires.looking refl (
-      subst (λ (h : Heap). card_count h.shape - x.next < c.args.most) c.deref.ensures
-          (cards-left c.finds_marked.result sh x.next c.in-Clean.number c.args.most u v w shape e.leaves.ran f.leaves.ran e.looked c.if-number-most.false f.reads),
+      left here,
       record {
         drained = w;
-        looks = all-empty c.finds_marked.result sh x.next c.in-Clean.number c.args.most u v w shape e.leaves.ran f.leaves.ran e.looked c.if-number-most.false f.reads c.if-not-finds_marked.false;
+        looks = all-empty c.finds_all_marked.result c.deref.result.now.shape x.next c.in-Clean.number c.args.most (view_of x.seat) (view_of c.look_step.new.seat) w shape e.part.ran f.part.ran c.in-Clean.ensures.looked c.if-number-most.false f.reads c.if-not-finds_all_marked.false;
         moved = b.moved;
       },
       c.if-self.true,
       refl,
       (refl, refl),
     )
-    (record { heap = b.same ∙ (f.same ∙ e.same); leaves = leaves-join u v y e.leaves (leaves-join v w y f.leaves b.leaves); world = refl; name_is = refl })
+    (keeps-all x _ (kept-join x.seat c.finds_all_marked.new.seat c.start_clear.new.seat (read here) (move-kept Drain Clear c.finds_all_marked.new.seat c.start_clear.new.seat b.moved b.keeps)) refl refl)
 
 pub returns-then-self-clause-bounded : goal.returns-then-self-clause-bounded
 returns-then-self-clause-bounded c =
     let u = view_of c.args.self.now.seat in
-    let v = view_of c.looks.new.seat in
-    let w = view_of c.finds_marked.new.seat in
-    let y = view_of c.begins_clear.new.seat in
-    let e = c.in-Clean.ensures in
-    let f = c.finds_marked.ensures in
-    let b = c.begins_clear.ensures in
-    bounded-on c.args.most c.args.self.now _ stages.Looking stages.Clearing c.requires.looking refl
-    (few-join c.args.most 2 u v y e.leaves.ran (ran-join v w y f.leaves.ran b.leaves.ran) e.few (few-join 1 1 v w y f.leaves.ran b.leaves.ran f.few (move-few Drain Clear w y b.moved)))
+    let w = view_of c.finds_all_marked.new.seat in
+    let y = view_of c.start_clear.new.seat in
+    let here = (goal.at.returns-then-self-clause-bounded c).After-finds_all_marked in
+    let moved = c.start_clear.ensures.moved in
+    let all = few-join (c.args.most + 1) 1 u w y (read here).leaves.ran moved.ran (fewer here) (move-few Drain Clear w y moved) in
+    bounded-on c.args.most c.args.self.now _ stages.Looking stages.Clearing c.requires.looking refl (all.0, at-most-more _ _ u y (omega arith) all.1)
 
-pub invariant_of-self-then-self-clause-clears : goal.invariant_of-self-then-self-clause-clears
-invariant_of-self-then-self-clause-clears c = λ is.
+pub invariant_of-self-then-self-clause-clearing : goal.invariant_of-self-then-self-clause-clearing
+invariant_of-self-then-self-clause-clearing c = λ is.
     let x = c.args.self.now in
-    c.begins_clear.ensures.waits x.again (c.finds_marked.ensures.marks x.again (c.looks.ensures.marks x.again (x.marks_looking c.requires.looking)))
+    let y = c.finds_all_marked.new.seat in
+    let z = c.start_clear.new.seat in
+    let here = (goal.at.invariant_of-self-then-self-clause-clearing c).After-finds_all_marked in
+    let b = c.start_clear.ensures in
+    goes-on _ _ x.seat z c.deref-then-self.ensures (x.looking c.requires.looking).mutator (kept-join x.seat y z (read here) (move-kept Drain Clear y z b.moved b.keeps)) b.seat b.clears (clears-begun x.again (view_of y) (view_of z) b.moved (marked here))
 
 pub returns-clause-collects : goal.returns-clause-collects
 returns-clause-collects c =
     let x = c.args.self.now in
-    let u = view_of x.seat in
-    let v = view_of c.looks.new.seat in
-    let w = view_of c.finds_marked.new.seat in
-    let y = view_of c.begins_sweep.new.seat in
-    let e = c.in-Clean.ensures in
-    let f = c.finds_marked.ensures in
-    let b = c.begins_sweep.ensures in
-    let sh = c.deref.result.now.shape in
-    let shape = subst (λ (h : Heap). u.shape ≡ h.shape) (sym c.deref.ensures) (x.looking c.requires.looking).sits.1 in
+    let w = view_of c.finds_all_marked.new.seat in
+    let here = (goal.at.returns-clause-collects c).After-finds_all_marked in
+    let e = c.look_step.ensures in
+    let f = c.finds_all_marked.ensures in
+    let b = c.start_sweep.ensures in
+    let shape = (sits-in _ _ x.seat c.deref.ensures (x.looking c.requires.looking).sits).1 in
     step-on c.args.most x _ stages.Looking stages.Sweeping c.requires.looking refl (
-      subst (λ (h : Heap). card_count h.shape - x.next < c.args.most) c.deref.ensures
-          (cards-left c.finds_marked.result sh x.next c.in-Clean.number c.args.most u v w shape e.leaves.ran f.leaves.ran e.looked c.if-number-most.false f.reads),
+      left here,
       record {
         drained = w;
-        looks = all-empty c.finds_marked.result sh x.next c.in-Clean.number c.args.most u v w shape e.leaves.ran f.leaves.ran e.looked c.if-number-most.false f.reads c.if-not-finds_marked.false;
+        looks = all-empty c.finds_all_marked.result c.deref.result.now.shape x.next c.in-Clean.number c.args.most (view_of x.seat) (view_of c.look_step.new.seat) w shape e.part.ran f.part.ran c.in-Clean.ensures.looked c.if-number-most.false f.reads c.if-not-finds_all_marked.false;
         moved = b.moved;
       },
       c.if-self.false,
@@ -144,25 +193,27 @@ returns-clause-collects c =
       refl,
       (refl, refl),
     )
-    (record { heap = b.same ∙ (f.same ∙ e.same); leaves = leaves-join u v y e.leaves (leaves-join v w y f.leaves b.leaves); world = refl; name_is = refl })
+    (keeps-all x _ (kept-join x.seat c.finds_all_marked.new.seat c.start_sweep.new.seat (read here) (move-kept Drain Sweep c.finds_all_marked.new.seat c.start_sweep.new.seat b.moved b.keeps)) refl refl)
 
 pub returns-clause-bounded : goal.returns-clause-bounded
 returns-clause-bounded c =
     let u = view_of c.args.self.now.seat in
-    let v = view_of c.looks.new.seat in
-    let w = view_of c.finds_marked.new.seat in
-    let y = view_of c.begins_sweep.new.seat in
-    let e = c.in-Clean.ensures in
-    let f = c.finds_marked.ensures in
-    let b = c.begins_sweep.ensures in
-    bounded-on c.args.most c.args.self.now _ stages.Looking stages.Sweeping c.requires.looking refl
-    (few-join c.args.most 2 u v y e.leaves.ran (ran-join v w y f.leaves.ran b.leaves.ran) e.few (few-join 1 1 v w y f.leaves.ran b.leaves.ran f.few (move-few Drain Sweep w y b.moved)))
+    let w = view_of c.finds_all_marked.new.seat in
+    let y = view_of c.start_sweep.new.seat in
+    let here = (goal.at.returns-clause-bounded c).After-finds_all_marked in
+    let moved = c.start_sweep.ensures.moved in
+    let all = few-join (c.args.most + 1) 1 u w y (read here).leaves.ran moved.ran (fewer here) (move-few Drain Sweep w y moved) in
+    bounded-on c.args.most c.args.self.now _ stages.Looking stages.Sweeping c.requires.looking refl (all.0, at-most-more _ _ u y (omega arith) all.1)
 
-pub invariant_of-self-2-clause-sweeps : goal.invariant_of-self-2-clause-sweeps
-invariant_of-self-2-clause-sweeps c = λ is.
+pub invariant_of-self-2-clause-sweeping : goal.invariant_of-self-2-clause-sweeping
+invariant_of-self-2-clause-sweeping c = λ is.
     let x = c.args.self.now in
-    let marked = c.finds_marked.ensures.marks x.again (c.looks.ensures.marks x.again (x.marks_looking c.requires.looking)) in
-    c.begins_sweep.ensures.sweeps (subst (λ (again : Bool). MarksSinceAsked again (view_of c.finds_marked.new.seat)) c.if-self.false marked)
+    let y = c.finds_all_marked.new.seat in
+    let z = c.start_sweep.new.seat in
+    let here = (goal.at.invariant_of-self-2-clause-sweeping c).After-finds_all_marked in
+    let b = c.start_sweep.ensures in
+    goes-on _ _ x.seat z c.deref-3.ensures (x.looking c.requires.looking).mutator (kept-join x.seat y z (read here) (move-kept Drain Sweep y z b.moved b.keeps)) b.seat b.sweeps
+    (sweeps-begun (view_of y) (view_of z) b.moved b.exact (subst (λ (again : Bool). MarksSinceAsked again (view_of y)) c.if-self.false (marked here)))
 
 pub overflow_add-self : goal.overflow_add-self
 overflow_add-self c =

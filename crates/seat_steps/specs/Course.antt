@@ -12,7 +12,7 @@ use Rattle.gc_cycle.specs.Moments.{begins}
 use Rattle.cycle_steps.specs.Stepping.{AsksOnce, EndsCollection, FindsStopped}
 use Rattle.gc_cycle.specs.declared.counts.Counts.{Counts}
 use Rattle.mutator_turns.specs.Coming.{GivesCache, StepsOut, WithOwn}
-use Rattle.seat_tries.specs.Asked.{HasAsked}
+use Rattle.seat_steps.specs.Asked.{HasAsked}
 use Rattle.seat_tries.specs.Causes.{ArrivesBy, FoundFull}
 use Rattle.seat_tries.specs.declared.came.Came.{Came}
 

@@ -1,48 +1,59 @@
--- Where a mutator's seat stands after a piece of its collection, and how far a pass comes.
-use Rattle.std.proofs.Common.{ℕ, ◌≡◌, ◌≤◌, ◌<◌, ◌+◌, arith, refl, Option, Some, None}
-use Rattle.std.specs.Prelude.{IfNone, IfSome, min}
+-- What a piece of a collection did, and how far a pass comes.
+use Rattle.std.proofs.Common.{ℕ, ◌≡◌, ◌≤◌, ◌<◌, ◌+◌, List, arith, refl, subst, sym, true}
+use Rattle.std.specs.List.{range_with_len}
+use Rattle.std.specs.Prelude.{min}
 use Rattle.std.proofs.Math.Nat.{mul-le-mul_left, mul-le-mul_right}
 use Rattle.mark_core.specs.Layout.{block_count, card_count, root_count}
 use Rattle.mark_core.specs.Shapes.{IsShape}
-use Rattle.mark_core.specs.declared.kinds.Phase.TheVariants.{Drain}
+use Rattle.mark_core.specs.declared.kinds.Phase.{Phase}
+use Rattle.mark_core.specs.declared.kinds.Phase.TheVariants.{Drain, Idle}
 use Rattle.mark_core.specs.declared.kinds.Shape.{Shape}
-use Rattle.gc_table.specs.Seats.{Sits, view_of}
+use Rattle.mark_core.specs.declared.kinds.Step.{Step}
+use Rattle.gc_table.specs.Log.{Only, events}
+use Rattle.gc_table.specs.Running.{Alone}
+use Rattle.gc_table.specs.Seats.{Sits, did, view_of}
 use Rattle.gc_table.specs.declared.seat.Heap.{Heap}
 use Rattle.gc_table.specs.declared.seat.HeapSeat.{HeapSeat}
 use Rattle.gc_table.specs.declared.view.View.{View}
+use Rattle.packet_pools.specs.Fields.{picked}
+use Rattle.card_clean.specs.Drained.{roots_read, sees_roots}
 use Rattle.tracer.specs.StepBounds.{object_steps, recycle_steps, trace_steps, turn_steps}
+use Rattle.mutator_ops.specs.Few.{AtMost}
+use Rattle.gc_cycle.specs.Courses.{TakesCourse}
+use Rattle.gc_cycle.specs.Events.{never}
 use Rattle.gc_cycle.specs.Finishing.{IsPart}
-use Rattle.cycle_steps.specs.Pieces.{SeesRootsFrom, StandsAfter}
+use Rattle.gc_cycle.specs.Sorts.{pops}
+use Rattle.cycle_steps.specs.Pieces.{CountsFrom, SeesRootsFrom}
 use Rattle.cycle_steps.specs.Stepping.{IsAtRoots, IsOwner}
-use Rattle.cycle_steps.specs.declared.card_steps.Look.{Look}
-use Rattle.cycle_steps.specs.declared.card_steps.Look.TheVariants as looks
-use Rattle.gc_table.specs.Running.{Alone}
-use Rattle.mutator_turns.specs.Standing.{IsMutator}
-use Rattle.seat_tries.specs.Amounts.{DrawsNone}
-use Rattle.seat_tries.specs.Collecting.{LooksStand}
-use Rattle.seat_tries.proofs.Undrawn.{alone-apart, part-draws-none}
-
--- what holds of an answer that there is, and what holds where there is none
-pub some-both : {X : Type 0} (r : Option X) (P Q : X → Type 0) → IfSome r P → IfSome r Q → IfSome r (λ x. P x × Q x)
-some-both None P Q p q = tt
-some-both (Some x) P Q p q = (p, q)
-
-pub none-then : {X : Type 0} (r : Option X) {P Q : Type 0} → IfNone r P → (P → Q) → IfNone r Q
-none-then None p f = f p
-none-then (Some x) p f = tt
+use Rattle.cycle_steps.proofs.Courses.{part-unpopped}
+use Rattle.seat_steps.specs.Amounts.{DoesFew, DrawsNone}
+use Rattle.seat_steps.specs.Passes.{SeesRoots}
+use Rattle.seat_steps.proofs.Amounts.{unpopped}
+use Rattle.seat_steps.proofs.Undrawn.{IsApart, all_apart, alone-apart, course-draws-none, part-draws-none}
 
 -- no root is seen to at first
 pub sees-first : (v : View) → IsAtRoots v → SeesRootsFrom 0 v
 sees-first v a = record { roots = a; below = λ i l. absurd (omega (arith, l)) }
 
--- after a look
-pub looks-stand : (l : Look) (from most : ℕ) (h : Heap) (s : HeapSeat) → Sits h s → IsMutator (view_of s) → StandsAfter from most l (view_of s) → LooksStand l from most h s
-looks-stand (looks.Clean n) from most h s sits m a = (record { sits = sits; mutator = m; looks = a.0 }, λ other. record { sits = sits; mutator = m; looked = a.1 other })
-looks-stand (looks.Dirty card) from most h s sits m a = record { sits = sits; mutator = m; drains = a }
+-- so many roots are seen to
+pub sees-so :
+    (h : Heap) (x y : HeapSeat) (from n : ℕ) → Sits h x → IsPart Drain (view_of x) (view_of y) → Only sees_roots (view_of x) (view_of y) → picked (roots_read h.shape) (did x y) ≡ range_with_len from n → SeesRoots from n (view_of x) (view_of y)
+sees-so h x y from n sits part only reads =
+    record { part = part; only = only; reads = subst (λ (sh : Shape). picked (roots_read sh) (did x y) ≡ range_with_len from n) (sym sits.1) reads }
 
 -- a drain and a count draw no block
 pub drain-draws-none : (v w : View) → IsPart Drain v w → IsOwner v → Alone Drain v → DrawsNone v w
 drain-draws-none v w p o a = part-draws-none Drain v w p (alone-apart Drain v refl refl o.unhelping a)
+
+pub drain-few : (k : ℕ) (v w : View) → never pops (events v w) ≡ true → IsPart Drain v w → IsOwner v → Alone Drain v → AtMost k v w → DoesFew k v w
+drain-few k v w n p o a few = ((unpopped v w n, drain-draws-none v w p o a), few)
+
+pub count-few : (k from counted : ℕ) (v w : View) → IsPart Idle v w → CountsFrom from counted v → AtMost k v w → DoesFew k v w
+count-few k from counted v w p c few = ((unpopped v w (part-unpopped Idle refl v w p), part-draws-none Idle v w p (alone-apart Idle v refl refl c.owner.unhelping c.alone.alone)), few)
+
+-- nor does what goes on from a held world
+pub course-few : (k : ℕ) (ps : List Phase) (ss : List Step) (v w : View) → all_apart ps ≡ true → TakesCourse ps ss v w → IsApart v → AtMost k v w → DoesFew k v w
+course-few k ps ss v w e c a few = ((unpopped v w c.unpopped, course-draws-none ps ss v w e c a), few)
 
 -- the number of a root has 32 bits
 pub roots-small : (sh : Shape) → IsShape sh → root_count sh ≤ 4294967295

@@ -4,11 +4,8 @@ use Rattle.gc_table.specs.Log.{events}
 use Rattle.gc_table.specs.declared.view.View.{View}
 use Rattle.packet_pools.specs.Counts.{count_of}
 use Rattle.mutator_ops.specs.Few.{AtMost}
-use Rattle.gc_cycle.specs.Sorts.{draws_block, pops}
-
--- no cell was popped
-abbrev pub PopsNone : View → View → Type 0
-PopsNone v w = count_of pops (events v w) ≡ 0
+use Rattle.gc_cycle.specs.Sorts.{draws_block}
+use Rattle.seat_tries.specs.Filling.{PopsNone}
 
 -- no block came in hand, however many there are
 abbrev pub DrawsNone : View → View → Type 0

@@ -32,7 +32,7 @@ use Rattle.gc_cycle.specs.Courses.{TakesCourse, goes_on, phase_stored}
 use Rattle.gc_cycle.specs.Finishing.{IsPart, stays_in}
 use Rattle.gc_cycle.specs.Sorts.{draws_block}
 use Rattle.gc_cycle.proofs.Sequences.{count-none}
-use Rattle.seat_tries.specs.Amounts.{DrawsNone}
+use Rattle.seat_steps.specs.Amounts.{DrawsNone}
 
 -- the seat knows that the world is stopped, in a phase that is neither Sweep nor Clear
 pub record Stands (v : View) : Type 0 where

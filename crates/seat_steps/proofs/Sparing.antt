@@ -58,7 +58,3 @@ asks-leaves done yours v w r a k = leaves-filled v w r (ap (all_steps fills_part
 pub looks-leaves : (b : Bool) (P Q : Type 0) (v w : View) → Ran v w → OnTrue b (P × FindsStopped v w) → OnFalse b (Q × FindsRunning v w) → KeepsSeat v w → LeavesHeap v w
 looks-leaves true P Q v w r s f k = leaves-filled v w r (ap (all_steps fills_part) s.1.all) k
 looks-leaves false P Q v w r s f k = leaves-filled v w r (ap (all_steps fills_part) f.1.all) k
-
-pub begins-leaves : (b : Bool) (v w : View) → Ran v w → OnTrue b (Only goes_on v w) → OnFalse b (Only goes_on v w) → KeepsSeat v w → LeavesHeap v w
-begins-leaves true v w r s f k = course-leaves v w r s k
-begins-leaves false v w r s f k = course-leaves v w r f k
