@@ -62,7 +62,7 @@ pub use gc_table::Words;
 pub use mutator::Mutator;
 pub use mutator_turns::{NotOpened, Refused, Tracer, TryTurn, Turn};
 pub use seat_steps::{Stage, Stepper};
-pub use seat_tries::Came;
+pub use seat_steps::Came;
 pub use world::World;
 pub use world_seats::{NotClosed, Sizes, Statistics, Unclosed};
 

@@ -1,7 +1,7 @@
 -- What the mutator behind a handle came to, where there is one.
 use Rattle.std.proofs.Common.{ℕ, ◌≡◌, refl, sym, subst, Option, Some, None, inl, inr}
 use Rattle.std.specs.Prelude.{IsTrue}
-use Rattle.seat_tries.specs.declared.came.Came.{Came}
+use Rattle.seat_steps.specs.declared.came.Came.{Came}
 use Rattle.seat_steps.specs.Stepping.{is_collecting}
 use Rattle.seat_steps.specs.declared.stepper.Stepper.{Stepper}
 use Rattle.managed_heap_c.specs.Answering.{Answers, GivesBack, StaysWith, status_of_came}

@@ -7,8 +7,8 @@ use Rattle.gc_table.specs.declared.view.View.{View}
 use Rattle.mutator_ops.specs.Few.{AtMost}
 use Rattle.mutator_ops.proofs.Few.{at-most-none}
 use Rattle.plain_heap.specs.declared.operation.Op.TheVariants as ops
-use Rattle.seat_tries.specs.Filling.{make_steps}
-use Rattle.seat_tries.specs.declared.came.Came.TheVariants as cames
+use Rattle.seat_steps.specs.Filling.{make_steps}
+use Rattle.seat_steps.specs.declared.came.Came.TheVariants as cames
 use Rattle.seat_steps.specs.Stepping.{Operates, StepperMakes}
 use Rattle.seat_steps.specs.declared.stepper.Stepper.{Stepper}
 use Rattle.managed_heap_c.specs.Making.{MakesThenSets, SetsFirst, SetsGiven, no_variable}

@@ -11,9 +11,9 @@ use Rattle.plain_heap.specs.declared.object.Ref.TheVariants.{Nil}
 use Rattle.plain_heap.specs.PlainStep.{IsInRange, heap_after}
 use Rattle.plain_heap.specs.declared.operation.Op.{Op}
 use Rattle.plain_heap.specs.declared.operation.Op.TheVariants as ops
-use Rattle.seat_tries.specs.Doing.{DoesShared, RefersToNothing}
-use Rattle.seat_tries.specs.declared.came.Came.{Came}
-use Rattle.seat_tries.specs.declared.came.Came.TheVariants as cames
+use Rattle.seat_steps.specs.Doing.{DoesShared, RefersToNothing}
+use Rattle.seat_steps.specs.declared.came.Came.{Came}
+use Rattle.seat_steps.specs.declared.came.Came.TheVariants as cames
 use Rattle.seat_steps.specs.Asking.{DeclinesToTell}
 use Rattle.seat_steps.specs.Stepping.{Operates, StepperDoes, TakesFew, fields_in, heap_of_stepper, is_collecting}
 use Rattle.seat_steps.specs.declared.stepper.Stage.{Stage}

@@ -2,8 +2,8 @@
 use Rattle.std.proofs.Common.{ℕ, ◌≡◌, Bool, true, false, refl, sym, subst, inl, inr}
 use Rattle.std.specs.Prelude.{Result, Ok, Err, IfOk, IfErr, IsTrue, IsFalse}
 use Rattle.plain_heap.specs.declared.operation.Op.{Op}
-use Rattle.seat_tries.specs.declared.came.Came.{Came}
-use Rattle.seat_tries.specs.declared.came.Came.TheVariants as cames
+use Rattle.seat_steps.specs.declared.came.Came.{Came}
+use Rattle.seat_steps.specs.declared.came.Came.TheVariants as cames
 use Rattle.seat_steps.specs.Asking.{DeclinesToTell, MayAsk}
 use Rattle.seat_steps.specs.declared.stepper.Stepper.{Stepper}
 use Rattle.managed_heap_c.specs.Asking.{TestsTo, WritesAnswer, number_of_answer, SaysWhether}

@@ -2,7 +2,7 @@
 use Rattle.std.proofs.Common.{ℕ, ◌≡◌, Option, Some, None, true, false, refl, sym, ap, ◌∙◌, subst, inl, inr}
 use Rattle.std.proofs.lemmas.Bool.{false≢true}
 use Rattle.std.specs.Prelude.{IsFalse, IsTrue}
-use Rattle.seat_tries.specs.declared.came.Came.{Came}
+use Rattle.seat_steps.specs.declared.came.Came.{Came}
 use Rattle.seat_steps.specs.declared.stepper.Stepper.{Stepper}
 use Rattle.managed_heap_c.specs.Answering.{Answers, AnswersOnce, SparesGone, SparesUnused}
 use Rattle.managed_heap_c.specs.declared.hands.Hand.{Hand}

@@ -7,8 +7,8 @@ use Rattle.gc_table.specs.Seats.{Found, state_of}
 use Rattle.mutator_ops.specs.Sharing.{FillsFound, TakesSteps}
 use Rattle.mutator_turns.specs.Clearing.{clearing_steps}
 use Rattle.mutator_turns.specs.Exchanging.{ExchangesField, ExchangesValue}
-use Rattle.seat_tries.specs.declared.came.Came.{Came}
-use Rattle.seat_tries.specs.declared.came.Came.TheVariants as cames
+use Rattle.seat_steps.specs.declared.came.Came.{Came}
+use Rattle.seat_steps.specs.declared.came.Came.TheVariants as cames
 use Rattle.seat_steps.specs.Acting.{ActsTo, CanExchange, HasSlots, IsSlot, IsVariable, StepperActs, WantsObject}
 use Rattle.seat_steps.specs.declared.stepper.Stage.TheVariants.{Inside}
 use Rattle.seat_steps.specs.declared.stepper.Stepper.{Stepper}

@@ -1,7 +1,7 @@
 -- What an export answers.
 use Rattle.std.specs.Prelude.{ℕ, ◌≡◌, ◌⊎◌, Option, Some, None, IsFalse, IsTrue}
-use Rattle.seat_tries.specs.declared.came.Came.{Came}
-use Rattle.seat_tries.specs.declared.came.Came.TheVariants as cames
+use Rattle.seat_steps.specs.declared.came.Came.{Came}
+use Rattle.seat_steps.specs.declared.came.Came.TheVariants as cames
 use Rattle.seat_steps.specs.Stepping.{ReadsValue, is_collecting}
 use Rattle.seat_steps.specs.declared.stepper.Stepper.{Stepper}
 use Rattle.managed_heap_c.specs.Kinds.{Counts, HasAll, Refuses, TakesBack}

@@ -1,9 +1,9 @@
 -- What an export answers that asks of variables.
 use Rattle.std.specs.Prelude.{ℕ, ◌≡◌, ◌⊎◌, Bool, true, false, Result, Ok, Err}
 use Rattle.plain_heap.specs.declared.operation.Op.{Op}
-use Rattle.seat_tries.specs.Doing.{RefersToNothing, RefersToOne}
-use Rattle.seat_tries.specs.declared.came.Came.{Came}
-use Rattle.seat_tries.specs.declared.came.Came.TheVariants as cames
+use Rattle.seat_steps.specs.Doing.{RefersToNothing, RefersToOne}
+use Rattle.seat_steps.specs.declared.came.Came.{Came}
+use Rattle.seat_steps.specs.declared.came.Came.TheVariants as cames
 use Rattle.seat_steps.specs.Asking.{DeclinesToTell, MayAsk}
 use Rattle.seat_steps.specs.Stepping.{shares}
 use Rattle.seat_steps.specs.Waiting.{is_stopping_at}

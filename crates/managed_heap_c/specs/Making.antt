@@ -4,9 +4,9 @@ use Rattle.mark_core.specs.Numbers.{section_variables}
 use Rattle.plain_heap.specs.declared.operation.Op.TheVariants as ops
 use Rattle.gc_table.specs.Seats.{Across, view_of}
 use Rattle.mutator_ops.specs.Few.{AtMost}
-use Rattle.seat_tries.specs.Filling.{make_steps}
-use Rattle.seat_tries.specs.declared.came.Came.{Came}
-use Rattle.seat_tries.specs.declared.came.Came.TheVariants as cames
+use Rattle.seat_steps.specs.Filling.{make_steps}
+use Rattle.seat_steps.specs.declared.came.Came.{Came}
+use Rattle.seat_steps.specs.declared.came.Came.TheVariants as cames
 use Rattle.seat_steps.specs.Stepping.{Operates, StepperMakes, fields_in}
 use Rattle.seat_steps.specs.declared.stepper.Stepper.{Stepper}
 

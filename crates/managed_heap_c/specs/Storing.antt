@@ -4,8 +4,8 @@ use Rattle.std.specs.Arc.{arc_value}
 use Rattle.plain_heap.specs.PlainStep.{IsInRange}
 use Rattle.plain_heap.specs.declared.operation.Op.{Op}
 use Rattle.gc_table.specs.Seats.{did}
-use Rattle.seat_tries.specs.declared.came.Came.{Came}
-use Rattle.seat_tries.specs.declared.came.Came.TheVariants as cames
+use Rattle.seat_steps.specs.declared.came.Came.{Came}
+use Rattle.seat_steps.specs.declared.came.Came.TheVariants as cames
 use Rattle.seat_steps.specs.Stepping.{Operates, StepperDoes, TakesFew, fields_in, heap_of_stepper, shares}
 use Rattle.seat_steps.specs.declared.stepper.Stage.TheVariants.{Inside}
 use Rattle.seat_steps.specs.declared.stepper.Stepper.{Stepper}

@@ -7,7 +7,7 @@ use crate::asked::write_answer;
 use crate::bytes::{byte_beside, byte_of, half_of};
 use crate::hands::Hand;
 use crate::statuses::{GIVEN_BACK, status};
-use seat_tries::Came;
+use seat_steps::Came;
 
 /// Variable v becomes the root: the status of the mutator's call. `GIVEN_BACK` where the handle is empty.
 pub fn root_by(hand: &mut Hand, v: u32) -> u32

@@ -7,7 +7,7 @@ ghost use Rattle.managed_heap_c.specs.Asking.{IsNil, AreOne, TellsStopping, Test
 use crate::bytes::byte_of;
 use crate::hands::Hand;
 use crate::statuses::{GIVEN_BACK, OK, status};
-use seat_tries::Came;
+use seat_steps::Came;
 
 /// An answer as C has it.
 pub fn number_of(told: bool) -> u32

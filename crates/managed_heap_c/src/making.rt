@@ -10,8 +10,7 @@ ghost use Rattle.seat_steps.specs.declared.stepper.Stage.TheVariants as stages;
 ghost use Rattle.managed_heap_c.specs.Making.{AreGiven, CanMakeWith, IsGiven, MakesWith, SetsFirst, SetsGiven};
 
 use mark_core::VARIABLES;
-use seat_steps::Stepper;
-use seat_tries::Came;
+use seat_steps::{Came, Stepper};
 
 /// The number that stands for no variable.
 const NO_VARIABLE: u32 = 4_294_967_295;

@@ -4,7 +4,7 @@ ghost use Rattle.managed_heap_c.specs.Answering.{status_of_came};
 ghost use Rattle.managed_heap_c.specs.Tracers.{status_of_turn};
 
 use mutator_turns::TryTurn;
-use seat_tries::Came;
+use seat_steps::Came;
 
 /// It is done.
 pub const OK: u32 = 0;

@@ -2,8 +2,7 @@
 ghost use Rattle.plain_heap.specs.declared.operation.Op.TheVariants as ops;
 ghost use Rattle.managed_heap_c.specs.Storing.{Stores, TellsNil};
 
-use seat_steps::Stepper;
-use seat_tries::Came;
+use seat_steps::{Came, Stepper};
 
 /// What a store came to: `Came::Nil` where it was done and the variable refers to nothing, so that nothing was stored.
 fn unless_nil(came: Came, nil: Result<bool, Came>) -> Came

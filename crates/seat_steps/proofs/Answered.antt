@@ -5,10 +5,10 @@ use Rattle.gc_table.specs.declared.seat.Heap.{Heap}
 use Rattle.gc_table.specs.declared.seat.HeapSeat.{HeapSeat}
 use Rattle.mutator_turns.specs.Standing.{IsMutatorOutside}
 use Rattle.mutator_turns.proofs.Leaving.{leaves-none}
-use Rattle.seat_tries.specs.Causes.{EntersBy, EntersFreely, PassesBy}
-use Rattle.seat_tries.specs.Arriving.{Arrives}
-use Rattle.seat_tries.specs.declared.came.Came.{Came}
-use Rattle.seat_tries.specs.declared.came.Came.TheVariants as cames
+use Rattle.seat_steps.specs.Causes.{EntersBy, EntersFreely, PassesBy}
+use Rattle.seat_steps.specs.Arriving.{Arrives}
+use Rattle.seat_steps.specs.declared.came.Came.{Came}
+use Rattle.seat_steps.specs.declared.came.Came.TheVariants as cames
 use Rattle.seat_steps.specs.Stepping.{Entered, EntersFrom, KeepsAll, Passed, is_collecting}
 use Rattle.seat_steps.specs.declared.stepper.Stage.{Stage}
 use Rattle.seat_steps.specs.declared.stepper.Stage.TheVariants as stages

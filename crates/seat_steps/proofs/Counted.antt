@@ -3,7 +3,7 @@ use Rattle.std.proofs.Common.{ℕ, ◌≡◌, sym, subst}
 use Rattle.gc_table.specs.Seats.{view_of}
 use Rattle.gc_table.specs.declared.seat.HeapSeat.{HeapSeat}
 use Rattle.gc_table.specs.declared.view.View.{View}
-use Rattle.seat_tries.specs.Payments.{CountsRefill}
+use Rattle.seat_steps.specs.PaidTries.{CountsRefill}
 use Rattle.seat_steps.specs.Payments.{PaysRefill}
 use Rattle.seat_steps.specs.Refilling.{reach}
 use Rattle.seat_steps.specs.declared.stepper.Stepper.{Stepper}

@@ -12,3 +12,10 @@ mod SinceAsked
 mod Sparing
 mod Stages
 mod Undrawn
+mod PaidCounts
+mod Doing
+mod Filled
+pub mod Found
+mod Made
+mod Searched
+mod Tried

@@ -29,7 +29,7 @@ use Rattle.gc_cycle.specs.Courses.{TakesCourse, phase_stored}
 use Rattle.gc_cycle.specs.Polling.{saw_full}
 use Rattle.gc_cycle.specs.Sorts.{reads_phase}
 use Rattle.cycle_steps.specs.Stepping.{FindsStopped}
-use Rattle.seat_tries.specs.Causes.{FoundFull}
+use Rattle.seat_steps.specs.Causes.{FoundFull}
 
 -- a note that was kept was there
 kept_some : (keeps : ℕ × ℕ → ℕ → Bool) (at : ℕ × ℕ) (o : Option ℕ) (m : ℕ) → if_kept keeps at o ≡ Some m → o ≡ Some m

@@ -20,13 +20,13 @@ use Rattle.mutator_ops.specs.Few.{AtMost}
 use Rattle.mutator_ops.proofs.Few.{at-most-join, at-most-none}
 use Rattle.mutator_turns.specs.Sharing.{LeavesHeap}
 use Rattle.mutator_turns.specs.Standing.{plain_of}
-use Rattle.seat_tries.specs.Causes.{GoesFreely}
-use Rattle.seat_tries.specs.Seeking.{FailsBy, RefillsBy, SeeksOnce}
-use Rattle.seat_tries.specs.declared.seeking.Sought.{Sought}
-use Rattle.seat_tries.specs.declared.seeking.Sought.TheVariants as soughts
-use Rattle.seat_tries.specs.Arriving.{LeavesWorld}
-use Rattle.seat_tries.specs.declared.came.Came.{Came}
-use Rattle.seat_tries.specs.declared.came.Came.TheVariants as cames
+use Rattle.seat_steps.specs.Causes.{GoesFreely}
+use Rattle.seat_steps.specs.Seeking.{FailsBy, RefillsBy, SeeksOnce}
+use Rattle.seat_steps.specs.declared.seeking.Sought.{Sought}
+use Rattle.seat_steps.specs.declared.seeking.Sought.TheVariants as soughts
+use Rattle.seat_steps.specs.Arriving.{LeavesWorld}
+use Rattle.seat_steps.specs.declared.came.Came.{Came}
+use Rattle.seat_steps.specs.declared.came.Came.TheVariants as cames
 use Rattle.seat_steps.specs.Refilling.{BeginsSearch, LooksOn, NotesSeen, SeenTo, StepperRefills, blocks_of, looked, reach, refill_steps}
 use Rattle.seat_steps.specs.Stepping.{KeepsAll}
 use Rattle.seat_steps.specs.Steps.{shape_of}

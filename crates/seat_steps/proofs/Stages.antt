@@ -3,9 +3,9 @@ use Rattle.std.proofs.Common.{ℕ, ◌≡◌, refl, sym, subst, inr}
 use Rattle.gc_table.specs.Seats.{Across}
 use Rattle.gc_table.specs.declared.seat.Heap.{Heap}
 use Rattle.seat_steps.specs.Course.{EndsBy}
-use Rattle.seat_tries.specs.Arriving.{Arrives}
-use Rattle.seat_tries.specs.declared.came.Came.{Came}
-use Rattle.seat_tries.specs.declared.came.Came.TheVariants as cames
+use Rattle.seat_steps.specs.Arriving.{Arrives}
+use Rattle.seat_steps.specs.declared.came.Came.{Came}
+use Rattle.seat_steps.specs.declared.came.Came.TheVariants as cames
 use Rattle.seat_steps.specs.Bounds.{IsBounded, IsBoundedStep}
 use Rattle.seat_steps.specs.Stepping.{KeepsAll}
 use Rattle.seat_steps.specs.Steps.{StepsCollection, StepsOn, counts_of}

@@ -5,7 +5,7 @@ use Rattle.gc_table.specs.declared.view.View.{View}
 use Rattle.packet_pools.specs.Counts.{count_of}
 use Rattle.mutator_ops.specs.Few.{AtMost}
 use Rattle.gc_cycle.specs.Sorts.{draws_block}
-use Rattle.seat_tries.specs.Filling.{PopsNone}
+use Rattle.seat_steps.specs.Filling.{PopsNone}
 
 -- no block came in hand, however many there are
 abbrev pub DrawsNone : View → View → Type 0

@@ -2,8 +2,8 @@
 use Rattle.std.specs.Prelude.{◌≡◌, IsTrue}
 use Rattle.plain_heap.specs.PlainStep.{IsInRange}
 use Rattle.plain_heap.specs.declared.operation.Op.{Op}
-use Rattle.seat_tries.specs.declared.came.Came.{Came}
-use Rattle.seat_tries.specs.declared.came.Came.TheVariants as cames
+use Rattle.seat_steps.specs.declared.came.Came.{Came}
+use Rattle.seat_steps.specs.declared.came.Came.TheVariants as cames
 use Rattle.seat_steps.specs.Stepping.{is_collecting, fields_in}
 use Rattle.seat_steps.specs.declared.stepper.Stage.TheVariants.{Inside, Outside}
 use Rattle.seat_steps.specs.declared.stepper.Stepper.{Stepper}

@@ -12,8 +12,8 @@ use Rattle.card_clean.specs.StepBounds.{clean_some_steps, see_to_steps}
 use Rattle.mutator_ops.specs.Few.{AtMost}
 use Rattle.seat_steps.specs.Amounts.{DoesFew, DrawsNone, PassesFew}
 use Rattle.seat_steps.specs.Passes.{CleansFewCards, SeesFewRoots}
-use Rattle.seat_tries.specs.declared.came.Came.{Came}
-use Rattle.seat_tries.specs.declared.came.Came.TheVariants as cames
+use Rattle.seat_steps.specs.declared.came.Came.{Came}
+use Rattle.seat_steps.specs.declared.came.Came.TheVariants as cames
 use Rattle.seat_steps.specs.Steps.{StepsCollection, draws_for, objects_popped, shape_of, stretches_drawn}
 use Rattle.seat_steps.specs.declared.stepper.Stage.{Stage}
 use Rattle.seat_steps.specs.declared.stepper.Stage.TheVariants as stages

@@ -13,8 +13,8 @@ use Rattle.cycle_steps.specs.Stepping.{AsksOnce, EndsCollection, FindsStopped}
 use Rattle.gc_cycle.specs.declared.counts.Counts.{Counts}
 use Rattle.mutator_turns.specs.Coming.{GivesCache, StepsOut, WithOwn}
 use Rattle.seat_steps.specs.Asked.{HasAsked}
-use Rattle.seat_tries.specs.Causes.{ArrivesBy, FoundFull}
-use Rattle.seat_tries.specs.declared.came.Came.{Came}
+use Rattle.seat_steps.specs.Causes.{ArrivesBy, FoundFull}
+use Rattle.seat_steps.specs.declared.came.Came.{Came}
 
 -- since the seat asked for its stop it made a precise collection: a drain began with no cell marked, and then the cycle ended
 pub record CollectsSinceAsked (w : View) : Type 0 where

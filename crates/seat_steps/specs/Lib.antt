@@ -12,3 +12,9 @@ pub mod Refilling
 pub mod Stepping
 pub mod Steps
 pub mod Waiting
+pub mod Arriving
+pub mod Causes
+pub mod Doing
+pub mod Filling
+pub mod PaidTries
+pub mod Seeking

@@ -1,7 +1,7 @@
 -- How much a stepper counts as traced to pay for its caches.
 use Rattle.std.specs.Prelude.{ℕ}
 use Rattle.gc_table.specs.Seats.{Across}
-use Rattle.seat_tries.specs.Payments.{CountsMaking, CountsRefill}
+use Rattle.seat_steps.specs.PaidTries.{CountsMaking, CountsRefill}
 use Rattle.seat_steps.specs.Refilling.{reach}
 use Rattle.seat_steps.specs.declared.stepper.Stepper.{Stepper}
 

@@ -12,11 +12,11 @@ use Rattle.cache_refills.specs.Pace.StepBounds.{payment_steps}
 use Rattle.cache_refills.specs.Pieces.{SeesBlocks}
 use Rattle.cache_refills.specs.declared.pieces.Piece.{Piece}
 use Rattle.cache_refills.specs.declared.pieces.Piece.TheVariants as pieces
-use Rattle.seat_tries.specs.Causes.{GoesFreely}
-use Rattle.seat_tries.specs.Seeking.{CachedBy, FailsBy, RefillsBy, SeeksOnce}
-use Rattle.seat_tries.specs.declared.seeking.Sought.TheVariants as soughts
-use Rattle.seat_tries.specs.declared.came.Came.{Came}
-use Rattle.seat_tries.specs.declared.came.Came.TheVariants as cames
+use Rattle.seat_steps.specs.Causes.{GoesFreely}
+use Rattle.seat_steps.specs.Seeking.{CachedBy, FailsBy, RefillsBy, SeeksOnce}
+use Rattle.seat_steps.specs.declared.seeking.Sought.TheVariants as soughts
+use Rattle.seat_steps.specs.declared.came.Came.{Came}
+use Rattle.seat_steps.specs.declared.came.Came.TheVariants as cames
 use Rattle.seat_steps.specs.Stepping.{KeepsAll, StepperDoes, fields_in, heap_of_stepper, is_collecting}
 use Rattle.seat_steps.specs.Steps.{shape_of}
 use Rattle.seat_steps.specs.declared.stepper.Stage.TheVariants.{Inside, Outside}

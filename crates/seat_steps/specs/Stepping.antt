@@ -11,10 +11,10 @@ use Rattle.mutator_ops.specs.Few.{AtMost, most_steps}
 use Rattle.mutator_turns.specs.Coming.{LeavesTurn}
 use Rattle.mutator_turns.specs.Sharing.{LeavesHeap}
 use Rattle.mutator_turns.specs.Standing.{plain_of}
-use Rattle.seat_tries.specs.Doing.{Does, FindsNone, FindsSome}
-use Rattle.seat_tries.specs.Causes.{EntersFreely, FoundFullIn, FoundStopIn, MakesBy, MakesFreely, PassesFreely}
-use Rattle.seat_tries.specs.declared.came.Came.{Came}
-use Rattle.seat_tries.specs.declared.came.Came.TheVariants as cames
+use Rattle.seat_steps.specs.Doing.{Does, FindsNone, FindsSome}
+use Rattle.seat_steps.specs.Causes.{EntersFreely, FoundFullIn, FoundStopIn, MakesBy, MakesFreely, PassesFreely}
+use Rattle.seat_steps.specs.declared.came.Came.{Came}
+use Rattle.seat_steps.specs.declared.came.Came.TheVariants as cames
 use Rattle.seat_steps.specs.declared.stepper.Stage.{Stage}
 use Rattle.seat_steps.specs.declared.stepper.Stage.TheVariants.{Inside, Outside}
 use Rattle.seat_steps.specs.declared.stepper.Stepper.{Stepper}

@@ -19,8 +19,8 @@ use Rattle.cycle_steps.specs.declared.card_steps.Look.TheVariants as looks
 use Rattle.gc_cycle.specs.declared.counts.Counts.{Counts}
 use Rattle.seat_steps.specs.Course.{AsksForStop, BeginsMarking, EndsBy, FindsHeapFull}
 use Rattle.seat_steps.specs.Passes.{BeginsAgain, BeginsClear, BeginsSweep, EndsSweep, FindsPacketLeft, SeesRoots, TracesFor}
-use Rattle.seat_tries.specs.declared.came.Came.{Came}
-use Rattle.seat_tries.specs.declared.came.Came.TheVariants as cames
+use Rattle.seat_steps.specs.declared.came.Came.{Came}
+use Rattle.seat_steps.specs.declared.came.Came.TheVariants as cames
 use Rattle.seat_steps.specs.Stepping.{KeepsAll}
 use Rattle.seat_steps.specs.declared.stepper.Stage.{Stage}
 use Rattle.seat_steps.specs.declared.stepper.Stage.TheVariants as stages

@@ -9,7 +9,7 @@ ghost use Rattle.seat_steps.specs.declared.stepper.Stage.TheVariants as stages;
 use crate::stepper::{Stage, Stepper};
 use mark_core::VARIABLES;
 use mutator_turns::{exchange_shared, exchange_value_shared, lend_shared, word_of};
-use seat_tries::Came;
+use crate::came::Came;
 
 /// The variable of section 0 that refers to the root.
 const ROOT: u8 = 0;

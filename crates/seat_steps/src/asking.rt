@@ -1,14 +1,15 @@
 //! What a stepper is asked of its variables, and of the stop that it waits for.
 ghost use Rattle.std.specs.Prelude.{◌≡◌, IfErr, IfOk, IsFalse, IsTrue};
 ghost use Rattle.plain_heap.specs.declared.operation.Op.TheVariants as ops;
-ghost use Rattle.seat_tries.specs.Doing.{RefersToNothing, RefersToOne};
+ghost use Rattle.seat_steps.specs.Doing.{RefersToNothing, RefersToOne};
 ghost use Rattle.seat_steps.specs.Asking.{DeclinesToTell, MayAsk};
 ghost use Rattle.seat_steps.specs.Stepping.{is_collecting as collects_at, shares};
 ghost use Rattle.seat_steps.specs.Waiting.{is_stopping_at};
 
 use crate::stepper::{Stage, Stepper};
 use mark_core::VARIABLES;
-use seat_tries::{Came, are_one, is_nothing};
+use crate::came::Came;
+use crate::operations::{are_one, is_nothing};
 
 impl Stepper {
     /// Whether variable v refers to nothing. Err says why it couldn't be answered: v is out of range, or the stepper is outside or collects.

@@ -5,7 +5,7 @@ ghost use Rattle.seat_steps.specs.Stepping.{fields_in, shares as is_shared};
 
 use crate::resting::RestingSeat;
 use crate::stepper::{Stage, Stepper};
-use seat_tries::leaves_turn;
+use crate::leaving::leaves_turn;
 
 impl Stepper {
     /// A stepper with this seat. It is outside the world.

@@ -10,7 +10,7 @@ ghost use Rattle.seat_steps.specs.declared.stepper.Stage.TheVariants as stages;
 use crate::stepper::{Stage, Stepper};
 use mark_core::VARIABLES;
 use mutator_turns::{identity_shared, word_of};
-use seat_tries::Came;
+use crate::came::Came;
 
 impl Stepper {
     /// The cell in which variable v's object lies, by no step: a number below the world's number of cells. The object stays there for as long as it is

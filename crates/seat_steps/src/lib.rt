@@ -14,15 +14,28 @@
 
 mod acting;
 mod asking;
+mod came;
+mod getting;
 mod handing;
 mod knowing;
+mod leaving;
+mod operations;
+mod payments;
 mod refills;
 mod resting;
+mod seeking;
 mod spilling;
 mod stepper;
 mod stepping;
 mod steps;
 mod telling;
+mod tries;
 
+pub use came::Came;
+pub use getting::make_once;
+pub use leaving::{gives_own_up, leaves_turn};
+pub use operations::{are_one, copies, finds, forgets, gets, is_nothing, puts, sets};
 pub use resting::RestingSeat;
+pub use seeking::{Sought, make_here, refill_once};
 pub use stepper::{Stage, Stepper};
+pub use tries::{arrive, enter_once, pass_once};

@@ -10,7 +10,8 @@ ghost use Rattle.seat_steps.specs.declared.stepper.Stage.TheVariants as stages;
 
 use crate::stepper::{Stage, Stepper};
 use mark_core::{BLOCK_CELLS, CacheState, VARIABLES};
-use seat_tries::{Came, Sought, make_here, refill_once};
+use crate::came::Came;
+use crate::seeking::{Sought, make_here, refill_once};
 
 /// The block behind that of this cache, among so many.
 fn behind(cache: Option<CacheState>, blocks: u32) -> u32

@@ -10,7 +10,7 @@ ghost use Rattle.seat_steps.specs.Acting.{ActsTo, HasSlots, IsSlot};
 use crate::stepper::{Stage, Stepper};
 use mark_core::VARIABLES;
 use mutator_turns::{clear_slots_shared, fill_shared, spill_shared};
-use seat_tries::Came;
+use crate::came::Came;
 
 impl Stepper {
     /// Slot k becomes what variable v is, and keeps that reachable.

@@ -8,9 +8,11 @@ ghost use Rattle.seat_steps.specs.declared.stepper.Stage.TheVariants as stages;
 
 use crate::stepper::{Stage, Stepper};
 use mark_core::VARIABLES;
-use seat_tries::{
-    Came, copies, enter_once, finds, forgets, gets, leaves_turn, make_once, pass_once, puts, sets,
-};
+use crate::came::Came;
+use crate::getting::make_once;
+use crate::leaving::leaves_turn;
+use crate::operations::{copies, finds, forgets, gets, puts, sets};
+use crate::tries::{enter_once, pass_once};
 
 impl Stepper {
     /// Enters the world, where no stop is under way.

@@ -10,7 +10,7 @@ ghost use Rattle.seat_steps.specs.Course.{EndsBy};
 ghost use Rattle.seat_steps.specs.Bounds.{CollectsAtMost, EndsInFew, IsBoundedStep};
 ghost use Rattle.mutator_turns.specs.Sharing.{LeavesHeap};
 ghost use Rattle.mutator_turns.specs.Standing.{Halts, IsMutatorOutside, plain_of};
-ghost use Rattle.seat_tries.specs.Arriving.{Arrives};
+ghost use Rattle.seat_steps.specs.Arriving.{Arrives};
 ghost use Rattle.seat_steps.specs.Steps.{StepsCollection};
 ghost use Rattle.seat_steps.specs.declared.stepper.Stage.TheVariants as stages;
 
@@ -23,7 +23,9 @@ use cycle_steps::{
 };
 use gc_table::{Heap, HeapSeat};
 use mutator_turns::leave;
-use seat_tries::{Came, arrive, gives_own_up};
+use crate::came::Came;
+use crate::leaving::gives_own_up;
+use crate::tries::arrive;
 
 /// How many roots, objects, cards or blocks a step does at most (or those of one stretch of blocks), where its caller says nothing of it.
 const STEP: u32 = 4_096;

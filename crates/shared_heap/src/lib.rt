@@ -49,7 +49,7 @@ pub use mutator::{Place, SharedMutator};
 pub use mutator_turns::{NotOpened, Refused, Tracer, TryTurn, Turn};
 pub use reading::root_value;
 pub use seat_steps::{Stage, Stepper};
-pub use seat_tries::Came;
+pub use seat_steps::Came;
 pub use world::SharedWorld;
 pub use world_seats::{NotClosed, Sizes as SharedSizes, Statistics as SharedStatistics, Unclosed};
 

@@ -1,0 +1,112 @@
+-- How many steps are taken with a try to get a cell, and besides.
+use Rattle.std.proofs.Common.{ℕ, ◌≡◌, ◌+◌, inl, inr, arith, subst, Option, Some, None}
+use Rattle.mark_core.specs.declared.kinds.Shape.{Shape}
+use Rattle.gc_table.specs.Running.{Ran}
+use Rattle.gc_table.specs.declared.seat.Heap.{Heap}
+use Rattle.gc_table.specs.declared.seat.HeapSeat.{HeapSeat}
+use Rattle.gc_table.specs.declared.view.View.{View}
+use Rattle.gc_table.proofs.Running.{ran-join, ran-shape}
+use Rattle.gc_table.specs.Rule.{KnowsFull}
+use Rattle.gc_cycle.specs.declared.counts.Refill.{Refill}
+use Rattle.gc_cycle.specs.declared.counts.Refill.TheVariants as refills
+use Rattle.gc_table.specs.Seats.{view_of}
+use Rattle.cache_refills.specs.Getting.{RefillsTo}
+use Rattle.mutator_ops.specs.Few.{AtMost}
+use Rattle.mutator_ops.proofs.Few.{at-most-join, at-most-more}
+use Rattle.seat_steps.specs.Causes.{ArrivesBy, FillsBy, LacksBy, MakesBy}
+use Rattle.seat_steps.specs.Filling.{TriesOnce, TriesToFill, filling_steps, search_steps}
+use Rattle.seat_steps.specs.Arriving.{LeavesWorld, Refills}
+use Rattle.seat_steps.specs.declared.came.Came.{Came}
+use Rattle.seat_steps.specs.declared.came.Came.TheVariants as cames
+use Rattle.seat_steps.proofs.Found.{found-right, full-left, full-right}
+
+-- more before it, and more after it
+pub tries-first : (more before later : ℕ) (o : Option Refill) (u v w : View) → Ran u v → AtMost more u v → TriesOnce before later o v w → TriesOnce (more + before) later o u w
+tries-first more before later o u v w r few t =
+    record {
+      asked = t.asked;
+      first = ran-join u v t.asked r t.first;
+      first_few = at-most-join more before u v t.asked r t.first few t.first_few;
+      got = t.got;
+      ran = t.ran;
+      tries = t.tries;
+      last = t.last;
+      last_few = t.last_few;
+    }
+
+pub tries-last : (before later more : ℕ) (o : Option Refill) (u v w : View) → Ran v w → AtMost more v w → TriesOnce before later o u v → TriesOnce before (later + more) o u w
+tries-last before later more o u v w r few t =
+    record {
+      asked = t.asked;
+      first = t.first;
+      first_few = t.first_few;
+      got = t.got;
+      ran = t.ran;
+      tries = t.tries;
+      last = ran-join t.got v w t.last r;
+      last_few = at-most-join later more t.got v w t.last r t.last_few few;
+    }
+
+-- all steps of a call whose try took so many
+in_all : (before k later : ℕ) (o : Option Refill) (v w : View) → (t : TriesOnce before later o v w) → AtMost k t.asked t.got → AtMost (before + (k + later)) v w
+in_all before k later o v w t few = at-most-join before (k + later) v t.asked w t.first (ran-join t.asked t.got w t.ran t.last) t.first_few (at-most-join k later t.asked t.got w t.ran t.last few t.last_few)
+
+tried-few : (o : Option Refill) (v w : View) → TriesToFill o v w → AtMost (filling_steps v.shape) v w
+tried-few None v w t = at-most-more (search_steps v.shape) (filling_steps v.shape) v w (omega arith) t.2
+tried-few (Some r) v w t = t.2
+
+pub tries-few : (before later : ℕ) (o : Option Refill) (v w : View) → TriesOnce before later o v w → AtMost (before + (filling_steps v.shape + later)) v w
+tries-few before later o v w t =
+    in_all before (filling_steps v.shape) later o v w t (subst (λ (sh : Shape). AtMost (filling_steps sh) t.asked t.got) (ran-shape v t.asked t.first) (tried-few o t.asked t.got t.tries))
+
+none-few : (before later : ℕ) (v w : View) → TriesOnce before later None v w → AtMost (before + (search_steps v.shape + later)) v w
+none-few before later v w t = in_all before (search_steps v.shape) later None v w t (subst (λ (sh : Shape). AtMost (search_steps sh) t.asked t.got) (ran-shape v t.asked t.first) t.tries.2)
+
+-- a cache is given up, a try is made, and then the mutator comes to its turn or leaves
+module _ (u v w x : View) (a : Ran u v) (few : AtMost 3 u v) (o : Option Refill) (b : Ran v w) (t : TriesToFill o v w) (d : Ran w x) where
+  pub once : (later : ℕ) → AtMost later w x → TriesOnce 3 later o u x
+  once later rest = record { asked = v; first = a; first_few = few; got = w; ran = b; tries = t; last = d; last_few = rest }
+
+  pub fills-on : (rest : AtMost 3 w x) → TriesOnce 3 3 o u x
+  fills-on rest = once 3 rest
+
+  pub arrives-fills : (c : Came) (h : Heap) (s : HeapSeat) → LeavesWorld c h s → ArrivesBy c w x → FillsBy c u x
+  arrives-fills cames.Stopped h s l g = (found-right u w x (ran-join u v w a b) d g.0, (o, once 8 g.1))
+  arrives-fills cames.Full h s l g = ((full-right u w x (ran-join u v w a b) d g.0.0, g.0.1), (o, once 8 g.1))
+  arrives-fills c h s l g = absurd l
+
+-- no cell was found
+pub lacks-fills : (c : Came) (u v w x : View) → Ran u v → AtMost 3 u v → Ran v w → TriesToFill None v w → Ran w x → LacksBy c w x → FillsBy c u x
+lacks-fills cames.NoCell u v w x a few b t d g = fills-on u v w x a few None b t d g
+lacks-fills cames.Stopped u v w x a few b t d g = (found-right u w x (ran-join u v w a b) d g.0, (None, once u v w x a few None b t d 8 g.1))
+lacks-fills cames.Full u v w x a few b t d g = ((full-right u w x (ran-join u v w a b) d g.0.0, g.0.1), (None, once u v w x a few None b t d 8 g.1))
+lacks-fills c u v w x a few b t d g = g
+
+-- the try found the heap full
+pub full-fills : (u v w x : View) → Ran u v → AtMost 3 u v → Ran v w → (r : Refill) → r ≡ refills.Full → TriesToFill (Some r) v w → Ran w x → AtMost 2 w x → KnowsFull x → FillsBy cames.Full u x
+full-fills u v w x a few b r is t d rest known =
+    let q = ran-join v w x b d in
+    let ends : RefillsTo refills.Full v.state.made v w = subst (λ (z : Refill). RefillsTo z v.state.made v w) is t.0 in
+    ((full-right u v x a q (full-left v w x b d ends.read), known), (Some r, once u v w x a few (Some r) b t d 8 (at-most-more 2 8 w x (omega arith) rest)))
+
+pub full-refills : (r : Refill) (h : Heap) (s : HeapSeat) → r ≡ refills.Full → Refills r h s → KnowsFull (view_of s)
+full-refills r h s is p = (subst (λ (z : Refill). Refills z h s) is p).1
+
+-- and before it two looks
+pub arrives-makes : (c : Came) (h : Heap) (s : HeapSeat) (v w : View) → LeavesWorld c h s → ArrivesBy c v w → MakesBy c v w
+arrives-makes cames.Stopped h s v w l g = ((g.0, at-most-more 8 (filling_steps v.shape + 13) v w (omega arith) g.1), inl g.1)
+arrives-makes cames.Full h s v w l g = ((g.0, at-most-more 8 (filling_steps v.shape + 13) v w (omega arith) g.1), inl g.1)
+arrives-makes c h s v w l g = absurd l
+
+in_thirteen : (o : Option Refill) (v w : View) → TriesOnce 5 8 o v w → AtMost (filling_steps v.shape + 13) v w
+in_thirteen o v w t = let all = tries-few 5 8 o v w t in omega (arith, all)
+
+pub fills-makes : (c : Came) (u v w : View) → Ran u v → AtMost 2 u v → Ran v w → FillsBy c v w → MakesBy c u w
+fills-makes cames.Done u v w a few b g = absurd g
+fills-makes cames.NoCell u v w a few b g =
+    let t = tries-first 2 3 3 None u v w a few g in
+    let all = none-few 5 3 u w t in
+    (t, omega (arith, all))
+fills-makes cames.Stopped u v w a few b g = let t = tries-first 2 3 8 g.1.0 u v w a few g.1.1 in ((found-right u v w a b g.0, in_thirteen g.1.0 u w t), inr (g.1.0, t))
+fills-makes cames.Full u v w a few b g = let t = tries-first 2 3 8 g.1.0 u v w a few g.1.1 in (((full-right u v w a b g.0.0, g.0.1), in_thirteen g.1.0 u w t), inr (g.1.0, t))
+fills-makes c u v w a few b g = g

@@ -1,0 +1,190 @@
+-- What a mutator found, in one call after another.
+use Rattle.std.proofs.Common.{ℕ, ◌≡◌, ◌<◌, List, [], ◌∷◌, refl, sym, ap, ◌∙◌, subst, Bool, true, false, not, ◌||◌, Option, Some, None, ⊎_elim, inl, inr, arith}
+use Rattle.std.specs.Prelude.{if◌then◌else◌, is_some, Result, Ok, Err, IfErr, IfNone, IfSome}
+use Rattle.std.specs.Int.Count.{ones}
+use Rattle.std.proofs.lemmas.Bool.{false≢true, or_left, or_right}
+use Rattle.mark_core.specs.Bits.{has_flag}
+use Rattle.mark_core.specs.Seats.{has_turn}
+use Rattle.mark_core.specs.declared.kinds.Phase.TheVariants.{Full}
+use Rattle.mark_core.specs.declared.kinds.Step.{Step}
+use Rattle.mark_core.specs.declared.kinds.Step.TheVariants.{Observe, ReadPhase, ReadSeason}
+use Rattle.gc_table.specs.Log.{events}
+use Rattle.gc_table.specs.Running.{after_all, Ran}
+use Rattle.gc_table.specs.Seats.{Found}
+use Rattle.gc_table.specs.declared.seat.Heap.{Heap}
+use Rattle.gc_table.specs.declared.seat.HeapSeat.{HeapSeat}
+use Rattle.gc_table.specs.declared.view.Entry.{Entry}
+use Rattle.gc_table.specs.declared.view.View.{View}
+use Rattle.gc_table.proofs.Running.{ran-events, ran-join, ran-took}
+use Rattle.packet_pools.specs.Seeking.{some_event}
+use Rattle.packet_pools.proofs.Searches.{some-left, some-right}
+use Rattle.alloc_cache.specs.Caching.{IsCached}
+use Rattle.alloc_cache.specs.declared.cache.Cache.{Cache}
+use Rattle.stop_world.specs.Gates.{TurnsBack}
+use Rattle.mutator_ops.specs.Few.{AtMost}
+use Rattle.mutator_ops.proofs.Few.{at-most-after, at-most-events, at-most-join, at-most-more, at-most-none}
+use Rattle.gc_cycle.specs.Events.{Sort, first_is}
+use Rattle.gc_cycle.specs.Polling.{poll_found_stop, saw_full}
+use Rattle.gc_cycle.specs.Sorts.{enters_freely, polls, reads_phase, sees_flag, sees_no_flag}
+use Rattle.cache_refills.specs.Trying.{EntersOnce, PassesTo}
+use Rattle.cache_refills.specs.declared.trying.Pass.{Pass}
+use Rattle.cache_refills.specs.declared.trying.Pass.TheVariants as passes
+use Rattle.mutator_turns.specs.Turning.{LooksAtSeason, SeesOther}
+use Rattle.mutator_turns.specs.Standing.{LacksFree}
+use Rattle.mutator_turns.proofs.Seats.{looks-ran}
+use Rattle.seat_steps.specs.Causes.{ArrivesBy, ComesFreely, EntersBy, FoundStop, GoesFreely, HasFree, LacksBy, LooksBy, LooksFreely, PassesBy, SawOther, finds_flag}
+use Rattle.seat_steps.specs.Filling.{TriesSome}
+use Rattle.seat_steps.specs.Arriving.{LacksCell, LeavesWorld}
+use Rattle.seat_steps.specs.declared.came.Came.{Came}
+use Rattle.seat_steps.specs.declared.came.Came.TheVariants as cames
+
+-- where the first event like f is like g, one is like h
+either : (b p q r s : Bool) → (p ≡ true → q ≡ true) → (r ≡ true → s ≡ true) → (if b then p else r) ≡ true → (q || s) ≡ true
+either true p q r s x y e = or_left q s (x e)
+either false p q r s x y e = or_right q s (y e)
+
+first_some : (f g h : Sort) → ((step : Step) (n : ℕ) → g step n ≡ true → h step n ≡ true) → (es : List Entry) → first_is f g es ≡ true → some_event h es ≡ true
+first_some f g h k [] e = absurd (false≢true e)
+first_some f g h k (x ∷ es) e = either (f x.step x.found) (g x.step x.found) (h x.step x.found) (first_is f g es) (some_event h es) (k x.step x.found) (first_some f g h k es) e
+
+sees_finds : (step : Step) (n : ℕ) → sees_flag step n ≡ true → finds_flag step n ≡ true
+sees_finds Observe n e = e
+sees_finds step n e = absurd (false≢true e)
+
+-- what a safe point looked at
+pub looks-by : (p : Pass) (handed kept : Option Cache) (done : ℕ) (v w : View) → PassesTo p handed kept done v w → LooksBy p handed kept v w
+looks-by passes.Going handed kept done v w p = (p.same, (p.looks.0, p.looks.1, sym (ap poll_found_stop p.looks.2) ∙ p.clear, p.looks.2))
+looks-by passes.Full handed kept done v w p = p.ends.read
+looks-by passes.Out handed kept done v w p = first_some polls sees_flag finds_flag sees_finds (events v w) p.found
+
+-- a stop that was found before the end, or after the beginning
+pub found-left : (u v w : View) → Ran u v → Ran v w → FoundStop u v → FoundStop u w
+found-left u v w a b f =
+    ⊎_elim
+    (λ (e : some_event finds_flag (events u v) ≡ true). inl (ap (some_event finds_flag) (ran-events u v w a b) ∙ some-left finds_flag (events u v) (events v w) e))
+    (λ (s : SawOther u v). inr (record { looked = s.looked; before = s.before; other = s.other; last = ran-join s.looked v w s.last b }))
+    f
+
+pub found-right : (u v w : View) → Ran u v → Ran v w → FoundStop v w → FoundStop u w
+found-right u v w a b f =
+    ⊎_elim
+    (λ (e : some_event finds_flag (events v w) ≡ true). inl (ap (some_event finds_flag) (ran-events u v w a b) ∙ some-right finds_flag (events u v) (events v w) e))
+    (λ (s : SawOther v w). inr (record { looked = s.looked; before = ran-join u v s.looked a s.before; other = s.other; last = s.last }))
+    f
+
+pub found-other : (u v w x : View) → Ran u v → LooksAtSeason v w → SeesOther 1 w → Ran w x → FoundStop u x
+found-other u v w x a s o b = inr (record { looked = w; before = ran-join u v w a (looks-ran v w s); other = o; last = b })
+
+-- the phase was read as Full before the end, or after the beginning
+pub full-left : (u v w : View) → Ran u v → Ran v w → saw_full (events u v) ≡ true → saw_full (events u w) ≡ true
+full-left u v w a b e = ap saw_full (ran-events u v w a b) ∙ some-left (reads_phase Full) (events u v) (events v w) e
+
+pub full-right : (u v w : View) → Ran u v → Ran v w → saw_full (events v w) ≡ true → saw_full (events u w) ≡ true
+full-right u v w a b e = ap saw_full (ran-events u v w a b) ∙ some-right (reads_phase Full) (events u v) (events v w) e
+
+-- the two looks of a safe point, and one at the season where it isn't known
+looks_few : (v w : View) → LooksAtSeason v w → AtMost 1 v w
+looks_few v w looks =
+    ⊎_elim (λ (same : w ≡ v). subst (λ (x : View). AtMost 1 v x) (sym same) (at-most-none 1 v)) (λ (read : (n : ℕ) × Found ReadSeason n v w). at-most-after v w ReadSeason read.0 read.1.0) looks
+
+two_few : (u v : View) → LooksFreely u v → AtMost 2 u v
+two_few u v l = at-most-events 2 u v _ l.3 (omega arith)
+
+season_kept : (u v : View) → Ran u v → LooksFreely u v → v.state.season_seen ≡ u.state.season_seen
+season_kept u v r l = ap (λ (x : View). x.state.season_seen) (r.steps ∙ ap (λ (es : List Entry). after_all es u) l.3)
+
+pub goes-freely : (u v w : View) → Ran u v → LooksFreely u v → LooksAtSeason v w → (is_some v.state.season_seen ≡ true → w ≡ v) → GoesFreely u w
+goes-freely u v w r l s k =
+    let q : Ran v w = looks-ran v w s in
+    record {
+      ran = ran-join u v w r q;
+      free =
+          ap (some_event sees_no_flag) (ran-events u v w r q)
+          ∙ some-left sees_no_flag (events u v) (events v w) (ap (some_event sees_no_flag) l.3 ∙ or_left (not (has_flag l.0)) _ (ap not l.2));
+      few = at-most-join 2 1 u v w r q (two_few u v l) (looks_few v w s);
+      known = λ i. subst (λ (x : View). AtMost 2 u x) (sym (k (ap (λ (o : Option ℕ). is_some o) (season_kept u v r l) ∙ i))) (two_few u v l);
+    }
+
+-- who is at its turn knows the season
+pub turn-known : (o season : Option ℕ) → has_turn o season ≡ true → is_some season ≡ true
+turn-known None season e = absurd (false≢true e)
+turn-known (Some x) None e = absurd (false≢true e)
+turn-known (Some x) (Some n) e = refl
+
+pub passes-by : (c : Came) (v w : View) → is_some v.state.season_seen ≡ true → ArrivesBy c v w → PassesBy c v w
+passes-by cames.Done v w k g = record { ran = g.ran; free = g.free; few = g.known k }
+passes-by c v w k g = g
+
+-- on the way in
+pub turns-found : (v w : View) → TurnsBack v w → FoundStop v w
+turns-found v w t = inl (ap (some_event finds_flag) t.events ∙ or_left (has_flag t.word) _ t.flag)
+
+entered_freely : (u v : View) → EntersOnce u v → some_event enters_freely (events u v) ≡ true
+entered_freely u v e =
+    ap (some_event enters_freely) (ran-events u e.entered v e.ran (ran-took e.entered v ReadPhase refl e.reads))
+    ∙ some-left enters_freely (events u e.entered) (events e.entered v) (ap (some_event enters_freely) e.enters.events ∙ or_left (not (has_flag e.enters.word)) _ (ap not e.enters.clear))
+
+entered_few : (u v : View) → EntersOnce u v → AtMost 2 u v
+entered_few u v e =
+    at-most-join 1 1 u e.entered v e.ran (ran-took e.entered v ReadPhase refl e.reads) (at-most-events 1 u e.entered _ e.enters.events (omega arith)) (at-most-after e.entered v ReadPhase e.reads.0 e.reads.1.0)
+
+pub enters-by : (c : Came) (u v w : View) → Ran u v → EntersOnce u v → Ran v w → ArrivesBy c v w → EntersBy c u w
+enters-by cames.Done u v w r e q g =
+    record {
+      ran = ran-join u v w r q;
+      enters = ap (some_event enters_freely) (ran-events u v w r q) ∙ some-left enters_freely (events u v) (events v w) (entered_freely u v e);
+      free = ap (some_event sees_no_flag) (ran-events u v w r q) ∙ some-right sees_no_flag (events u v) (events v w) g.free;
+      few = at-most-join 2 3 u v w r q (entered_few u v e) g.few;
+    }
+enters-by cames.Stopped u v w r e q g = (found-right u v w r q g.0, at-most-join 2 8 u v w r q (entered_few u v e) g.1)
+enters-by cames.Full u v w r e q g = ((full-right u v w r q g.0.0, g.0.1), at-most-join 2 8 u v w r q (entered_few u v e) g.1)
+enters-by c u v w r e q g = g
+
+-- without a cell
+pub lacks-by : (c : Came) (v w : View) → (c ≡ cames.Done → ⊥) → ArrivesBy c v w → LacksBy c v w
+lacks-by cames.Done v w n g = absurd (n refl)
+lacks-by cames.NoCell v w n g = absurd g
+lacks-by c v w n g = g
+
+-- however it came, it took few steps
+pub arrives-few : (c : Came) (v w : View) → ArrivesBy c v w → AtMost 8 v w
+arrives-few cames.Done v w g = at-most-more 3 8 v w (omega arith) g.few
+arrives-few cames.Stopped v w g = g.1
+arrives-few cames.Full v w g = g.1
+arrives-few c v w g = absurd g
+
+-- a cache with a free cell
+pub not-lacking : (o : Option Cache) (h : Cache) → o ≡ Some h → 0 < ones h.cells → LacksFree o → ⊥
+not-lacking o h e l n = let none : ones h.cells ≡ 0 = subst LacksFree e n in omega (arith, l, none)
+
+pub err-both : {X E : Type 0} (r : Result X E) (P Q R : E → Type 0) → ((e : E) → P e → Q e → R e) → IfErr r P → IfErr r Q → IfErr r R
+err-both (Ok x) P Q R k p q = tt
+err-both (Err e) P Q R k p q = k e p q
+
+pub err-weaker : {X E : Type 0} (r : Result X E) (P Q : E → Type 0) → ((e : E) → P e → Q e) → IfErr r P → IfErr r Q
+err-weaker (Ok x) P Q k p = tt
+err-weaker (Err e) P Q k p = k e p
+
+-- who left has come to no cell
+pub leaves-lacks : (c : Came) (h : Heap) (s : HeapSeat) → LeavesWorld c h s → LacksCell c h s
+leaves-lacks cames.Stopped h s l = l
+leaves-lacks cames.Full h s l = l
+leaves-lacks c h s l = absurd l
+
+-- with a cell
+pub comes-free : (v w : View) → is_some v.state.season_seen ≡ true → GoesFreely v w → ComesFreely v w
+comes-free v w k g = record { free = g.free; few = λ _. g.known k; besides = inl (g.known k) }
+
+-- where the cache of the record has a free cell, so does the one in hand
+pub lacking_none : (o kept : Option Cache) (v : View) → IfSome o (λ h. IsCached h v) → IfNone o (v.state.cache ≡ None) → kept ≡ o → LacksFree kept → HasFree v.state.cache → ⊥
+lacking_none None kept v some bare e l f = subst HasFree bare f
+lacking_none (Some h) kept v some bare e l f = not-lacking kept h e (subst HasFree some f) l
+
+pub comes-filled :
+    (o none : Option Cache) (u v w : View) → Ran u v → Ran v w → GoesFreely u v → IfSome o (λ h. IsCached h u) → IfNone o (u.state.cache ≡ None) → none ≡ o → LacksFree none → TriesSome 5 3 u w → ComesFreely u w
+comes-filled o none u v w a b g some bare e l t =
+    record {
+      free = ap (some_event sees_no_flag) (ran-events u v w a b) ∙ some-left sees_no_flag (events u v) (events v w) g.free;
+      few = λ f. absurd (lacking_none o none u some bare e l f);
+      besides = inr t;
+    }

@@ -1,0 +1,17 @@
+use Rattle.std.proofs.Common.{refl}
+use Rattle.plain_heap.specs.declared.operation.Op.TheVariants as ops
+use Rattle.mutator_turns.proofs.Done.{turn-ready}
+use Rattle.mutator_turns.proofs.Operating.{operated}
+use Rattle.seat_steps.proofs.Doing.{alone-of, does-own}
+use Rattle.seat_steps.proofs.operations.copies.Goals as goal
+
+pub assign-requires-clause-seat : goal.assign-requires-clause-seat
+assign-requires-clause-seat c = turn-ready c.args.heap.now c.args.seat.now c.requires.turn (alone-of c.args.heap.now c.shape.result c.shape.ensures c.if-shape.false)
+
+pub returns-else-shape-clause-turn : goal.returns-else-shape-clause-turn
+returns-else-shape-clause-turn c = (operated (ops.Let c.args.w c.args.v) 0 c.args.heap.now c.args.seat.now c.assign.new.seat refl c.requires.turn (alone-of c.args.heap.now c.shape.result c.shape.ensures c.if-shape.false) c.assign.ensures.seat c.assign.ensures.does).turn
+
+pub returns-else-shape-clause-does : goal.returns-else-shape-clause-does
+returns-else-shape-clause-does c =
+    does-own c.args.heap.now c.args.seat.now c.assign.new.seat (ops.Let c.args.w c.args.v) (alone-of c.args.heap.now c.shape.result c.shape.ensures c.if-shape.false)
+    (operated (ops.Let c.args.w c.args.v) 0 c.args.heap.now c.args.seat.now c.assign.new.seat refl c.requires.turn (alone-of c.args.heap.now c.shape.result c.shape.ensures c.if-shape.false) c.assign.ensures.seat c.assign.ensures.does).steps

@@ -1,0 +1,14 @@
+use Rattle.mutator_turns.proofs.Leaving.{leaves-join}
+use Rattle.gc_table.specs.Seats.{view_of}
+use Rattle.gc_table.proofs.Running.{ran-join}
+use Rattle.mutator_ops.proofs.Few.{at-most-join}
+use Rattle.seat_steps.proofs.tries.leave_with.Goals as goal
+
+pub returns-clause-ran : goal.returns-clause-ran
+returns-clause-ran c = ran-join (view_of c.args.seat.now) (view_of c.gives_up.new.seat) (view_of c.leave.new.seat) c.gives_up.ensures.ran c.leave.ensures.ran
+
+pub returns-clause-leaves : goal.returns-clause-leaves
+returns-clause-leaves c = leaves-join (view_of c.args.seat.now) (view_of c.gives_up.new.seat) (view_of c.leave.new.seat) c.gives_up.ensures.leaves c.leave.ensures.leaves
+
+pub returns-clause-few : goal.returns-clause-few
+returns-clause-few c = at-most-join 3 2 (view_of c.args.seat.now) (view_of c.gives_up.new.seat) (view_of c.leave.new.seat) c.gives_up.ensures.ran c.leave.ensures.ran c.gives_up.ensures.few c.leave.ensures.few

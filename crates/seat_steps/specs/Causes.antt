@@ -1,0 +1,148 @@
+-- What a mutator found on its way to an answer, and how many steps it took.
+use Rattle.std.specs.Prelude.{ℕ, ◌≡◌, ◌<◌, ◌+◌, ◌⊎◌, [], ◌∷◌, Bool, false, Option, None, Some, IsFalse, IsTrue, is_some}
+use Rattle.std.specs.Int.Count.{ones}
+use Rattle.mark_core.specs.Bits.{has_flag}
+use Rattle.mark_core.specs.declared.kinds.Step.{Step}
+use Rattle.mark_core.specs.declared.kinds.Step.TheVariants.{EnterStep, Observe, RaiseStep, ReadPhase}
+use Rattle.mark_core.specs.declared.seat.CacheState.{CacheState}
+use Rattle.gc_table.specs.Log.{event, events}
+use Rattle.gc_table.specs.Rule.{KnowsFull}
+use Rattle.gc_table.specs.Running.{Ran}
+use Rattle.gc_table.specs.declared.view.View.{View}
+use Rattle.packet_pools.specs.Seeking.{some_event}
+use Rattle.alloc_cache.specs.declared.cache.Cache.{Cache}
+use Rattle.mutator_ops.specs.Few.{AtMost}
+use Rattle.gc_cycle.specs.Polling.{saw_full}
+use Rattle.gc_cycle.specs.Sorts.{enters_freely, sees_no_flag}
+use Rattle.cache_refills.specs.declared.trying.Pass.{Pass}
+use Rattle.cache_refills.specs.declared.trying.Pass.TheVariants as passes
+use Rattle.mutator_turns.specs.Turning.{SeesOther}
+use Rattle.seat_steps.specs.Filling.{FewBesides, TriesOnce, TriesSome, filling_steps, make_steps, search_steps}
+use Rattle.seat_steps.specs.declared.came.Came.{Came}
+use Rattle.seat_steps.specs.declared.came.Came.TheVariants as cames
+
+-- the stop flag was found up: by a look at the world, on the way in, or by a try to raise it
+abbrev pub finds_flag : Step → ℕ → Bool
+finds_flag Observe found = has_flag found
+finds_flag EnterStep found = has_flag found
+finds_flag RaiseStep found = has_flag found
+finds_flag step found = false
+
+-- at some moment of the call the season that the seat had seen was another than the mutators'
+pub record SawOther (v w : View) : Type 0 where
+  pub looked : View
+  pub before : Ran v looked
+  pub other : SeesOther 1 looked
+  pub last : Ran looked w
+
+-- why a mutator left: a stop was under way, or the season was another
+abbrev pub FoundStop : View → View → Type 0
+FoundStop v w = IsTrue (some_event finds_flag (events v w)) ⊎ SawOther v w
+
+-- a mutator left so, and took so many steps at most
+abbrev pub FoundStopIn : ℕ → View → View → Type 0
+FoundStopIn most v w = FoundStop v w × AtMost most v w
+
+-- the phase was read as Full in the call, and the seat knows that the heap is full
+abbrev pub FoundFull : View → View → Type 0
+FoundFull v w = IsTrue (saw_full (events v w)) × KnowsFull w
+
+-- and so many steps were taken at most
+abbrev pub FoundFullIn : ℕ → View → View → Type 0
+FoundFullIn most v w = FoundFull v w × AtMost most v w
+
+-- a try to get a cell found none, or marking done: 5 steps before it at most, and 3 after it, and so many in all
+abbrev pub FoundNoCell : View → View → Type 0
+FoundNoCell v w = TriesOnce 5 3 None v w × AtMost (search_steps v.shape + 8) v w
+
+-- one look at the world found no stop, and one at the phase followed, and nothing else was done
+abbrev pub LooksFreely : View → View → Type 0
+LooksFreely v w = (found : ℕ) × (phase : ℕ) × IsFalse (has_flag found) × (events v w ≡ event Observe found ∷ event ReadPhase phase ∷ [])
+
+-- what the looks of a safe point found
+abbrev pub LooksBy : Pass → Option Cache → Option Cache → View → View → Type 0
+LooksBy passes.Going handed kept v w = (kept ≡ handed) × LooksFreely v w
+LooksBy passes.Out handed kept v w = IsTrue (some_event finds_flag (events v w))
+LooksBy passes.Full handed kept v w = IsTrue (saw_full (events v w))
+
+-- a look at the world found no stop; one step more was taken at most, and a second where the season wasn't known
+pub record GoesFreely (v w : View) : Type 0 where
+  pub ran : Ran v w
+  pub free : IsTrue (some_event sees_no_flag (events v w))
+  pub few : AtMost 3 v w
+  pub known : IsTrue (is_some v.state.season_seen) → AtMost 2 v w
+
+-- a look at the world found no stop, and one step more was taken at most
+pub record PassesFreely (v w : View) : Type 0 where
+  pub ran : Ran v w
+  pub free : IsTrue (some_event sees_no_flag (events v w))
+  pub few : AtMost 2 v w
+
+-- the seat entered while no stop was under way, and a look at the world found none after that
+pub record EntersFreely (v w : View) : Type 0 where
+  pub ran : Ran v w
+  pub enters : IsTrue (some_event enters_freely (events v w))
+  pub free : IsTrue (some_event sees_no_flag (events v w))
+  pub few : AtMost 5 v w
+
+-- the cache has a free cell
+abbrev pub HasFree : Option CacheState → Type 0
+HasFree None = ⊥
+HasFree (Some c) = 0 < ones c.free
+
+-- a look at the world found no stop; where the seat had a cache with a free cell, one step more was taken at most; else a try to get one was made besides
+pub record ComesFreely (v w : View) : Type 0 where
+  pub free : IsTrue (some_event sees_no_flag (events v w))
+  pub few : HasFree v.state.cache → AtMost 2 v w
+  pub besides : FewBesides 2 5 3 v w
+
+-- a look at the world found no stop; where the seat had a cache with a free cell, an object was made by so many steps; else by so many, and a try to get a cell;
+-- and by so many in all
+pub record MakesFreely (v w : View) : Type 0 where
+  pub free : IsTrue (some_event sees_no_flag (events v w))
+  pub few : HasFree v.state.cache → AtMost (v.shape.fields + 5) v w
+  pub besides : FewBesides (v.shape.fields + 5) 5 (v.shape.fields + 6) v w
+  pub longest : AtMost (make_steps v.shape) v w
+
+-- what a mutator found that came to its turn, or left
+abbrev pub ArrivesBy : Came → View → View → Type 0
+ArrivesBy cames.Done v w = GoesFreely v w
+ArrivesBy cames.Stopped v w = FoundStopIn 8 v w
+ArrivesBy cames.Full v w = FoundFullIn 8 v w
+ArrivesBy c v w = ⊥
+
+-- what it found at a safe point
+abbrev pub PassesBy : Came → View → View → Type 0
+PassesBy cames.Done v w = PassesFreely v w
+PassesBy cames.Stopped v w = FoundStopIn 8 v w
+PassesBy cames.Full v w = FoundFullIn 8 v w
+PassesBy c v w = ⊥
+
+-- what it found on its way in
+abbrev pub EntersBy : Came → View → View → Type 0
+EntersBy cames.Done v w = EntersFreely v w
+EntersBy cames.Stopped v w = FoundStopIn 10 v w
+EntersBy cames.Full v w = FoundFullIn 10 v w
+EntersBy c v w = ⊥
+
+-- what it found that came to its turn without a cell
+abbrev pub LacksBy : Came → View → View → Type 0
+LacksBy cames.NoCell v w = AtMost 3 v w
+LacksBy cames.Stopped v w = FoundStopIn 8 v w
+LacksBy cames.Full v w = FoundFullIn 8 v w
+LacksBy c v w = ⊥
+
+-- what it found that gave up a cache without a free cell, and tried to get another
+abbrev pub FillsBy : Came → View → View → Type 0
+FillsBy cames.NoCell v w = TriesOnce 3 3 None v w
+FillsBy cames.Stopped v w = FoundStop v w × TriesSome 3 8 v w
+FillsBy cames.Full v w = FoundFull v w × TriesSome 3 8 v w
+FillsBy c v w = ⊥
+
+-- what it found that was to make an object
+abbrev pub MakesBy : Came → View → View → Type 0
+MakesBy cames.Done v w = MakesFreely v w
+MakesBy cames.NoCell v w = FoundNoCell v w
+MakesBy cames.Stopped v w = FoundStopIn (filling_steps v.shape + 13) v w × FewBesides 8 5 8 v w
+MakesBy cames.Full v w = FoundFullIn (filling_steps v.shape + 13) v w × FewBesides 8 5 8 v w
+MakesBy c v w = ⊥

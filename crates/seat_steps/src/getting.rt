@@ -1,0 +1,160 @@
+//! How a mutator gets a free cell without waiting, and makes an object of it.
+ghost use Rattle.std.specs.Prelude.{◌≡◌, ◌<◌, length, IfErr, IfNone, IfOk, IfSome, None};
+ghost use Rattle.std.specs.Int.Count.{ones};
+ghost use Rattle.mark_core.specs.Numbers.{section_variables};
+ghost use Rattle.plain_heap.specs.declared.operation.Op.TheVariants as ops;
+ghost use Rattle.alloc_cache.specs.Caching.{IsCached};
+ghost use Rattle.gc_cycle.specs.Answering.{HasCache};
+ghost use Rattle.gc_table.specs.Running.{Ran};
+ghost use Rattle.gc_table.specs.Seats.{Across, view_of};
+ghost use Rattle.mutator_ops.specs.Few.{AtMost};
+ghost use Rattle.mutator_turns.specs.Sharing.{LeavesHeap};
+ghost use Rattle.mutator_turns.specs.Standing.{Halts, IsAtTurn, Plays, Works, plain_of};
+ghost use Rattle.seat_steps.specs.Causes.{ArrivesBy, ComesFreely, FillsBy, GoesFreely, LacksBy, MakesBy};
+ghost use Rattle.seat_steps.specs.Filling.{TriesSome, TriesToFill};
+ghost use Rattle.seat_steps.specs.PaidTries.{CountsBeside, CountsMaking, CountsTry};
+ghost use Rattle.seat_steps.specs.declared.came.Came.TheVariants as cames;
+ghost use Rattle.seat_steps.specs.Arriving.{LacksCell, LeavesWorld, MakesOne, Refills};
+
+use crate::came::Came;
+use crate::leaving::gives_up;
+use crate::operations::makes;
+use crate::payments::count_paid;
+use crate::tries::{arrive, point};
+use alloc_cache::{Cache, cache_of};
+use cache_refills::try_refill;
+use gc_cycle::Refill;
+use gc_table::{Heap, HeapSeat};
+use mutator_turns::{keep_some, leave, with_free};
+
+/// Tries to get a cache with a free cell, and pays for it.
+fn try_fill(heap: &Heap, seat: &mut HeapSeat) -> Option<Refill>
+    requires halts { Halts heap.now seat.old }
+    ensures refills { IfSome result (λ r. Refills r heap.now seat.new) }
+    ensures none { IfNone result (Halts heap.now seat.new) }
+    ensures same { plain_of seat.new ≡ plain_of seat.old }
+    ensures leaves { Across LeavesHeap seat.old seat.new }
+    ensures ran { Across Ran seat.old seat.new }
+    ensures tries { Across (TriesToFill result) seat.old seat.new }
+{
+    let made = seat.state().made;
+    try_refill(heap, seat, made)
+}
+
+/// Comes to its turn without a cell.
+fn lacks_cell(heap: &Heap, seat: &mut HeapSeat) -> Came
+    requires halts { Halts heap.now seat.old }
+    ensures lacks { LacksCell result heap.now seat.new }
+    ensures same { plain_of seat.new ≡ plain_of seat.old }
+    ensures leaves { Across LeavesHeap seat.old seat.new }
+    ensures ran { Across Ran seat.old seat.new }
+    ensures found { Across (LacksBy result) seat.old seat.new }
+{
+    match arrive(heap, seat) {
+        Came::Done => Came::NoCell,
+        other => other,
+    }
+}
+
+/// Comes to its turn with a cache that was got, and with a free cell of it.
+pub fn point_with(heap: &Heap, seat: &mut HeapSeat, cache: Cache) -> Result<Cache, Came>
+    requires works { Works heap.now seat.old }
+    requires cache { IsCached cache (view_of seat.old) }
+    requires free { 0 < ones cache.cells }
+    ensures ok { IfOk result (λ free. Plays heap.now seat.new × IsCached free (view_of seat.new)) }
+    ensures free { IfOk result (λ free. 0 < ones free.cells) }
+    ensures turn { IfOk result (λ _. IsAtTurn heap.now seat.new) }
+    ensures err { IfErr result (λ came. LeavesWorld came heap.now seat.new) }
+    ensures same { plain_of seat.new ≡ plain_of seat.old }
+    ensures leaves { Across LeavesHeap seat.old seat.new }
+    ensures ran { Across Ran seat.old seat.new }
+    ensures few { IfOk result (λ _. Across (AtMost 3) seat.old seat.new) }
+    ensures freely { IfOk result (λ _. Across GoesFreely seat.old seat.new) }
+    ensures found { IfErr result (λ came. Across (ArrivesBy came) seat.old seat.new) }
+{
+    match point(heap, seat, Some(cache)) {
+        Err(came) => Err(came),
+        Ok(kept) => match with_free(kept) {
+            Ok(free) => Ok(free),
+            Err(none) => {
+                keep_some(none);
+                Err(Came::NoCell)
+            }
+        },
+    }
+}
+
+/// Another cache, with a free cell: this one is given up.
+fn fill(
+    heap: &Heap,
+    seat: &mut HeapSeat,
+    cache: Option<Cache>,
+    paid: &mut u64,
+) -> Result<Cache, Came>
+    requires works { Works heap.now seat.old }
+    requires cache { HasCache cache (view_of seat.old) }
+    ensures ok { IfOk result (λ free. Plays heap.now seat.new × IsCached free (view_of seat.new)) }
+    ensures free { IfOk result (λ free. 0 < ones free.cells) }
+    ensures err { IfErr result (λ came. LacksCell came heap.now seat.new) }
+    ensures same { plain_of seat.new ≡ plain_of seat.old }
+    ensures leaves { Across LeavesHeap seat.old seat.new }
+    ensures ran { Across Ran seat.old seat.new }
+    ensures besides { IfOk result (λ _. Across (TriesSome 3 3) seat.old seat.new) }
+    ensures found { IfErr result (λ came. Across (FillsBy came) seat.old seat.new) }
+    ensures pays { Across (CountsTry 3 8 paid.old paid.new) seat.old seat.new }
+{
+    gives_up(heap, seat, cache);
+    match try_fill(heap, seat) {
+        None => Err(lacks_cell(heap, seat)),
+        Some(Refill::Full) => {
+            leave(heap, seat);
+            Err(Came::Full)
+        }
+        Some(Refill::Cache(cache, traced)) => {
+            count_paid(paid, traced);
+            point_with(heap, seat, cache)
+        }
+    }
+}
+
+/// Comes to a cache with a free cell.
+fn come_once(heap: &Heap, seat: &mut HeapSeat, paid: &mut u64) -> Result<Cache, Came>
+    requires turn { IsAtTurn heap.now seat.old }
+    ensures ok { IfOk result (λ free. Plays heap.now seat.new × IsCached free (view_of seat.new)) }
+    ensures free { IfOk result (λ free. 0 < ones free.cells) }
+    ensures err { IfErr result (λ came. LacksCell came heap.now seat.new) }
+    ensures same { plain_of seat.new ≡ plain_of seat.old }
+    ensures leaves { Across LeavesHeap seat.old seat.new }
+    ensures ran { Across Ran seat.old seat.new }
+    ensures freely { IfOk result (λ _. Across ComesFreely seat.old seat.new) }
+    ensures found { IfErr result (λ came. Across (MakesBy came) seat.old seat.new) }
+    ensures pays { Across (CountsBeside 8 5 8 paid.old paid.new) seat.old seat.new }
+{
+    let cache = cache_of(seat);
+    match point(heap, seat, cache) {
+        Err(came) => Err(came),
+        Ok(kept) => match with_free(kept) {
+            Ok(free) => Ok(free),
+            Err(none) => fill(heap, seat, none, paid),
+        },
+    }
+}
+
+/// Makes an object in variable v, after a safe point. The section hasn't made all its objects.
+pub fn make_once(heap: &Heap, seat: &mut HeapSeat, paid: &mut u64, v: u8, value: u32) -> Came
+    requires turn { IsAtTurn heap.now seat.old }
+    requires room { length (plain_of seat.old).objects < heap.now.shape.objects }
+    requires range { v < section_variables }
+    ensures makes { MakesOne result (ops.New v value) heap.now seat.old seat.new }
+    ensures leaves { (result ≡ cames.Done → ⊥) → Across LeavesHeap seat.old seat.new }
+    ensures found { Across (MakesBy result) seat.old seat.new }
+    ensures pays { Across (CountsMaking paid.old paid.new) seat.old seat.new }
+{
+    match come_once(heap, seat, paid) {
+        Ok(free) => {
+            makes(heap, seat, free, v, value);
+            Came::Done
+        }
+        Err(came) => came,
+    }
+}

@@ -1,0 +1,177 @@
+//! Into the world, to the mutator's turn, and a safe point, each as one try that doesn't wait.
+ghost use Rattle.std.specs.Prelude.{◌≡◌, ◌<◌, IfErr, IfOk, IsTrue, is_some, None};
+ghost use Rattle.std.specs.Bool.{OnFalse, OnTrue};
+ghost use Rattle.gc_cycle.specs.Answering.{HasCache};
+ghost use Rattle.cache_refills.specs.declared.trying.Pass.TheVariants as passes;
+ghost use Rattle.cache_refills.specs.Trying.{EntersTo};
+ghost use Rattle.gc_table.specs.Running.{Ran};
+ghost use Rattle.gc_table.specs.Seats.{Across, state_of, view_of};
+ghost use Rattle.mutator_ops.specs.Few.{AtMost};
+ghost use Rattle.mutator_turns.specs.Turning.{LooksAtSeason, SeesOther};
+ghost use Rattle.mutator_turns.specs.Sharing.{LeavesHeap};
+ghost use Rattle.mutator_turns.specs.Standing.{Halts, IsAtTurn, Plays, IsMutatorOutside, Works, plain_of};
+ghost use Rattle.seat_steps.specs.Causes.{ArrivesBy, EntersBy, GoesFreely, LooksBy, PassesBy};
+ghost use Rattle.seat_steps.specs.Arriving.{Arrives, LeavesWorld, Passes, Tries};
+
+use crate::came::Came;
+use crate::leaving::gives_up;
+use alloc_cache::{Cache, cache_of};
+use cache_refills::{Pass, try_enter, try_safe_point};
+use gc_table::{Heap, HeapSeat};
+use mutator_turns::{TURN, is_turn, keep_some, leave};
+
+/// Tries to enter the world.
+fn try_in(heap: &Heap, seat: &mut HeapSeat) -> Pass
+    requires waits { IsMutatorOutside heap.now seat.old }
+    ensures tries { Tries result heap.now seat.new }
+    ensures same { plain_of seat.new ≡ plain_of seat.old }
+    ensures leaves { Across LeavesHeap seat.old seat.new }
+    ensures ran { Across Ran seat.old seat.new }
+    ensures enters { Across (EntersTo result) seat.old seat.new }
+    ensures few { Across (AtMost 2) seat.old seat.new }
+{
+    try_enter(heap, seat)
+}
+
+/// A safe point that doesn't wait, with this cache.
+fn try_pass(heap: &Heap, seat: &mut HeapSeat, cache: &mut Option<Cache>) -> Pass
+    requires works { Works heap.now seat.old }
+    requires cache { HasCache cache.old (view_of seat.old) }
+    ensures passes { Passes result heap.now seat.new cache.new }
+    ensures same { plain_of seat.new ≡ plain_of seat.old }
+    ensures leaves { Across LeavesHeap seat.old seat.new }
+    ensures ran { Across Ran seat.old seat.new }
+    ensures looks { Across (LooksBy result cache.old cache.new) seat.old seat.new }
+    ensures few { Across (AtMost 6) seat.old seat.new }
+{
+    let made = seat.state().made;
+    try_safe_point(heap, seat, cache, made)
+}
+
+/// Comes to a turn, where the phase was read and the heap isn't full. True where it is the mutators' turn.
+fn comes_to_turn(heap: &Heap, seat: &mut HeapSeat, _cache: &Option<Cache>) -> bool
+    requires going { Passes passes.Going heap.now seat.old _cache.now }
+    ensures plays { OnTrue result (Plays heap.now seat.new) }
+    ensures turn { OnTrue result (IsAtTurn heap.now seat.new) }
+    ensures works { Works heap.now seat.new }
+    ensures cache { HasCache _cache.now (view_of seat.new) }
+    ensures same { plain_of seat.new ≡ plain_of seat.old }
+    ensures leaves { Across LeavesHeap seat.old seat.new }
+    ensures looks { Across LooksAtSeason seat.old seat.new }
+    ensures known { IsTrue (is_some (state_of seat.old).season_seen) → view_of seat.new ≡ view_of seat.old }
+    ensures other { OnFalse result (SeesOther 1 (view_of seat.new)) }
+{
+    is_turn(heap, seat, TURN)
+}
+
+/// There is no cache to give up.
+fn spend_none(cache: Option<Cache>)
+    requires { cache ≡ None }
+{
+    match cache {
+        None => (),
+        Some(_) => unreachable!(),
+    }
+}
+
+/// Gives the cache up and leaves.
+fn leave_with(heap: &Heap, seat: &mut HeapSeat, cache: Option<Cache>)
+    requires works { Works heap.now seat.old }
+    requires cache { HasCache cache (view_of seat.old) }
+    ensures waits { IsMutatorOutside heap.now seat.new }
+    ensures same { plain_of seat.new ≡ plain_of seat.old }
+    ensures leaves { Across LeavesHeap seat.old seat.new }
+    ensures ran { Across Ran seat.old seat.new }
+    ensures few { Across (AtMost 5) seat.old seat.new }
+{
+    gives_up(heap, seat, cache);
+    leave(heap, seat);
+}
+
+/// Comes to its turn with this cache. Where a stop is under way or the heap is full it leaves.
+pub fn point(heap: &Heap, seat: &mut HeapSeat, cache: Option<Cache>) -> Result<Option<Cache>, Came>
+    requires works { Works heap.now seat.old }
+    requires cache { HasCache cache (view_of seat.old) }
+    ensures ok { IfOk result (λ kept. Plays heap.now seat.new × HasCache kept (view_of seat.new)) }
+    ensures turn { IfOk result (λ _. IsAtTurn heap.now seat.new) }
+    ensures err { IfErr result (λ came. LeavesWorld came heap.now seat.new) }
+    ensures same { plain_of seat.new ≡ plain_of seat.old }
+    ensures leaves { Across LeavesHeap seat.old seat.new }
+    ensures ran { Across Ran seat.old seat.new }
+    ensures freely { IfOk result (λ kept. (kept ≡ cache) × Across GoesFreely seat.old seat.new) }
+    ensures found { IfErr result (λ came. Across (ArrivesBy came) seat.old seat.new) }
+{
+    let mut cache = cache;
+    match try_pass(heap, seat, &mut cache) {
+        Pass::Out => {
+            spend_none(cache);
+            Err(Came::Stopped)
+        }
+        Pass::Full => {
+            spend_none(cache);
+            leave(heap, seat);
+            Err(Came::Full)
+        }
+        Pass::Going => {
+            if comes_to_turn(heap, seat, &cache) {
+                return Ok(cache);
+            }
+            leave_with(heap, seat, cache);
+            Err(Came::Stopped)
+        }
+    }
+}
+
+/// Comes to its turn, or leaves.
+pub fn arrive(heap: &Heap, seat: &mut HeapSeat) -> Came
+    requires halts { Halts heap.now seat.old }
+    ensures arrives { Arrives result heap.now seat.new }
+    ensures same { plain_of seat.new ≡ plain_of seat.old }
+    ensures leaves { Across LeavesHeap seat.old seat.new }
+    ensures ran { Across Ran seat.old seat.new }
+    ensures found { Across (ArrivesBy result) seat.old seat.new }
+{
+    match point(heap, seat, None) {
+        Ok(none) => {
+            keep_some(none);
+            Came::Done
+        }
+        Err(came) => came,
+    }
+}
+
+/// Enters the world, where no stop is under way, and comes to its turn.
+pub fn enter_once(heap: &Heap, seat: &mut HeapSeat) -> Came
+    requires waits { IsMutatorOutside heap.now seat.old }
+    ensures arrives { Arrives result heap.now seat.new }
+    ensures same { plain_of seat.new ≡ plain_of seat.old }
+    ensures leaves { Across LeavesHeap seat.old seat.new }
+    ensures found { Across (EntersBy result) seat.old seat.new }
+{
+    match try_in(heap, seat) {
+        Pass::Out => Came::Stopped,
+        Pass::Full => {
+            leave(heap, seat);
+            Came::Full
+        }
+        Pass::Going => arrive(heap, seat),
+    }
+}
+
+/// A safe point at its turn.
+pub fn pass_once(heap: &Heap, seat: &mut HeapSeat) -> Came
+    requires turn { IsAtTurn heap.now seat.old }
+    ensures arrives { Arrives result heap.now seat.new }
+    ensures same { plain_of seat.new ≡ plain_of seat.old }
+    ensures leaves { Across LeavesHeap seat.old seat.new }
+    ensures found { Across (PassesBy result) seat.old seat.new }
+{
+    let cache = cache_of(seat);
+    match point(heap, seat, cache) {
+        Ok(kept) => {
+            keep_some(kept);
+            Came::Done
+        }
+        Err(came) => came,
+    }
+}

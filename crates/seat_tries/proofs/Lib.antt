@@ -1,7 +1,0 @@
-mod Counted
-mod Doing
-mod Filled
-pub mod Found
-mod Made
-mod Searched
-mod Tried
