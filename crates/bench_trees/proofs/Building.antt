@@ -7,7 +7,7 @@ use Rattle.plain_heap.specs.declared.object.Object.{Object}
 use Rattle.plain_heap.specs.declared.operation.Op.TheVariants as ops
 use Rattle.plain_heap.specs.PlainHeap.{Heap, heap_variables, variable}
 use Rattle.plain_heap.specs.PlainStep.{field_of, new_object, replaced_by, stored_at, with_field}
-use Rattle.mutator_turns.specs.Plain.{Steps}
+use Rattle.seat_turns.specs.Plain.{Steps}
 use Rattle.bench_trees.specs.Trees.{Builds, IsTree, JoinsTrees}
 use Rattle.bench_trees.proofs.Growing.{grows-join, grows-less, tree-grows, tree-on}
 

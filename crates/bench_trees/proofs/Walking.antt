@@ -7,7 +7,7 @@ use Rattle.plain_heap.specs.declared.object.Ref.TheVariants as refs
 use Rattle.plain_heap.specs.declared.operation.Op.TheVariants as ops
 use Rattle.plain_heap.specs.PlainHeap.{Heap, heap_variables, variable}
 use Rattle.plain_heap.specs.PlainStep.{followed}
-use Rattle.mutator_turns.specs.Plain.{Steps}
+use Rattle.seat_turns.specs.Plain.{Steps}
 use Rattle.bench_trees.specs.Trees.{LeavesObjects, nodes}
 use Rattle.bench_trees.proofs.Counting.{followed-same, nodes-same}
 use Rattle.bench_trees.proofs.Growing.{leaves-join, leaves-less}

@@ -6,7 +6,7 @@ ghost use Rattle.plain_heap.specs.PlainHeap.{heap_variables, variable};
 ghost use Rattle.plain_heap.specs.declared.object.Ref.TheVariants.{Nil};
 ghost use Rattle.plain_heap.specs.declared.operation.Op.TheVariants as ops;
 ghost use Rattle.managed_heap.specs.Calls.{heap_of};
-ghost use Rattle.mutator_turns.specs.Plain.{Steps};
+ghost use Rattle.seat_turns.specs.Plain.{Steps};
 ghost use Rattle.bench_trees.specs.Standing.{WorkerHalts, WorkerPlays};
 
 use managed_heap::{Mutator, Refused};

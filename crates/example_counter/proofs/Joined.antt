@@ -1,8 +1,8 @@
 -- What two calls of a mutator add, one after the other.
 use Rattle.std.proofs.Common.{ℕ, ◌≡◌, ◌+◌, List, [], ◌∷◌, ◌++◌, ap, arith, refl, subst, sym, Bool, true}
 use Rattle.std.proofs.lemmas.Bool.{and_from, and_parts}
-use Rattle.mutator_turns.specs.declared.refused.Refused.{Refused}
-use Rattle.mutator_turns.specs.declared.refused.Refused.TheVariants.{Full, Nil, OutOfRange, Outside, Spent}
+use Rattle.seat_turns.specs.declared.refused.Refused.{Refused}
+use Rattle.seat_turns.specs.declared.refused.Refused.TheVariants.{Full, Nil, OutOfRange, Outside, Spent}
 use Rattle.gc_table.specs.Log.{all_steps}
 use Rattle.gc_table.specs.declared.seat.Heap.{Heap}
 use Rattle.gc_table.specs.declared.view.Entry.{Entry}

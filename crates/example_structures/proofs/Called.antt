@@ -25,8 +25,8 @@ use Rattle.gc_table.proofs.History.Log.{events-after, events-of}
 use Rattle.gc_table.proofs.Running.{ran-events, ran-found, ran-grows, ran-join}
 use Rattle.card_clean.specs.Barrier.{barrier_steps, cell_in, dirtied_after}
 use Rattle.mutator_ops.specs.Sharing.{SetsVariable, TakesSteps, next_word, setting_steps}
-use Rattle.mutator_turns.specs.Exchanging.{ExchangesField}
-use Rattle.mutator_turns.specs.Sharing.{FollowsField, MakesSharedAfter, spares_heap}
+use Rattle.seat_turns.specs.Exchanging.{ExchangesField}
+use Rattle.seat_turns.specs.Sharing.{FollowsField, MakesSharedAfter, spares_heap}
 use Rattle.shared_heap.specs.Calls.{FindsValue, IsSame}
 use Rattle.shared_heap.specs.declared.mutator.SharedMutator.{SharedMutator}
 use Rattle.example_structures.specs.Changes.{Change, ChangesNone, IsTold, changed_in, changes_of, no_words, told_of, words_by}

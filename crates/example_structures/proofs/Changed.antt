@@ -6,7 +6,7 @@ use Rattle.mark_core.specs.declared.kinds.Step.{Step}
 use Rattle.mark_core.specs.declared.kinds.Step.TheVariants.{ExchangeField, ExchangeValue, StoreField, StoreRoot, StoreValue}
 use Rattle.gc_table.specs.Log.{all_steps, steps_of}
 use Rattle.gc_table.specs.declared.view.Entry.{Entry}
-use Rattle.mutator_turns.specs.Sharing.{spares_heap}
+use Rattle.seat_turns.specs.Sharing.{spares_heap}
 use Rattle.example_structures.specs.Changes.{Change, changed_by, changed_in, count_of, words_after, words_by}
 
 -- one thing after the other

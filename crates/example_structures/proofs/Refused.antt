@@ -6,8 +6,8 @@ use Rattle.std.specs.declared.result.Result.TheVariants.{Err, Ok}
 use Rattle.plain_heap.specs.declared.operation.Op.{Op}
 use Rattle.plain_heap.specs.declared.operation.Op.TheVariants as ops
 use Rattle.mark_core.specs.Numbers.{section_variables}
-use Rattle.mutator_turns.specs.declared.refused.Refused.{Refused}
-use Rattle.mutator_turns.specs.declared.refused.Refused.TheVariants as refusals
+use Rattle.seat_turns.specs.declared.refused.Refused.{Refused}
+use Rattle.seat_turns.specs.declared.refused.Refused.TheVariants as refusals
 use Rattle.shared_heap.specs.Calls.{ActRefused, CantAct, MakesNone, ReadsNone, StaysOut, field_count_of}
 use Rattle.shared_heap.specs.Wanting.{WantsObject}
 use Rattle.shared_heap.specs.declared.mutator.Place.{Place}

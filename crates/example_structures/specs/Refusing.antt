@@ -1,7 +1,7 @@
 -- Why a call on a structure was refused, and where the mutator is then.
 use Rattle.std.specs.Prelude.{ℕ, ◌≡◌, ◌<◌, ◌≤◌, ◌⊎◌}
-use Rattle.mutator_turns.specs.declared.refused.Refused.{Refused}
-use Rattle.mutator_turns.specs.declared.refused.Refused.TheVariants as refusals
+use Rattle.seat_turns.specs.declared.refused.Refused.{Refused}
+use Rattle.seat_turns.specs.declared.refused.Refused.TheVariants as refusals
 use Rattle.shared_heap.specs.Calls.{IsFull, field_count_of}
 use Rattle.shared_heap.specs.declared.mutator.Place.TheVariants.{Inside, Outside}
 use Rattle.shared_heap.specs.declared.mutator.SharedMutator.{SharedMutator}

@@ -12,7 +12,7 @@ use Rattle.gc_table.specs.declared.seat.Heap.{Heap}
 use Rattle.gc_table.specs.declared.seat.HeapSeat.{HeapSeat}
 use Rattle.gc_table.specs.declared.view.View.{View}
 use Rattle.stop_world.specs.Gates.{Enters, TurnsBack}
-use Rattle.mutator_turns.specs.TracerStanding.{Goes}
+use Rattle.seat_turns.specs.TracerStanding.{Goes}
 use Rattle.gc_play.specs.Standing.{Rests}
 use Rattle.gc_play.specs.Stays.{SeatStays}
 use Rattle.gc_play.specs.Turns as turns

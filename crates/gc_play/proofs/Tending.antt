@@ -24,8 +24,8 @@ use Rattle.tracer.specs.Tally.{pops}
 use Rattle.gc_cycle.specs.Sorts.{enters, looks_at_phase, tries_marking}
 use Rattle.gc_cycle.specs.Statistics.{changing_step, numbers_changed, tells}
 use Rattle.gc_cycle.proofs.Sequences.{none-of-steps, some-none}
-use Rattle.mutator_turns.specs.TracerStanding.{GoesMarking}
-use Rattle.mutator_turns.specs.Tending.{MarksSome, Tends, tends_inside, turn_quota}
+use Rattle.seat_turns.specs.TracerStanding.{GoesMarking}
+use Rattle.seat_turns.specs.Tending.{MarksSome, Tends, tends_inside, turn_quota}
 use Rattle.gc_play.specs.Stays.{SeatStays}
 use Rattle.gc_play.specs.Turns.{TracesInside, WaitsOutside, until_leave, is_leave, leaves_done, payment, seat_traces_on}
 use Rattle.gc_play.proofs.Rounds.{traces-more}

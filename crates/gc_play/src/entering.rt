@@ -2,7 +2,7 @@
 ghost use Rattle.std.specs.Prelude.{IsTrue, IsFalse};
 ghost use Rattle.mark_core.specs.declared.kinds.Step.TheVariants.{LeaveStep};
 ghost use Rattle.gc_table.specs.Seats.{Across, did};
-ghost use Rattle.mutator_turns.specs.TracerStanding.{Goes};
+ghost use Rattle.seat_turns.specs.TracerStanding.{Goes};
 ghost use Rattle.gc_play.specs.Standing.{Rests};
 ghost use Rattle.gc_play.specs.Stays.{SeatStays};
 ghost use Rattle.gc_play.specs.Turns.{EntersOrLeaves, IsOne};

@@ -5,13 +5,13 @@ ghost use Rattle.std.specs.Prelude.{false};
 ghost use Rattle.mark_core.specs.Numbers.{traced_count};
 ghost use Rattle.mark_core.specs.declared.kinds.Step.TheVariants.{AddStat};
 ghost use Rattle.gc_table.specs.Seats.{Across, did, state_of};
-ghost use Rattle.mutator_turns.specs.TracerStanding.{Goes, GoesMarking};
+ghost use Rattle.seat_turns.specs.TracerStanding.{Goes, GoesMarking};
 ghost use Rattle.gc_play.specs.Stays.{SeatStays};
 ghost use Rattle.gc_play.specs.Turns.{IsOne, TracesInside};
 
 use gc_table::{Heap, HeapSeat};
 use mark_core::TRACED;
-use mutator_turns::mark_some;
+use seat_turns::mark_some;
 
 /// Adds to the number of traced objects.
 fn count_traced(heap: &Heap, seat: &mut HeapSeat, by: u32)

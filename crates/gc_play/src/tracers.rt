@@ -2,7 +2,7 @@
 ghost use Rattle.std.specs.Prelude.{◌≡◌, ◌∷◌, [], All, None, Some};
 ghost use Rattle.gc_table.specs.Seats.{Across, did, state_of};
 ghost use Rattle.gc_play.specs.Crews.{IsAnyTracer};
-ghost use Rattle.mutator_turns.specs.TracerStanding.{Goes};
+ghost use Rattle.seat_turns.specs.TracerStanding.{Goes};
 ghost use Rattle.gc_play.specs.Standing.{Rests};
 ghost use Rattle.mark_core.specs.Numbers.{done_count};
 ghost use Rattle.mark_core.specs.declared.kinds.Phase.TheVariants.{Marking};
@@ -18,7 +18,7 @@ use crate::marking::trace_inside;
 use gc_cycle::await_resumed_helping;
 use gc_table::{Heap, HeapSeat};
 use mark_core::{DONE, Phase};
-use mutator_turns::see_phase;
+use seat_turns::see_phase;
 use std::sync::Wait;
 use std::thread;
 use std::thread::{Threads, yield_now};

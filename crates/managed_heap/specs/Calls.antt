@@ -10,14 +10,14 @@ use Rattle.gc_table.specs.Seats.{Across, did, view_of}
 use Rattle.gc_table.specs.declared.seat.HeapSeat.{HeapSeat}
 use Rattle.gc_table.specs.declared.view.View.{View}
 use Rattle.gc_cycle.specs.Cycles.{collects}
-use Rattle.mutator_turns.specs.Coming.{EntersTurn, LeavesTurn}
-use Rattle.mutator_turns.specs.Plain.{Steps, value_in}
-use Rattle.mutator_turns.specs.Standing.{plain_of}
+use Rattle.seat_turns.specs.Coming.{EntersTurn, LeavesTurn}
+use Rattle.seat_turns.specs.Plain.{Steps, value_in}
+use Rattle.seat_turns.specs.Standing.{plain_of}
 use Rattle.managed_heap.specs.declared.mutator.Mutator.{Mutator}
 use Rattle.managed_heap.specs.declared.mutator.Place.{Place}
 use Rattle.managed_heap.specs.declared.mutator.Place.TheVariants.{Inside, Outside}
-use Rattle.mutator_turns.specs.declared.refused.Refused.{Refused}
-use Rattle.mutator_turns.specs.declared.refused.Refused.TheVariants as refusals
+use Rattle.seat_turns.specs.declared.refused.Refused.{Refused}
+use Rattle.seat_turns.specs.declared.refused.Refused.TheVariants as refusals
 
 -- the plain heap of a mutator: its objects by their numbers, and what each variable refers to
 abbrev pub heap_of : Mutator → PlainHeap

@@ -9,7 +9,7 @@ use Rattle.gc_table.specs.Past.{log_of}
 use Rattle.gc_table.specs.declared.seat.HeapSeat.{HeapSeat}
 use Rattle.gc_table.specs.declared.words.Words.{Words}
 use Rattle.heap_runs.specs.Runs.{core_after}
-use Rattle.mutator_turns.specs.declared.background.Tracer.{Tracer}
+use Rattle.seat_turns.specs.declared.background.Tracer.{Tracer}
 use Rattle.managed_heap.specs.Closing.{IsWorldEnd, all_seats}
 use Rattle.managed_heap.specs.declared.mutator.Mutator.{Mutator}
 use Rattle.managed_heap.specs.declared.world.World.{World}

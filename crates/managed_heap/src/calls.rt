@@ -6,15 +6,15 @@ ghost use Rattle.gc_table.specs.Running.{Ran};
 ghost use Rattle.gc_table.specs.Seats.{Across};
 ghost use Rattle.plain_heap.specs.declared.operation.Op.TheVariants as ops;
 ghost use Rattle.managed_heap.specs.Calls.{CantEnter, MutatorCollected, MutatorEntered, MutatorLeft, HasPassed, MutatorDoes, MutatorRefused, IsSame, MakesNone, RefusedBy, StaysOut};
-ghost use Rattle.mutator_turns.specs.Coming.{CollectsAtTurn, CollectsNone, EntersFull, MakesAtTurn, MakesNoneAtTurn, PollsOutWith, PollsWith, WithOwn};
-ghost use Rattle.mutator_turns.specs.Operating.{AtMost, TakesSteps};
-ghost use Rattle.mutator_turns.specs.Sharing.{spares_tracers};
+ghost use Rattle.seat_turns.specs.Coming.{CollectsAtTurn, CollectsNone, EntersFull, MakesAtTurn, MakesNoneAtTurn, PollsOutWith, PollsWith, WithOwn};
+ghost use Rattle.seat_turns.specs.Operating.{AtMost, TakesSteps};
+ghost use Rattle.seat_turns.specs.Sharing.{spares_tracers};
 
 use crate::mutator::{Mutator, Place};
 use cache_refills::{Unwatched, Watch};
 use mark_core::VARIABLES;
 use mutator_ops::{assign, clear, follow, put, set};
-use mutator_turns::{Refused, collect_turn, enter_turn, leave_turn, make_object, pass_turn};
+use seat_turns::{Refused, collect_turn, enter_turn, leave_turn, make_object, pass_turn};
 use std::sync::Wait;
 
 impl Mutator {
@@ -151,7 +151,7 @@ impl Mutator {
     }
 
     /// Reference i of variable v's object becomes what variable w refers to. Nothing happens where v refers to nothing.
-    #[tactic(auto, using(mutator_turns::proofs::Operating::operating))]
+    #[tactic(auto, using(seat_turns::proofs::Operating::operating))]
     pub fn set(&mut self, v: u8, i: u8, w: u8) -> Result<(), Refused>
         ensures done { IfOk result (λ _. MutatorDoes (ops.Set v i w) self.old self.new) }
         ensures refused { IfErr result (λ e. MutatorRefused e (ops.Set v i w) self.old self.new) }
@@ -173,7 +173,7 @@ impl Mutator {
     }
 
     /// Variable w becomes what reference i of variable v's object refers to, or refers to nothing where v does.
-    #[tactic(auto, using(mutator_turns::proofs::Operating::operating))]
+    #[tactic(auto, using(seat_turns::proofs::Operating::operating))]
     pub fn get(&mut self, w: u8, v: u8, i: u8) -> Result<(), Refused>
         ensures done { IfOk result (λ _. MutatorDoes (ops.Get w v i) self.old self.new) }
         ensures refused { IfErr result (λ e. MutatorRefused e (ops.Get w v i) self.old self.new) }
@@ -195,7 +195,7 @@ impl Mutator {
     }
 
     /// Variable w becomes what variable v is. Refused where a number is out of range, or the mutator is outside.
-    #[tactic(auto, using(mutator_turns::proofs::Operating::operating))]
+    #[tactic(auto, using(seat_turns::proofs::Operating::operating))]
     pub fn copy(&mut self, w: u8, v: u8) -> Result<(), Refused>
         ensures done { IfOk result (λ _. MutatorDoes (ops.Let w v) self.old self.new) }
         ensures refused { IfErr result (λ e. MutatorRefused e (ops.Let w v) self.old self.new) }
@@ -217,7 +217,7 @@ impl Mutator {
     }
 
     /// Variable v refers to nothing any more. What only it reached is garbage from then on. Refused where v is out of range, or the mutator is outside.
-    #[tactic(auto, using(mutator_turns::proofs::Operating::operating))]
+    #[tactic(auto, using(seat_turns::proofs::Operating::operating))]
     pub fn forget(&mut self, v: u8) -> Result<(), Refused>
         ensures done { IfOk result (λ _. MutatorDoes (ops.Nil v) self.old self.new) }
         ensures refused { IfErr result (λ e. MutatorRefused e (ops.Nil v) self.old self.new) }
@@ -239,7 +239,7 @@ impl Mutator {
     }
 
     /// The value of variable v's object becomes this one. Nothing happens where v refers to nothing.
-    #[tactic(auto, using(mutator_turns::proofs::Operating::operating))]
+    #[tactic(auto, using(seat_turns::proofs::Operating::operating))]
     pub fn put(&mut self, v: u8, value: u32) -> Result<(), Refused>
         ensures done { IfOk result (λ _. MutatorDoes (ops.Put v value) self.old self.new) }
         ensures refused { IfErr result (λ e. MutatorRefused e (ops.Put v value) self.old self.new) }

@@ -7,7 +7,7 @@ ghost use Rattle.world_seats.specs.Closing.{IsUnclosed};
 use crate::mutator::Mutator;
 use crate::world::World;
 use gc_table::{Heap, HeapSeat, Words};
-use mutator_turns::Tracer;
+use seat_turns::Tracer;
 use std::alloc::Global;
 use std::sync::Arc;
 use world_seats::{Lent, NotClosed, Opened, close_world};

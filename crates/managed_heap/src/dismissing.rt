@@ -3,10 +3,10 @@ ghost use Rattle.std.specs.Bool.{OnFalse, OnTrue};
 ghost use Rattle.gc_table.specs.Seats.{Across};
 ghost use Rattle.stop_world.specs.Gates.{TurnsBack};
 ghost use Rattle.managed_heap.specs.Lending.{HasAllStill};
-ghost use Rattle.mutator_turns.specs.Trying.{Dismisses, DismissesInside};
+ghost use Rattle.seat_turns.specs.Trying.{Dismisses, DismissesInside};
 
 use crate::world::World;
-use mutator_turns::{tell_dismissed, try_dismiss};
+use seat_turns::{tell_dismissed, try_dismiss};
 use std::sync::Wait;
 
 impl World {

@@ -8,8 +8,8 @@ ghost use Rattle.gc_table.specs.Running.{Ran};
 ghost use Rattle.gc_table.specs.Seats.{Across, Found, state_of, view_of};
 ghost use Rattle.managed_heap.specs.Calls.{MutatorLeft};
 ghost use Rattle.managed_heap.specs.Lending.{AreAllBack, FitsWorld, HasAllStill, IsBack, IsOpened, KeepsRest, TakesNoMutator, TakesNoTracer};
-ghost use Rattle.mutator_turns.specs.Standing.{RestsOutside};
-ghost use Rattle.mutator_turns.specs.declared.refused.NotOpened.TheVariants.{OutOfRange};
+ghost use Rattle.seat_turns.specs.Standing.{RestsOutside};
+ghost use Rattle.seat_turns.specs.declared.refused.NotOpened.TheVariants.{OutOfRange};
 ghost use Rattle.world_seats.specs.Numbers.{ReadsStatistics};
 
 use crate::dealing::open_fitting;
@@ -17,7 +17,7 @@ use crate::mutator::Mutator;
 use crate::world::World;
 use gc_table::{Heap, HeapSeat};
 use mark_core::NAMED_SECTION;
-use mutator_turns::{NotOpened, Tracer};
+use seat_turns::{NotOpened, Tracer};
 use std::alloc::Global;
 use world_seats::{Sizes, Statistics, read_statistics};
 

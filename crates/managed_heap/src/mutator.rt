@@ -1,7 +1,7 @@
 //! A mutator in the hand of one thread.
 ghost use Rattle.std.specs.Arc.{arc_value};
 ghost use Rattle.std.specs.Prelude.{◌≡◌, IsFalse};
-ghost use Rattle.mutator_turns.specs.Standing.{IsAtTurn, IsMutatorOutside};
+ghost use Rattle.seat_turns.specs.Standing.{IsAtTurn, IsMutatorOutside};
 ghost use Rattle.managed_heap.specs.declared.mutator.Place.TheVariants as places;
 
 use gc_table::{Heap, HeapSeat};

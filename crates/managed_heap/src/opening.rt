@@ -15,8 +15,8 @@ ghost use Rattle.world_seats.specs.Sizing.{Fits};
 
 use gc_table::{Heap, HeapSeat};
 use mark_core::{Phase, Shape, usual_stretch};
-use mutator_turns::NotOpened;
 use plain_heap::NoPlan;
+use seat_turns::NotOpened;
 use std::alloc::Global;
 use stop_world::{Raised, leave, raise, resume};
 use world_seats::Sizes;

@@ -9,13 +9,13 @@ ghost use Rattle.gc_table.specs.Log.{Only};
 ghost use Rattle.gc_table.specs.Seats.{Across};
 ghost use Rattle.managed_heap.specs.Calls.{HasPassed, IsSame, ReadsNone, Refuses, heap_of};
 ghost use Rattle.managed_heap.specs.declared.mutator.Place.TheVariants as places;
-ghost use Rattle.mutator_turns.specs.Operating.{AtMost, TakesSteps};
-ghost use Rattle.mutator_turns.specs.Plain.{value_in};
-ghost use Rattle.mutator_turns.specs.Sharing.{spares_tracers};
+ghost use Rattle.seat_turns.specs.Operating.{AtMost, TakesSteps};
+ghost use Rattle.seat_turns.specs.Plain.{value_in};
+ghost use Rattle.seat_turns.specs.Sharing.{spares_tracers};
 
 use crate::mutator::{Mutator, Place};
 use mark_core::VARIABLES;
-use mutator_turns::{Refused, read_value, refer_to_one, refers_to_nothing};
+use seat_turns::{Refused, read_value, refer_to_one, refers_to_nothing};
 
 impl Mutator {
     /// The value of variable v's object. Nil where it refers to nothing.

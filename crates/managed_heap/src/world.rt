@@ -3,11 +3,11 @@ ghost use Rattle.std.specs.Arc.{arc_value};
 ghost use Rattle.std.specs.Prelude.{◌≤◌, IsTrue, is_some, vec_capacity};
 ghost use Rattle.gc_table.specs.Seats.{state_of};
 ghost use Rattle.world_seats.specs.Gathering.{IsFirstSeat};
-ghost use Rattle.mutator_turns.specs.Standing.{RestsOutside};
+ghost use Rattle.seat_turns.specs.Standing.{RestsOutside};
 
 use crate::mutator::Mutator;
 use gc_table::{Heap, HeapSeat};
-use mutator_turns::Tracer;
+use seat_turns::Tracer;
 use std::alloc::Global;
 use std::sync::Arc;
 use world_seats::Sizes;

@@ -5,7 +5,7 @@ use Rattle.std.specs.Prelude.{Result, Ok, Err, IfOk, IfErr}
 use Rattle.mark_core.specs.Steps.MutatorSteps.{seat_variable as word_in}
 use Rattle.mark_core.specs.declared.kinds.Step.TheVariants.{ReadIdent}
 use Rattle.gc_table.specs.Seats.{Found, state_of}
-use Rattle.mutator_turns.specs.Exchanging.{ExchangesField, ExchangesValue}
+use Rattle.seat_turns.specs.Exchanging.{ExchangesField, ExchangesValue}
 use Rattle.seat_steps.specs.declared.came.Came.{Came}
 use Rattle.seat_steps.specs.declared.came.Came.TheVariants as cames
 use Rattle.seat_steps.specs.Acting.{CanExchange, IsVariable, StepperActs, WantsObject}

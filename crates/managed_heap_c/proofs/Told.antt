@@ -2,7 +2,7 @@
 use Rattle.std.proofs.Common.{ℕ, ◌≡◌, Option, None, true, false, refl, sym, ap, ◌∙◌, subst, inl, inr}
 use Rattle.std.proofs.lemmas.Bool.{false≢true}
 use Rattle.std.specs.Prelude.{IsFalse, IsTrue}
-use Rattle.mutator_turns.specs.declared.background.Tracer.{Tracer}
+use Rattle.seat_turns.specs.declared.background.Tracer.{Tracer}
 use Rattle.managed_heap_c.specs.Telling.{TellsTraced, TellsTracedOnce}
 use Rattle.managed_heap_c.specs.declared.hands.Hand.{Hand}
 use Rattle.managed_heap_c.specs.declared.hands.TracerHand.{TracerHand}

@@ -5,8 +5,8 @@ use Rattle.mark_core.specs.Steps.MutatorSteps.{seat_variable as word_in}
 use Rattle.mark_core.specs.declared.kinds.Step.TheVariants.{ReadIdent, StoreSlot}
 use Rattle.gc_table.specs.Seats.{Found, state_of}
 use Rattle.mutator_ops.specs.Sharing.{FillsFound, TakesSteps}
-use Rattle.mutator_turns.specs.Clearing.{clearing_steps}
-use Rattle.mutator_turns.specs.Exchanging.{ExchangesField, ExchangesValue}
+use Rattle.seat_turns.specs.Clearing.{clearing_steps}
+use Rattle.seat_turns.specs.Exchanging.{ExchangesField, ExchangesValue}
 use Rattle.seat_steps.specs.declared.came.Came.{Came}
 use Rattle.seat_steps.specs.declared.came.Came.TheVariants as cames
 use Rattle.seat_steps.specs.Acting.{ActsTo, CanExchange, HasSlots, IsSlot, IsVariable, StepperActs, WantsObject}

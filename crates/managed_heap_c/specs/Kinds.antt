@@ -2,7 +2,7 @@
 use Rattle.std.specs.Prelude.{◌≡◌}
 use Rattle.managed_heap.specs.Lending.{AreAllBack, IsOpened}
 use Rattle.shared_heap.specs.Lending.{AreAllBack as AreSharedBack, IsSharedOpened}
-use Rattle.mutator_turns.specs.declared.background.Tracer.{Tracer}
+use Rattle.seat_turns.specs.declared.background.Tracer.{Tracer}
 use Rattle.seat_steps.specs.declared.stepper.Stepper.{Stepper}
 use Rattle.managed_heap_c.specs.Own as own
 use Rattle.managed_heap_c.specs.Sharing as sharing

@@ -4,9 +4,9 @@ use Rattle.std.specs.Arc.{arc_value}
 use Rattle.gc_table.specs.Seats.{Across, view_of}
 use Rattle.stop_world.specs.Gates.{TurnsBack}
 use Rattle.mutator_ops.specs.Few.{AtMost}
-use Rattle.mutator_turns.specs.Sharing.{LeavesHeap}
-use Rattle.mutator_turns.specs.Trying.{Dismisses}
-use Rattle.mutator_turns.specs.declared.background.Tracer.{Tracer}
+use Rattle.seat_turns.specs.Sharing.{LeavesHeap}
+use Rattle.seat_turns.specs.Trying.{Dismisses}
+use Rattle.seat_turns.specs.declared.background.Tracer.{Tracer}
 use Rattle.seat_steps.specs.declared.stepper.Stepper.{Stepper}
 use Rattle.shared_heap.specs.Handing.{IsInSteps, IsOfSteps}
 use Rattle.shared_heap.specs.Lending.{HasAllStill, IsBack, KeepsRest}

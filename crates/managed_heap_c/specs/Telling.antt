@@ -3,7 +3,7 @@ use Rattle.std.specs.Prelude.{ℕ, ◌≡◌, ◌⊎◌, Option, Some, None, IsF
 use Rattle.mark_core.specs.Seats.{saw}
 use Rattle.mark_core.specs.declared.kinds.Phase.TheVariants.{Marking}
 use Rattle.gc_table.specs.Seats.{state_of}
-use Rattle.mutator_turns.specs.declared.background.Tracer.{Tracer}
+use Rattle.seat_turns.specs.declared.background.Tracer.{Tracer}
 use Rattle.seat_steps.specs.declared.came.Came.{Came}
 use Rattle.seat_steps.specs.declared.came.Came.TheVariants as cames
 use Rattle.seat_steps.specs.declared.stepper.Stage.{Stage}

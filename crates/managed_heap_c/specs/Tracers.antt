@@ -1,10 +1,10 @@
 -- What an export of a tracer answers.
 use Rattle.std.specs.Prelude.{ℕ, ◌≡◌, ◌⊎◌, Option, Some, None, IsFalse, IsTrue}
 use Rattle.gc_table.specs.Seats.{Across}
-use Rattle.mutator_turns.specs.Trying.{TriesTurn}
-use Rattle.mutator_turns.specs.declared.background.Tracer.{Tracer}
-use Rattle.mutator_turns.specs.declared.try_turns.TryTurn.{TryTurn}
-use Rattle.mutator_turns.specs.declared.try_turns.TryTurn.TheVariants as tries
+use Rattle.seat_turns.specs.Trying.{TriesTurn}
+use Rattle.seat_turns.specs.declared.background.Tracer.{Tracer}
+use Rattle.seat_turns.specs.declared.try_turns.TryTurn.{TryTurn}
+use Rattle.seat_turns.specs.declared.try_turns.TryTurn.TheVariants as tries
 use Rattle.managed_heap_c.specs.Kinds as kinds
 use Rattle.managed_heap_c.specs.declared.hands.AnyWorld.{AnyWorld}
 use Rattle.managed_heap_c.specs.declared.hands.TracerHand.{TracerHand}

@@ -1,8 +1,8 @@
 //! What lies behind a handle.
 
 use managed_heap::World;
-use mutator_turns::Tracer;
 use seat_steps::Stepper;
+use seat_turns::Tracer;
 use shared_heap::SharedWorld;
 
 /// A mutator, or none where it was given back.

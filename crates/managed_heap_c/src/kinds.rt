@@ -1,7 +1,7 @@
 //! A world of either kind is opened, lends its mutators and tracers, takes them back, tells, and is closed.
 ghost use Rattle.std.specs.Prelude.{◌≡◌, IfErr, IfNone, IfOk, IfSome, OnOk};
 ghost use Rattle.std.specs.Bool.{OnFalse, OnTrue};
-ghost use Rattle.mutator_turns.specs.declared.refused.NotOpened.TheVariants.{OutOfRange};
+ghost use Rattle.seat_turns.specs.declared.refused.NotOpened.TheVariants.{OutOfRange};
 ghost use Rattle.managed_heap_c.specs.Kinds.{Counts, FindsStop, HasAll, IsOpenedAs, LacksMutator, LacksTracer, LendsSteps, LendsTracer, Refuses, RefusesTracer, TakesBack, TakesTracer, TellsTracers};
 ghost use Rattle.managed_heap_c.specs.Sizing.{AsksOwn, FitEither};
 
@@ -10,8 +10,8 @@ use crate::own::{count_own, lend_own, take_own};
 use crate::sharing::{count_shared, lend_shared, take_shared};
 use crate::sizes::{CNumbers, CSizes, own_sizes, shared_sizes};
 use managed_heap::{NotOpened, World};
-use mutator_turns::Tracer;
 use seat_steps::Stepper;
+use seat_turns::Tracer;
 use shared_heap::SharedWorld;
 use std::alloc::Global;
 

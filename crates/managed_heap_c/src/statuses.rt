@@ -3,8 +3,8 @@ ghost use Rattle.std.specs.Prelude.{◌≡◌};
 ghost use Rattle.managed_heap_c.specs.Answering.{status_of_came};
 ghost use Rattle.managed_heap_c.specs.Tracers.{status_of_turn};
 
-use mutator_turns::TryTurn;
 use seat_steps::Came;
+use seat_turns::TryTurn;
 
 /// It is done.
 pub const OK: u32 = 0;

@@ -5,7 +5,7 @@ ghost use Rattle.managed_heap_c.specs.Tracers.{AnswersTurn, Dismissing, GivesTra
 use crate::hands::{AnyWorld, TracerHand, Whole};
 use crate::slots::{TracerSlot, tracer_slot};
 use crate::statuses::{GIVEN_BACK, NONE_LEFT, OK, OUT_OF_MEMORY, REFUSED, STOPPED, turn_status};
-use mutator_turns::Tracer;
+use seat_turns::Tracer;
 use std::alloc::{AllocError, Global};
 
 /// An empty hand in a box, which no call uses.

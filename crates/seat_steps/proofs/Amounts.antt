@@ -30,7 +30,7 @@ use Rattle.cycle_steps.specs.declared.card_steps.Look.{Look}
 use Rattle.cycle_steps.specs.declared.card_steps.Look.TheVariants as looks
 use Rattle.gc_cycle.proofs.Sequences.{count-none as count-missing, none-of-steps}
 use Rattle.gc_cycle.proofs.Stops.Admitted.{count-none, count-run}
-use Rattle.mutator_turns.specs.Coming.{GivesCache, StepsOut, WithOwn}
+use Rattle.seat_turns.specs.Coming.{GivesCache, StepsOut, WithOwn}
 use Rattle.seat_steps.specs.Filling.{PopsNone}
 use Rattle.seat_steps.specs.Amounts.{DrawsNone, DoesFew, DoesNeither}
 

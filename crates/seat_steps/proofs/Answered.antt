@@ -3,8 +3,8 @@ use Rattle.std.proofs.Common.{◌≡◌, refl, sym, subst, true}
 use Rattle.gc_table.specs.Seats.{Across, view_of}
 use Rattle.gc_table.specs.declared.seat.Heap.{Heap}
 use Rattle.gc_table.specs.declared.seat.HeapSeat.{HeapSeat}
-use Rattle.mutator_turns.specs.Standing.{IsMutatorOutside}
-use Rattle.mutator_turns.proofs.Leaving.{leaves-none}
+use Rattle.seat_turns.specs.Standing.{IsMutatorOutside}
+use Rattle.seat_turns.proofs.Leaving.{leaves-none}
 use Rattle.seat_steps.specs.Causes.{EntersBy, EntersFreely, PassesBy}
 use Rattle.seat_steps.specs.Arriving.{Arrives}
 use Rattle.seat_steps.specs.declared.came.Came.{Came}

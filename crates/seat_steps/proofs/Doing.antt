@@ -8,9 +8,9 @@ use Rattle.mark_core.specs.Steps.MutatorSteps.{seat_variable as word_in}
 use Rattle.mark_core.specs.declared.kinds.Shape.{Shape}
 use Rattle.plain_heap.specs.declared.operation.Op.{Op}
 use Rattle.plain_heap.specs.declared.operation.Op.TheVariants as ops
-use Rattle.mutator_turns.specs.Plain.{Steps, value_in}
-use Rattle.mutator_turns.specs.Sharing.{LeavesHeap, MakesShared}
-use Rattle.mutator_turns.specs.Standing.{plain_of}
+use Rattle.seat_turns.specs.Plain.{Steps, value_in}
+use Rattle.seat_turns.specs.Sharing.{LeavesHeap, MakesShared}
+use Rattle.seat_turns.specs.Standing.{plain_of}
 use Rattle.seat_steps.specs.Doing.{Does, DoesShared, FindsNone, FindsSome, FindsValue, MakesNow}
 
 -- a heap isn't of both kinds

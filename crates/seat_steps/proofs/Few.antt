@@ -13,8 +13,8 @@ use Rattle.gc_table.specs.declared.view.View.{View}
 use Rattle.mutator_ops.specs.Few.{AtMost}
 use Rattle.mutator_ops.specs.Sharing.{FillsFound, TakesSteps}
 use Rattle.mutator_ops.proofs.Few.{at-most-after, at-most-events, at-most-none, at-most-steps}
-use Rattle.mutator_turns.specs.Clearing.{clearing_steps}
-use Rattle.mutator_turns.specs.Exchanging.{ExchangesField, ExchangesValue}
+use Rattle.seat_turns.specs.Clearing.{clearing_steps}
+use Rattle.seat_turns.specs.Exchanging.{ExchangesField, ExchangesValue}
 use Rattle.seat_steps.specs.Handing.{StopsFrom}
 use Rattle.seat_steps.specs.declared.stepper.Stage.{Stage}
 use Rattle.seat_steps.specs.declared.stepper.Stage.TheVariants.{Inside, Outside}

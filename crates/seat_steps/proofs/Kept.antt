@@ -12,10 +12,10 @@ use Rattle.gc_table.specs.declared.view.View.{View}
 use Rattle.gc_cycle.specs.Courses.{goes_on}
 use Rattle.gc_cycle.specs.Finishing.{IsMove, IsPart}
 use Rattle.cycle_steps.specs.Stepping.{FindsRunning, FindsStopped, Keeps, RunsAgain}
-use Rattle.mutator_turns.specs.Sharing.{LeavesHeap}
-use Rattle.mutator_turns.specs.Standing.{Halts, IsMutator, plain_of}
-use Rattle.mutator_turns.proofs.Leaving.{leaves-join}
-use Rattle.mutator_turns.proofs.Seats.{kept-heap, mutator-kept}
+use Rattle.seat_turns.specs.Sharing.{LeavesHeap}
+use Rattle.seat_turns.specs.Standing.{Halts, IsMutator, plain_of}
+use Rattle.seat_turns.proofs.Leaving.{leaves-join}
+use Rattle.seat_turns.proofs.Seats.{kept-heap, mutator-kept}
 use Rattle.seat_steps.specs.Collecting.{Collects}
 use Rattle.seat_steps.specs.Stepping.{KeepsAll}
 use Rattle.seat_steps.specs.declared.stepper.Stepper.{Stepper}

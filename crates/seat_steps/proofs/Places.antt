@@ -19,7 +19,7 @@ use Rattle.gc_table.specs.declared.seat.HeapSeat.{HeapSeat}
 use Rattle.gc_table.specs.declared.view.View.{View}
 use Rattle.gc_table.proofs.Running.{ran-shape}
 use Rattle.mutator_ops.proofs.Knowing.{knows-there, taken-there}
-use Rattle.mutator_turns.specs.Sharing.{MakesSharedAfter}
+use Rattle.seat_turns.specs.Sharing.{MakesSharedAfter}
 
 -- what a variable names is a cell of the heap
 word_inside : (v : View) (u c : ℕ) → ∥ IsPossible v ∥₁ → u < section_variables → word_in v.state u ≡ c + 1 → c < v.shape.cells

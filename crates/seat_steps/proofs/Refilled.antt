@@ -18,8 +18,8 @@ use Rattle.cache_refills.specs.declared.pieces.Piece.{Piece}
 use Rattle.cache_refills.specs.declared.pieces.Piece.TheVariants as pieces
 use Rattle.mutator_ops.specs.Few.{AtMost}
 use Rattle.mutator_ops.proofs.Few.{at-most-join, at-most-none}
-use Rattle.mutator_turns.specs.Sharing.{LeavesHeap}
-use Rattle.mutator_turns.specs.Standing.{plain_of}
+use Rattle.seat_turns.specs.Sharing.{LeavesHeap}
+use Rattle.seat_turns.specs.Standing.{plain_of}
 use Rattle.seat_steps.specs.Causes.{GoesFreely}
 use Rattle.seat_steps.specs.Seeking.{FailsBy, RefillsBy, SeeksOnce}
 use Rattle.seat_steps.specs.declared.seeking.Sought.{Sought}

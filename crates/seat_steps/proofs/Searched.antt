@@ -30,8 +30,8 @@ use Rattle.cache_refills.specs.declared.pieces.Piece.TheVariants as pieces
 use Rattle.gc_cycle.specs.declared.counts.Refill.TheVariants as refills
 use Rattle.mutator_ops.specs.Few.{AtMost}
 use Rattle.mutator_ops.proofs.Few.{at-most-join, at-most-more, at-most-none}
-use Rattle.mutator_turns.specs.Standing.{Works, plain_of}
-use Rattle.mutator_turns.proofs.Seats.{kept-works}
+use Rattle.seat_turns.specs.Standing.{Works, plain_of}
+use Rattle.seat_turns.proofs.Seats.{kept-works}
 use Rattle.seat_steps.specs.Causes.{ArrivesBy, GoesFreely, HasFree}
 use Rattle.seat_steps.specs.Seeking.{CachedBy, FailsBy, MakesHere, MakesOwn, RefillsBy, SeeksOnce, SoughtBy, StandsAfter, TriesPiece}
 use Rattle.seat_steps.specs.Arriving.{Arrives, LeavesWorld}

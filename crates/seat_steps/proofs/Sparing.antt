@@ -14,8 +14,8 @@ use Rattle.gc_cycle.specs.Finishing.{IsMove, IsPart, stays_in}
 use Rattle.gc_cycle.specs.Sparing.{fills_part}
 use Rattle.gc_cycle.specs.Standing.{KeepsSeat}
 use Rattle.cycle_steps.specs.Stepping.{AsksOnce, FindsRunning, FindsStopped}
-use Rattle.mutator_turns.specs.Sharing.{LeavesHeap}
-use Rattle.mutator_turns.proofs.Leaving.{leaves-filled}
+use Rattle.seat_turns.specs.Sharing.{LeavesHeap}
+use Rattle.seat_turns.proofs.Leaving.{leaves-filled}
 
 goes_fills : (step : Step) → goes_on step ≡ true → fills_part step ≡ true
 goes_fills (StoreField v i w) e = absurd (false≢true e)

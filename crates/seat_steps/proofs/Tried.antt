@@ -27,10 +27,10 @@ use Rattle.gc_cycle.specs.declared.counts.Refill.TheVariants as refills
 use Rattle.cache_refills.specs.declared.trying.Pass.{Pass}
 use Rattle.cache_refills.specs.declared.trying.Pass.TheVariants as passes
 use Rattle.mutator_ops.specs.Few.{AtMost}
-use Rattle.mutator_turns.specs.Standing.{Halts, IsMutatorOutside, Works}
+use Rattle.seat_turns.specs.Standing.{Halts, IsMutatorOutside, Works}
 use Rattle.seat_steps.specs.Filling.{TriesToFill, filling_steps, search_steps}
 use Rattle.seat_steps.specs.Arriving.{Passes, Refills, Tries}
-use Rattle.mutator_turns.proofs.Seats.{going-seen, kept-works, mutator-kept}
+use Rattle.seat_turns.proofs.Seats.{going-seen, kept-works, mutator-kept}
 
 pub has-section : (o season : Option ℕ) → has_turn o season ≡ true → is_some o ≡ true
 has-section None season e = absurd (false≢true e)

@@ -11,7 +11,7 @@ use Rattle.gc_cycle.specs.Cycles.{collects_exactly}
 use Rattle.gc_cycle.specs.Moments.{begins}
 use Rattle.cycle_steps.specs.Stepping.{AsksOnce, EndsCollection, FindsStopped}
 use Rattle.gc_cycle.specs.declared.counts.Counts.{Counts}
-use Rattle.mutator_turns.specs.Coming.{GivesCache, StepsOut, WithOwn}
+use Rattle.seat_turns.specs.Coming.{GivesCache, StepsOut, WithOwn}
 use Rattle.seat_steps.specs.Asked.{HasAsked}
 use Rattle.seat_steps.specs.Causes.{ArrivesBy, FoundFull}
 use Rattle.seat_steps.specs.declared.came.Came.{Came}

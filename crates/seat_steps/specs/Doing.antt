@@ -11,9 +11,9 @@ use Rattle.gc_table.specs.declared.seat.Heap.{Heap}
 use Rattle.gc_table.specs.declared.seat.HeapSeat.{HeapSeat}
 use Rattle.gc_table.specs.declared.view.View.{View}
 use Rattle.mutator_ops.specs.Sharing.{LendsFound, SetsVariable, TakesSteps, putting_steps, setting_steps}
-use Rattle.mutator_turns.specs.Plain.{Steps, value_in}
-use Rattle.mutator_turns.specs.Sharing.{FollowsField, MakesShared, MakesSharedAfter}
-use Rattle.mutator_turns.specs.Standing.{plain_of}
+use Rattle.seat_turns.specs.Plain.{Steps, value_in}
+use Rattle.seat_turns.specs.Sharing.{FollowsField, MakesShared, MakesSharedAfter}
+use Rattle.seat_turns.specs.Standing.{plain_of}
 
 -- what an operation does in a heap whose objects are shared: exactly these steps, and what they found
 abbrev pub DoesShared : Op → View → View → Type 0

@@ -3,9 +3,9 @@ use Rattle.std.specs.Prelude.{◌≡◌, IsTrue}
 use Rattle.gc_table.specs.Seats.{Across}
 use Rattle.gc_table.specs.declared.view.View.{View}
 use Rattle.mutator_ops.specs.Few.{AtMost}
-use Rattle.mutator_turns.specs.Coming.{LeavesTurn}
-use Rattle.mutator_turns.specs.Sharing.{LeavesHeap}
-use Rattle.mutator_turns.specs.Standing.{plain_of}
+use Rattle.seat_turns.specs.Coming.{LeavesTurn}
+use Rattle.seat_turns.specs.Sharing.{LeavesHeap}
+use Rattle.seat_turns.specs.Standing.{plain_of}
 use Rattle.seat_steps.specs.Stepping.{heap_of_stepper, is_collecting}
 use Rattle.seat_steps.specs.declared.resting.RestingSeat.{RestingSeat}
 use Rattle.seat_steps.specs.declared.stepper.Stage.{Stage}

@@ -21,7 +21,7 @@ use Rattle.cache_refills.specs.Pace.StepBounds.{payment_steps}
 use Rattle.cache_refills.specs.Pieces.{IsShort, SeesTo, refill_of}
 use Rattle.cache_refills.specs.declared.pieces.Piece.{Piece}
 use Rattle.cache_refills.specs.declared.pieces.Piece.TheVariants as pieces
-use Rattle.mutator_turns.specs.Standing.{Halts, IsAtTurn, Works, plain_of}
+use Rattle.seat_turns.specs.Standing.{Halts, IsAtTurn, Works, plain_of}
 use Rattle.seat_steps.specs.Causes.{FoundFull, FoundFullIn, FoundStop, FoundStopIn, GoesFreely, HasFree, PassesFreely}
 use Rattle.seat_steps.specs.Doing.{Does}
 use Rattle.seat_steps.specs.Arriving.{LeavesWorld}

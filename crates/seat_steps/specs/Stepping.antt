@@ -8,9 +8,9 @@ use Rattle.plain_heap.specs.declared.operation.Op.{Op}
 use Rattle.plain_heap.specs.declared.operation.Op.TheVariants as ops
 use Rattle.gc_table.specs.Seats.{Across}
 use Rattle.mutator_ops.specs.Few.{AtMost, most_steps}
-use Rattle.mutator_turns.specs.Coming.{LeavesTurn}
-use Rattle.mutator_turns.specs.Sharing.{LeavesHeap}
-use Rattle.mutator_turns.specs.Standing.{plain_of}
+use Rattle.seat_turns.specs.Coming.{LeavesTurn}
+use Rattle.seat_turns.specs.Sharing.{LeavesHeap}
+use Rattle.seat_turns.specs.Standing.{plain_of}
 use Rattle.seat_steps.specs.Doing.{Does, FindsNone, FindsSome}
 use Rattle.seat_steps.specs.Causes.{EntersFreely, FoundFullIn, FoundStopIn, MakesBy, MakesFreely, PassesFreely}
 use Rattle.seat_steps.specs.declared.came.Came.{Came}

@@ -2,14 +2,14 @@
 ghost use Rattle.std.specs.Prelude.{◌≡◌, IfErr, IfOk};
 ghost use Rattle.mark_core.specs.Steps.MutatorSteps.{seat_variable as word_in};
 ghost use Rattle.gc_table.specs.Seats.{state_of};
-ghost use Rattle.mutator_turns.specs.Exchanging.{ExchangesField, ExchangesValue};
+ghost use Rattle.seat_turns.specs.Exchanging.{ExchangesField, ExchangesValue};
 ghost use Rattle.seat_steps.specs.Acting.{CanExchange, IsVariable, StepperActs, TakesRoot, WantsObject};
 ghost use Rattle.seat_steps.specs.declared.stepper.Stage.TheVariants as stages;
 
+use crate::came::Came;
 use crate::stepper::{Stage, Stepper};
 use mark_core::VARIABLES;
-use mutator_turns::{exchange_shared, exchange_value_shared, lend_shared, word_of};
-use crate::came::Came;
+use seat_turns::{exchange_shared, exchange_value_shared, lend_shared, word_of};
 
 /// The variable of section 0 that refers to the root.
 const ROOT: u8 = 0;

@@ -6,10 +6,10 @@ ghost use Rattle.seat_steps.specs.Asking.{DeclinesToTell, MayAsk};
 ghost use Rattle.seat_steps.specs.Stepping.{is_collecting as collects_at, shares};
 ghost use Rattle.seat_steps.specs.Waiting.{is_stopping_at};
 
-use crate::stepper::{Stage, Stepper};
-use mark_core::VARIABLES;
 use crate::came::Came;
 use crate::operations::{are_one, is_nothing};
+use crate::stepper::{Stage, Stepper};
+use mark_core::VARIABLES;
 
 impl Stepper {
     /// Whether variable v refers to nothing. Err says why it couldn't be answered: v is out of range, or the stepper is outside or collects.

@@ -8,8 +8,8 @@ ghost use Rattle.gc_cycle.specs.Answering.{HasCache};
 ghost use Rattle.gc_table.specs.Running.{Ran};
 ghost use Rattle.gc_table.specs.Seats.{Across, view_of};
 ghost use Rattle.mutator_ops.specs.Few.{AtMost};
-ghost use Rattle.mutator_turns.specs.Sharing.{LeavesHeap};
-ghost use Rattle.mutator_turns.specs.Standing.{Halts, IsAtTurn, Plays, Works, plain_of};
+ghost use Rattle.seat_turns.specs.Sharing.{LeavesHeap};
+ghost use Rattle.seat_turns.specs.Standing.{Halts, IsAtTurn, Plays, Works, plain_of};
 ghost use Rattle.seat_steps.specs.Causes.{ArrivesBy, ComesFreely, FillsBy, GoesFreely, LacksBy, MakesBy};
 ghost use Rattle.seat_steps.specs.Filling.{TriesSome, TriesToFill};
 ghost use Rattle.seat_steps.specs.PaidTries.{CountsBeside, CountsMaking, CountsTry};
@@ -25,7 +25,7 @@ use alloc_cache::{Cache, cache_of};
 use cache_refills::try_refill;
 use gc_cycle::Refill;
 use gc_table::{Heap, HeapSeat};
-use mutator_turns::{keep_some, leave, with_free};
+use seat_turns::{keep_some, leave, with_free};
 
 /// Tries to get a cache with a free cell, and pays for it.
 fn try_fill(heap: &Heap, seat: &mut HeapSeat) -> Option<Refill>

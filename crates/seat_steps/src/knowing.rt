@@ -7,10 +7,10 @@ ghost use Rattle.gc_table.specs.Seats.{Found, state_of};
 ghost use Rattle.seat_steps.specs.Acting.{IsVariable, StepperActs, WantsObject};
 ghost use Rattle.seat_steps.specs.declared.stepper.Stage.TheVariants as stages;
 
+use crate::came::Came;
 use crate::stepper::{Stage, Stepper};
 use mark_core::VARIABLES;
-use mutator_turns::{identity_shared, word_of};
-use crate::came::Came;
+use seat_turns::{identity_shared, word_of};
 
 impl Stepper {
     /// The cell in which variable v's object lies, by no step: a number below the world's number of cells. The object stays there for as long as it is

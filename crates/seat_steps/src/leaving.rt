@@ -4,14 +4,14 @@ ghost use Rattle.gc_cycle.specs.Answering.{HasCache};
 ghost use Rattle.gc_table.specs.Running.{Ran};
 ghost use Rattle.gc_table.specs.Seats.{Across, view_of};
 ghost use Rattle.mutator_ops.specs.Few.{AtMost};
-ghost use Rattle.mutator_turns.specs.Coming.{GivesCache, LeavesTurn, WithOwn};
-ghost use Rattle.mutator_turns.specs.Sharing.{LeavesHeap};
-ghost use Rattle.mutator_turns.specs.Standing.{Halts, IsAtTurn, IsMutatorOutside, Works, plain_of};
+ghost use Rattle.seat_turns.specs.Coming.{GivesCache, LeavesTurn, WithOwn};
+ghost use Rattle.seat_turns.specs.Sharing.{LeavesHeap};
+ghost use Rattle.seat_turns.specs.Standing.{Halts, IsAtTurn, IsMutatorOutside, Works, plain_of};
 
 use alloc_cache::{Cache, cache_of};
 use gc_cycle::retire_some;
 use gc_table::{Heap, HeapSeat};
-use mutator_turns::leave;
+use seat_turns::leave;
 
 /// Gives a cache up, if there is one.
 pub fn gives_up(heap: &Heap, seat: &mut HeapSeat, cache: Option<Cache>)

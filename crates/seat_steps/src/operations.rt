@@ -8,13 +8,13 @@ ghost use Rattle.gc_table.specs.Running.{Ran};
 ghost use Rattle.gc_table.specs.Seats.{Across, state_of, view_of};
 ghost use Rattle.alloc_cache.specs.Caching.{IsCached};
 ghost use Rattle.mutator_ops.specs.Few.{AtMost};
-ghost use Rattle.mutator_turns.specs.Standing.{IsAtTurn, Plays};
+ghost use Rattle.seat_turns.specs.Standing.{IsAtTurn, Plays};
 ghost use Rattle.seat_steps.specs.Doing.{Does, FindsNone, FindsSome, MakesNow, RefersToNothing, RefersToOne};
 
 use alloc_cache::Cache;
 use gc_table::{Heap, HeapSeat};
 use mutator_ops::{assign, clear, follow, put, set};
-use mutator_turns::{
+use seat_turns::{
     copy_shared, forget_shared, get_shared, make_in, make_shared_in, put_shared, read_value,
     refer_to_one, refers_to_nothing, set_shared, value_shared, word_of,
 };
@@ -39,7 +39,7 @@ pub fn makes(heap: &Heap, seat: &mut HeapSeat, cache: Cache, v: u8, value: u32)
 }
 
 /// Reference i of variable v's object becomes what variable w is.
-#[tactic(auto, using(mutator_turns::proofs::Operating::operating))]
+#[tactic(auto, using(seat_turns::proofs::Operating::operating))]
 pub fn sets(heap: &Heap, seat: &mut HeapSeat, v: u8, i: u8, w: u8)
     requires turn { IsAtTurn heap.now seat.old }
     requires range { (v < section_variables) × (i < heap.now.shape.fields) × (w < section_variables) }
@@ -55,7 +55,7 @@ pub fn sets(heap: &Heap, seat: &mut HeapSeat, v: u8, i: u8, w: u8)
 }
 
 /// Variable w becomes reference i of variable v's object, or nil where v is.
-#[tactic(auto, using(mutator_turns::proofs::Operating::operating))]
+#[tactic(auto, using(seat_turns::proofs::Operating::operating))]
 pub fn gets(heap: &Heap, seat: &mut HeapSeat, w: u8, v: u8, i: u8)
     requires turn { IsAtTurn heap.now seat.old }
     requires range { (w < section_variables) × (v < section_variables) × (i < heap.now.shape.fields) }
@@ -71,7 +71,7 @@ pub fn gets(heap: &Heap, seat: &mut HeapSeat, w: u8, v: u8, i: u8)
 }
 
 /// Variable w becomes what variable v is.
-#[tactic(auto, using(mutator_turns::proofs::Operating::operating))]
+#[tactic(auto, using(seat_turns::proofs::Operating::operating))]
 pub fn copies(heap: &Heap, seat: &mut HeapSeat, w: u8, v: u8)
     requires turn { IsAtTurn heap.now seat.old }
     requires range { (w < section_variables) × (v < section_variables) }
@@ -87,7 +87,7 @@ pub fn copies(heap: &Heap, seat: &mut HeapSeat, w: u8, v: u8)
 }
 
 /// Variable v refers to nothing any more.
-#[tactic(auto, using(mutator_turns::proofs::Operating::operating))]
+#[tactic(auto, using(seat_turns::proofs::Operating::operating))]
 pub fn forgets(heap: &Heap, seat: &mut HeapSeat, v: u8)
     requires turn { IsAtTurn heap.now seat.old }
     requires range { v < section_variables }
@@ -103,7 +103,7 @@ pub fn forgets(heap: &Heap, seat: &mut HeapSeat, v: u8)
 }
 
 /// The value of variable v's object becomes this one.
-#[tactic(auto, using(mutator_turns::proofs::Operating::operating))]
+#[tactic(auto, using(seat_turns::proofs::Operating::operating))]
 pub fn puts(heap: &Heap, seat: &mut HeapSeat, v: u8, value: u32)
     requires turn { IsAtTurn heap.now seat.old }
     requires range { v < section_variables }

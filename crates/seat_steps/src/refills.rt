@@ -8,10 +8,10 @@ ghost use Rattle.seat_steps.specs.Payments.{PaysRefill};
 ghost use Rattle.seat_steps.specs.Refilling.{BeginsSearch, MakesCached, NotesSeen, StepperRefills, block_behind};
 ghost use Rattle.seat_steps.specs.declared.stepper.Stage.TheVariants as stages;
 
-use crate::stepper::{Stage, Stepper};
-use mark_core::{BLOCK_CELLS, CacheState, VARIABLES};
 use crate::came::Came;
 use crate::seeking::{Sought, make_here, refill_once};
+use crate::stepper::{Stage, Stepper};
+use mark_core::{BLOCK_CELLS, CacheState, VARIABLES};
 
 /// The block behind that of this cache, among so many.
 fn behind(cache: Option<CacheState>, blocks: u32) -> u32

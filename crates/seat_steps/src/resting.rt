@@ -1,6 +1,6 @@
 //! A mutator's seat outside the world, with what goes along with it: a mutator that waits and a stepper are made of it, and come apart into it.
 ghost use Rattle.std.specs.Arc.{arc_value};
-ghost use Rattle.mutator_turns.specs.Standing.{IsMutatorOutside};
+ghost use Rattle.seat_turns.specs.Standing.{IsMutatorOutside};
 
 use gc_table::{Heap, HeapSeat};
 use std::alloc::Global;

@@ -5,8 +5,8 @@ ghost use Rattle.mark_core.specs.Numbers.{section_variables};
 ghost use Rattle.plain_heap.specs.declared.operation.Op.TheVariants as ops;
 ghost use Rattle.gc_table.specs.Running.{Ran};
 ghost use Rattle.gc_table.specs.Seats.{Across, view_of};
-ghost use Rattle.mutator_turns.specs.Sharing.{LeavesHeap};
-ghost use Rattle.mutator_turns.specs.Standing.{Halts, IsAtTurn, plain_of};
+ghost use Rattle.seat_turns.specs.Sharing.{LeavesHeap};
+ghost use Rattle.seat_turns.specs.Standing.{Halts, IsAtTurn, plain_of};
 ghost use Rattle.seat_steps.specs.Causes.{ArrivesBy, GoesFreely};
 ghost use Rattle.seat_steps.specs.PaidTries.{CountsPiece, CountsRefill};
 ghost use Rattle.seat_steps.specs.Seeking.{CachedBy, FailsBy, MakesHere, RefillsBy, SoughtBy, StandsAfter, TriesPiece};
@@ -22,7 +22,7 @@ use crate::tries::{arrive, point};
 use alloc_cache::{cache_of, leave_with_seat};
 use cache_refills::{Piece, try_refill_some};
 use gc_table::{Heap, HeapSeat};
-use mutator_turns::{keep_some, leave, with_free};
+use seat_turns::{keep_some, leave, with_free};
 
 /// What a piece of the search came to.
 #[derive(Clone, Copy, Debug, PartialEq, Eq, Drop)]

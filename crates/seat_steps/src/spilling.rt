@@ -4,13 +4,13 @@ ghost use Rattle.mark_core.specs.Steps.MutatorSteps.{seat_variable as word_in};
 ghost use Rattle.mark_core.specs.declared.kinds.Step.TheVariants.{StoreSlot};
 ghost use Rattle.gc_table.specs.Seats.{state_of};
 ghost use Rattle.mutator_ops.specs.Sharing.{FillsFound, TakesSteps};
-ghost use Rattle.mutator_turns.specs.Clearing.{clearing_steps};
+ghost use Rattle.seat_turns.specs.Clearing.{clearing_steps};
 ghost use Rattle.seat_steps.specs.Acting.{ActsTo, HasSlots, IsSlot};
 
+use crate::came::Came;
 use crate::stepper::{Stage, Stepper};
 use mark_core::VARIABLES;
-use mutator_turns::{clear_slots_shared, fill_shared, spill_shared};
-use crate::came::Came;
+use seat_turns::{clear_slots_shared, fill_shared, spill_shared};
 
 impl Stepper {
     /// Slot k becomes what variable v is, and keeps that reachable.

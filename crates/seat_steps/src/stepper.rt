@@ -6,7 +6,7 @@ ghost use Rattle.cycle_steps.specs.Pieces.{CountsFrom, HasCounted, IsAtClear, Lo
 ghost use Rattle.cycle_steps.specs.Stepping.{AwaitsStop, Drains, IsAtSweep};
 ghost use Rattle.seat_steps.specs.Asked.{CountsSinceAsked, MarksSinceAsked, SweepsSinceAsked, WaitsSinceAsked};
 ghost use Rattle.seat_steps.specs.Collecting.{Collects};
-ghost use Rattle.mutator_turns.specs.Standing.{IsAtTurn, IsMutatorOutside};
+ghost use Rattle.seat_turns.specs.Standing.{IsAtTurn, IsMutatorOutside};
 ghost use Rattle.seat_steps.specs.declared.stepper.Stage.TheVariants as stages;
 
 use gc_table::{Heap, HeapSeat};

@@ -6,13 +6,13 @@ ghost use Rattle.seat_steps.specs.Payments.{PaysMaking};
 ghost use Rattle.seat_steps.specs.Stepping.{Entered, Left, StepperMakes, Operates, Passed, ReadsValue};
 ghost use Rattle.seat_steps.specs.declared.stepper.Stage.TheVariants as stages;
 
-use crate::stepper::{Stage, Stepper};
-use mark_core::VARIABLES;
 use crate::came::Came;
 use crate::getting::make_once;
 use crate::leaving::leaves_turn;
 use crate::operations::{copies, finds, forgets, gets, puts, sets};
+use crate::stepper::{Stage, Stepper};
 use crate::tries::{enter_once, pass_once};
+use mark_core::VARIABLES;
 
 impl Stepper {
     /// Enters the world, where no stop is under way.

@@ -8,24 +8,24 @@ ghost use Rattle.seat_steps.specs.Asked.{CountsSinceAsked, WaitsSinceAsked};
 ghost use Rattle.seat_steps.specs.Collecting.{Collects};
 ghost use Rattle.seat_steps.specs.Course.{EndsBy};
 ghost use Rattle.seat_steps.specs.Bounds.{CollectsAtMost, EndsInFew, IsBoundedStep};
-ghost use Rattle.mutator_turns.specs.Sharing.{LeavesHeap};
-ghost use Rattle.mutator_turns.specs.Standing.{Halts, IsMutatorOutside, plain_of};
+ghost use Rattle.seat_turns.specs.Sharing.{LeavesHeap};
+ghost use Rattle.seat_turns.specs.Standing.{Halts, IsMutatorOutside, plain_of};
 ghost use Rattle.seat_steps.specs.Arriving.{Arrives};
 ghost use Rattle.seat_steps.specs.Steps.{StepsCollection};
 ghost use Rattle.seat_steps.specs.declared.stepper.Stage.TheVariants as stages;
 
+use crate::came::Came;
+use crate::leaving::gives_own_up;
 use crate::stepper::{Stage, Stepper};
 use crate::telling::read_marking;
+use crate::tries::arrive;
 use cycle_steps::{
     Look, ask_to_stop, begin_collection, clean_step, clear_step, count_step, finds_all_marked,
     finds_stopped, finish_clear, finish_count, look_step, root_piece, start_clear, start_count,
     start_sweep, stretches_of, sweep_step, trace_step,
 };
 use gc_table::{Heap, HeapSeat};
-use mutator_turns::leave;
-use crate::came::Came;
-use crate::leaving::gives_own_up;
-use crate::tries::arrive;
+use seat_turns::leave;
 
 /// How many roots, objects, cards or blocks a step does at most (or those of one stretch of blocks), where its caller says nothing of it.
 const STEP: u32 = 4_096;

@@ -7,9 +7,9 @@ ghost use Rattle.cache_refills.specs.Trying.{EntersTo};
 ghost use Rattle.gc_table.specs.Running.{Ran};
 ghost use Rattle.gc_table.specs.Seats.{Across, state_of, view_of};
 ghost use Rattle.mutator_ops.specs.Few.{AtMost};
-ghost use Rattle.mutator_turns.specs.Turning.{LooksAtSeason, SeesOther};
-ghost use Rattle.mutator_turns.specs.Sharing.{LeavesHeap};
-ghost use Rattle.mutator_turns.specs.Standing.{Halts, IsAtTurn, Plays, IsMutatorOutside, Works, plain_of};
+ghost use Rattle.seat_turns.specs.Turning.{LooksAtSeason, SeesOther};
+ghost use Rattle.seat_turns.specs.Sharing.{LeavesHeap};
+ghost use Rattle.seat_turns.specs.Standing.{Halts, IsAtTurn, Plays, IsMutatorOutside, Works, plain_of};
 ghost use Rattle.seat_steps.specs.Causes.{ArrivesBy, EntersBy, GoesFreely, LooksBy, PassesBy};
 ghost use Rattle.seat_steps.specs.Arriving.{Arrives, LeavesWorld, Passes, Tries};
 
@@ -18,7 +18,7 @@ use crate::leaving::gives_up;
 use alloc_cache::{Cache, cache_of};
 use cache_refills::{Pass, try_enter, try_safe_point};
 use gc_table::{Heap, HeapSeat};
-use mutator_turns::{TURN, is_turn, keep_some, leave};
+use seat_turns::{TURN, is_turn, keep_some, leave};
 
 /// Tries to enter the world.
 fn try_in(heap: &Heap, seat: &mut HeapSeat) -> Pass

@@ -19,8 +19,8 @@ use Rattle.gc_table.proofs.Running.{ran-grows}
 use Rattle.heap_runs.specs.Single.{HasOne, all_won, exchanges_value, leaves_values, made_count, raises, spares_values, takes_turn, takes_turns, turned, won_count}
 use Rattle.heap_runs.proofs.Counted.{counter-told, won_join}
 use Rattle.heap_runs.proofs.Locked.{lock-held}
-use Rattle.mutator_turns.specs.Sharing.{spares_heap}
-use Rattle.mutator_turns.specs.declared.background.Tracer.{Tracer}
+use Rattle.seat_turns.specs.Sharing.{spares_heap}
+use Rattle.seat_turns.specs.declared.background.Tracer.{Tracer}
 use Rattle.shared_heap.specs.Closing.{HasLeft, IsSharedEnd, all_seats}
 use Rattle.shared_heap.specs.Counting.{CounterClosed, EachLog, LockClosed, OnlyExchanges, won_by}
 use Rattle.shared_heap.specs.Threads.{IsWhole}

@@ -27,7 +27,7 @@ use Rattle.heap_runs.specs.Single.{MakesOne, made_count, makes_object, spares_va
 use Rattle.heap_runs.proofs.Counted.{made_join}
 use Rattle.heap_runs.proofs.SeasonMoves.{count-join}
 use Rattle.mutator_ops.specs.Sharing.{next_word}
-use Rattle.mutator_turns.specs.Sharing.{spares_heap}
+use Rattle.seat_turns.specs.Sharing.{spares_heap}
 use Rattle.shared_heap.specs.Opening.{IsNewSeat}
 use Rattle.shared_heap.specs.Rooting.{IsRootSeat, MakesRoot, Spares, spares_season}
 use Rattle.shared_heap.proofs.Once.{once-then, root-log, root-once, season-spared, spared}

@@ -17,8 +17,8 @@ use Rattle.gc_table.proofs.Running.{ran-grows}
 use Rattle.heap_runs.specs.Single.{exchanges_value, is_inside, leaves_values, made_count, makes_object, raises, takes_turn, takes_turns, turned, won_count}
 use Rattle.heap_runs.proofs.Counted.{made_join, won_join}
 use Rattle.mutator_ops.specs.Sharing.{LendsFound, SetsVariable, TakesSteps, setting_steps}
-use Rattle.mutator_turns.specs.Exchanging.{ExchangesValue}
-use Rattle.mutator_turns.specs.Sharing.{FollowsField, spares_heap}
+use Rattle.seat_turns.specs.Exchanging.{ExchangesValue}
+use Rattle.seat_turns.specs.Sharing.{FollowsField, spares_heap}
 use Rattle.shared_heap.specs.Calls.{FindsValue, IsSame, SharerActs, field_count_of}
 use Rattle.shared_heap.specs.Counting.{OnlyExchanges}
 use Rattle.shared_heap.specs.Logs.{Adds, AddsLocks, AddsQuiet, AddsRaises, Locks, Raises, is_quiet}

@@ -24,7 +24,7 @@ use Rattle.heap_runs.proofs.Seats.{mutates}
 use Rattle.heap_runs.specs.Runs.{AreAllowed}
 use Rattle.heap_runs.proofs.Sharing.{Sound, later-sound}
 use Rattle.heap_runs.proofs.Threads.{allowed}
-use Rattle.mutator_turns.specs.Sharing.{spares_heap}
+use Rattle.seat_turns.specs.Sharing.{spares_heap}
 use Rattle.shared_heap.proofs.Rooted.{all-join}
 
 -- a step that a plain heap sees is a mutator's

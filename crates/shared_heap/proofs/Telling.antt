@@ -7,8 +7,8 @@ use Rattle.gc_table.specs.Seats.{state_of, view_of}
 use Rattle.gc_table.specs.declared.seat.Heap.{Heap}
 use Rattle.gc_table.specs.declared.seat.HeapSeat.{HeapSeat}
 use Rattle.gc_table.proofs.Running.{ran-opened}
-use Rattle.mutator_turns.specs.Sharing.{spares_heap}
-use Rattle.mutator_turns.specs.Standing.{RestsOutside}
+use Rattle.seat_turns.specs.Sharing.{spares_heap}
+use Rattle.seat_turns.specs.Standing.{RestsOutside}
 use Rattle.shared_heap.specs.Rooting.{HasSeats, IsRootSeat}
 use Rattle.shared_heap.proofs.Keeping.{root-kept}
 

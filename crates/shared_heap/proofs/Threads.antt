@@ -6,7 +6,7 @@ use Rattle.heap_runs.proofs.Freeing.{stays}
 use Rattle.heap_runs.proofs.Rooted.{root-found}
 use Rattle.heap_runs.proofs.Threads.{allowed}
 use Rattle.mark_core.specs.Steps.{start_core}
-use Rattle.mutator_turns.specs.Sharing.{spares_heap}
+use Rattle.seat_turns.specs.Sharing.{spares_heap}
 use Rattle.shared_heap.specs.Closing.{all_seats}
 use Rattle.shared_heap.specs.Threads.{ThreadsRun}
 use Rattle.shared_heap.proofs.Sectionless.{run-outside}

@@ -13,10 +13,10 @@ use Rattle.gc_table.specs.declared.seat.HeapSeat.{HeapSeat}
 use Rattle.gc_table.specs.declared.view.View.{View}
 use Rattle.gc_cycle.specs.Cycles.{collects}
 use Rattle.mutator_ops.specs.Sharing.{LendsFound}
-use Rattle.mutator_turns.specs.Coming.{EntersTurn, LeavesTurn}
-use Rattle.mutator_turns.specs.Sharing.{LeavesHeap}
-use Rattle.mutator_turns.specs.declared.refused.Refused.{Refused}
-use Rattle.mutator_turns.specs.declared.refused.Refused.TheVariants as refusals
+use Rattle.seat_turns.specs.Coming.{EntersTurn, LeavesTurn}
+use Rattle.seat_turns.specs.Sharing.{LeavesHeap}
+use Rattle.seat_turns.specs.declared.refused.Refused.{Refused}
+use Rattle.seat_turns.specs.declared.refused.Refused.TheVariants as refusals
 use Rattle.shared_heap.specs.declared.mutator.Place.{Place}
 use Rattle.shared_heap.specs.declared.mutator.Place.TheVariants.{Inside, Outside}
 use Rattle.shared_heap.specs.declared.mutator.SharedMutator.{SharedMutator}

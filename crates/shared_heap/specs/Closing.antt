@@ -3,7 +3,7 @@ use Rattle.std.specs.Prelude.{◌≡◌, ◌++◌, List, ◌∷◌}
 use Rattle.std.specs.Arc.{arc_value}
 use Rattle.gc_table.specs.declared.seat.HeapSeat.{HeapSeat}
 use Rattle.gc_table.specs.declared.words.Words.{Words}
-use Rattle.mutator_turns.specs.declared.background.Tracer.{Tracer}
+use Rattle.seat_turns.specs.declared.background.Tracer.{Tracer}
 use Rattle.world_seats.specs.Gathering.{AreThere, IsEndOf, seats_of}
 use Rattle.shared_heap.specs.Calls.{SharerLeft}
 use Rattle.shared_heap.specs.declared.mutator.SharedMutator.{SharedMutator}

@@ -3,7 +3,7 @@ use Rattle.std.specs.Prelude.{◌≡◌, ◌⊎◌, IsFalse, IsTrue}
 use Rattle.std.specs.Arc.{arc_value}
 use Rattle.gc_table.specs.Seats.{Across}
 use Rattle.mutator_ops.specs.Few.{AtMost}
-use Rattle.mutator_turns.specs.Sharing.{LeavesHeap}
+use Rattle.seat_turns.specs.Sharing.{LeavesHeap}
 use Rattle.seat_steps.specs.Stepping.{is_collecting, shares}
 use Rattle.seat_steps.specs.declared.stepper.Stage.TheVariants as stages
 use Rattle.seat_steps.specs.declared.stepper.Stepper.{Stepper}

@@ -11,7 +11,7 @@ use Rattle.gc_table.specs.declared.view.View.{View}
 use Rattle.heap_runs.specs.Rooted.{KeepsRoot}
 use Rattle.heap_runs.specs.Single.{MakesOne}
 use Rattle.mutator_ops.specs.Sharing.{ShareCreates}
-use Rattle.mutator_turns.specs.Sharing.{spares_heap}
+use Rattle.seat_turns.specs.Sharing.{spares_heap}
 
 -- what the seat did, no plain heap sees
 pub record Spares (v w : View) : Type 0 where

@@ -16,8 +16,8 @@ use Rattle.heap_runs.specs.Laws.{TellsOf}
 use Rattle.heap_runs.specs.Rooted.{FindsSome, IsKept}
 use Rattle.heap_runs.specs.Runs.{core_after}
 use Rattle.heap_runs.specs.Sharing.{heap_after_events}
-use Rattle.mutator_turns.specs.Sharing.{spares_heap}
-use Rattle.mutator_turns.specs.declared.background.Tracer.{Tracer}
+use Rattle.seat_turns.specs.Sharing.{spares_heap}
+use Rattle.seat_turns.specs.declared.background.Tracer.{Tracer}
 use Rattle.shared_heap.specs.Closing.{IsSharedEnd, all_seats}
 use Rattle.shared_heap.specs.declared.mutator.SharedMutator.{SharedMutator}
 use Rattle.shared_heap.specs.declared.world.SharedWorld.{SharedWorld}

@@ -3,8 +3,8 @@ use Rattle.std.specs.Prelude.{ℕ, ◌≡◌, ◌<◌}
 use Rattle.mark_core.specs.Numbers.{section_variables}
 use Rattle.mark_core.specs.Steps.MutatorSteps.{seat_variable as word_in}
 use Rattle.gc_table.specs.Seats.{state_of}
-use Rattle.mutator_turns.specs.declared.refused.Refused.{Refused}
-use Rattle.mutator_turns.specs.declared.refused.Refused.TheVariants as refusals
+use Rattle.seat_turns.specs.declared.refused.Refused.{Refused}
+use Rattle.seat_turns.specs.declared.refused.Refused.TheVariants as refusals
 use Rattle.shared_heap.specs.Calls.{field_count_of}
 use Rattle.shared_heap.specs.declared.mutator.Place.TheVariants.{Inside, Outside}
 use Rattle.shared_heap.specs.declared.mutator.SharedMutator.{SharedMutator}

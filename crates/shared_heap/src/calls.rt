@@ -6,14 +6,14 @@ ghost use Rattle.plain_heap.specs.declared.operation.Op.TheVariants as ops;
 ghost use Rattle.gc_table.specs.Seats.{Across, state_of};
 ghost use Rattle.mutator_ops.specs.Few.{AtMost};
 ghost use Rattle.mutator_ops.specs.Sharing.{LendsFound, SetsVariable, TakesSteps, putting_steps, setting_steps};
-ghost use Rattle.mutator_turns.specs.Coming.{CollectsAtTurn, CollectsNone, EntersFull, MakesNoneAtTurn, MakesSharedAtTurn, PollsOutWith, PollsWith, WithOwn};
-ghost use Rattle.mutator_turns.specs.Sharing.{FollowsField, MakesSharedAfter};
+ghost use Rattle.seat_turns.specs.Coming.{CollectsAtTurn, CollectsNone, EntersFull, MakesNoneAtTurn, MakesSharedAtTurn, PollsOutWith, PollsWith, WithOwn};
+ghost use Rattle.seat_turns.specs.Sharing.{FollowsField, MakesSharedAfter};
 ghost use Rattle.shared_heap.specs.Calls.{CantEnter, FindsValue, HasNoRoot, HasPassed, MakesNone, ReadsNone, RefusedBy, SharerCollected, SharerDoes, SharerEntered, SharerLeft, SharerRefused, StaysOut};
 
 use crate::mutator::{Place, SharedMutator};
 use cache_refills::Unwatched;
 use mark_core::VARIABLES;
-use mutator_turns::{
+use seat_turns::{
     Refused, collect_turn, copy_shared, enter_turn, forget_shared, get_shared, leave_turn,
     lend_shared, make_shared, pass_turn, put_shared, set_shared, value_shared, word_of,
 };

@@ -7,7 +7,7 @@ ghost use Rattle.shared_heap.specs.Calls.{Refuses};
 
 use crate::mutator::{Place, SharedMutator};
 use mark_core::VARIABLES;
-use mutator_turns::{Refused, word_of};
+use seat_turns::{Refused, word_of};
 
 impl SharedMutator {
     /// Whether variable v refers to nothing.

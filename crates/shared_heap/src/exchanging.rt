@@ -3,13 +3,13 @@ ghost use Rattle.std.specs.Arc.{arc_value};
 ghost use Rattle.std.specs.Prelude.{◌≡◌, IfErr, IfOk};
 ghost use Rattle.gc_table.specs.Seats.{Across};
 ghost use Rattle.mutator_ops.specs.Few.{AtMost};
-ghost use Rattle.mutator_turns.specs.Exchanging.{ExchangesField, ExchangesValue};
+ghost use Rattle.seat_turns.specs.Exchanging.{ExchangesField, ExchangesValue};
 ghost use Rattle.shared_heap.specs.Calls.{SharerActs};
 ghost use Rattle.shared_heap.specs.Wanting.{CanExchange, IsVariable, WantsObject};
 
 use crate::mutator::{Place, SharedMutator};
 use mark_core::VARIABLES;
-use mutator_turns::{Refused, exchange_shared, exchange_value_shared, word_of};
+use seat_turns::{Refused, exchange_shared, exchange_value_shared, word_of};
 
 impl SharedMutator {
     /// Where reference i of variable v's object is what variable `expected` is, it becomes what variable `new` is: true where it was. A variable that refers to

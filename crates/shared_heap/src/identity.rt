@@ -10,7 +10,7 @@ ghost use Rattle.shared_heap.specs.Wanting.{IsVariable, WantsObject};
 
 use crate::mutator::{Place, SharedMutator};
 use mark_core::VARIABLES;
-use mutator_turns::{Refused, identity_shared, word_of};
+use seat_turns::{Refused, identity_shared, word_of};
 
 impl SharedMutator {
     /// The cell in which variable v's object lies, by no step: a number below the world's number of cells. The object stays there for as long as it is

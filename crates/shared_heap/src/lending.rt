@@ -3,16 +3,16 @@ ghost use Rattle.std.specs.Prelude.{◌≡◌, ◌<◌, ◌+◌, [], ◌∷◌, 
 ghost use Rattle.std.specs.Arc.{arc_value};
 ghost use Rattle.std.specs.Bool.{OnFalse, OnTrue};
 ghost use Rattle.gc_table.specs.Seats.{Across, view_of};
-ghost use Rattle.mutator_turns.specs.Standing.{RestsOutside};
+ghost use Rattle.seat_turns.specs.Standing.{RestsOutside};
 ghost use Rattle.shared_heap.specs.Calls.{SharerLeft};
 ghost use Rattle.shared_heap.specs.Lending.{FitsShared, HasAllStill, IsBack, IsSharedOpened, KeepsRest, TakesNoMutator};
-ghost use Rattle.mutator_turns.specs.declared.refused.NotOpened.TheVariants.{OutOfRange};
+ghost use Rattle.seat_turns.specs.declared.refused.NotOpened.TheVariants.{OutOfRange};
 ghost use Rattle.world_seats.specs.Numbers.{ReadsStatistics};
 
 use crate::dealing::open_fitting;
 use crate::mutator::SharedMutator;
 use crate::world::SharedWorld;
-use mutator_turns::NotOpened;
+use seat_turns::NotOpened;
 use std::alloc::Global;
 use world_seats::{Sizes, Statistics, first_of, read_statistics};
 

@@ -46,10 +46,9 @@ mod world;
 
 pub use gc_table::Words;
 pub use mutator::{Place, SharedMutator};
-pub use mutator_turns::{NotOpened, Refused, Tracer, TryTurn, Turn};
 pub use reading::root_value;
-pub use seat_steps::{Stage, Stepper};
-pub use seat_steps::Came;
+pub use seat_steps::{Came, Stage, Stepper};
+pub use seat_turns::{NotOpened, Refused, Tracer, TryTurn, Turn};
 pub use world::SharedWorld;
 pub use world_seats::{NotClosed, Sizes as SharedSizes, Statistics as SharedStatistics, Unclosed};
 

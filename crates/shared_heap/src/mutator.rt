@@ -1,7 +1,7 @@
 //! A mutator of a shared world in the hand of one thread.
 ghost use Rattle.std.specs.Arc.{arc_value};
 ghost use Rattle.std.specs.Prelude.{◌≡◌, IsTrue};
-ghost use Rattle.mutator_turns.specs.Standing.{IsAtTurn, IsMutatorOutside};
+ghost use Rattle.seat_turns.specs.Standing.{IsAtTurn, IsMutatorOutside};
 ghost use Rattle.shared_heap.specs.declared.mutator.Place.TheVariants as places;
 
 use gc_table::{Heap, HeapSeat};

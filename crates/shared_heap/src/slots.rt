@@ -6,13 +6,13 @@ ghost use Rattle.mark_core.specs.declared.kinds.Step.TheVariants.{StoreSlot};
 ghost use Rattle.gc_table.specs.Seats.{Across, state_of};
 ghost use Rattle.mutator_ops.specs.Few.{AtMost};
 ghost use Rattle.mutator_ops.specs.Sharing.{FillsFound, TakesSteps};
-ghost use Rattle.mutator_turns.specs.Clearing.{clearing_steps};
+ghost use Rattle.seat_turns.specs.Clearing.{clearing_steps};
 ghost use Rattle.shared_heap.specs.Calls.{ActRefused, SharerActs};
 ghost use Rattle.shared_heap.specs.Spilling.{HasSlots, IsSlot};
 
 use crate::mutator::{Place, SharedMutator};
 use mark_core::VARIABLES;
-use mutator_turns::{Refused, clear_slots_shared, fill_shared, spill_shared};
+use seat_turns::{Refused, clear_slots_shared, fill_shared, spill_shared};
 
 impl SharedMutator {
     /// Slot k becomes what variable v is, and keeps that reachable.

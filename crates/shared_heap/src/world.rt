@@ -1,12 +1,12 @@
 //! A heap whose objects threads share, with those of its mutators and tracers that nobody has.
 ghost use Rattle.std.specs.Arc.{arc_value};
 ghost use Rattle.std.specs.Prelude.{◌≤◌, vec_capacity};
-ghost use Rattle.mutator_turns.specs.Standing.{RestsOutside};
+ghost use Rattle.seat_turns.specs.Standing.{RestsOutside};
 ghost use Rattle.shared_heap.specs.Rooting.{HasSeats, IsRootSeat};
 
 use crate::mutator::SharedMutator;
 use gc_table::{Heap, HeapSeat};
-use mutator_turns::Tracer;
+use seat_turns::Tracer;
 use std::alloc::Global;
 use std::sync::Arc;
 use world_seats::Sizes;

@@ -23,7 +23,7 @@ use Rattle.alloc_cache.specs.declared.cache.Cache.{Cache}
 use Rattle.gc_cycle.specs.Answering.{GoesOn, HasCache, later_or, last_phase, phase_read}
 use Rattle.gc_cycle.specs.Events.{never}
 use Rattle.cache_refills.specs.PartEvents.{polled_last}
-use Rattle.mutator_turns.specs.Turning.{LooksAtSeason}
+use Rattle.seat_turns.specs.Turning.{LooksAtSeason}
 use Rattle.warehouse.specs.Pacing.{Paces}
 use Rattle.warehouse.specs.Playing.{Acts, GetsReady, ObjectsHaveCells, IsInTurn, Stays, DoesNothing, counts_part}
 use Rattle.gc_cycle.specs.Polling.{saw_full}

@@ -8,7 +8,7 @@ use Rattle.gc_table.specs.Seats.{state_of, view_of}
 use Rattle.gc_table.specs.declared.seat.Heap.{Heap}
 use Rattle.gc_table.specs.declared.seat.HeapSeat.{HeapSeat}
 use Rattle.gc_table.specs.declared.words.Words.{Words}
-use Rattle.mutator_turns.specs.declared.background.Tracer.{Tracer}
+use Rattle.seat_turns.specs.declared.background.Tracer.{Tracer}
 use Rattle.world_seats.proofs.Lists.{got-past, split-at}
 use Rattle.world_seats.specs.Gathering.{AreAll, AreInOrder, AreLeft, AreThere, Gathers, IsEndOf, IsFirstSeat, handed, seats_of}
 

@@ -3,7 +3,7 @@ use Rattle.std.specs.Prelude.{◌≡◌, List}
 use Rattle.world_seats.specs.declared.closing.NotClosed.{NotClosed}
 use Rattle.world_seats.specs.declared.closing.NotClosed.TheVariants.{Gone, Missing, NoRoom}
 use Rattle.world_seats.specs.declared.closing.Unclosed.{Unclosed}
-use Rattle.mutator_turns.specs.declared.background.Tracer.{Tracer}
+use Rattle.seat_turns.specs.declared.background.Tracer.{Tracer}
 
 -- the world and what was handed in come back as they were
 pub record ComesBack {W M : Type 0} (kept : Unclosed W M) (world : W) (ms : List M) (ts : List Tracer) : Type 0 where

@@ -5,7 +5,7 @@ use Rattle.gc_table.specs.Seats.{state_of, view_of}
 use Rattle.gc_table.specs.declared.seat.Heap.{Heap}
 use Rattle.gc_table.specs.declared.seat.HeapSeat.{HeapSeat}
 use Rattle.gc_table.specs.declared.words.Words.{Words}
-use Rattle.mutator_turns.specs.declared.background.Tracer.{Tracer}
+use Rattle.seat_turns.specs.declared.background.Tracer.{Tracer}
 
 -- the seat of section 0 of a heap that was opened with a seat for each section and for so many tracers
 pub record IsFirstSeat (h : Heap) (tracers : ℕ) (s : HeapSeat) : Type 0 where

@@ -5,7 +5,7 @@ use Rattle.plain_heap.specs.declared.operation.Op.{Op}
 use Rattle.gc_table.specs.Seats.{IsFresh, Sits, view_of}
 use Rattle.gc_table.specs.declared.seat.Heap.{Heap}
 use Rattle.gc_table.specs.declared.seat.HeapSeat.{HeapSeat}
-use Rattle.mutator_turns.specs.declared.background.Tracer.{Tracer}
+use Rattle.seat_turns.specs.declared.background.Tracer.{Tracer}
 
 -- seat k of a heap with this plan has done nothing
 abbrev pub IsNewSeatOf : List (List Op) → Heap → ℕ → HeapSeat → Type 0

@@ -3,14 +3,14 @@ ghost use Rattle.std.specs.Arc.{arc_value};
 ghost use Rattle.std.specs.Bool.{OnFalse, OnTrue};
 ghost use Rattle.std.specs.Prelude.{◌≡◌, ◌<◌, ◌≤◌, ◌+◌, [], All, IfErr, IfOk, IfSome, length, vec_capacity, vec_len};
 ghost use Rattle.gc_table.specs.Ends.{IsEnd};
-ghost use Rattle.mutator_turns.specs.Standing.{RestsOutside};
+ghost use Rattle.seat_turns.specs.Standing.{RestsOutside};
 ghost use Rattle.world_seats.specs.Closing.{IsUnclosed};
 ghost use Rattle.world_seats.specs.Gathering.{AreInOrder, AreOf, AreThere, IsEndOf};
 
 use crate::gathering::{are_all, gather};
 use crate::lent::{Lent, Opened};
 use gc_table::{Heap, HeapSeat, Words};
-use mutator_turns::Tracer;
+use seat_turns::Tracer;
 use std::alloc::Global;
 use std::sync::Arc;
 

@@ -5,8 +5,8 @@ ghost use Rattle.world_seats.specs.Opening.{AreNewOf, AreNumbered, IsFreshTracer
 
 use crate::taking::first_of;
 use gc_table::{Heap, HeapSeat};
-use mutator_turns::Tracer;
 use plain_heap::Plan;
+use seat_turns::Tracer;
 use std::alloc::{AllocError, Global};
 use std::sync::Arc;
 

@@ -2,7 +2,7 @@
 ghost use Rattle.std.specs.Arc.{arc_value};
 ghost use Rattle.std.specs.Bool.{OnFalse, OnTrue};
 ghost use Rattle.std.specs.Prelude.{◌≡◌, ◌≤◌, ◌+◌, [], All, vec_capacity, vec_len};
-ghost use Rattle.mutator_turns.specs.Standing.{RestsOutside};
+ghost use Rattle.seat_turns.specs.Standing.{RestsOutside};
 ghost use Rattle.world_seats.specs.Gathering.{AreAll, AreOf, Gathers, handed};
 
 use crate::lent::Lent;

@@ -4,11 +4,11 @@ ghost use Rattle.std.specs.Prelude.{ℕ, ◌≡◌};
 ghost use Rattle.gc_table.specs.Seats.{state_of};
 ghost use Rattle.gc_table.specs.declared.seat.Heap.{Heap};
 ghost use Rattle.gc_table.specs.declared.seat.HeapSeat.{HeapSeat};
-ghost use Rattle.mutator_turns.specs.Standing.{RestsOutside};
+ghost use Rattle.seat_turns.specs.Standing.{RestsOutside};
 ghost use Rattle.world_seats.specs.Gathering.{IsFirstSeat};
 
 use gc_table::{Heap, HeapSeat};
-use mutator_turns::Tracer;
+use seat_turns::Tracer;
 use std::alloc::Global;
 use std::sync::Arc;
 

@@ -3,8 +3,8 @@ ghost use Rattle.std.specs.Prelude.{◌≡◌};
 ghost use Rattle.gc_table.specs.Log.{Only};
 ghost use Rattle.gc_table.specs.Running.{Ran};
 ghost use Rattle.gc_table.specs.Seats.{Across, state_of};
-ghost use Rattle.mutator_turns.specs.Sharing.{spares_heap};
-ghost use Rattle.mutator_turns.specs.Standing.{RestsOutside};
+ghost use Rattle.seat_turns.specs.Sharing.{spares_heap};
+ghost use Rattle.seat_turns.specs.Standing.{RestsOutside};
 ghost use Rattle.world_seats.specs.Numbers.{ReadsStatistics};
 
 use gc_table::{Heap, HeapSeat};

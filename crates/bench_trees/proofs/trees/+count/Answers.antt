@@ -4,7 +4,7 @@ use Rattle.plain_heap.specs.declared.object.Ref.{Ref}
 use Rattle.plain_heap.specs.declared.object.Ref.TheVariants.{Nil}
 use Rattle.plain_heap.specs.declared.operation.Op.TheVariants as ops
 use Rattle.managed_heap.specs.Calls.{heap_of}
-use Rattle.mutator_turns.specs.Plain.{Steps}
+use Rattle.seat_turns.specs.Plain.{Steps}
 use Rattle.bench_trees.specs.Trees.{LeavesObjects, full, nodes}
 use Rattle.bench_trees.proofs.Counting.{full-small, nodes-few}
 use Rattle.bench_trees.proofs.Walking.{counted-both}

@@ -1,7 +1,7 @@
 use Rattle.std.proofs.lemmas.Result.{IfOk-weaker}
 use Rattle.plain_heap.specs.declared.operation.Op.TheVariants as ops
 use Rattle.managed_heap.specs.Calls.{heap_of}
-use Rattle.mutator_turns.specs.Plain.{Steps}
+use Rattle.seat_turns.specs.Plain.{Steps}
 use Rattle.bench_trees.specs.Trees.{Builds}
 use Rattle.bench_trees.proofs.Building.{leaf-built}
 use Rattle.bench_trees.proofs.trees.leaf.Goals as goal

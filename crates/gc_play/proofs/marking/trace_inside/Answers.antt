@@ -3,7 +3,7 @@ use Rattle.gc_table.specs.Log.{events}
 use Rattle.gc_table.specs.Seats.{view_of}
 use Rattle.gc_table.specs.declared.view.View.{View}
 use Rattle.gc_table.proofs.Running.{ran-events}
-use Rattle.mutator_turns.proofs.Tending.{marks-tend}
+use Rattle.seat_turns.proofs.Tending.{marks-tend}
 use Rattle.gc_play.specs.Turns.{TracesInside}
 use Rattle.gc_play.proofs.Steps.{stays-join}
 use Rattle.gc_play.proofs.Tending.{inside-counted, inside-idle, marked-on, marked-stays}

@@ -1,6 +1,6 @@
 use Rattle.std.proofs.Common.{◌∙◌, subst}
 use Rattle.gc_table.specs.Seats.{view_of}
-use Rattle.mutator_turns.proofs.Leaving.{leaves-join}
+use Rattle.seat_turns.proofs.Leaving.{leaves-join}
 use Rattle.shared_heap.specs.Calls.{LeavesFrom}
 use Rattle.shared_heap.specs.declared.mutator.Place.{Place}
 use Rattle.managed_heap_c.proofs.sharing.give_shared.Goals as goal

@@ -1,6 +1,6 @@
 use Rattle.std.proofs.Common.{ℕ, ◌≡◌, refl, sym, subst, Option, Some, None}
-use Rattle.mutator_turns.specs.declared.background.Tracer.{Tracer}
-use Rattle.mutator_turns.specs.declared.try_turns.TryTurn.{TryTurn}
+use Rattle.seat_turns.specs.declared.background.Tracer.{Tracer}
+use Rattle.seat_turns.specs.declared.try_turns.TryTurn.{TryTurn}
 use Rattle.managed_heap_c.specs.Kinds.{RefusesTracer, TakesTracer}
 use Rattle.managed_heap_c.specs.Tracers.{AnswersTurn, GivesTracerBack, TriesTracerTurn, status_of_turn}
 use Rattle.managed_heap_c.specs.declared.hands.AnyWorld.{AnyWorld}

@@ -1,4 +1,4 @@
-use Rattle.mutator_turns.proofs.Leaving.{leaves-join}
+use Rattle.seat_turns.proofs.Leaving.{leaves-join}
 use Rattle.std.proofs.Common.{◌∙◌, arith, inl, inr, refl}
 use Rattle.mutator_ops.proofs.Few.{at-most-more}
 use Rattle.std.proofs.lemmas.Result.{IfOk-weaker}

@@ -1,4 +1,4 @@
-use Rattle.mutator_turns.proofs.Leaving.{leaves-spared}
+use Rattle.seat_turns.proofs.Leaving.{leaves-spared}
 use Rattle.seat_steps.proofs.getting.try_fill.Goals as goal
 use Rattle.seat_steps.proofs.Tried.{fills-none, fills-some, fills-tries}
 use Rattle.std.proofs.Common.{ap}

@@ -1,6 +1,6 @@
 use Rattle.gc_table.specs.Seats.{view_of}
-use Rattle.mutator_turns.proofs.Leaving.{leaves-retired}
-use Rattle.mutator_turns.proofs.Seats.{retired-halts}
+use Rattle.seat_turns.proofs.Leaving.{leaves-retired}
+use Rattle.seat_turns.proofs.Seats.{retired-halts}
 use Rattle.seat_steps.proofs.leaving.gives_up.Goals as goal
 
 pub returns-clause-halts : goal.returns-clause-halts

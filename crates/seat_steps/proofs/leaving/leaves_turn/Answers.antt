@@ -1,6 +1,6 @@
 use Rattle.gc_table.specs.Seats.{view_of}
 use Rattle.mutator_ops.proofs.Few.{at-most-join}
-use Rattle.mutator_turns.proofs.Leaving.{leaves-join}
+use Rattle.seat_turns.proofs.Leaving.{leaves-join}
 use Rattle.seat_steps.proofs.leaving.leaves_turn.Goals as goal
 
 pub returns-clause-leaves : goal.returns-clause-leaves

@@ -1,7 +1,7 @@
 use Rattle.std.proofs.Common.{inl, inr, refl}
 use Rattle.std.proofs.lemmas.Result.{IfOk-weaker}
 use Rattle.gc_table.specs.Seats.{view_of}
-use Rattle.mutator_turns.proofs.Leaving.{leaves-join}
+use Rattle.seat_turns.proofs.Leaving.{leaves-join}
 use Rattle.seat_steps.proofs.PaidCounts.{pieces-first}
 use Rattle.seat_steps.proofs.Found.{err-weaker}
 use Rattle.seat_steps.proofs.Searched.{fails-first, given-up, had-free}

@@ -2,7 +2,7 @@ use Rattle.std.proofs.Common.{arith, refl}
 use Rattle.gc_table.specs.Seats.{view_of}
 use Rattle.gc_table.proofs.Running.{ran-join}
 use Rattle.cache_refills.specs.declared.pieces.Piece.TheVariants as pieces
-use Rattle.mutator_turns.proofs.Leaving.{leaves-join}
+use Rattle.seat_turns.proofs.Leaving.{leaves-join}
 use Rattle.seat_steps.specs.Causes.{GoesFreely}
 use Rattle.seat_steps.specs.declared.seeking.Sought.TheVariants as soughts
 use Rattle.mutator_ops.specs.Few.{AtMost}

@@ -4,7 +4,7 @@ use Rattle.mark_core.specs.declared.seat.SeatState.{SeatState}
 use Rattle.gc_table.specs.Seats.{did, view_of}
 use Rattle.cache_refills.specs.Pace.Pacing.{card_looks}
 use Rattle.cache_refills.specs.Pace.StepBounds.{payment_steps}
-use Rattle.mutator_turns.proofs.Leaving.{leaves-spared}
+use Rattle.seat_turns.proofs.Leaving.{leaves-spared}
 use Rattle.seat_steps.proofs.Searched.{stands-after, tries-piece}
 use Rattle.seat_steps.proofs.seeking.tries_some.Goals as goal
 

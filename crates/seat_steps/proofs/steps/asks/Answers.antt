@@ -3,7 +3,7 @@ use Rattle.std.proofs.lemmas.Bool.{OnTrue_at, OnTrue_from}
 use Rattle.mark_core.specs.declared.seat.SeatState.{SeatState}
 use Rattle.gc_table.specs.Seats.{view_of}
 use Rattle.cycle_steps.specs.Stepping.{AsksOnce}
-use Rattle.mutator_turns.proofs.Seats.{mutator-kept}
+use Rattle.seat_turns.proofs.Seats.{mutator-kept}
 use Rattle.seat_steps.proofs.SinceAsked.{asked-now}
 use Rattle.seat_steps.proofs.Sparing.{asks-leaves}
 use Rattle.seat_steps.proofs.steps.asks.Goals as goal

@@ -5,7 +5,7 @@ use Rattle.gc_table.specs.Seats.{view_of}
 use Rattle.gc_cycle.specs.Courses.{TakesCourse, sets_numbers}
 use Rattle.gc_cycle.specs.declared.counts.Counts.{Counts}
 use Rattle.cycle_steps.specs.Stepping.{EndsCollection}
-use Rattle.mutator_turns.proofs.Leaving.{leaves-join}
+use Rattle.seat_turns.proofs.Leaving.{leaves-join}
 use Rattle.seat_steps.proofs.Found.{arrives-few}
 use Rattle.seat_steps.proofs.Kept.{Kept, course-kept, runs-again}
 use Rattle.seat_steps.proofs.Passes.{course-few}

@@ -1,7 +1,7 @@
-use Rattle.mutator_turns.proofs.Leaving.{leaves-looked}
+use Rattle.seat_turns.proofs.Leaving.{leaves-looked}
 use Rattle.std.proofs.lemmas.Bool.{OnTrue_from}
 use Rattle.gc_table.specs.Seats.{view_of}
-use Rattle.mutator_turns.proofs.Seats.{first-turn, looks-cached, looks-seen, looks-works, plays-turn, whole-cache, works-ready}
+use Rattle.seat_turns.proofs.Seats.{first-turn, looks-cached, looks-seen, looks-works, plays-turn, whole-cache, works-ready}
 use Rattle.seat_steps.proofs.tries.comes_to_turn.Goals as goal
 
 pub returns-clause-plays : goal.returns-clause-plays

@@ -1,11 +1,11 @@
-use Rattle.mutator_turns.proofs.Leaving.{leaves-join}
+use Rattle.seat_turns.proofs.Leaving.{leaves-join}
 use Rattle.std.proofs.Common.{arith, inl}
 use Rattle.std.proofs.lemmas.Bool.{OnFalse_at}
 use Rattle.gc_table.specs.Seats.{view_of}
 use Rattle.gc_table.specs.declared.view.View.{View}
 use Rattle.gc_table.proofs.Running.{ran-join}
 use Rattle.mutator_ops.proofs.Few.{at-most-join, at-most-more}
-use Rattle.mutator_turns.proofs.Seats.{looks-ran}
+use Rattle.seat_turns.proofs.Seats.{looks-ran}
 use Rattle.seat_steps.proofs.Found.{found-other, full-left, goes-freely}
 use Rattle.seat_steps.proofs.tries.point.Goals as goal
 

@@ -1,4 +1,4 @@
-use Rattle.mutator_turns.proofs.Leaving.{leaves-spared}
+use Rattle.seat_turns.proofs.Leaving.{leaves-spared}
 use Rattle.seat_steps.proofs.tries.try_in.Goals as goal
 use Rattle.std.specs.Prelude.{Some}
 use Rattle.gc_table.specs.Seats.{view_of}

@@ -1,7 +1,7 @@
 use Rattle.std.proofs.Common.{◌≡◌, true}
 use Rattle.std.proofs.lemmas.Bool.{OnTrue_from}
 use Rattle.gc_table.specs.Seats.{view_of}
-use Rattle.mutator_turns.proofs.Seats.{going-seen, looks-seen}
+use Rattle.seat_turns.proofs.Seats.{going-seen, looks-seen}
 use Rattle.shared_heap.specs.Opening.{IsAtFirstTurn}
 use Rattle.shared_heap.proofs.Rooted.{season-entered}
 use Rattle.shared_heap.proofs.Rooting.{cache-looked, first-kept, first-looked, first-start, mutates-looked}

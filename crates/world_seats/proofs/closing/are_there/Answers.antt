@@ -1,6 +1,6 @@
 use Rattle.std.proofs.Common.{ℕ, ◌≡◌, arith, refl, subst, sym}
 use Rattle.std.proofs.lemmas.Bool.{OnFalse_at, OnFalse_from, OnTrue_at, OnTrue_from}
-use Rattle.mutator_turns.specs.declared.background.Tracer.{Tracer}
+use Rattle.seat_turns.specs.declared.background.Tracer.{Tracer}
 use Rattle.world_seats.specs.Gathering.{AreAll}
 use Rattle.world_seats.proofs.closing.are_there.Goals as goal
 

@@ -1,7 +1,7 @@
 use Rattle.std.proofs.Common.{◌≡◌, rules, subst}
 use Rattle.std.specs.Arc.{arc_value}
 use Rattle.gc_table.specs.declared.seat.Heap.{Heap}
-use Rattle.mutator_turns.specs.Standing.{RestsOutside}
+use Rattle.seat_turns.specs.Standing.{RestsOutside}
 use Rattle.world_seats.proofs.Lists.{all-at}
 use Rattle.world_seats.proofs.closing.words_of.Goals as goal
 

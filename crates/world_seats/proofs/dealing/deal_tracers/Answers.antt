@@ -4,7 +4,7 @@ use Rattle.std.specs.Arc.{arc_value}
 use Rattle.gc_table.specs.declared.seat.Heap.{Heap}
 use Rattle.gc_table.specs.declared.seat.HeapSeat.{HeapSeat}
 use Rattle.world_seats.specs.Opening.{AreNewOf, AreNumbered, IsFreshTracer}
-use Rattle.mutator_turns.specs.declared.background.Tracer.{Tracer}
+use Rattle.seat_turns.specs.declared.background.Tracer.{Tracer}
 use Rattle.world_seats.proofs.Beginning.{first-new, numbered-push, rest-new}
 use Rattle.world_seats.proofs.dealing.deal_tracers.Goals as goal
 

@@ -2,7 +2,7 @@ use Rattle.std.proofs.Common.{◌≡◌, ◌∙◌, All, arith, refl, subst, sym
 use Rattle.std.proofs.lemmas.List.Elements.{All-head, All-push, All-rest}
 use Rattle.std.specs.Arc.{arc_value}
 use Rattle.gc_table.specs.declared.seat.Heap.{Heap}
-use Rattle.mutator_turns.specs.Standing.{RestsOutside}
+use Rattle.seat_turns.specs.Standing.{RestsOutside}
 use Rattle.world_seats.specs.Gathering.{AreOf, handed}
 use Rattle.world_seats.proofs.Gathered.{gathers-more, gathers-none}
 use Rattle.world_seats.proofs.gathering.gather.Goals as goal

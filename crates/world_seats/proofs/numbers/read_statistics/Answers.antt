@@ -3,7 +3,7 @@ use Rattle.gc_table.specs.Running.{Ran}
 use Rattle.gc_table.specs.Seats.{view_of}
 use Rattle.gc_table.proofs.History.Log.{only-after}
 use Rattle.gc_table.proofs.Running.{ran-found, ran-join, ran-only}
-use Rattle.mutator_turns.specs.Sharing.{spares_heap}
+use Rattle.seat_turns.specs.Sharing.{spares_heap}
 use Rattle.world_seats.proofs.numbers.read_statistics.Goals as goal
 
 pub returns-clause-ran : goal.returns-clause-ran

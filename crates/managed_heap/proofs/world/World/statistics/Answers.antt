@@ -2,7 +2,7 @@ use Rattle.std.proofs.Common.{ℕ, ◌≡◌, ◌∙◌, Option, ap, rules, subs
 use Rattle.std.specs.Arc.{arc_value}
 use Rattle.std.specs.Prelude.{is_some}
 use Rattle.gc_table.specs.declared.seat.Heap.{Heap}
-use Rattle.mutator_turns.specs.Standing.{RestsOutside}
+use Rattle.seat_turns.specs.Standing.{RestsOutside}
 use Rattle.managed_heap.proofs.Beginning.{first-kept}
 use Rattle.managed_heap.proofs.world.World.statistics.Goals as goal
 

@@ -1,7 +1,7 @@
 use Rattle.std.proofs.Common.{◌≡◌, rules, subst}
 use Rattle.std.specs.Arc.{arc_value}
 use Rattle.gc_table.specs.declared.seat.Heap.{Heap}
-use Rattle.mutator_turns.specs.Standing.{RestsOutside}
+use Rattle.seat_turns.specs.Standing.{RestsOutside}
 use Rattle.managed_heap.proofs.Beginning.{first-kept}
 use Rattle.managed_heap.proofs.world.World.try_dismiss_tracers.Goals as goal
 

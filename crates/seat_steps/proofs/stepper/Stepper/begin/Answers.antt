@@ -3,7 +3,7 @@ use Rattle.std.specs.Prelude.{if◌then◌else◌}
 use Rattle.gc_table.specs.Seats.{view_of}
 use Rattle.gc_table.proofs.Running.{ran-join}
 use Rattle.mutator_ops.specs.Few.{AtMost}
-use Rattle.mutator_turns.proofs.Leaving.{leaves-join}
+use Rattle.seat_turns.proofs.Leaving.{leaves-join}
 use Rattle.seat_steps.specs.Asked.{MarksSinceAsked, WaitsSinceAsked}
 use Rattle.seat_steps.specs.declared.stepper.Stage.TheVariants as stages
 use Rattle.seat_steps.proofs.Amounts.{few-join, looks-once, out-few, stopped-few}

@@ -1,6 +1,6 @@
 use Rattle.std.proofs.Common.{refl, subst}
 use Rattle.gc_table.specs.declared.seat.Heap.{Heap}
-use Rattle.mutator_turns.specs.Standing.{IsMutatorOutside}
+use Rattle.seat_turns.specs.Standing.{IsMutatorOutside}
 use Rattle.seat_steps.proofs.Answered.{arrives-out}
 use Rattle.seat_steps.specs.declared.stepper.Stage.TheVariants as stages
 use Rattle.seat_steps.proofs.Stages.{bounded-on, ends-out}

@@ -3,7 +3,7 @@ use Rattle.std.specs.Arc.{arc_value}
 use Rattle.gc_table.specs.Seats.{view_of}
 use Rattle.gc_table.specs.declared.seat.Heap.{Heap}
 use Rattle.gc_table.specs.declared.seat.HeapSeat.{HeapSeat}
-use Rattle.mutator_turns.specs.Sharing.{LeavesHeap}
+use Rattle.seat_turns.specs.Sharing.{LeavesHeap}
 use Rattle.shared_heap.specs.Calls.{LeavesFrom}
 use Rattle.shared_heap.specs.declared.mutator.Place.{Place}
 use Rattle.shared_heap.proofs.mutator.SharedMutator.into_steps.Goals as goal

@@ -1,7 +1,7 @@
 use Rattle.std.proofs.Common.{◌≡◌, rules, subst}
 use Rattle.std.specs.Arc.{arc_value}
 use Rattle.gc_table.specs.declared.seat.Heap.{Heap}
-use Rattle.mutator_turns.specs.Standing.{RestsOutside}
+use Rattle.seat_turns.specs.Standing.{RestsOutside}
 use Rattle.shared_heap.proofs.Telling.{zero-told}
 use Rattle.shared_heap.proofs.world.SharedWorld.statistics.Goals as goal
 

@@ -1,0 +1,6 @@
+use Rattle.gc_table.specs.Seats.{view_of}
+use Rattle.seat_turns.proofs.Coming.{own-cache}
+use Rattle.seat_turns.proofs.gates.retire_own_cache.Goals as goal
+
+pub returns-clause-gives : goal.returns-clause-gives
+returns-clause-gives c = let e = c.cache_of-cache.ensures in (c.cache_of-cache.result, own-cache c.cache_of-cache.result (view_of c.args.seat.now) e.some e.none, c.retire_some.ensures.gives)

@@ -1,0 +1,35 @@
+use Rattle.gc_table.specs.Seats.{view_of}
+use Rattle.gc_table.proofs.Running.{ran-join, ran-only}
+use Rattle.seat_turns.specs.Sharing.{spares_tracers}
+use Rattle.seat_turns.proofs.Coming.{own-cache}
+use Rattle.seat_turns.proofs.operations.make_object.Goals as goal
+
+pub returns-in-Ok-clause-ran : goal.returns-in-Ok-clause-ran
+returns-in-Ok-clause-ran g c = ran-join (view_of c.args.seat.now) (view_of c.come_to.new.seat) (view_of c.make_in.new.seat) c.come_to.ensures.leaves.ran c.make_in.ensures.ran
+
+pub returns-in-Ok-clause-tracers : goal.returns-in-Ok-clause-tracers
+returns-in-Ok-clause-tracers g c =
+    let l = c.come_to.ensures.leaves in
+    ran-only spares_tracers (view_of c.args.seat.now) (view_of c.come_to.new.seat) (view_of c.make_in.new.seat) l.ran c.make_in.ensures.ran l.tracers c.make_in.ensures.tracers
+
+pub returns-in-Ok-clause-made : goal.returns-in-Ok-clause-made
+returns-in-Ok-clause-made g c =
+    let e = c.cache_of-cache.ensures in
+    let m = c.make_in.ensures in
+    record {
+      free = c.in-Ok.free;
+      came = view_of c.come_to.new.seat;
+      comes = (c.cache_of-cache.result, own-cache c.cache_of-cache.result (view_of c.args.seat.now) e.some e.none, c.in-Ok.ensures.comes);
+      leaves = c.come_to.ensures.leaves;
+      cell = m.takes.0;
+      ran = m.ran;
+      makes = m.takes.1;
+    }
+
+pub returns-in-Err-Full-clause-ran : goal.returns-in-Err-Full-clause-ran
+returns-in-Err-Full-clause-ran g c = ran-join (view_of c.args.seat.now) (view_of c.come_to.new.seat) (view_of c.leave_full.new.seat) c.come_to.ensures.leaves.ran c.leave_full.ensures.ran
+
+pub returns-in-Err-Full-clause-tracers : goal.returns-in-Err-Full-clause-tracers
+returns-in-Err-Full-clause-tracers g c =
+    let l = c.come_to.ensures.leaves in
+    ran-only spares_tracers (view_of c.args.seat.now) (view_of c.come_to.new.seat) (view_of c.leave_full.new.seat) l.ran c.leave_full.ensures.ran l.tracers c.leave_full.ensures.leaves.tracers

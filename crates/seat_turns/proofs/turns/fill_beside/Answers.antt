@@ -1,0 +1,51 @@
+use Rattle.seat_turns.proofs.Seats.{kept-works}
+use Rattle.gc_table.specs.Seats.{view_of}
+use Rattle.seat_turns.proofs.Leaving.{leaves-filled}
+use Rattle.std.proofs.Common.{ℕ, ◌≡◌, ap, subst}
+use Rattle.mark_core.specs.declared.seat.SeatState.{SeatState}
+use Rattle.gc_cycle.specs.declared.counts.Refill.TheVariants as refills
+use Rattle.cache_refills.specs.Getting.{RefillsTo}
+use Rattle.seat_turns.proofs.turns.fill_beside.Goals as goal
+
+pub returns-in-Cache-clause-ok : goal.returns-in-Cache-clause-ok
+returns-in-Cache-clause-ok g c =
+    let r = c.in-Cache.ensures in
+    (kept-works c.args.heap.now c.args.seat.now c.refill_watched.new.seat c.requires.halts.works r.seat r.refills.goes_on.mutates r.rules.ran r.rules.keeps.0 r.rules.keeps.1, r.refills.cached)
+
+pub returns-in-Full-clause-err : goal.returns-in-Full-clause-err
+returns-in-Full-clause-err g c =
+    let r = c.in-Full.ensures in
+    (record { works = kept-works c.args.heap.now c.args.seat.now c.refill_watched.new.seat c.requires.halts.works r.seat r.refills.mutates r.rules.ran r.rules.keeps.0 r.rules.keeps.1; cache = r.refills.cache }, r.rules.spares)
+
+pub returns-in-Cache-clause-leaves : goal.returns-in-Cache-clause-leaves
+returns-in-Cache-clause-leaves g c = let r = c.in-Cache.ensures in leaves-filled (view_of c.args.seat.now) (view_of c.refill_watched.new.seat) r.rules.ran r.rules.only r.rules.keeps.0
+
+pub returns-in-Full-clause-leaves : goal.returns-in-Full-clause-leaves
+returns-in-Full-clause-leaves g c = let r = c.in-Full.ensures in leaves-filled (view_of c.args.seat.now) (view_of c.refill_watched.new.seat) r.rules.ran r.rules.only r.rules.keeps.0
+
+pub returns-in-Cache-clause-refilled : goal.returns-in-Cache-clause-refilled
+returns-in-Cache-clause-refilled g c =
+    let r = c.in-Cache.ensures in
+    let made : c.state.result.now.made ≡ (view_of c.args.seat.now).state.made = ap (λ (s : SeatState). s.made) c.state.ensures in (
+      c.in-Cache._paid,
+      record {
+        ran = r.rules.ran;
+        refills = subst (λ (n : ℕ). RefillsTo (refills.Cache c.in-Cache.cache c.in-Cache._paid) n (view_of c.args.seat.now) (view_of c.refill_watched.new.seat)) made r.refills;
+        stops = r.rules.stops;
+        visit = r.rules.visit;
+        again = r.rules.again;
+        collects = r.rules.collects;
+        cycles = r.rules.cycles;
+        pops = r.pops;
+        fills = r.rules.fills;
+        due = r.due;
+        only = r.rules.only;
+        numbers = r.rules.numbers;
+      },
+    )
+
+pub returns-in-Full-clause-full : goal.returns-in-Full-clause-full
+returns-in-Full-clause-full g c =
+    let r = c.in-Full.ensures in
+    let made : c.state.result.now.made ≡ (view_of c.args.seat.now).state.made = ap (λ (s : SeatState). s.made) c.state.ensures in
+    record { ran = r.rules.ran; refills = subst (λ (n : ℕ). RefillsTo refills.Full n (view_of c.args.seat.now) (view_of c.refill_watched.new.seat)) made r.refills; stops = r.rules.stops; visit = r.rules.visit; again = r.rules.again; collects = r.rules.collects; cycles = r.rules.cycles; pops = r.pops; fills = r.rules.fills; due = r.due; only = r.rules.only; numbers = r.rules.numbers }

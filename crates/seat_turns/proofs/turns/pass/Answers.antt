@@ -1,0 +1,112 @@
+use Rattle.std.proofs.Common.{◌∙◌, refl, None}
+use Rattle.gc_table.specs.Seats.{view_of}
+use Rattle.gc_cycle.specs.Answering.{HasCache}
+use Rattle.seat_turns.specs.Standing.{Plays, Works}
+use Rattle.gc_table.proofs.Running.{ran-join, ran-refl}
+use Rattle.seat_turns.proofs.Seats.{first-turn, going-seen, kept-heap, kept-works, looks-cached, looks-heap, looks-ran, looks-seen, looks-works, plays-turn, whole-cache, works-ready}
+use Rattle.seat_turns.proofs.Leaving.{leaves-join, leaves-looked, leaves-none, leaves-spared}
+use Rattle.seat_turns.specs.Coming.{Polls}
+use Rattle.seat_turns.proofs.Coming.{calm-join, calm-looked, calm-none, polls-after, polls-before}
+use Rattle.seat_turns.proofs.turns.pass.Goals as goal
+
+pub returns-in-Full-clause-err : goal.returns-in-Full-clause-err
+returns-in-Full-clause-err g c =
+    let s = c.safe_point.ensures in
+    (record { works = kept-works c.args.heap.now c.loop.seat c.safe_point.new.seat c.loop.invariant.works s.seat c.in-Full.ensures.safe.mutates s.ran s.keeps.0 s.keeps.1; cache = c.in-Full.ensures.safe.cache }, c.in-Full.ensures.known)
+
+pub returns-in-Full-clause-same : goal.returns-in-Full-clause-same
+returns-in-Full-clause-same g c = kept-heap (view_of c.loop.seat) (view_of c.safe_point.new.seat) c.safe_point.ensures.keeps.1 ∙ c.loop.invariant.same
+
+pub returns-in-Full-clause-ran : goal.returns-in-Full-clause-ran
+returns-in-Full-clause-ran g c = ran-join (view_of c.args.seat.now) (view_of c.loop.seat) (view_of c.safe_point.new.seat) c.loop.invariant.ran c.safe_point.ensures.ran
+
+pub is_turn-requires : goal.is_turn-requires
+is_turn-requires g c = record { seat = (c.safe_point.ensures.seat, c.in-Going.ensures.safe.goes_on.mutates) }
+
+pub returns-then-is_turn-clause-ok : goal.returns-then-is_turn-clause-ok
+returns-then-is_turn-clause-ok g c =
+    let s = c.safe_point.ensures in
+    let t = c.is_turn.ensures in
+    let h = c.args.heap.now in
+    let x = c.loop.seat in
+    let y = c.safe_point.new.seat in
+    let z = c.is_turn.new.seat in
+    let safe = c.in-Going.ensures.safe in
+    let works : Works h y = kept-works h x y c.loop.invariant.works s.seat safe.goes_on.mutates s.ran s.keeps.0 s.keeps.1 in
+    let looked : Works h z = looks-works h y z works t.seat t.looks in (
+      works-ready h z looked (looks-seen (view_of y) (view_of z) (going-seen (view_of x) (view_of y) safe.goes_on) t.looks) (first-turn (view_of z) looked.mutator (t.turn c.if-is_turn.true)),
+      looks-cached c.in-Going.kept (view_of y) (view_of z) safe.cached t.looks,
+    )
+
+pub returns-then-is_turn-clause-turn : goal.returns-then-is_turn-clause-turn
+returns-then-is_turn-clause-turn g c =
+    let z = c.is_turn.new.seat in
+    let q : Plays c.args.heap.now z × HasCache c.in-Going.kept (view_of z) = returns-then-is_turn-clause-ok g c in
+    plays-turn c.args.heap.now z q.0 (whole-cache c.in-Going.kept (view_of z) q.1)
+
+pub returns-then-is_turn-clause-same : goal.returns-then-is_turn-clause-same
+returns-then-is_turn-clause-same g c =
+    looks-heap (view_of c.safe_point.new.seat) (view_of c.is_turn.new.seat) c.is_turn.ensures.looks ∙ (kept-heap (view_of c.loop.seat) (view_of c.safe_point.new.seat) c.safe_point.ensures.keeps.1 ∙ c.loop.invariant.same)
+
+pub returns-then-is_turn-clause-ran : goal.returns-then-is_turn-clause-ran
+returns-then-is_turn-clause-ran g c =
+    let x = view_of c.loop.seat in
+    let y = view_of c.safe_point.new.seat in
+    let z = view_of c.is_turn.new.seat in
+    ran-join (view_of c.args.seat.now) x z c.loop.invariant.ran (ran-join x y z c.safe_point.ensures.ran (looks-ran y z c.is_turn.ensures.looks))
+
+pub loop-preserved : goal.loop-preserved
+loop-preserved g c =
+    let s = c.safe_point.ensures in
+    let t = c.is_turn.ensures in
+    let h = c.args.heap.now in
+    let x = c.loop.seat in
+    let y = c.safe_point.new.seat in
+    let z = c.is_turn.new.seat in
+    let safe = c.in-Going.ensures.safe in
+    record {
+      next = tt;
+      finite = tt;
+      works = looks-works h y z (kept-works h x y c.loop.invariant.works s.seat safe.goes_on.mutates s.ran s.keeps.0 s.keeps.1) t.seat t.looks;
+      cached = looks-cached c.in-Going.kept (view_of y) (view_of z) safe.cached t.looks;
+      same = looks-heap (view_of y) (view_of z) t.looks ∙ (kept-heap (view_of x) (view_of y) s.keeps.1 ∙ c.loop.invariant.same);
+      ran = ran-join (view_of c.args.seat.now) (view_of x) (view_of z) c.loop.invariant.ran (ran-join (view_of x) (view_of y) (view_of z) s.ran (looks-ran (view_of y) (view_of z) t.looks));
+      leaves =
+          leaves-join (view_of c.args.seat.now) (view_of x) (view_of z) c.loop.invariant.leaves
+          (leaves-join (view_of x) (view_of y) (view_of z) (leaves-spared (view_of x) (view_of y) s.ran s.spares s.keeps.0) (leaves-looked (view_of y) (view_of z) t.looks));
+      quiet =
+          calm-join c.args.cache c.loop.cache c.in-Going.kept (view_of c.args.seat.now) (view_of x) (view_of z) c.loop.invariant.quiet
+          (calm-join c.loop.cache c.in-Going.kept c.in-Going.kept (view_of x) (view_of y) (view_of z) (record { calm = s.calm; not_full = s.not_full; unbegun = s.unbegun; numbers = c.in-Going.ensures.numbers }) (calm-looked c.in-Going.kept (view_of y) (view_of z) t.looks));
+    }
+
+pub returns-in-Full-clause-leaves : goal.returns-in-Full-clause-leaves
+returns-in-Full-clause-leaves g c =
+    let s = c.safe_point.ensures in
+    leaves-join (view_of c.args.seat.now) (view_of c.loop.seat) (view_of c.safe_point.new.seat) c.loop.invariant.leaves (leaves-spared (view_of c.loop.seat) (view_of c.safe_point.new.seat) s.ran s.spares s.keeps.0)
+
+pub returns-then-is_turn-clause-leaves : goal.returns-then-is_turn-clause-leaves
+returns-then-is_turn-clause-leaves g c =
+    let x = view_of c.loop.seat in
+    let y = view_of c.safe_point.new.seat in
+    let z = view_of c.is_turn.new.seat in
+    let s = c.safe_point.ensures in
+    leaves-join (view_of c.args.seat.now) x z c.loop.invariant.leaves (leaves-join x y z (leaves-spared x y s.ran s.spares s.keeps.0) (leaves-looked y z c.is_turn.ensures.looks))
+
+pub loop-init : goal.loop-init
+loop-init g c = record { next = tt; finite = tt; works = c.requires.works; cached = c.requires.cache; same = refl; ran = ran-refl (view_of c.args.seat.now); leaves = leaves-none (view_of c.args.seat.now); quiet = calm-none c.args.cache (view_of c.args.seat.now) }
+
+pub returns-in-Full-clause-full : goal.returns-in-Full-clause-full
+returns-in-Full-clause-full g c =
+    let s = c.safe_point.ensures in
+    polls-after c.args.cache c.loop.cache None (view_of c.args.seat.now) (view_of c.loop.seat) (view_of c.safe_point.new.seat) c.loop.invariant.quiet
+    (record { polled = s.polled; calm = s.calm; not_full = s.not_full; unbegun = s.unbegun; numbers = c.in-Full.ensures.numbers })
+
+pub returns-then-is_turn-clause-polls : goal.returns-then-is_turn-clause-polls
+returns-then-is_turn-clause-polls g c =
+    let x = view_of c.loop.seat in
+    let y = view_of c.safe_point.new.seat in
+    let z = view_of c.is_turn.new.seat in
+    let s = c.safe_point.ensures in
+    let kept = c.in-Going.kept in
+    let here : Polls c.loop.cache kept x y = record { polled = s.polled; calm = s.calm; not_full = s.not_full; unbegun = s.unbegun; numbers = c.in-Going.ensures.numbers } in
+    polls-after c.args.cache c.loop.cache kept (view_of c.args.seat.now) x z c.loop.invariant.quiet (polls-before c.loop.cache kept kept x y z here (calm-looked kept y z c.is_turn.ensures.looks))

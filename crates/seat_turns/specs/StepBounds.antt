@@ -1,0 +1,23 @@
+-- How many steps a tracer takes at most in a turn while marking is under way. It depends on the packets and the fields of the heap, and not on its cells.
+use Rattle.std.specs.Prelude.{ℕ, ◌+◌, ◌*◌}
+use Rattle.mark_core.specs.Cards.{card_cells}
+use Rattle.mark_core.specs.declared.kinds.Shape.{Shape}
+use Rattle.tracer.specs.StepBounds.{recycle_steps, trace_steps}
+use Rattle.card_clean.specs.StepBounds.{clean_one_steps}
+use Rattle.seat_turns.specs.Tending.{turn_cards, turn_quota}
+
+-- the next card is drawn, looked at and cleaned
+abbrev pub card_steps : Shape → ℕ
+card_steps sh = 3 + clean_one_steps card_cells sh
+
+-- so with all cards of a turn
+abbrev pub cards_steps : Shape → ℕ
+cards_steps sh = turn_cards * card_steps sh
+
+-- the three numbers are read that tell whether the cycle is far on, and then cards are passed
+abbrev pub late_steps : Shape → ℕ
+late_steps sh = 3 + cards_steps sh
+
+-- the objects of a turn are traced, cards are passed if the cycle is far on, and what was deferred is brought back
+abbrev pub turn_steps : Shape → ℕ
+turn_steps sh = trace_steps turn_quota sh + late_steps sh + recycle_steps sh

@@ -1,0 +1,59 @@
+//! What a mutator and a tracer do with their seats between the calls of the collector.
+//!
+//! # A mutator
+//!
+//! Into the world and out of it, to its turn, to a cell, and one operation at a time: calls on a heap and a seat,
+//! which ask for the facts that the types above keep (`specs/Standing.antt`). The seat waits outside the world, is
+//! inside without a cache, or is at its turn.
+//!
+//! # A tracer
+//!
+//! A tracer enters the world, reads the phase ([`see_phase`]), marks if marking is under way ([`mark_some`]), and
+//! leaves. A stop waits until the turn has ended, so a turn is short:
+//!
+//! 1. it traces 64 objects, or fewer if at some moment nothing was left in hand and no packet with a cell was
+//!    found;
+//! 2. if there were fewer, and the cycle is far on, it passes up to 1,024 cards and cleans those that are dirty. A
+//!    card that is cleaned early is dirtied again, and then the stop cleans it;
+//! 3. deferred cells, which weren't published yet, may be traced again.
+//!
+//! The caller tells the collector how many objects were traced, by a step of its own; if there were none, one
+//! caller takes that step and another doesn't. A [`Tracer`] owns a seat of no section, and its type keeps that the
+//! seat is outside the world between two turns; so no call of a tracer asks for a proof.
+//!
+//! In `specs/`, `TracerStanding` says who may mark in a turn, `Tending` what its steps are and `StepBounds` how
+//! many; `Tracing` and `Trying` what turns did that wait and that don't, `Tallying` how many objects a tracer
+//! counts, and `Turning` what a reading of the season tells.
+#![tactic(auto)]
+
+mod background;
+mod dismissing;
+mod exchanging;
+mod gates;
+mod identity;
+mod operations;
+mod own_turn;
+mod refused;
+mod sharing;
+mod slots;
+mod tracer_marking;
+mod tracer_turn;
+mod try_turns;
+mod turns;
+
+pub use background::{Tracer, Turn};
+pub use dismissing::{tell_dismissed, try_dismiss};
+pub use exchanging::{exchange_shared, exchange_value_shared};
+pub use gates::{collect_turn, enter_turn, leave, leave_turn, pass_turn, retire_own_cache};
+pub use identity::identity_shared;
+pub use operations::{make_in, make_object, read_value, refer_to_one, refers_to_nothing};
+pub use own_turn::is_turn;
+pub use refused::{NotOpened, Refused};
+pub use sharing::{
+    copy_shared, forget_shared, get_shared, lend_shared, make_shared, make_shared_in, put_shared,
+    set_shared, value_shared, word_of,
+};
+pub use slots::{clear_slots_shared, fill_shared, spill_shared};
+pub use tracer_marking::{mark_some, see_phase};
+pub use try_turns::TryTurn;
+pub use turns::{TURN, keep_some, with_free};

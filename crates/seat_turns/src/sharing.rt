@@ -1,0 +1,171 @@
+//! One operation of a mutator at its turn, in a heap whose objects are shared.
+ghost use Rattle.std.specs.Prelude.{◌≡◌, ◌<◌, ◌+◌, ◌-◌, [], ◌∷◌, IfErr, IfNone, IfOk, IfSome, IsTrue, false, slice_index};
+ghost use Rattle.std.specs.Int.Count.{ones};
+ghost use Rattle.mark_core.specs.Numbers.{section_variables};
+ghost use Rattle.mark_core.specs.Steps.MutatorSteps.{seat_variable as word_in};
+ghost use Rattle.mark_core.specs.declared.kinds.Step.TheVariants.{ReadValue};
+ghost use Rattle.gc_table.specs.Seats.{Across, Found, state_of, view_of};
+ghost use Rattle.alloc_cache.specs.Caching.{IsCached};
+ghost use Rattle.mutator_ops.specs.Few.{AtMost};
+ghost use Rattle.mutator_ops.specs.Sharing.{LendsFound, SetsVariable, TakesSteps, putting_steps, setting_steps};
+ghost use Rattle.seat_turns.specs.Coming.{MakesNoneAtTurn, MakesSharedAtTurn};
+ghost use Rattle.seat_turns.specs.Halting.{MadeNone};
+ghost use Rattle.seat_turns.specs.Sharing.{FollowsField, LeavesHeap, MakesShared, MakesSharedAfter};
+ghost use Rattle.seat_turns.specs.Standing.{IsAtTurn, Plays, plain_of};
+
+use crate::gates::leave_full;
+use crate::refused::Refused;
+use crate::turns::come_to;
+use alloc_cache::{Cache, cache_of, leave_with_seat};
+use cache_refills::Watch;
+use gc_table::{Heap, HeapSeat};
+use mutator_ops::{
+    share_copy, share_create, share_follow, share_forget, share_lend, share_put, share_set,
+    share_value_of,
+};
+use std::sync::Wait;
+
+/// Reference i of variable v's object, whoever made it, becomes what variable w is, by the barrier.
+pub fn set_shared(heap: &Heap, seat: &mut HeapSeat, v: u8, i: u8, w: u8)
+    requires turn { IsAtTurn heap.now seat.old }
+    requires shared { IsTrue heap.now.shape.sharing }
+    requires range { (v < section_variables) × (i < heap.now.shape.fields) × (w < section_variables) }
+    ensures turn { IsAtTurn heap.now seat.new }
+    ensures takes { Across (TakesSteps (setting_steps (state_of seat.old) v i w)) seat.old seat.new }
+    ensures few { Across (AtMost 2) seat.old seat.new }
+{
+    share_set(heap, seat, v, i, w);
+}
+
+/// The value of variable v's object, whoever made it, becomes this one.
+pub fn put_shared(heap: &Heap, seat: &mut HeapSeat, v: u8, value: u32)
+    requires turn { IsAtTurn heap.now seat.old }
+    requires shared { IsTrue heap.now.shape.sharing }
+    requires range { v < section_variables }
+    ensures turn { IsAtTurn heap.now seat.new }
+    ensures takes { Across (TakesSteps (putting_steps (state_of seat.old) v value)) seat.old seat.new }
+    ensures few { Across (AtMost 1) seat.old seat.new }
+{
+    share_put(heap, seat, v, value);
+}
+
+/// Variable w becomes reference i of variable v's object, or nil where v is.
+pub fn get_shared(heap: &Heap, seat: &mut HeapSeat, w: u8, v: u8, i: u8)
+    requires turn { IsAtTurn heap.now seat.old }
+    requires shared { IsTrue heap.now.shape.sharing }
+    requires range { (w < section_variables) × (v < section_variables) × (i < heap.now.shape.fields) }
+    ensures turn { IsAtTurn heap.now seat.new }
+    ensures follows { Across (FollowsField w v i) seat.old seat.new }
+    ensures few { Across (AtMost 2) seat.old seat.new }
+{
+    if word_of(seat, v) == 0 {
+        share_forget(heap, seat, w);
+    } else {
+        share_follow(heap, seat, w, v, i);
+    }
+}
+
+/// Variable w becomes what variable v is.
+pub fn copy_shared(heap: &Heap, seat: &mut HeapSeat, w: u8, v: u8)
+    requires turn { IsAtTurn heap.now seat.old }
+    requires shared { IsTrue heap.now.shape.sharing }
+    requires range { (w < section_variables) × (v < section_variables) }
+    ensures turn { IsAtTurn heap.now seat.new }
+    ensures sets { Across (SetsVariable w (word_in (state_of seat.old) v)) seat.old seat.new }
+    ensures few { Across (AtMost 1) seat.old seat.new }
+{
+    share_copy(heap, seat, w, v);
+}
+
+/// Variable v refers to nothing any more.
+pub fn forget_shared(heap: &Heap, seat: &mut HeapSeat, v: u8)
+    requires turn { IsAtTurn heap.now seat.old }
+    requires shared { IsTrue heap.now.shape.sharing }
+    requires range { v < section_variables }
+    ensures turn { IsAtTurn heap.now seat.new }
+    ensures sets { Across (SetsVariable v 0) seat.old seat.new }
+    ensures few { Across (AtMost 1) seat.old seat.new }
+{
+    share_forget(heap, seat, v);
+}
+
+/// Variable w becomes what variable c of section 0 is.
+pub fn lend_shared(heap: &Heap, seat: &mut HeapSeat, w: u8, c: u8)
+    requires turn { IsAtTurn heap.now seat.old }
+    requires shared { IsTrue heap.now.shape.sharing }
+    requires range { (w < section_variables) × (c < section_variables) }
+    ensures turn { IsAtTurn heap.now seat.new }
+    ensures lends { Across (LendsFound w c) seat.old seat.new }
+    ensures few { Across (AtMost 2) seat.old seat.new }
+{
+    share_lend(heap, seat, w, c);
+}
+
+/// The value of variable v's object, as one read finds it. None where v refers to nothing.
+pub fn value_shared(heap: &Heap, seat: &mut HeapSeat, v: u8) -> Option<u64>
+    requires turn { IsAtTurn heap.now seat.old }
+    requires shared { IsTrue heap.now.shape.sharing }
+    requires range { v < section_variables }
+    ensures turn { IsAtTurn heap.now seat.new }
+    ensures some { IfSome result (λ n. (0 < word_in (state_of seat.old) v) × Across (Found (ReadValue (word_in (state_of seat.old) v - 1)) n) seat.old seat.new) }
+    ensures none { IfNone result ((word_in (state_of seat.old) v ≡ 0) × (view_of seat.new ≡ view_of seat.old)) }
+    ensures few { Across (AtMost 1) seat.old seat.new }
+{
+    share_value_of(heap, seat, v)
+}
+
+/// The word of variable v: 0 where it refers to nothing, and else the number of its object's cell and 1.
+pub fn word_of(seat: &HeapSeat, v: u8) -> u32
+    requires { v < section_variables }
+    ensures { result ≡ slice_index (state_of seat.now).env v }
+{
+    seat.state().env[v as usize]
+}
+
+/// Makes an object in variable v. The cache, which has a free cell, stays the seat's.
+pub fn make_shared_in(heap: &Heap, seat: &mut HeapSeat, cache: Cache, v: u8, value: u32)
+    requires plays { Plays heap.now seat.old }
+    requires shared { IsTrue heap.now.shape.sharing }
+    requires cache { IsCached cache (view_of seat.old) }
+    requires free { 0 < ones cache.cells }
+    requires room { (state_of seat.old).made < heap.now.shape.objects }
+    requires range { v < section_variables }
+    ensures turn { IsAtTurn heap.now seat.new }
+    ensures makes { Across (MakesShared v value) seat.old seat.new }
+    ensures few { Across (AtMost (heap.now.shape.fields + 3)) seat.old seat.new }
+{
+    let mut cache = cache;
+    let Some(_cell) = share_create(heap, seat, &mut cache, v, value) else {
+        unreachable!()
+    };
+    leave_with_seat(cache);
+}
+
+/// Makes an object in variable v, after a safe point. Refused where the heap is full, and the seat is outside then, or where all numbers of objects are used.
+pub fn make_shared<R: Wait, W: Watch>(
+    rt: &R,
+    heap: &Heap,
+    seat: &mut HeapSeat,
+    v: u8,
+    value: u32,
+    watch: &mut W,
+) -> Result<(), Refused>
+    requires turn { IsAtTurn heap.now seat.old }
+    requires shared { IsTrue heap.now.shape.sharing }
+    requires range { v < section_variables }
+    ensures ok { IfOk result (λ _. IsAtTurn heap.now seat.new × Across (MakesSharedAfter v value) seat.old seat.new) }
+    ensures err { IfErr result (λ e. MadeNone e heap.now seat.new) }
+    ensures leaves { IfErr result (λ _. Across LeavesHeap seat.old seat.new) }
+    ensures made { IfOk result (λ _. Across (MakesSharedAtTurn heap.now.shape v value) seat.old seat.new) }
+    ensures none { IfErr result (λ e. Across (MakesNoneAtTurn e false heap.now.shape) seat.old seat.new) }
+{
+    let cache = cache_of(seat);
+    match come_to(rt, heap, seat, cache, false, watch) {
+        Ok(free) => {
+            make_shared_in(heap, seat, free, v, value);
+            Ok(())
+        }
+        Err(Refused::Full) => Err(leave_full(heap, seat)),
+        Err(other) => Err(other),
+    }
+}

@@ -1,0 +1,133 @@
+//! A tracer inside the world.
+ghost use Rattle.std.specs.Prelude.{◌≡◌, ◌<◌, ◌≤◌, ◌+◌, Some, length};
+ghost use Rattle.mark_core.specs.Cards.{card_cells};
+ghost use Rattle.mark_core.specs.Layout.{card_count};
+ghost use Rattle.mark_core.specs.Seats.{phase_of};
+ghost use Rattle.mark_core.specs.declared.kinds.Step.TheVariants.{ReadPhase};
+ghost use Rattle.gc_table.specs.Seats.{Across, Answered, did, state_of};
+ghost use Rattle.card_clean.specs.StepBounds.{clean_one_steps};
+ghost use Rattle.tracer.specs.StepBounds.{recycle_steps};
+ghost use Rattle.seat_turns.specs.TracerStanding.{Goes, GoesMarking};
+ghost use Rattle.seat_turns.specs.StepBounds.{card_steps, cards_steps, late_steps, turn_steps};
+ghost use Rattle.seat_turns.specs.Tending.{MarksSome, Tends};
+
+use cache_refills::is_far_on;
+use card_clean::{clean_one, next_card};
+use gc_table::{Heap, HeapSeat};
+use mark_core::Phase;
+use tracer::{Stopped, recycle_deferred, trace};
+
+/// How many objects a turn traces.
+const OBJECTS: u32 = 64;
+
+const CARDS: u32 = 1_024;
+
+/// Reads the phase, by one step of a seat in the world. The record has the phase then.
+pub fn see_phase(heap: &Heap, seat: &mut HeapSeat) -> Phase
+    requires { Goes heap.now seat.old }
+    ensures seat { Goes heap.now seat.new }
+    ensures seen { (state_of seat.new).phase_seen ≡ Some result }
+    ensures sees { Across (Answered ReadPhase (λ n. result ≡ phase_of n)) seat.old seat.new }
+{
+    heap.read_phase(seat)
+}
+
+/// Cleans a card. False if no packet has room.
+fn clean(heap: &Heap, seat: &mut HeapSeat, card: u32) -> bool
+    requires seat { GoesMarking heap.now seat.old }
+    requires card { card < card_count heap.now.shape }
+    ensures seat { GoesMarking heap.now seat.new }
+    ensures tends { Across (Tends 0) seat.old seat.new }
+    ensures few { length (did seat.old seat.new) ≤ clean_one_steps card_cells heap.now.shape }
+{
+    match clean_one(heap, seat, card) {
+        Some(_) => true,
+        None => false,
+    }
+}
+
+/// Cleans a card if it is dirty: a clean one costs one look and no packet. False if no packet has room.
+fn clean_where_dirty(heap: &Heap, seat: &mut HeapSeat, card: u32) -> bool
+    requires seat { GoesMarking heap.now seat.old }
+    requires card { card < card_count heap.now.shape }
+    ensures seat { GoesMarking heap.now seat.new }
+    ensures tends { Across (Tends 0) seat.old seat.new }
+    ensures few { length (did seat.old seat.new) ≤ 1 + clean_one_steps card_cells heap.now.shape }
+{
+    if !heap.read_card(seat, card) {
+        return true;
+    }
+    clean(heap, seat, card)
+}
+
+/// Does so for the next card of the pass. False if none is left, or no packet has room.
+fn clean_next(heap: &Heap, seat: &mut HeapSeat) -> bool
+    requires { GoesMarking heap.now seat.old }
+    ensures seat { GoesMarking heap.now seat.new }
+    ensures tends { Across (Tends 0) seat.old seat.new }
+    ensures few { length (did seat.old seat.new) ≤ card_steps heap.now.shape }
+{
+    match next_card(heap, seat) {
+        Some(card) => clean_where_dirty(heap, seat, card),
+        None => false,
+    }
+}
+
+fn clean_cards(heap: &Heap, seat: &mut HeapSeat)
+    requires { GoesMarking heap.now seat.old }
+    ensures seat { GoesMarking heap.now seat.new }
+    ensures tends { Across (Tends 0) seat.old seat.new }
+    ensures few { length (did seat.old seat.new) ≤ cards_steps heap.now.shape }
+{
+    for _card in 0..CARDS {
+        if !clean_next(heap, seat) {
+            return;
+        }
+    }
+}
+
+/// Cleans the cards of a turn if the cycle is far on.
+fn clean_late(heap: &Heap, seat: &mut HeapSeat)
+    requires { GoesMarking heap.now seat.old }
+    ensures seat { GoesMarking heap.now seat.new }
+    ensures tends { Across (Tends 0) seat.old seat.new }
+    ensures few { length (did seat.old seat.new) ≤ late_steps heap.now.shape }
+{
+    if is_far_on(heap, seat) {
+        clean_cards(heap, seat);
+    }
+}
+
+fn clean_after(heap: &Heap, seat: &mut HeapSeat, stopped: Stopped)
+    requires { GoesMarking heap.now seat.old }
+    ensures seat { GoesMarking heap.now seat.new }
+    ensures tends { Across (Tends 0) seat.old seat.new }
+    ensures few { length (did seat.old seat.new) ≤ late_steps heap.now.shape }
+{
+    if let Stopped::NoWork = stopped {
+        clean_late(heap, seat);
+    }
+}
+
+fn tend(heap: &Heap, seat: &mut HeapSeat, stopped: Stopped)
+    requires { GoesMarking heap.now seat.old }
+    ensures seat { GoesMarking heap.now seat.new }
+    ensures tends { Across (Tends 0) seat.old seat.new }
+    ensures few { length (did seat.old seat.new) ≤ late_steps heap.now.shape + recycle_steps heap.now.shape }
+{
+    clean_after(heap, seat, stopped);
+    recycle_deferred(heap, seat);
+}
+
+/// Traces the 64 objects of a turn; if there are fewer and the cycle is far on, cleans cards. The caller adds the
+/// answer to the number of traced objects.
+pub fn mark_some(heap: &Heap, seat: &mut HeapSeat) -> u32
+    requires { GoesMarking heap.now seat.old }
+    ensures seat { GoesMarking heap.now seat.new }
+    ensures marks { Across (MarksSome result) seat.old seat.new }
+    ensures few { length (did seat.old seat.new) ≤ turn_steps heap.now.shape }
+{
+    let traced = trace(heap, seat, OBJECTS);
+    tend(heap, seat, traced.stopped);
+    traced.done
+}
