@@ -34,7 +34,7 @@ PLACES = [
     (SHARED + "src/opening.rt", "NAME ≡ @most ", ["objects"]),
     (FOR_C + "specs/Sizing.antt", "packets = @packets; entries = usual_..", ["room"]),
     ("crates/seat_turns/src/refused.rt", SPENT, ["objects"]),
-    ("crates/seat_tries/src/came.rt", SPENT, ["objects"]),
+    ("crates/seat_steps/src/came.rt", SPENT, ["objects"]),
     (PAGE, "threads share: @least to @most NAME, a multiple of @step.", ["cells"]),
     (PAGE, "bits and @least to @most references", ["fields"]),
     (PAGE, "| Mutators | @least to @most,", ["mutators"]),

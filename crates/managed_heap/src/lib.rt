@@ -40,7 +40,7 @@
 //! `world` has the heap with those of its mutators and tracers that nobody has, `lending` how they are
 //! taken and given back, and `closing` how a world hands out the run of its threads; `mutator` has the type, `calls` what a mutator does, and `reading` what it
 //! reads. Below them `opening` makes a heap, and `dealing` deals its seats out. What a mutator does with its seat is in `seat_turns`, and so is why a call did
-//! nothing. The sizes, and what either kind of world does with its seats, are in `world_seats`. A mutator that doesn't wait is in `seat_steps`, a tracer in `tracer_turns`; `handing` turns a mutator into such a one and back, and `dismissing` ends the tracers.
+//! nothing. The sizes, and what either kind of world does with its seats, are in `world_seats`. A mutator that doesn't wait is in `seat_steps`, a tracer in `seat_turns`; `handing` turns a mutator into such a one and back, and `dismissing` ends the tracers.
 #![tactic(auto)]
 
 ghost use Rattle.managed_heap.specs.Threads.{ThreadsRun};

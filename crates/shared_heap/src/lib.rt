@@ -21,7 +21,7 @@
 //!
 //! `world` and `mutator` have the two types. `opening` makes a heap with its root, `dealing` deals its seats out to mutators and tracers, `lending`
 //! lends these and takes them back, as `tracing` does with the tracers, and `closing` closes the world. What a mutator does is in `calls`, `comparing`, `exchanging`,
-//! `slots` and `identity`. A mutator that doesn't wait is in `seat_steps`, a tracer in `tracer_turns`; `handing` turns a mutator into such a one and back.
+//! `slots` and `identity`. A mutator that doesn't wait is in `seat_steps`, a tracer in `seat_turns`; `handing` turns a mutator into such a one and back.
 #![tactic(auto)]
 
 ghost use Rattle.shared_heap.specs.Counting.{CounterClosed, CounterRead, LockClosed};
