@@ -16,7 +16,7 @@ PLAY = "cells workers tracers packets entries"
 PLACES = [
     (WORDS, 'chosen @least @most (Some @usual) (given (codes "--NAME") all)', f"{PLAY} runners"),
     (WORDS, 'chosen @least @most None (given (codes "--NAME") all)', "number size"),
-    (WORDS, "-- @least to @most, ..and @usual where none are given\nabbrev pub NAME ", f"{PLAY} runners"),
+    (WORDS, "-- @least to @most, ..and @usual if none are given\nabbrev pub NAME ", f"{PLAY} runners"),
     (WORDS, " @least to @most\nabbrev pub NAME ", "size"),
     (WORDS, "a multiple of @step, ..\nabbrev pub NAME ", "cells"),
     (WORDS, "NAME all = ..(λ n. if n % @step == 0 ", "cells"),

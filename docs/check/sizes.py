@@ -78,9 +78,9 @@ def places_of(sizes):
         (code, "@least <= self.NAME", LOWEST),
         (code, "self.NAME <= @most", sizes),
         (code, "heap of so many NAME, @least to @most, a multiple of @step.", ["cells"]),
-        (code, "/// With so many.., @least to @most..\n    pub fn NAME(self", several),
-        (code, "With so many NAME, @least to @most, each", ["packets"]),
-        (code, "room for so many cells, @least to @most,", ["entries"]),
+        (code, "/// With this many.., @least to @most..\n    pub fn NAME(self", several),
+        (code, "With this many NAME, @least to @most, each", ["packets"]),
+        (code, "room for this many cells, @least to @most,", ["entries"]),
     ]
 
 

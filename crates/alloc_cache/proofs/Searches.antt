@@ -46,7 +46,7 @@ idle-after v w step n e apart same knows idle =
     ∙ ap (λ (o : Option ℕ). is_the o 0)
     (note-stays (steady s) (place v.shape v.state step) the_phase (written v.shape v.state step n) 0 v.known apart (knows-steady s 0 (same ∙ knows)) (some-is (look the_phase v.known) 0 idle))
 
--- so a seat that may claim still may, where it has no cache
+-- so a seat that may claim still may, if it has no cache
 pub may-after : (v w : View) (step : Step) (n : ℕ) → w ≡ after step n v → same_place (place v.shape v.state step) the_phase ≡ false → (o : Option CacheState) → seat_after v.shape v.state step n ≡ record v.state { cache = o }
     → (v.state.active || (v.state.knows && notes_idle v)) ≡ true → (w.state.active || (w.state.knows && notes_idle w)) ≡ true
 may-after v w step n e apart o is may =

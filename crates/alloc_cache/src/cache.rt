@@ -15,7 +15,7 @@ pub struct Cache {
 }
 
 impl Cache {
-    /// The number of its block, which has the cells from 64 times that number on.
+    /// The number of its block, whose first cell is 64 times that number.
     pub fn block(&self) -> u32
         ensures { result ≡ self.now.block }
     {
@@ -30,7 +30,7 @@ impl Cache {
     }
 }
 
-/// The cache that the seat's record has, for a caller that kept none of its own between two calls. It is the seat's as any is: once it is given up, no
+/// The cache that the seat's record has, for a caller that kept none between two calls. Once it is given up, no
 /// other of the same block can be spent.
 pub fn cache_of(seat: &HeapSeat) -> Option<Cache>
     requires whole { IsTrue (is_whole (state_of seat.now).cache) }
@@ -46,7 +46,7 @@ pub fn cache_of(seat: &HeapSeat) -> Option<Cache>
     }
 }
 
-/// Lets a cache go that stays the seat's: the seat's record has it, and [`cache_of`] gives it again.
+/// Lets go of a cache that stays the seat's: [`cache_of`] gives it again.
 pub fn leave_with_seat(cache: Cache) {
     let Cache { block: _, cells: _ } = cache;
 }

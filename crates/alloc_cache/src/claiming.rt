@@ -1,4 +1,4 @@
-//! A block with free cells is looked for.
+//! A search for a block with free cells.
 ghost use Rattle.std.specs.Prelude.{◌≡◌, ◌<◌, ◌≤◌, ◌+◌, ◌*◌, length, IsTrue, IfSome, IfNone};
 ghost use Rattle.mark_core.specs.Layout.{block_count};
 ghost use Rattle.gc_table.specs.Seats.{Across, did, Sits, state_of, view_of};
@@ -12,15 +12,15 @@ use mark_core::{BLOCK_CELLS, FREE};
 
 /// What a search of some of the blocks came to.
 pub enum Search {
-    /// A block with free cells, which the seat claimed.
+    /// A block with free cells, now the seat's.
     Claimed(Cache),
-    /// None of them had a free cell. This is the block from which to go on.
+    /// None of them had a free cell: go on from this block.
     Next(u32),
-    /// None from the first of them to the last block had a free cell.
+    /// None from the first to the last block had a free cell.
     Ended,
 }
 
-/// Claims block b, unless another seat has it or no cell of it is free. A block that was got and is full is released again.
+/// Claims block b, unless another seat has it. If no cell of it is free it is released again.
 fn claim_block(heap: &Heap, seat: &mut HeapSeat, b: u32) -> Option<Cache>
     requires seat { Sits heap.now seat.old × MayClaim (view_of seat.old) }
     requires block { b < block_count heap.now.shape }
@@ -41,7 +41,6 @@ fn claim_block(heap: &Heap, seat: &mut HeapSeat, b: u32) -> Option<Cache>
     Some(Cache { block: b, cells })
 }
 
-/// Claims one of the blocks from `first` on and below `end`.
 fn claim_among(heap: &Heap, seat: &mut HeapSeat, first: u32, end: u32) -> Option<Cache>
     requires seat { Sits heap.now seat.old × MayClaim (view_of seat.old) }
     requires blocks { (first ≤ end) × (end ≤ block_count heap.now.shape) }
@@ -58,7 +57,7 @@ fn claim_among(heap: &Heap, seat: &mut HeapSeat, first: u32, end: u32) -> Option
     None
 }
 
-/// Claims a block with free cells. The search begins at block `first`, or at that number less a multiple of the number of blocks, and goes round.
+/// Claims a block with free cells, from block `first` (modulo their number) on and around.
 fn claim_from(heap: &Heap, seat: &mut HeapSeat, first: u32) -> Option<Cache>
     requires seat { Sits heap.now seat.old × MayClaim (view_of seat.old) }
     ensures seat { Sits heap.now seat.new }
@@ -75,11 +74,11 @@ fn claim_from(heap: &Heap, seat: &mut HeapSeat, first: u32) -> Option<Cache>
     }
 }
 
-/// Claims a block in which the seat makes cells: its free cells are at least one, and the count of free cells falls by them. The seat has a section and
-/// no cache, and runs, or has stopped the world while no cycle is under way.
+/// Claims a block with at least one free cell; the count of free cells falls by them. The seat has a section and no
+/// cache, and runs, or has stopped the world while no cycle is under way.
 ///
-/// The search begins behind the block that the seat claimed last, and goes round: it takes three steps for each block at most. None comes only where each block
-/// was seen claimed, or with all allocation bits set, in this call.
+/// The search begins behind the block that the seat claimed last. The answer is None only if this call saw each
+/// block claimed, or with all allocation bits set.
 pub fn claim(heap: &Heap, seat: &mut HeapSeat) -> Option<Cache>
     requires seat { Sits heap.now seat.old × MayClaim (view_of seat.old) }
     ensures seat { Sits heap.now seat.new }
@@ -110,11 +109,11 @@ fn goes_on(end: u32, blocks: u32) -> Option<u32>
     None
 }
 
-/// Claims a block as [`claim`] does, but looks at `most` blocks only, from block `from` on: so it is of a caller that may not take long. It takes three steps
-/// for each of them at most.
+/// Claims a block as [`claim`] does, but looks only at `most` blocks from block `from` on: for a caller that may
+/// not take long.
 ///
-/// It claims the first of them in which it sees a free cell. Next comes where it saw none in any of them and there are more, and Ended where it saw none up to
-/// the last block. A caller that began at block 0 has then seen each block so, by these calls.
+/// It claims the first in which it sees a free cell. Otherwise it answers Next if there are more blocks, else
+/// Ended: a caller that began at block 0 has then seen each block.
 pub fn claim_some(heap: &Heap, seat: &mut HeapSeat, from: u32, most: u32) -> Search
     requires seat { Sits heap.now seat.old × MayClaim (view_of seat.old) }
     requires from { from ≤ block_count heap.now.shape }

@@ -13,14 +13,12 @@ use crate::cache::Cache;
 use gc_table::{Heap, HeapSeat};
 use mark_core::{BLOCK_CELLS, Cell, Identity, SECTION_SPAN};
 
-/// The word of an identity.
 fn identity_word(id: Identity) -> u64
     ensures { result ≡ identity_word_of id }
 {
     u64::from(id.section) * SECTION_SPAN + u64::from(id.number)
 }
 
-/// Stores nil in each field of a free cell.
 fn clear_fields(heap: &Heap, seat: &mut HeapSeat, cell: Cell)
     requires seat { Sits heap.now seat.old }
     requires turn { IsTrue (may_mutate (state_of seat.old)) }
@@ -35,7 +33,6 @@ fn clear_fields(heap: &Heap, seat: &mut HeapSeat, cell: Cell)
     }
 }
 
-/// Stores all words of a new cell in a free one.
 fn fill(heap: &Heap, seat: &mut HeapSeat, cell: Cell, id: Identity, value: u32)
     requires seat { Sits heap.now seat.old }
     requires turn { IsTrue (may_mutate (state_of seat.old)) }
@@ -53,7 +50,6 @@ fn fill(heap: &Heap, seat: &mut HeapSeat, cell: Cell, id: Identity, value: u32)
     heap.store_new(seat, cell, fields + 1, identity_word(id));
 }
 
-/// The set of cells without cell i of the block.
 fn without_cell(cells: u64, i: u32) -> u64
     requires { i < block_cells }
     ensures { result ≡ without_bit cells i }
@@ -61,11 +57,11 @@ fn without_cell(cells: u64, i: u32) -> u64
     cells & !(1 << i)
 }
 
-/// Makes an unpublished cell with this identity and value and nil references.
+/// Makes an unpublished cell with this identity and value and nil references. The answer is None exactly if no cell
+/// of the cache is free, and nothing changes.
 ///
-/// The seat has its section's turn. `id` is that section, with the number of cells that the seat has made, which is below what the shape lets a section make;
-/// each of these has its object, so a cell is stored in a variable before the next one is made. None comes exactly where no cell of the cache is free, and
-/// nothing changes then.
+/// The seat has its section's turn. `id` is that section and the number of cells that the seat has made, below what
+/// the shape allows. A cell is stored in a variable before the next one is made.
 pub fn new_cell(
     heap: &Heap,
     seat: &mut HeapSeat,

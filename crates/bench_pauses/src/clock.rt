@@ -19,7 +19,7 @@ pub struct Log {
     pub collections: u64,
     /// How many cells were in use at the ends of these collections, added up.
     pub exact: u64,
-    /// How many objects this worker traced beside the others.
+    /// How many objects this worker traced beside others.
     pub traced: u64,
     /// How many objects it scanned again in its stops, on dirty cards.
     pub rescanned: u64,
@@ -28,7 +28,7 @@ pub struct Log {
 }
 
 impl Log {
-    /// A log in which nothing is noted. It takes no memory. It has a timeline where the run's begin is given.
+    /// An empty log, with a timeline if the run's begin is given. It takes no memory.
     pub fn empty(alloc: Global, began: Option<Instant>) -> Log {
         Log {
             lengths: Vec::new(alloc),

@@ -13,7 +13,8 @@ use std::sync::Wait;
 use std::thread::{Threads, for_each_mut, join_mut, sleep};
 use std::time::{Duration, Instant};
 
-/// The milliseconds for which all rest before a round of transactions: a system that keeps a share of each second for others takes it then.
+/// The milliseconds of rest before a round of transactions, in which a system that keeps a share of each second for
+/// others takes it.
 const REST: u64 = 100;
 
 /// How many rounds there are at most.
@@ -43,7 +44,6 @@ enum Part {
     Look,
 }
 
-/// One part of one worker, unless it was stopped before.
 fn play_one<R: Wait + Clock>(rt: &R, alloc: Global, worker: &mut Worker, part: Part) {
     if worker.ended.is_err() {
         return;
@@ -57,7 +57,6 @@ fn play_one<R: Wait + Clock>(rt: &R, alloc: Global, worker: &mut Worker, part: P
     worker.mutator.leave();
 }
 
-/// One part of all workers, each in a thread of its own.
 fn play_part<R: Threads + Wait + Sync + Clock>(
     rt: &R,
     alloc: Global,
@@ -86,7 +85,6 @@ fn since<R: Clock>(rt: &R, start: Option<Instant>) -> u64 {
     }
 }
 
-/// Whether a worker has transactions to make.
 fn is_more(workers: &Vec<Worker>) -> bool {
     let mut more = false;
     for worker in workers.iter() {
@@ -95,7 +93,7 @@ fn is_more(workers: &Vec<Worker>) -> bool {
     more
 }
 
-/// Rounds of transactions until all are made, each after a rest. The nanoseconds that the rounds took.
+/// Rounds of transactions, each after a rest: the nanoseconds that they took.
 fn play_rounds<R: Threads + Wait + Sync + Clock>(
     rt: &R,
     alloc: Global,
@@ -129,7 +127,6 @@ fn play_all<R: Threads + Wait + Sync + Clock>(
     took
 }
 
-/// A worker with its share of the work, where there are workers.
 fn hire_one(
     alloc: Global,
     world: &mut World,
@@ -216,7 +213,7 @@ fn gather(workers: Vec<Worker>, markers: Vec<Marker>, took: u64) -> Found {
     }
 }
 
-/// When the run begins, where the timeline is asked for.
+/// When the run begins, if the timeline is asked for.
 fn begin<R: Clock>(rt: &R, asked: Asked) -> Option<Instant> {
     if asked.timeline {
         Instant::now(rt).ok()
@@ -225,7 +222,8 @@ fn begin<R: Clock>(rt: &R, asked: Asked) -> Option<Instant> {
     }
 }
 
-/// Opens a world, and lets the workers play in it. None where there is no memory, or where a mutator or a tracer could not be given back.
+/// Opens a world, and lets the workers play in it. None if there is no memory, or a mutator or a tracer could not
+/// be given back.
 pub fn run<R: Threads + Wait + Sync + Clock>(rt: &R, alloc: Global, asked: Asked) -> Option<Found> {
     let sizes = Sizes::of_cells(asked.cells)
         .fields(4)

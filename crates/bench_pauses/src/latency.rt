@@ -17,7 +17,8 @@ pub struct Ledger {
 }
 
 impl Ledger {
-    /// So many transactions, none of them made. The places for their times are written, so that no page is touched first while they are timed.
+    /// So many transactions, none made. The places for their times are written, so that timing touches no fresh
+    /// page.
     pub fn new(alloc: Global, transactions: u32, number: u64) -> Result<Ledger, AllocError> {
         let mut times = Vec::new(alloc);
         for _ in 0..transactions {
@@ -31,7 +32,7 @@ impl Ledger {
         })
     }
 
-    /// Notes a transaction that took so many nanoseconds.
+    /// Notes a transaction that took this many nanoseconds.
     pub fn note(&mut self, took: u64) {
         if let Some(place) = self.times.get_mut(self.made as usize) {
             *place = took;
@@ -45,7 +46,7 @@ impl Ledger {
     }
 }
 
-/// The nanoseconds between two readings of the clock. 0 where one is missing.
+/// The nanoseconds between two readings of the clock; 0 if one is missing.
 pub fn nanos_between(before: Option<Instant>, after: Option<Instant>) -> u64 {
     match (before, after) {
         (Some(before), Some(after)) => {

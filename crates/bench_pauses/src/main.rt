@@ -1,17 +1,10 @@
 //! The program `bench_pauses`: a warehouse's heap, and how long its mutators stand still.
 //!
-//! Each worker is a mutator that keeps orders: small trees and lists below a directory with a fan-out of four, which together fill a stated share of the
-//! heap. A transaction replaces one order by a new one and looks at another. So the heap is full of garbage again and again, while the live set stays as it
-//! is. With `--stops` a collection marks in stops alone; without, it marks beside the workers and stops them at its end. Stops and transactions are timed by
-//! the clock, in rounds with a rest before each.
-//!
-//! - `words`: what the words of the command line ask for.
-//! - `orders`: an order, and the directory: made, replaced, looked at.
-//! - `clock`: what a worker's stops took, and what it traced. `latency`: what its transactions took.
-//! - `marking`: what a tracer does.
-//! - `timeline`: what a thread did when, where that is asked for.
-//! - `workers`: what a worker does. `crowd`: all threads of a run.
-//! - `report`: what is told of a run.
+//! Each worker is a mutator that keeps orders: small trees and lists below a directory, which together fill a
+//! stated share of the heap. A transaction replaces one order by a new one and looks at another, so the heap is
+//! full of garbage again and again while the live set stays as it is. With `--stops` a collection marks only in
+//! stops; without, it marks beside the workers and stops them at its end. Stops and transactions are timed by the
+//! clock, in rounds with a rest before each.
 #![tactic(auto)]
 
 mod clock;
@@ -30,7 +23,6 @@ use std::process::ExitCode;
 use std::{env, io};
 use words::asked_by;
 
-/// The words of the command line, without the program's own name.
 fn given_words<R: std::rt::Env + AllocGlobal>(rt: &R) -> io::Result<Vec<String>> {
     let mut words = Vec::new(rt.alloc());
     let mut is_name = true;

@@ -17,11 +17,11 @@ pub struct Marker {
     pub line: Timeline,
 }
 
-/// How long a tracer that found nothing to trace sleeps, in microseconds, where what it does is noted.
+/// How long a tracer that found nothing sleeps, in microseconds, if its doings are noted.
 const SLEEP: u64 = 50;
 
 impl Marker {
-    /// A tracer that has done nothing. It has a timeline where the run's begin is given.
+    /// A tracer that has done nothing, with a timeline if the run's begin is given.
     pub fn new(tracer: Tracer, began: Option<Instant>, alloc: Global) -> Marker {
         Marker {
             tracer,
@@ -29,7 +29,6 @@ impl Marker {
         }
     }
 
-    /// A turn, and what it came to is noted.
     fn turn<R: Wait + Clock>(&mut self, rt: &R) -> Turn {
         let before = self.tracer.traced();
         self.line.begin(rt);
@@ -44,7 +43,7 @@ impl Marker {
         turn
     }
 
-    /// Marks until it is dismissed: as the library has it, or turn by turn where what it does is noted.
+    /// Marks until it is dismissed: as the library has it, or turn by turn if its doings are noted.
     pub fn run<R: Wait + Clock>(&mut self, rt: &R) {
         if self.line.began.is_none() {
             self.tracer.run(rt);

@@ -1,7 +1,8 @@
 //! An order, and the directory of all orders of a worker.
 //!
-//! An order has 16 objects. Its reference 0 is a list of five lines, each with an item, and its reference 1 a tree with four leaves. The directory is a tree
-//! with a fan-out of four, whose lowest nodes refer to the orders. An object's value is the order's number.
+//! An order has 16 objects, whose value is its number. Reference 0 is a list of five lines, each with an item, and
+//! reference 1 a tree with four leaves. The directory is a tree with a fan-out of four, whose lowest nodes refer to
+//! the orders.
 
 use crate::clock::Times;
 use managed_heap::{Mutator, Refused};
@@ -15,7 +16,8 @@ const LINES: u32 = 5;
 
 const LEAVES: u8 = 4;
 
-/// The variables: the directory; a node of it, and the next below; an order, a line, what was made last, its item, and a tree.
+/// The variables: the directory; a node of it, and the next below; an order, a line, what was made last, its item,
+/// and a tree.
 const DIRECTORY: u8 = 0;
 
 const NODE: u8 = 1;
@@ -32,7 +34,7 @@ const ITEM: u8 = 6;
 
 const TREE: u8 = 7;
 
-/// How many levels of nodes are above so many orders: 4 orders are below one node.
+/// How many levels of nodes are above so many orders, four below each lowest node.
 pub fn levels_for(orders: u32) -> u32 {
     for levels in 1..16u32 {
         if orders.wrapping_shr(2 * levels) == 0 {
@@ -42,12 +44,11 @@ pub fn levels_for(orders: u32) -> u32 {
     16
 }
 
-/// The reference of a node on this level that leads to an order.
 fn way(at: u32, level: u32) -> u8 {
     (at.wrapping_shr(level.wrapping_mul(2)) % 4) as u8
 }
 
-/// Makes an object, and tells the watch when the call begins and ends.
+/// Makes an object; the watch is told when the call begins and ends.
 fn make<R: Wait, W: Times>(
     rt: &R,
     m: &mut Mutator,
@@ -61,7 +62,6 @@ fn make<R: Wait, W: Times>(
     made
 }
 
-/// A safe point. The watch is told when the call begins and ends.
 fn come_to_safe_point<R: Wait, W: Times>(
     rt: &R,
     m: &mut Mutator,
@@ -73,12 +73,12 @@ fn come_to_safe_point<R: Wait, W: Times>(
     passed
 }
 
-/// Begins an empty directory. Refused as `make_watched` of `managed_heap` is.
+/// Begins an empty directory.
 pub fn open<R: Wait, W: Times>(rt: &R, m: &mut Mutator, watch: &mut W) -> Result<(), Refused> {
     make(rt, m, DIRECTORY, 0, watch)
 }
 
-/// Goes one level down, to a node that is made where there is none: whether it was made.
+/// Goes one level down, to a node that is made if there is none: whether it was made.
 fn step_down<R: Wait, W: Times>(
     rt: &R,
     m: &mut Mutator,
@@ -95,7 +95,7 @@ fn step_down<R: Wait, W: Times>(
     Ok(made)
 }
 
-/// Comes to the lowest node above an order. How many nodes were made on the way.
+/// Comes to the lowest node above an order: how many nodes were made on the way.
 fn come_to<R: Wait, W: Times>(
     rt: &R,
     m: &mut Mutator,
@@ -113,7 +113,6 @@ fn come_to<R: Wait, W: Times>(
     Ok(nodes)
 }
 
-/// Makes the lines of the order in hand.
 fn make_lines<R: Wait, W: Times>(
     rt: &R,
     m: &mut Mutator,
@@ -131,7 +130,6 @@ fn make_lines<R: Wait, W: Times>(
     m.set(ORDER, 0, LINE)
 }
 
-/// Makes the tree of the order in hand.
 fn make_tree<R: Wait, W: Times>(
     rt: &R,
     m: &mut Mutator,
@@ -146,7 +144,6 @@ fn make_tree<R: Wait, W: Times>(
     m.set(ORDER, 1, TREE)
 }
 
-/// Lets go of all but the directory.
 fn let_go(m: &mut Mutator) -> Result<(), Refused> {
     for v in 1..8u8 {
         m.forget(v)?;
@@ -154,7 +151,7 @@ fn let_go(m: &mut Mutator) -> Result<(), Refused> {
     Ok(())
 }
 
-/// Puts a new order in the place of another, or where none was. How many nodes of the directory were made for it.
+/// Puts a new order in the place of another, or of none: how many nodes of the directory were made for it.
 pub fn replace<R: Wait, W: Times>(
     rt: &R,
     m: &mut Mutator,
@@ -185,7 +182,7 @@ impl Seen {
         Seen { objects: 0, sum: 0 }
     }
 
-    /// The objects of both, and the sum of both sums, modulo 2^64.
+    /// The objects and the sums of both, modulo 2^64.
     pub fn and(self, other: Seen) -> Seen {
         Seen {
             objects: self.objects.wrapping_add(other.objects),
@@ -201,7 +198,6 @@ impl Seen {
     }
 }
 
-/// Looks at the lines of the order in hand.
 fn look_at_lines(m: &mut Mutator, seen: Seen) -> Result<Seen, Refused> {
     let mut seen = seen;
     m.get(LINE, ORDER, 0)?;
@@ -214,7 +210,6 @@ fn look_at_lines(m: &mut Mutator, seen: Seen) -> Result<Seen, Refused> {
     Ok(seen)
 }
 
-/// Looks at the tree of the order in hand.
 fn look_at_tree(m: &mut Mutator, seen: Seen) -> Result<Seen, Refused> {
     m.get(TREE, ORDER, 1)?;
     let mut seen = seen.object(m.value(TREE)?);
@@ -225,7 +220,7 @@ fn look_at_tree(m: &mut Mutator, seen: Seen) -> Result<Seen, Refused> {
     Ok(seen)
 }
 
-/// Looks at all objects of an order. It passes a safe point before. Refused where a call of `managed_heap` is.
+/// Looks at all objects of an order, after a safe point.
 pub fn look_at<R: Wait, W: Times>(
     rt: &R,
     m: &mut Mutator,

@@ -7,7 +7,6 @@ use crate::words::Asked;
 use std::io;
 use std::rt::Runtime;
 
-/// What all workers noted, in one.
 #[derive(Clone, Copy, Drop)]
 struct Sums {
     orders: u64,
@@ -74,12 +73,11 @@ fn latencies<R: AllocGlobal>(rt: &R, found: &Found) -> Vec<u64> {
     all
 }
 
-/// A number divided by another. 0 where that is 0.
 fn ratio(number: u64, by: u64) -> u64 {
     number.checked_div(by).unwrap_or(0)
 }
 
-/// The length that so many of a hundred don't exceed, in microseconds. 0 where there is none.
+/// The length that so many of a hundred don't exceed, in microseconds; 0 if there is none.
 fn at_share(lengths: &[u64], share: usize) -> u64 {
     let last = lengths.len().saturating_sub(1);
     let at = (lengths.len().wrapping_mul(share) / 100).min(last);
@@ -89,7 +87,6 @@ fn at_share(lengths: &[u64], share: usize) -> u64 {
     }
 }
 
-/// The mean in microseconds. 0 where there is none.
 fn mean(lengths: &[u64]) -> u64 {
     let mut sum = 0u64;
     let mut count = 0u64;
@@ -100,14 +97,12 @@ fn mean(lengths: &[u64]) -> u64 {
     ratio(sum, count) / 1000
 }
 
-/// What is the same however the threads run.
 fn tell_counts<R: Runtime>(rt: &R, asked: Asked, all: &Sums) -> io::Result<()> {
     println!(rt; "transactions {}", asked.transactions)?;
     println!(rt; "orders {} objects {}", all.orders, all.objects)?;
     println!(rt; "seen {} sum {}", all.seen.objects, all.seen.sum)
 }
 
-/// How long the run and its stops took.
 fn tell_times<R: Runtime>(rt: &R, asked: Asked, found: &Found, lengths: &[u64]) -> io::Result<()> {
     let micros = found.took / 1000;
     let rate = ratio(
@@ -126,7 +121,7 @@ fn tell_times<R: Runtime>(rt: &R, asked: Asked, found: &Found, lengths: &[u64]) 
     )
 }
 
-/// The nanoseconds that so many of 10,000 transactions don't exceed. 0 where there is none.
+/// The nanoseconds that so many of 10,000 transactions don't exceed; 0 if there is none.
 fn at_part(times: &[u64], part: usize) -> u64 {
     let last = times.len().saturating_sub(1);
     let at = (times.len().wrapping_mul(part) / 10_000).min(last);
@@ -167,7 +162,7 @@ fn tell_work<R: Runtime>(rt: &R, found: &Found, all: &Sums) -> io::Result<()> {
     )
 }
 
-/// Tells what a thread did when: a line an interval, with its begin and its end in nanoseconds.
+/// Tells a line for each interval, with its begin and its end in nanoseconds.
 fn tell_line<R: Runtime>(rt: &R, name: &str, number: usize, line: &Timeline) -> io::Result<()> {
     for it in line.noted.iter() {
         println!(rt;
@@ -182,7 +177,6 @@ fn tell_line<R: Runtime>(rt: &R, name: &str, number: usize, line: &Timeline) -> 
     Ok(())
 }
 
-/// Tells what each thread did when.
 fn tell_lines<R: Runtime>(rt: &R, found: &Found) -> io::Result<()> {
     for (k, worker) in found.workers.iter().enumerate() {
         tell_line(rt, "worker", k, &worker.log.line)?;

@@ -1,6 +1,7 @@
-//! What a thread did when, where that is asked for.
+//! What a thread did when, if that is asked for.
 //!
-//! In between a thread runs the program, or rests. Where it waits for the stop of another it helps as long as that lets it, which can't be told apart here.
+//! In between it runs the program, or rests. While it waits for another's stop it helps as long as that lets it,
+//! which can't be told apart here.
 
 use std::alloc::Global;
 use std::rt::Clock;
@@ -45,7 +46,7 @@ pub struct Interval {
 /// The intervals of one thread.
 #[derive(Drop)]
 pub struct Timeline {
-    /// When the run began. None where no intervals are asked for: then none are noted, and no clock is read.
+    /// When the run began; None if no intervals are asked for, and then no clock is read.
     pub began: Option<Instant>,
     /// Where the next interval begins.
     pub from: u64,
@@ -53,7 +54,8 @@ pub struct Timeline {
     pub noted: Vec<Interval>,
 }
 
-/// How long a call takes, in nanoseconds, that is noted though nothing was told of it: one that gets a cache and owes nothing for it takes less.
+/// From how many nanoseconds on a call is noted of which nothing was told: one that gets a cache and owes nothing
+/// takes less.
 const LONG: u64 = 100_000;
 
 impl Timeline {
@@ -66,7 +68,7 @@ impl Timeline {
         }
     }
 
-    /// The nanoseconds since the run began. 0 where no intervals are asked for.
+    /// The nanoseconds since the run began; 0 if no intervals are asked for.
     fn now<R: Clock>(&self, rt: &R) -> u64 {
         match self.began {
             None => 0,
@@ -77,7 +79,7 @@ impl Timeline {
         }
     }
 
-    /// Notes what was done from where the last interval ended, or a new one was begun, up to this time.
+    /// Notes what was done since the last interval ended or a new one was begun.
     fn note(&mut self, doing: Doing, to: u64) {
         let from = self.from;
         self.from = to;
@@ -100,7 +102,7 @@ impl Timeline {
         }
     }
 
-    /// The interval ends. Where it was long, this was done.
+    /// Ends the interval, and notes it if it was long.
     pub fn end_long<R: Clock>(&mut self, rt: &R, doing: Doing) {
         if self.began.is_none() {
             return;

@@ -1,4 +1,3 @@
-//! What the words of the command line ask for.
 ghost use Rattle.std.specs.Prelude.{◌≤◌, IfOk, IfSome};
 ghost use Rattle.bench_pauses.specs.Words.{AreWordsInRange};
 
@@ -23,7 +22,7 @@ pub struct Asked {
     pub entries: u32,
     /// How many orders are replaced in all: up to 4,000,000,000.
     pub transactions: u32,
-    /// Collections mark in stops alone.
+    /// Collections mark only in stops.
     pub stops: bool,
     /// Nothing is told that depends on how the threads run.
     pub counts_alone: bool,
@@ -45,7 +44,7 @@ const OPTIONS: [&str; 7] = [
 /// The options without one.
 const FLAGS: [&str; 3] = ["stops", "counts-alone", "timeline"];
 
-/// The number that is given for an option, where it is in the range, or without one the default.
+/// The number given for an option, if in range, or the default.
 fn chosen(
     matches: &ArgMatches<'_>,
     name: &str,
@@ -94,7 +93,6 @@ fn asked_of(matches: &ArgMatches<'_>) -> Option<Asked>
     }
 }
 
-/// The program and its options, as `clap` is told them.
 fn program<'a>(alloc: Global) -> Result<Command<'a>, AllocError> {
     let mut program = Command::new(alloc, "bench_pauses")
         .no_binary_name(true)
@@ -110,7 +108,7 @@ fn program<'a>(alloc: Global) -> Result<Command<'a>, AllocError> {
     Ok(program)
 }
 
-/// The run that the words ask for, without the program's own name. None where they ask for nothing.
+/// The run that the words ask for, without the program's own name, if any.
 pub fn asked_by(alloc: Global, words: &[String]) -> Result<Option<Asked>, AllocError>
     ensures { IfOk result (λ o. IfSome o AreWordsInRange) }
 {

@@ -32,26 +32,25 @@ pub struct Worker {
     pub ended: Result<(), Refused>,
 }
 
-/// The next number of a row that looks as if chosen.
+/// The next of a row of numbers that look random.
 fn next(number: u64) -> u64 {
     let a = number ^ (number << 13);
     let b = a ^ (a >> 7);
     b ^ (b << 17)
 }
 
-/// An order of so many. 0 where there is none.
+/// An order of so many; 0 if there is none.
 fn choose(number: u64, orders: u32) -> u32 {
     let chosen = (number >> 20).checked_rem(u64::from(orders)).unwrap_or(0);
     u32::try_from(chosen).unwrap_or(0)
 }
 
-/// How many orders take so many cells, with their share of the directory.
+/// How many orders take this many cells, with their share of the directory.
 pub fn orders_in(cells: u32) -> u32 {
     let orders = u64::from(cells).wrapping_mul(3) / u64::from(3 * OBJECTS + 1);
     u32::try_from(orders).unwrap_or(0)
 }
 
-/// Fills the directory. How many nodes it has.
 fn fill_all<R: Wait + Clock>(
     rt: &R,
     m: &mut Mutator,
@@ -68,7 +67,6 @@ fn fill_all<R: Wait + Clock>(
     Ok(nodes)
 }
 
-/// Replaces an order, and looks at another.
 fn transact<R: Wait + Clock>(
     rt: &R,
     m: &mut Mutator,
@@ -82,7 +80,6 @@ fn transact<R: Wait + Clock>(
     look_at(rt, m, choose(next(number), orders), levels, clock)
 }
 
-/// A round: transactions until all are made or its time is over.
 fn churn<R: Wait + Clock>(
     rt: &R,
     m: &mut Mutator,
@@ -123,7 +120,7 @@ fn look_at_all<R: Wait + Clock>(
 }
 
 impl Worker {
-    /// Fills its directory, and stays outside then. Refused where a call of `managed_heap` is.
+    /// Fills its directory, and leaves.
     pub fn fill<R: Wait + Clock>(&mut self, rt: &R, alloc: Global) -> Result<(), Refused> {
         let mut clock = StopClock::new(rt, alloc, None);
         self.mutator.enter(rt)?;
@@ -132,7 +129,7 @@ impl Worker {
         Ok(())
     }
 
-    /// Collects once, so that the collector knows how large the live set is. Refused where a call of `managed_heap` is.
+    /// Collects once, so that the collector knows how large the live set is.
     pub fn settle<R: Wait>(&mut self, rt: &R) -> Result<(), Refused> {
         self.mutator.enter(rt)?;
         self.mutator.collect(rt)?;
@@ -140,7 +137,7 @@ impl Worker {
         Ok(())
     }
 
-    /// Plays a round of its transactions. What it saw meanwhile is no part of what it tells. Refused where a call of `managed_heap` is.
+    /// Plays a round of its transactions. What it saw meanwhile is no part of what it tells.
     pub fn play<R: Wait + Clock>(&mut self, rt: &R, alloc: Global) -> Result<(), Refused> {
         let began = self.log.line.began;
         let mut clock = StopClock::new(rt, alloc, began);
@@ -153,7 +150,7 @@ impl Worker {
         Ok(())
     }
 
-    /// Looks at all of its orders. Refused where a call of `managed_heap` is.
+    /// Looks at all of its orders.
     pub fn look<R: Wait + Clock>(&mut self, rt: &R, alloc: Global) -> Result<(), Refused> {
         let mut clock = StopClock::new(rt, alloc, None);
         self.mutator.enter(rt)?;

@@ -1,4 +1,4 @@
--- A step whose condition the record alone meets, and the record and the steps after it.
+-- A step whose condition the record meets by itself, and the record and the steps after it.
 use Rattle.std.proofs.Common.{ℕ, suc, ◌≡◌, ◌+◌, List, [], ◌∷◌, ◌++◌, length, arith, ap, sym, ◌∙◌}
 use Rattle.std.proofs.lemmas.List.{map-append, append_assoc}
 use Rattle.mark_core.specs.Layout.{Words}

@@ -10,7 +10,7 @@ use Rattle.gc_table.specs.declared.seat.HeapSeat.{HeapSeat}
 use Rattle.gc_table.specs.Seats.{view_of}
 use Rattle.bench_steps.specs.Records.{SitsWithRecord, entered}
 
--- the seat has read the phase and the season, and has made so many cells
+-- the seat has read the phase and the season, and has made this many cells
 abbrev pub maker : Phase → ℕ → List ℕ → Option CacheState → ℕ → SeatState
 maker phase season env cache made = record entered { phase_seen = Some phase; season_seen = Some season; env = env; cache = cache; made = made }
 

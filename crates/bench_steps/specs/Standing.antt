@@ -23,11 +23,11 @@ sizes = record { cells = 4096; packets = 64; entries = 64; sections = 1; fields 
 abbrev pub Blank : Heap → (Shape → ℕ → SeatState) → HeapSeat → Type 0
 Blank h f s = (h.shape ≡ sizes) × At h f 0 s × (length (view_of s).own.meaning.heap.objects ≡ 0)
 
--- the seat may take a block, and has made at most so many cells
+-- the seat may take a block, and has made at most this many cells
 abbrev pub Waiting : Heap → ℕ → HeapSeat → Type 0
 Waiting h n s = (h.shape ≡ sizes) × Sits h s × IsReady (view_of s) × ((view_of s).state.cache ≡ None) × ((view_of s).state.made ≤ n)
 
--- the seat has this block, and has made at most so many cells
+-- the seat has this block, and has made at most this many cells
 abbrev pub Filling : Heap → ℕ → Cache → HeapSeat → Type 0
 Filling h n c s = (h.shape ≡ sizes) × Sits h s × IsReady (view_of s) × IsCached c (view_of s) × ((view_of s).state.made ≤ n)
 

@@ -1,12 +1,8 @@
 //! Collections: how long the fastest takes.
 //!
-//! A collection here is a stop with its finish: the mutator leaves, stops the world, marks, sweeps, sets the numbers of the next cycle, and lets the world
-//! go on. Nobody else is there. The heap is empty, or full of objects that are all reached, or full of objects that none is; it has 64 cells or 65,536.
-//!
-//! - `checks`: what a seat's record says, by which it is known that a call may be made.
-//! - `opening`: the sizes of a heap, whose seat enters as the catalogue's mutator.
-//! - `filling`: all cells are filled with objects of four references each.
-//! - `stops`: collections, and how long the fastest took.
+//! A collection here is a stop with its finish: the mutator leaves, stops the world, marks, sweeps, sets the
+//! numbers of the next cycle, and lets the world go on. Nobody else is there. The heap is empty, full of reached
+//! objects, or full of objects that aren't; it has 64 cells or 65,536.
 mod checks;
 mod filling;
 mod opening;
@@ -18,10 +14,9 @@ use std::io;
 use std::rt::Runtime;
 use std::sync::Wait;
 
-/// How many collections there are of each kind if no words are given.
 const FEW: u64 = 2;
 
-/// Writes the nanoseconds of the fastest of so many collections.
+/// Writes the nanoseconds of the fastest of this many collections.
 pub fn does<R: Runtime + AllocGlobal + Wait>(rt: &R, asked: Collections) -> io::Result<()> {
     match stops::run(rt, rt.alloc(), asked) {
         Some(nanoseconds) => println!(rt; "{nanoseconds}"),
@@ -29,7 +24,6 @@ pub fn does<R: Runtime + AllocGlobal + Wait>(rt: &R, asked: Collections) -> io::
     }
 }
 
-/// Makes a few collections, and writes what was collected but not how long that took.
 fn do_few<R: Runtime + AllocGlobal + Wait>(rt: &R, content: Content, size: Size) -> io::Result<()> {
     let name = content.name();
     let cells = sizes_of(size).cells;

@@ -1,9 +1,5 @@
-//! The program `bench_steps`: does a stated number of a heap's steps, a runtime's operations or collections, to be timed beside the same steps on bare words.
-//!
-//! - `words`: what the words of the command line ask for.
-//! - `table`: typed steps.
-//! - `operations`: a runtime's operations.
-//! - `cycles`: collections.
+//! The program `bench_steps`: does a stated number of a heap's steps, a runtime's operations or collections, to be
+//! timed beside the same steps on bare words.
 #![tactic(auto)]
 
 mod cycles;

@@ -1,11 +1,5 @@
-//! A runtime's operations on a heap of 64 blocks of 64 cells with objects of four fields, by the calls that a runtime makes.
-//!
-//! - `opening`: a heap with one seat, which enters and begins to mark.
-//! - `blocks`, `cells`: objects are made, in blocks that are taken and given up.
-//! - `stores`: references are stored in objects that are published, and in objects that aren't.
-//! - `tracing`: objects with four references each are traced.
-//! - `cards`: a pass over clean cards.
-//! - `sweeping`: whole cycles in a stopped world, with all blocks swept.
+//! A runtime's operations, by the calls that it makes, on a heap of 64 blocks of 64 cells with objects of four
+//! fields.
 mod blocks;
 mod cards;
 mod cells;
@@ -21,7 +15,6 @@ use std::rt::Runtime;
 use std::sync::Wait;
 use test_heaps::{opens, report};
 
-/// Whether so many rounds were done.
 fn is_done<R: Wait + AllocGlobal>(rt: &R, work: Work, rounds: u64) -> bool {
     let alloc = rt.alloc();
     match work {
@@ -37,7 +30,7 @@ fn is_done<R: Wait + AllocGlobal>(rt: &R, work: Work, rounds: u64) -> bool {
     }
 }
 
-/// Does so many rounds, and writes what was done.
+/// Does this many rounds, and writes what was done.
 pub fn does<R: Runtime + AllocGlobal + Wait>(rt: &R, work: Work, rounds: u64) -> io::Result<()> {
     report(rt, work.name(), rounds, is_done(rt, work, rounds))
 }

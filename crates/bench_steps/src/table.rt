@@ -1,8 +1,4 @@
 //! Typed steps of a heap of 64 blocks of 64 cells, with objects of two fields.
-//!
-//! - `opening`: a heap with one seat, which enters.
-//! - `loads`, `stores`, `fetches`: one operation, many times.
-//! - `making`: cells, made one after another in all blocks of the heap.
 mod fetches;
 mod loads;
 mod making;
@@ -16,7 +12,6 @@ use std::io;
 use std::rt::Runtime;
 use test_heaps::{opens, report};
 
-/// Whether so many rounds were done.
 fn is_done(alloc: Global, work: Work, rounds: u64) -> bool {
     match work {
         Work::Load => loads::run(alloc, rounds),
@@ -28,7 +23,7 @@ fn is_done(alloc: Global, work: Work, rounds: u64) -> bool {
     }
 }
 
-/// Does so many rounds, and writes what was done.
+/// Does this many rounds, and writes what was done.
 pub fn does<R: Runtime + AllocGlobal>(rt: &R, work: Work, rounds: u64) -> io::Result<()> {
     report(rt, work.name(), rounds, is_done(rt.alloc(), work, rounds))
 }

@@ -1,4 +1,3 @@
-//! What the words of the command line ask for.
 use test_heaps::{named_rounds, rounds_of};
 
 /// What is done many times by typed steps.
@@ -184,7 +183,7 @@ fn cycles_by(words: &[String]) -> Option<Asked> {
     }))
 }
 
-/// What a kind of work and the words after it ask for, or nothing.
+/// What a kind of work and the words after it ask for, if anything.
 pub fn asked_by(words: &[String]) -> Option<Asked> {
     let (kind, others) = words.split_first()?;
     match kind.as_str() {

@@ -35,7 +35,6 @@ impl Tally {
     }
 }
 
-/// A mutator, and what came of it.
 #[derive(Drop)]
 struct Worker {
     thread: u32,
@@ -45,21 +44,19 @@ struct Worker {
 }
 
 impl Worker {
-    /// It has done what it was to do, or was refused. It leaves, so that no other waits for it.
+    /// It has ended, or was refused. It leaves, so that no other waits for it.
     fn end(&mut self, ended: Result<(), Refused>) {
         self.ended = ended;
         self.mutator.leave();
     }
 }
 
-/// The structure that is acted on.
 #[derive(Clone, Copy, Drop)]
 enum Shared {
     Queue(SharedQueue),
     Map(SharedMap),
 }
 
-/// The structure that is asked for.
 fn shared_of(structure: Structure) -> Option<Shared> {
     match structure {
         Structure::Queue => Some(Shared::Queue(SharedQueue::at(SHARED)?)),
@@ -67,7 +64,6 @@ fn shared_of(structure: Structure) -> Option<Shared> {
     }
 }
 
-/// Makes the structure, and lets the root's first field refer to it.
 fn make<R: Wait>(rt: &R, m: &mut SharedMutator, shared: Shared) -> Result<(), Refused> {
     m.enter(rt)?;
     match shared {
@@ -114,7 +110,7 @@ fn hire(alloc: Global, world: &mut SharedWorld, threads: u32) -> Option<Vec<Work
     Some(workers)
 }
 
-/// What all came to, if each did all that it was to do.
+/// The counts of all, if each did all that it was to do.
 fn gather(workers: Vec<Worker>) -> Option<Tally> {
     let mut all = Tally { count: 0, sum: 0 };
     for worker in workers {
@@ -125,7 +121,6 @@ fn gather(workers: Vec<Worker>) -> Option<Tally> {
     Some(all)
 }
 
-/// All threads act, and then the tracer is dismissed.
 fn act_all<R: Threads + Wait + Sync>(
     rt: &R,
     world: &mut SharedWorld,
@@ -156,7 +151,7 @@ fn trace<R: Wait>(rt: &R, tracer: &mut Option<Tracer>) {
     }
 }
 
-/// Lets threads act on a structure. None where a size is out of its range, the heap is full, or memory ran out.
+/// Lets threads act on a structure. None if a size is out of range, the heap is full, or memory ran out.
 pub fn run<R: Threads + Wait + Sync>(rt: &R, alloc: Global, asked: Asked) -> Option<Tally> {
     let fields = match asked.structure {
         Structure::Queue => 2,

@@ -1,9 +1,5 @@
-//! The program `bench_structures`: threads put into one queue and take out of it, or look up, put and take in one map, a stated number of times. `bench/sharing.sh`
-//! times it beside the same work over other collectors.
-//!
-//! - `words`: what the words of the command line ask for.
-//! - `crowd`: a world with the structure, and its threads.
-//! - `pairs`: what a thread does with a queue. `mix`: what it does with a map.
+//! The program `bench_structures`: threads put into one queue and take out of it, or look up, put and take in one
+//! map, a stated number of times. `bench/sharing.sh` times it beside the same work over other collectors.
 #![tactic(auto)]
 
 mod crowd;
@@ -16,7 +12,6 @@ use std::process::ExitCode;
 use std::{env, io};
 use words::asked_by;
 
-/// The words of the command line, without the program's own name.
 fn given_words<R: std::rt::Env + AllocGlobal>(rt: &R) -> io::Result<Vec<String>> {
     let mut words = Vec::new(rt.alloc());
     let mut is_name = true;

@@ -6,11 +6,11 @@ use example_structures::SharedMap;
 use shared_heap::{Refused, SharedMutator};
 use std::sync::Wait;
 
-/// How many keys there are. A thread's keys are its number, that and the number of threads, and so on, so that what it finds doesn't depend on the others; the
-/// chains have keys of all threads.
+/// How many keys there are. A thread's keys are its own (its number, and so on in steps of the number of threads),
+/// so what it finds doesn't depend on the others; the chains have keys of all threads.
 const KEYS: u32 = 1024;
 
-/// Makes a map in which each key is kept with itself as the number.
+/// Makes a map that keeps each key as its own number.
 pub fn fill<R: Wait>(rt: &R, m: &mut SharedMutator, map: SharedMap) -> Result<(), Refused> {
     map.make(rt, m)?;
     for key in 0..KEYS {
@@ -20,7 +20,6 @@ pub fn fill<R: Wait>(rt: &R, m: &mut SharedMutator, map: SharedMap) -> Result<()
     m.forget(MADE)
 }
 
-/// What is drawn after a number.
 fn drawn_after(number: u32) -> u32 {
     number.wrapping_mul(1_664_525).wrapping_add(1_013_904_223)
 }
@@ -32,7 +31,7 @@ fn key_of(drawn: u32, asked: Asked, k: u32) -> u32 {
     ((drawn >> 12) % keys).wrapping_mul(threads).wrapping_add(k)
 }
 
-/// One round: what was drawn says what is done, and with which key.
+/// One round: the number drawn says what is done, with which key.
 fn act<R: Wait>(
     rt: &R,
     m: &mut SharedMutator,

@@ -5,7 +5,8 @@ use example_structures::SharedQueue;
 use shared_heap::{Refused, SharedMutator};
 use std::sync::Wait;
 
-/// Puts the numbers below `rounds` in, and after each takes one out, which is there: no thread has taken more than it put in.
+/// Puts the numbers below `rounds` in, and takes one out after each, which is there: no thread has taken more than
+/// it put in.
 pub fn pairs<R: Wait>(
     rt: &R,
     m: &mut SharedMutator,

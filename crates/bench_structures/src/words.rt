@@ -38,7 +38,7 @@ fn structure_of(word: &String) -> Option<Structure> {
     }
 }
 
-/// What the words ask for. None where they don't name a structure and four numbers.
+/// What the words ask for, if they name a structure and four numbers.
 pub fn asked_by(words: &[String]) -> Option<Asked> {
     let [structure, threads, rounds, cells, tracers] = words else {
         return None;

@@ -8,7 +8,7 @@ use Rattle.plain_heap.specs.PlainHeap.{Heap}
 use Rattle.plain_heap.specs.PlainStep.{field_of, followed}
 use Rattle.bench_trees.specs.Trees.{IsTree, full, nodes}
 
--- they are those of the objects alone
+-- they are only those of the objects
 pub followed-same : (x y : Heap) (ref : Ref) (i : ℕ) → y.objects ≡ x.objects → followed y None ref i ≡ followed x None ref i
 followed-same x y refs.Nil i e = refl
 followed-same x y (refs.Own n) i e = ap (λ os. field_of (slice_get os n) i) e

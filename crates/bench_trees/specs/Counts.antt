@@ -18,10 +18,10 @@ depth_at i = 4 + 2 * i
 abbrev pub trees_at : ℕ → ℕ → ℕ
 trees_at depth i = 2 ^ (depth - 2 * i)
 
--- how many of so many worker `at` makes: those whose numbers leave `at` when they are divided by the number of workers
+-- how many of this many worker `at` makes: those whose numbers leave `at` when they are divided by the number of workers
 abbrev pub share : ℕ → ℕ → ℕ → ℕ
 share trees workers at = (trees + (workers - 1 - at)) / workers
 
--- what worker `at` counted, up to the first so many depths
+-- what worker `at` counted, up to the first this many depths
 abbrev pub AreChecked : Asked → ℕ → ℕ → List ℕ → Type 0
 AreChecked a at depths checks = (i : ℕ) → i < depths → depth_at i ≤ a.depth → slice_index checks i ≡ share (trees_at a.depth i) a.workers at * full (depth_at i)

@@ -7,13 +7,13 @@ use Rattle.bench_trees.specs.Trees.{GrowsHeap}
 use Rattle.bench_trees.specs.declared.threads.Worker.{Worker}
 use Rattle.bench_trees.specs.declared.words.Asked.{Asked}
 
--- worker `at` played: it waits again, and where it came to its end it counted its share, and what stood in variable 0 stands there
+-- worker `at` played: it waits again, and if it came to its end, it counted its share, and what stood in variable 0 stands there
 pub record WorkerPlayed (a : Asked) (at : ℕ) (x y : Worker) : Type 0 where
   pub waits : WorkerWaits y.mutator
   pub counts : IfOk y.came (AreChecked a at 5)
   pub grows : IfOk y.came (λ _. GrowsHeap 1 (heap_of x.mutator) (heap_of y.mutator))
 
--- each of these workers waits again; where it came to its end it counted its share, and variable 0 refers to what it did
+-- each of these workers waits again; if it came to its end, it counted its share, and variable 0 refers to what it did
 pub record HavePlayed (a : Asked) (xs ys : List Worker) : Type 0 where
   pub count : length ys ≡ length xs
   pub each : (i : ℕ) (d : Worker) → i < length xs → WorkerPlayed a i (slice_index_or xs i d) (slice_index_or ys i d)

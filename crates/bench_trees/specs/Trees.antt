@@ -16,7 +16,7 @@ abbrev pub IsTree : List Object → ℕ → Ref → Type 0
 IsTree objects zero ref = (n : ℕ) × (o : Object) × (ref ≡ Own n) × (slice_get objects n ≡ Some o) × (field_of (Some o) 0 ≡ Nil) × (field_of (Some o) 1 ≡ Nil)
 IsTree objects (suc d) ref = (n : ℕ) × (o : Object) × (ref ≡ Own n) × (slice_get objects n ≡ Some o) × IsTree objects d (field_of (Some o) 0) × IsTree objects d (field_of (Some o) 1)
 
--- the nodes at most so many steps below a reference: one more than its two subtrees have, where it names an object
+-- the nodes at most this many steps below a reference: one more than its two subtrees have, if it names an object
 abbrev pub nodes : Heap → ℕ → Ref → ℕ
 nodes heap steps Nil = 0
 nodes heap zero ref = 1

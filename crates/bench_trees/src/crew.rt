@@ -1,4 +1,3 @@
-//! All mutators and tracers of a world, in the hands of those that use them.
 ghost use Rattle.std.specs.Prelude.{◌≡◌, All, IfOk, vec_len};
 ghost use Rattle.bench_trees.specs.Counts.{AreWordsInRange};
 ghost use Rattle.bench_trees.specs.Standing.{WorkerWaits};
@@ -15,7 +14,7 @@ pub struct Crew {
     pub tracers: Vec<Tracer>,
 }
 
-/// A worker for each mutator that the world has, in their order: the world hands out the last one first.
+/// A worker for each mutator, in order: the world hands out the last one first.
 fn hire_workers(alloc: Global, world: &mut World) -> Result<Vec<Worker>, AllocError>
     requires waits { All WorkerWaits world.old.mutators.items }
     ensures waits { IfOk result (λ r. All (λ x. WorkerWaits x.mutator) r.items) }
@@ -32,7 +31,6 @@ fn hire_workers(alloc: Global, world: &mut World) -> Result<Vec<Worker>, AllocEr
     Ok(workers)
 }
 
-/// All tracers that the world has.
 fn hire_tracers(alloc: Global, world: &mut World) -> Result<Vec<Tracer>, AllocError> {
     let mut tracers = Vec::new(alloc);
     while let Some(tracer) = world.tracer() {
@@ -41,7 +39,7 @@ fn hire_tracers(alloc: Global, world: &mut World) -> Result<Vec<Tracer>, AllocEr
     Ok(tracers)
 }
 
-/// Opens a world for so many workers and tracers, in which an object has two references.
+/// Opens a world for so many workers and tracers, with two references an object.
 fn open(alloc: Global, asked: &Asked) -> Result<World, AllocError>
     ensures waits { IfOk result (λ world. All WorkerWaits world.mutators.items) }
     ensures count { IfOk result (λ world. vec_len world.mutators ≡ asked.now.workers) }
@@ -56,7 +54,7 @@ fn open(alloc: Global, asked: &Asked) -> Result<World, AllocError>
     }
 }
 
-/// Opens a world, and takes all its mutators and tracers. It is refused where memory runs out.
+/// Opens a world, and takes all its mutators and tracers.
 pub fn prepare(alloc: Global, asked: &Asked) -> Result<(World, Crew), AllocError>
     requires range { AreWordsInRange asked.now }
     ensures workers { IfOk result (λ r. All (λ x. WorkerWaits x.mutator) r.1.workers.items) }
@@ -68,7 +66,7 @@ pub fn prepare(alloc: Global, asked: &Asked) -> Result<(World, Crew), AllocError
     Ok((world, Crew { workers, tracers }))
 }
 
-/// Gives all back, and closes the world. It is refused where memory runs out.
+/// Gives all back, and closes the world.
 pub fn close(world: World, crew: Crew) -> Result<(), AllocError> {
     let mut world = world;
     let Crew { workers, tracers } = crew;

@@ -1,25 +1,20 @@
 //! The program `bench_trees`: the well-known workload of that name, on the collector as a library.
 //!
-//! A tree is made and thrown away, so that the heap is stretched; one tree is made and kept; and while it lives, many trees of growing depth are made,
-//! counted and thrown away. Each worker is a mutator in a thread of its own; tracers mark beside them; all share one heap.
-//! The files, in the order in which they are read:
-//!
-//! - `words`: what the words of the command line ask for.
-//! - `nodes`: one node of a tree: made, joined to its subtrees, looked at, forgotten.
-//! - `trees`: a whole tree: made, counted, forgotten.
-//! - `workers`: what a worker does from entering to leaving, and how the work is shared.
-//! - `threads`: all threads of a run. `crew`: a world with its mutators and tracers, opened at the start and closed at the end.
-//! - `running`: a whole run. `output`: its lines.
+//! A tree is made and thrown away, so that the heap is stretched; one tree is made and kept; and while it lives,
+//! many trees of growing depth are made, counted and thrown away. Each worker is a mutator in a thread of its own;
+//! tracers mark beside them; all share one heap.
 //!
 //! # What takes the place of a native program's stack
 //!
-//! A mutator has 32 variables, and they are its only roots. A tree of depth d is made in variable v with the 2 d variables behind it: the subtrees of a
-//! node wait in the next two until the node refers to them. It is counted with the d + 1 variables behind v, one for each node on the way down.
-//! So a tree of depth 15 fits, which is more than the cells of a heap allow; a deeper one would have to be walked by references in the nodes themselves.
+//! A mutator's 32 variables are its only roots. A tree of depth d is made in variable v with the 2 d variables
+//! behind it: the subtrees of a node wait in the next two until the node refers to them. It is counted with the d +
+//! 1 variables behind v, one for each node on the way down. So a tree of depth 15 fits, which is more than the
+//! cells of a heap allow.
 //!
 //! # Where a stop can come
 //!
-//! Before each node that is made there is a safe point. Counting makes nothing, and a stop waits for the walk of one tree.
+//! Before each node that is made there is a safe point. Counting makes nothing, and a stop waits for the walk of
+//! one tree.
 #![tactic(auto)]
 
 mod crew;
@@ -37,7 +32,8 @@ use std::process::ExitCode;
 use std::{env, io};
 use words::asked_by;
 
-/// The words of the command line, without the program's own name. Where one isn't UTF-8, they ask for nothing, as `--` does.
+/// The words of the command line, without the program's own name. If one isn't UTF-8, they ask for nothing, as `--`
+/// does.
 fn given_words<R: std::rt::Env + AllocGlobal>(rt: &R) -> io::Result<Vec<String>> {
     let mut words = Vec::new(rt.alloc());
     let mut is_name = true;

@@ -1,5 +1,5 @@
-//! One node of a tree. Its maker is inside the world, and objects have two references: so no call is refused, but for a new node where the heap is full, or
-//! where its maker has made all objects that have numbers.
+//! One node of a tree. Its maker is inside the world, and objects have two references, so only a new node can be
+//! refused: if the heap is full, or its maker has used all numbers of objects.
 ghost use Rattle.std.specs.Prelude.{◌≡◌, ◌<◌, IfErr, IfOk};
 ghost use Rattle.std.specs.Bool.{OnFalse, OnTrue};
 ghost use Rattle.plain_heap.specs.PlainHeap.{heap_variables, variable};
@@ -21,7 +21,7 @@ pub enum Halt {
     Spent,
 }
 
-/// Makes a node without subtrees in variable v. It is a safe point. Refused where the heap is full, or where all numbers of objects are used.
+/// Makes a node without subtrees in variable v. It is a safe point.
 pub fn make<R: Wait>(rt: &R, m: &mut Mutator, v: u8) -> Result<(), Halt>
     requires plays { WorkerPlays m.old }
     requires range { v < heap_variables }
@@ -37,7 +37,7 @@ pub fn make<R: Wait>(rt: &R, m: &mut Mutator, v: u8) -> Result<(), Halt>
     }
 }
 
-/// Subtree i of the node in variable v becomes what variable w refers to.
+/// Subtree i of variable v's node becomes variable w's.
 pub fn join(m: &mut Mutator, v: u8, i: u8, w: u8)
     requires plays { WorkerPlays m.old }
     requires range { (v < heap_variables) × (i < 2) × (w < heap_variables) }
@@ -49,7 +49,7 @@ pub fn join(m: &mut Mutator, v: u8, i: u8, w: u8)
     };
 }
 
-/// Variable w becomes what subtree i of the node in variable v is.
+/// Variable w becomes subtree i of variable v's node.
 pub fn look(m: &mut Mutator, w: u8, v: u8, i: u8)
     requires plays { WorkerPlays m.old }
     requires range { (w < heap_variables) × (v < heap_variables) × (i < 2) }

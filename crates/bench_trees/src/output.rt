@@ -1,4 +1,3 @@
-//! The lines of a run, and its status.
 ghost use Rattle.bench_trees.specs.Counts.{AreWordsInRange};
 
 use crate::running::{Counted, Failure};
@@ -7,7 +6,6 @@ use crate::workers::{DEPTHS, depth_at, trees_at};
 use std::io;
 use std::rt::Runtime;
 
-/// Writes the counts, as programs of this name do.
 fn write_counts<R: Runtime + AllocGlobal>(
     rt: &R,
     asked: &Asked,
@@ -31,8 +29,8 @@ fn write_counts<R: Runtime + AllocGlobal>(
     println!(rt; "long lived tree of depth {depth}\t check: {kept}")
 }
 
-/// Writes what a run came to, and answers the program's status: 0 for counts, 3 where the heap is full, 6 where memory ran out, 7 where a worker made
-/// all objects that have numbers.
+/// Writes what a run came to, and answers the program's status: 0 for counts, 3 for a full heap, 6 if memory ran
+/// out, 7 if a worker has used all numbers of objects.
 pub fn report<R: Runtime + AllocGlobal>(
     rt: &R,
     asked: &Asked,

@@ -25,15 +25,15 @@ pub struct Counted {
 /// Why there are no counts.
 #[derive(Clone, Copy, Drop)]
 pub enum Failure {
-    /// The reachable objects filled all cells where this worker, counted from 1, was to make one more.
+    /// The heap was full when this worker, counted from 1, was to make one more object.
     Full(u64),
-    /// A worker has made all objects that have numbers.
+    /// A worker has used all numbers of objects.
     Spent,
     /// Memory ran out.
     OutOfMemory,
 }
 
-/// The counts of all workers together, or why one has none.
+/// The counts of all workers, or why one has none.
 fn sum_up(workers: &[Worker]) -> Result<Checks, Halt> {
     let mut sums = [0u64; 5];
     for worker in workers {
@@ -56,7 +56,7 @@ fn put_together(alone: Result<Alone, Halt>, workers: &[Worker]) -> Result<Counte
     Ok(Counted { alone, checks })
 }
 
-/// Why there are no counts, where a worker went on no more.
+/// Why there are no counts.
 fn failure_of(world: &mut World, halt: Halt) -> Failure {
     match halt {
         Halt::Full => Failure::Full(world.found_full().unwrap_or(0)),
@@ -64,7 +64,6 @@ fn failure_of(world: &mut World, halt: Halt) -> Failure {
     }
 }
 
-/// Plays the whole work in a world.
 fn run_in<R: Threads + Wait + Sync>(
     rt: &R,
     world: &mut World,

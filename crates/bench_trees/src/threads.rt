@@ -12,7 +12,7 @@ use managed_heap::{Mutator, Tracer, World};
 use std::sync::Wait;
 use std::thread::{Threads, for_each_mut, join_mut};
 
-/// A mutator in the hand of one thread, with what it counted, or why it goes on no more.
+/// A mutator in the hand of one thread, with what it counted, or why it ended.
 #[derive(Drop)]
 pub struct Worker {
     pub mutator: Mutator,
@@ -28,7 +28,6 @@ pub struct Alone {
     pub kept: u64,
 }
 
-/// One worker makes its short-lived trees.
 fn play_one<R: Threads + Wait + Sync>(rt: &R, worker: &mut Worker, asked: &Asked, at: u32)
     requires range { AreWordsInRange asked.now }
     requires one { at < asked.now.workers }
@@ -57,7 +56,6 @@ fn play_all<R: Threads + Wait + Sync>(rt: &R, workers: &mut Vec<Worker>, asked: 
     );
 }
 
-/// The first worker before the others: the tree that stretches the heap, and the one that is kept.
 fn begin<R: Wait>(rt: &R, worker: &mut Worker, depth: u8) -> Result<u64, Halt>
     requires few { depth ≤ 13 }
     requires waits { WorkerWaits worker.old.mutator }
@@ -70,7 +68,6 @@ fn begin<R: Wait>(rt: &R, worker: &mut Worker, depth: u8) -> Result<u64, Halt>
     Ok(nodes)
 }
 
-/// The first worker after the others: the nodes of the tree that was kept.
 fn finish<R: Wait>(rt: &R, worker: &mut Worker, depth: u8) -> Result<u64, Halt>
     requires few { depth ≤ 13 }
     requires waits { WorkerWaits worker.old.mutator }
@@ -81,7 +78,7 @@ fn finish<R: Wait>(rt: &R, worker: &mut Worker, depth: u8) -> Result<u64, Halt>
     count_kept(rt, &mut worker.mutator, depth)
 }
 
-/// The whole work: the first worker alone, all workers, the first worker alone.
+/// The whole work: the first worker, all workers, the first worker again.
 fn work<R: Threads + Wait + Sync>(
     rt: &R,
     workers: &mut Vec<Worker>,
@@ -99,7 +96,6 @@ fn work<R: Threads + Wait + Sync>(
     Ok(Alone { stretched, kept })
 }
 
-/// Does the work, and dismisses the tracers.
 fn work_to_end<R: Threads + Wait + Sync>(
     rt: &R,
     world: &mut World,
@@ -121,7 +117,6 @@ fn trace<R: Wait>(rt: &R, tracer: &mut Tracer) {
     tracer.run(rt);
 }
 
-/// Runs each tracer in a thread of its own.
 fn trace_all<R: Threads + Wait + Sync>(rt: &R, tracers: &mut Vec<Tracer>) {
     let threads = tracers.len();
     if threads > 0 {
@@ -134,8 +129,8 @@ fn trace_all<R: Threads + Wait + Sync>(rt: &R, tracers: &mut Vec<Tracer>) {
     }
 }
 
-/// Runs the work beside the tracers. It ends when all threads have ended. Where no thread can be made for the tracers, they come after the work, and read at
-/// once that they are dismissed.
+/// Runs the work beside the tracers, until all threads have ended. If no thread can be made for the tracers, they
+/// come after the work, and read at once that they are dismissed.
 pub fn run_threads<R: Threads + Wait + Sync>(
     rt: &R,
     world: &mut World,

@@ -20,7 +20,6 @@ fn leaf<R: Wait>(rt: &R, m: &mut Mutator, v: u8) -> Result<(), Halt>
     make(rt, m, v)
 }
 
-/// Makes a node in variable v, with the trees in the next two variables.
 fn node<R: Wait>(rt: &R, m: &mut Mutator, v: u8) -> Result<(), Halt>
     requires plays { WorkerPlays m.old }
     requires fits { v + 2 < heap_variables }
@@ -34,7 +33,7 @@ fn node<R: Wait>(rt: &R, m: &mut Mutator, v: u8) -> Result<(), Halt>
     Ok(())
 }
 
-/// Makes a tree of this depth in variable v, with the variables behind it. Refused where the heap is full, or where all numbers of objects are used.
+/// Makes a tree of this depth in variable v, with the variables behind it.
 pub fn build<R: Wait>(rt: &R, m: &mut Mutator, v: u8, depth: u8) -> Result<(), Halt>
     requires plays { WorkerPlays m.old }
     requires fits { v + 2 * depth < heap_variables }
@@ -50,7 +49,7 @@ pub fn build<R: Wait>(rt: &R, m: &mut Mutator, v: u8, depth: u8) -> Result<(), H
     node(rt, m, v)
 }
 
-/// How many nodes the tree in variable v has that are at most so many steps below its root. The variables behind v change.
+/// How many nodes of variable v's tree are at most so many steps below its root. The variables behind v change.
 fn count(m: &mut Mutator, v: u8, steps: u8) -> u64
     requires plays { WorkerPlays m.old }
     requires fits { v + steps < heap_variables }
@@ -71,7 +70,8 @@ fn count(m: &mut Mutator, v: u8, steps: u8) -> u64
     1 + left + right
 }
 
-/// How many nodes the tree in variable v has. One step more is looked for than its depth says, so a deeper tree would have more.
+/// How many nodes variable v's tree has. One step more is looked for than its depth says, so a deeper tree would
+/// have more.
 pub fn check(m: &mut Mutator, v: u8, depth: u8) -> u64
     requires plays { WorkerPlays m.old }
     requires fits { v + depth + 1 < heap_variables }
@@ -82,7 +82,7 @@ pub fn check(m: &mut Mutator, v: u8, depth: u8) -> u64
     count(m, v, depth + 1)
 }
 
-/// Variable v and those behind it refer to nothing any more, so that no part of a tree stays reachable.
+/// Variable v and those behind it refer to nothing, so that no part of a tree stays reachable.
 fn drop_from(m: &mut Mutator, v: u8)
     requires plays { WorkerPlays m.old }
     ensures plays { WorkerPlays m.new }
@@ -93,8 +93,7 @@ fn drop_from(m: &mut Mutator, v: u8)
     }
 }
 
-/// Makes a tree of this depth in variable 1, counts it, and forgets it: how many nodes it had. Refused where the heap is full, or where all numbers of objects
-/// are used.
+/// Makes a tree of this depth in variable 1, counts it, and forgets it: how many nodes it had.
 pub fn short_lived<R: Wait>(rt: &R, m: &mut Mutator, depth: u8) -> Result<u64, Halt>
     requires plays { WorkerPlays m.old }
     requires fits { depth ≤ 14 }

@@ -1,4 +1,3 @@
-//! What the words of the command line ask for.
 ghost use Rattle.std.specs.Prelude.{◌≤◌, IfOk, IfSome};
 ghost use Rattle.bench_trees.specs.Counts.{AreWordsInRange};
 
@@ -19,13 +18,12 @@ pub struct Asked {
     pub tracers: u32,
 }
 
-/// The options, each with a value.
 const OPTIONS: [&str; 4] = ["depth", "cells", "workers", "tracers"];
 
 /// Past every number that an option may have.
 const LARGE: u64 = 1 << 32;
 
-/// The number that digits say, or `LARGE` where it is larger.
+/// The number that digits say, at most `LARGE`.
 fn number_of(text: &str) -> Option<u64> {
     let mut number = 0;
     for b in text.as_bytes() {
@@ -37,7 +35,7 @@ fn number_of(text: &str) -> Option<u64> {
     Some(number)
 }
 
-/// The number that a text says, where it is one or more digits and lies in the range.
+/// The number of a text of one or more digits, if in range.
 fn number_in(text: &str, least: u32, greatest: u32) -> Option<u32>
     ensures { IfSome result (λ n. (least ≤ n) × (n ≤ greatest)) }
 {
@@ -52,7 +50,7 @@ fn number_in(text: &str, least: u32, greatest: u32) -> Option<u32>
     }
 }
 
-/// The number that is given for an option, where it is in the range, or without one the default.
+/// The number given for an option, if in range, or the default.
 fn chosen(
     matches: &ArgMatches<'_>,
     name: &str,
@@ -69,7 +67,6 @@ fn chosen(
     }
 }
 
-/// The run that the options ask for, if each is in its range.
 fn asked_of(matches: &ArgMatches<'_>) -> Option<Asked>
     ensures { IfSome result AreWordsInRange }
 {
@@ -103,7 +100,7 @@ fn with_options<'a>(
     Ok(program)
 }
 
-/// The program and its options, as `clap` is told them. Help is off: the words of a run are these four options.
+/// The program and its options. Help is off.
 fn program<'a>(alloc: Global) -> Result<Command<'a>, AllocError> {
     let program = Command::new(alloc, "bench_trees")
         .no_binary_name(true)
@@ -111,8 +108,8 @@ fn program<'a>(alloc: Global) -> Result<Command<'a>, AllocError> {
     with_options(alloc, program, OPTIONS.as_slice())
 }
 
-/// The run that the words ask for, without the program's own name: options in any order, each at most once, as `--name value` or `--name=value`. None
-/// where they ask for nothing. It takes memory for the parse.
+/// The run that the words ask for, without the program's own name: options in any order, each at most once. Takes
+/// memory for the parse.
 pub fn asked_by(alloc: Global, words: &[String]) -> Result<Option<Asked>, AllocError>
     ensures { IfOk result (λ r. IfSome r AreWordsInRange) }
 {

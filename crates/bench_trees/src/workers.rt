@@ -1,4 +1,3 @@
-//! What a worker does from entering to leaving.
 ghost use Rattle.std.specs.Prelude.{◌≡◌, ◌+◌, ◌-◌, ◌*◌, ◌<◌, ◌≤◌, IfErr, IfOk};
 ghost use Rattle.plain_heap.specs.PlainHeap.{variable};
 ghost use Rattle.managed_heap.specs.Calls.{heap_of};
@@ -12,10 +11,10 @@ use crate::words::Asked;
 use managed_heap::Mutator;
 use std::sync::Wait;
 
-/// How many depths short-lived trees have at most: 4, 6, 8, 10 and 12.
+/// How many depths of short-lived trees there are at most: 4, 6, 8, 10 and 12.
 pub const DEPTHS: u32 = 5;
 
-/// The nodes that were counted of the short-lived trees, by their depths.
+/// The nodes counted of the short-lived trees, by depth.
 pub type Checks = [u64; 5];
 
 /// The depth of short-lived trees, by its number.
@@ -26,8 +25,8 @@ pub fn depth_at(i: u32) -> u32
     4 + 2 * i
 }
 
-/// How many short-lived trees there are of the depth with this number, where the tree that is kept has depth `depth`: four times fewer than of the one
-/// before, so that the trees of all depths have about as many nodes.
+/// How many short-lived trees there are of the depth with this number, if the kept tree has depth `depth`: four
+/// times fewer than of the one before, so that each depth has about as many nodes.
 pub fn trees_at(depth: u32, i: u32) -> u32
     requires { (depth ≤ 13) × (2 * i ≤ depth) }
     ensures exact { result ≡ trees_at depth i }
@@ -36,7 +35,7 @@ pub fn trees_at(depth: u32, i: u32) -> u32
     1 << (depth - 2 * i)
 }
 
-/// How many of these trees are the work of worker `at` of so many: those whose numbers leave `at` when they are divided by the number of workers.
+/// Worker `at`'s share of these trees: those whose numbers leave `at` when divided by the number of workers.
 fn share(trees: u32, workers: u32, at: u32) -> u32
     requires few { (trees ≤ 8192) × (workers ≤ 32) }
     requires one { at < workers }
@@ -46,7 +45,6 @@ fn share(trees: u32, workers: u32, at: u32) -> u32
     (trees + (workers - 1 - at)) / workers
 }
 
-/// Enters the world, where the heap isn't full.
 fn enter<R: Wait>(rt: &R, m: &mut Mutator) -> Result<(), Halt>
     requires waits { WorkerWaits m.old }
     ensures ok { IfOk result (λ _. WorkerPlays m.new) }
@@ -59,7 +57,6 @@ fn enter<R: Wait>(rt: &R, m: &mut Mutator) -> Result<(), Halt>
     }
 }
 
-/// Leaves the world, if it is inside.
 fn leave(m: &mut Mutator)
     requires two { HasTwo m.old }
     ensures waits { WorkerWaits m.new }
@@ -68,7 +65,7 @@ fn leave(m: &mut Mutator)
     m.leave();
 }
 
-/// Makes so many trees of this depth, one after another: how many nodes were counted in all.
+/// Makes so many trees of this depth: how many nodes were counted in all.
 fn many<R: Wait>(rt: &R, m: &mut Mutator, trees: u32, depth: u8) -> Result<u64, Halt>
     requires plays { WorkerPlays m.old }
     requires few { (depth ≤ 14) × (trees ≤ 8223) }
@@ -85,7 +82,6 @@ fn many<R: Wait>(rt: &R, m: &mut Mutator, trees: u32, depth: u8) -> Result<u64, 
     Ok(nodes)
 }
 
-/// Makes the short-lived trees of worker `at`, depth by depth.
 fn all_depths<R: Wait>(rt: &R, m: &mut Mutator, asked: &Asked, at: u32) -> Result<Checks, Halt>
     requires range { AreWordsInRange asked.now }
     requires one { at < asked.now.workers }
@@ -108,8 +104,7 @@ fn all_depths<R: Wait>(rt: &R, m: &mut Mutator, asked: &Asked, at: u32) -> Resul
     Ok(checks)
 }
 
-/// What a worker does beside the others: it makes its share of the short-lived trees, and counts them. Refused where the heap is full, or where all numbers of
-/// objects are used.
+/// Makes and counts a worker's share of the short-lived trees.
 pub fn play<R: Wait>(rt: &R, m: &mut Mutator, asked: &Asked, at: u32) -> Result<Checks, Halt>
     requires range { AreWordsInRange asked.now }
     requires one { at < asked.now.workers }
@@ -124,8 +119,7 @@ pub fn play<R: Wait>(rt: &R, m: &mut Mutator, asked: &Asked, at: u32) -> Result<
     came
 }
 
-/// What the first worker does before: it makes a tree one level deeper than the one that is kept, counts it and forgets it. Refused where the heap is full, or
-/// where all numbers of objects are used.
+/// What the first worker does before: it makes a tree one level deeper than the kept one, counts it and forgets it.
 pub fn stretch<R: Wait>(rt: &R, m: &mut Mutator, depth: u8) -> Result<u64, Halt>
     requires few { depth ≤ 13 }
     requires waits { WorkerWaits m.old }
@@ -138,8 +132,7 @@ pub fn stretch<R: Wait>(rt: &R, m: &mut Mutator, depth: u8) -> Result<u64, Halt>
     came
 }
 
-/// The first worker then makes the tree that is kept, in variable 0. It stays reachable while its maker is outside. Refused where the heap is full, or where
-/// all numbers of objects are used.
+/// The first worker then makes the kept tree, in variable 0. It stays reachable while its maker is outside.
 pub fn keep<R: Wait>(rt: &R, m: &mut Mutator, depth: u8) -> Result<(), Halt>
     requires few { depth ≤ 13 }
     requires waits { WorkerWaits m.old }
@@ -152,7 +145,7 @@ pub fn keep<R: Wait>(rt: &R, m: &mut Mutator, depth: u8) -> Result<(), Halt>
     came
 }
 
-/// When all others are done, the first worker counts the tree that it kept. Refused where the heap is full, or where all numbers of objects are used.
+/// When all others are done, the first worker counts the kept tree.
 pub fn count_kept<R: Wait>(rt: &R, m: &mut Mutator, depth: u8) -> Result<u64, Halt>
     requires few { depth ≤ 13 }
     requires waits { WorkerWaits m.old }

@@ -120,7 +120,7 @@ stops-join sh xs ys a b = after-join (may_stop sh) raises_flag [] xs ys a (again
     again : (es fs : List Entry) → stops_with_cause sh fs ≡ true → each_after (may_stop sh) raises_flag es fs ≡ true
     again es fs c = subst (λ zs. each_after (may_stop sh) raises_flag zs fs ≡ true) (append-nil es) (after-earlier (may_stop sh) (may_stop sh) raises_flag es (λ zs k. stop-later sh es zs k) [] fs c)
 
--- a search of steps of searching alone that found no block
+-- a search that took only steps of searching and found no block
 front-all : (P : Step → Bool) (es : List Entry) → all_steps P es ≡ true → front P es ≡ es
 front-all P [] h = refl
 front-all P (e ∷ es) h =

@@ -1,4 +1,4 @@
--- A cycle begins only where one is due.
+-- A cycle begins only if one is due.
 use Rattle.std.proofs.Common.{ℕ, ◌≡◌, ◌+◌, ◌*◌, List, [], ◌∷◌, ◌++◌, refl, ap, ◌∙◌, subst, true, false, Some, None, Option}
 use Rattle.std.specs.Prelude.{nat_lt}
 use Rattle.std.proofs.lemmas.Bool.{and_from, false≢true, not-true}

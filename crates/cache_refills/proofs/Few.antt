@@ -18,7 +18,7 @@ use Rattle.cache_refills.specs.Pace.Pacing.{card_looks, looks_by}
 use Rattle.cache_refills.specs.Pace.Payment.{TracesNone, TracesOn}
 use Rattle.cache_refills.specs.Pace.StepBounds.{look_steps, payment_steps, quota_steps}
 
--- a card has so many cells at most
+-- a card has this many cells at most
 pub cells-fewer : (m n : ℕ) (sh : Shape) (k : ℕ) → m ≤ n → k ≤ clean_one_steps m sh → k ≤ clean_one_steps n sh
 cells-fewer m n sh k l few = let most = mul-le-mul_right {m = m} {n = n} (scan_steps sh.fields sh) l in omega (arith, few, most)
 

@@ -15,7 +15,7 @@ use Rattle.cache_refills.specs.Pace.Paying.{Pays, since_claim}
 use Rattle.gc_cycle.specs.Sorts.{lowers_free}
 use Rattle.gc_cycle.specs.Answering.{EndsFull, GoesOn, StoredAt}
 
--- a cache with free cells, which were taken off the number of free cells, and paid for; where the seat left the world on the way, its position is stored
+-- a cache with free cells, which were taken off the number of free cells, and paid for; if the seat left the world on the way, its position is stored
 pub record GetsCache (h : Cache) (paid : Paid) (done : ℕ) (v w : View) : Type 0 where
   pub goes_on : GoesOn v w
   pub cached : IsCached h w

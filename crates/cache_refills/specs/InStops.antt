@@ -1,4 +1,4 @@
--- What a mutator is answered that asks for a cache and collects in stops alone.
+-- What a mutator that asks for a cache and collects only in stops is answered.
 use Rattle.std.specs.Prelude.{ℕ, ◌≡◌, ◌<◌, ◌∷◌, [], List, Bool}
 use Rattle.std.specs.Int.Count.{ones}
 use Rattle.gc_table.specs.Log.{events}
@@ -21,7 +21,7 @@ use Rattle.gc_cycle.specs.Sorts.{lowers_free}
 abbrev pub begins_none : List Entry → Bool
 begins_none es = never tries_marking es
 
--- the mutator has claimed this cache outside a stop, with its position stored where it left the world before
+-- the mutator has claimed this cache outside a stop, with its position stored if it left the world before
 pub record HasSearched (h : Cache) (done : ℕ) (v w : View) : Type 0 where
   pub ran : Ran v w
   pub tells : TellsFull v w
@@ -29,7 +29,7 @@ pub record HasSearched (h : Cache) (done : ℕ) (v w : View) : Type 0 where
   pub first : List Entry
   pub claimed : EndsClaimed h first v w
 
--- a cache with free cells, which were taken off the number of free cells; where the seat left the world on the way, its position is stored
+-- a cache with free cells, which were taken off the number of free cells; if the seat left the world on the way, its position is stored
 pub record FillsCache (h : Cache) (done : ℕ) (v w : View) : Type 0 where
   pub goes_on : GoesOn v w
   pub cached : IsCached h w
@@ -37,7 +37,7 @@ pub record FillsCache (h : Cache) (done : ℕ) (v w : View) : Type 0 where
   pub free : 0 < ones h.cells
   pub told : picked lowers_free (since_claim (events v w)) ≡ ones h.cells ∷ []
 
--- what a refill answers that collects in stops alone: a cache with free cells, or that the heap is full
+-- what a refill that collects only in stops answers: a cache with free cells, or that the heap is full
 abbrev pub FillsTo : Refill → ℕ → View → View → Type 0
 FillsTo (refills.Cache h paid) done v w = FillsCache h done v w
 FillsTo refills.Full done v w = EndsFull done v w

@@ -7,16 +7,16 @@ use Rattle.gc_cycle.specs.Events.{last_is}
 use Rattle.gc_cycle.specs.Sorts.{ends_cycle, polls, mutator_stores}
 use Rattle.cache_refills.specs.Stops.{stops_without_cause}
 
--- a section did so many commands, of which so many were `collect`
+-- a section did this many commands, of which this many were `collect`
 pub record PlaysCommands (sh : Shape) (commands collects : ℕ) (es : List Entry) : Type 0 where
   -- it polled before each command
   pub polled : commands ≤ count_of polls es
   -- it ended a cycle for each `collect`
   pub collected : collects ≤ count_of ends_cycle es
-  -- besides them it stopped the world for cause alone
+  -- besides them it stopped the world only for cause
   pub stopped : stops_without_cause sh [] es ≤ collects
 
--- a section did so many commands, and the heap was found full: it may have been about to collect
+-- a section did this many commands, and the heap was found full: it may have been about to collect
 pub record StopsAtFull (sh : Shape) (commands collects asked : ℕ) (es : List Entry) : Type 0 where
   pub polled : commands ≤ count_of polls es
   pub collected : collects ≤ count_of ends_cycle es

@@ -36,7 +36,7 @@ takes_cells step found = false
 abbrev pub round_failed : Shape → List Entry → Bool
 round_failed sh es = no_block sh (since_or_all takes_cells (this_visit es))
 
--- these events call for a collection, where the search was in pieces: there was no block to make cells in, or marking was done
+-- these events call for a collection, if the search was in pieces: there was no block to make cells in, or marking was done
 abbrev pub may_collect : Shape → List Entry → Bool
 may_collect sh es = round_failed sh es || marking_done sh es
 
@@ -66,7 +66,7 @@ pub record LeavesBlocks (v w : View) : Type 0 where
   pub untried : blocks_tried (events v w) ≡ []
   pub without : IsTrue (never takes_cells (events v w))
 
--- what a piece saw that looks at so many blocks from this one on: some of them, or that marking was done
+-- what a piece saw that looks at this many blocks from this one on: some of them, or that marking was done
 abbrev pub SeesTo : ℕ → ℕ → Piece → View → View → Type 0
 SeesTo from most (pieces.Cache h paid) v w = FindsBlock from (from + most) h.block v w
 SeesTo from most (pieces.Next n) v w = (n ≡ from + most) × (n < block_count v.shape) × SeesBlocks from n v w
@@ -82,7 +82,7 @@ ComesTo pieces.Ended u w = IsTrue (may_collect w.shape (events u w))
 ComesTo pieces.MarkingDone u w = IsTrue (may_collect w.shape (events u w))
 ComesTo pieces.Full u w = Unit {0}
 
--- how many steps a piece takes that looks at so many blocks, after so many others: with a cache up to its claim, after which it is paid for
+-- how many steps a piece takes that looks at this many blocks, after this many others: with a cache up to its claim, after which it is paid for
 abbrev pub IsShort : ℕ → ℕ → Piece → List Entry → Type 0
 IsShort before most (pieces.Cache h paid) es = length (before_last claims es) ≤ before + 3 * most
 IsShort before most (pieces.Next n) es = length es ≤ before + 3 * most

@@ -49,7 +49,7 @@ pub record SeesFull (sh : Shape) (v w : View) : Type 0 where
   pub seen : (b : ℕ) → b < block_count sh → IsTrue (some_event (reads_all_ones b) (events v w))
   pub noted : (b : ℕ) → b < block_count sh → look (alloc_at b) w.known ≡ Some all_ones
 
--- no block was claimed only where the heap is full, or where since the last cycle ended a block with a free cell was read and a search found none
+-- no block was claimed only if the heap is full, or if since the last cycle ended a block with a free cell was read and a search found none
 abbrev pub HasMissed : Shape → Option Cache → List Entry → View → Type 0
 HasMissed sh o es w = IfNone o (IsTrue (misses_block sh (since_last ends_cycle es)) ⊎ KnowsFull w)
 
@@ -79,7 +79,7 @@ pub record EndsClaimed (h : Cache) (first : List Entry) (v w : View) : Type 0 wh
   pub all : events v w ≡ first ++ claimed_by h word count
   pub free : 0 < ones h.cells
 
--- a mutator claimed this cache outside a stop, by its last events, with its position stored where it left the world before
+-- a mutator claimed this cache outside a stop, by its last events, with its position stored if it left the world before
 pub record HasClaimed (h : Cache) (done : ℕ) (v w : View) : Type 0 where
   pub ran : Ran v w
   pub tells : TellsFull v w
@@ -96,7 +96,7 @@ pub record TriesOn (done : ℕ) (v w : View) : Type 0 where
   pub position : w.own.position ≡ done
   pub tells : (u : View) → Ran u v → TellsFull u v → TellsFull u w
   pub spares : Only spares_part v w
-  -- where it stopped the world itself, it missed a block with a free cell then
+  -- if it stopped the world itself, it missed a block with a free cell then
   pub missed : IsTrue (may_stop_again v.shape (events v w))
   pub ended : IsTrue (resumes_with_end (events v w))
   pub pops : IsTrue (pops_in_stops (events v w))

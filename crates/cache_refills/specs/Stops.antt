@@ -32,7 +32,7 @@ marking_done sh (e ∷ es) =
 abbrev pub may_stop : Shape → List Entry → Bool
 may_stop sh es = claim_failed sh es || marking_done sh es
 
--- the flag was raised only where the events of the call before gave cause
+-- the flag was raised only if the events of the call before gave cause
 abbrev pub stops_with_cause : Shape → List Entry → Bool
 stops_with_cause sh es = each_after (may_stop sh) raises_flag [] es
 
@@ -40,7 +40,7 @@ stops_with_cause sh es = each_after (may_stop sh) raises_flag [] es
 abbrev pub this_visit : List Entry → List Entry
 this_visit es = since_or_all comes_in es
 
--- the flag was raised only where the events since the seat last came in gave cause: no cause outlives another seat's stop
+-- the flag was raised only if the events since the seat last came in gave cause: no cause outlives another seat's stop
 abbrev pub stops_in_visit : Shape → List Entry → Bool
 stops_in_visit sh es = each_after (λ earlier. may_stop sh (this_visit earlier)) raises_flag [] es
 
@@ -48,11 +48,11 @@ stops_in_visit sh es = each_after (λ earlier. may_stop sh (this_visit earlier))
 abbrev pub has_ended : List Entry → Bool
 has_ended es = some_event ends_cycle (since_last raises_flag es)
 
--- the world was resumed only where a cycle had ended in the stop
+-- the world was resumed only if a cycle had ended in the stop
 abbrev pub resumes_with_end : List Entry → Bool
 resumes_with_end es = each_after has_ended resumes [] es
 
--- in each stop a cycle ended, but perhaps not in the last one where the phase was read as Full
+-- in each stop a cycle ended, but perhaps not in the last one, if the phase was read as Full
 abbrev pub stops_collect : List Entry → Bool
 stops_collect es = resumes_with_end (if saw_full es then before_last resumes es else es)
 
@@ -76,7 +76,7 @@ may_stop_again sh es = (never raises_flag es && never ends_cycle es) || misses_b
 abbrev pub stops_again_with_cause : Shape → List Entry → Bool
 stops_again_with_cause sh es = each_after (may_stop_again sh) raises_flag [] es
 
--- how often the flag was raised where the events since the last store into a new cell gave no cause; `since` are those before the list
+-- how often the flag was raised without cause in the events since the last store into a new cell; `since` are those before the list
 abbrev pub stops_without_cause : Shape → List Entry → List Entry → ℕ
 stops_without_cause sh since [] = 0
 stops_without_cause sh since (e ∷ es) =

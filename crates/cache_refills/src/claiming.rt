@@ -1,4 +1,4 @@
-//! A cache for a mutator that has stopped the world: after the cycle that was marking, or after a precise collection.
+//! A cache for a mutator that has stopped the world.
 ghost use Rattle.std.specs.Prelude.{[], ◌++◌, ◌⊎◌, List, None, Some, IsTrue};
 ghost use Rattle.std.specs.Bool.{OnFalse};
 ghost use Rattle.mark_core.specs.declared.kinds.Phase.TheVariants.{Full, Idle, Marking};
@@ -24,7 +24,7 @@ use gc_table::{Heap, HeapSeat};
 use mark_core::{BLOCK_CELLS, Phase};
 use std::sync::Wait;
 
-/// Ends the cycle that is marking, or collects precisely, and claims a block. There is none where the heap is full.
+/// Ends the cycle that is marking, or collects precisely, and claims a block; None if the heap is full.
 pub(crate) fn claim_in_stop<R: Wait, W: Watch>(
     rt: &R,
     heap: &Heap,
@@ -56,7 +56,6 @@ pub(crate) fn claim_in_stop<R: Wait, W: Watch>(
     }
 }
 
-/// A cache after an ordinary cycle, or else after a precise collection.
 fn claim_or_collect<R: Wait, W: Watch>(
     rt: &R,
     heap: &Heap,
@@ -80,7 +79,7 @@ fn claim_or_collect<R: Wait, W: Watch>(
     claim_or_fill(heap, seat)
 }
 
-/// A cache after a precise collection. Where every allocation word is all ones, the heap is said to be full.
+/// A cache after a precise collection. If no cell is free, it says that the heap is full.
 fn claim_or_fill(heap: &Heap, seat: &mut HeapSeat) -> Option<Cache>
     requires seat { Sits heap.now seat.old }
     requires alone { IsAloneIn Idle (view_of seat.old) × RestsAlone (view_of seat.old) }
@@ -101,7 +100,6 @@ fn claim_or_fill(heap: &Heap, seat: &mut HeapSeat) -> Option<Cache>
     claim(heap, seat)
 }
 
-/// Whether every cell is published, as a seat that is alone reads it.
 fn all_allocated(heap: &Heap, seat: &mut HeapSeat) -> bool
     requires seat { Sits heap.now seat.old }
     requires alone { IsAloneIn Idle (view_of seat.old) }

@@ -1,4 +1,4 @@
-//! A cache for a mutator that collects in stops alone: a cycle is never begun, so nothing is marked beside the mutators.
+//! A cache for a mutator that collects only in stops.
 ghost use Rattle.std.specs.Prelude.{◌≡◌, None, IfSome, IsTrue};
 ghost use Rattle.gc_table.specs.Log.{Only};
 ghost use Rattle.gc_table.specs.Running.{Ran};
@@ -22,10 +22,10 @@ use gc_cycle::{Refill, Safe, go_on};
 use gc_table::{Heap, HeapSeat};
 use std::sync::Wait;
 
-/// A cache for a mutator without one, as [`refill`](crate::refill) gets it, but that it begins no cycle and pays nothing: where no block has a free cell it
-/// stops the world, and all that is marked is marked there. So it is compared with a collector that marks beside the mutators.
+/// [`refill`](crate::refill) without beginning a cycle or paying: if no block has a free cell it stops the world,
+/// and all marking is done there. It is there to be compared with a collector that marks beside the mutators.
 ///
-/// Where another mutator has begun a cycle, the stop ends it.
+/// If another mutator has begun a cycle, the stop ends it.
 pub fn refill_in_stops<R: Wait, W: Watch>(
     rt: &R,
     heap: &Heap,
@@ -49,7 +49,7 @@ pub fn refill_in_stops<R: Wait, W: Watch>(
     unreachable!()
 }
 
-/// One round, which ends without an answer where another seat's stop came first.
+/// One round; None if another seat's stop came first.
 fn fill_once<R: Wait, W: Watch>(
     rt: &R,
     heap: &Heap,
@@ -74,7 +74,7 @@ fn fill_once<R: Wait, W: Watch>(
     }
 }
 
-/// A cache that was claimed. Where the heap is full by then, it is given up.
+/// A cache that was claimed. If the heap is full by then, it is given up.
 fn keep_cache(heap: &Heap, seat: &mut HeapSeat, cache: Cache, done: u32) -> Refill
     requires seat { Sits heap.now seat.old × Mutates (view_of seat.old) }
     requires cache { IsCached cache (view_of seat.old) }

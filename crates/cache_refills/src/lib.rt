@@ -1,23 +1,25 @@
-//! A mutator's cache, and what it pays for it: when a cycle begins, how much is traced for a cache, and when the world is stopped on the way to one.
+//! A mutator's cache, and what it pays for it: when a cycle begins, how much is traced for a cache, and when the
+//! world is stopped on the way to one.
 //!
-//! A mutator that takes a cache of n cells owes tracing for them: the work that is left, shared among the cells that are free ([`quota_of`]). It
-//! is the mutators' work that moves a cycle on, as in Ossia and others, "A parallel, incremental and concurrent GC for servers" (2002).
-//! What is new against it is that each seat proves of its own steps what they did: no contract here rests on a scheduler, or on time.
+//! A mutator that takes a cache of n cells owes tracing for them: the work that is left, shared among the free
+//! cells ([`quota_of`]). The mutators' work moves a cycle on, as in Ossia and others, "A parallel, incremental and
+//! concurrent GC for servers" (2002). New against it is that each seat proves of its own steps what they did: no
+//! contract rests on a scheduler, or on time.
 //!
 //! # A refill
 //!
-//! 1. Where free cells run short by the numbers of the last cycle, the mutator begins one (`pace`).
-//! 2. While a cycle marks it marks what its own roots refer to, and those of another section (`others`), passes the next cards early in the cycle (`early`), and traces its quota (`paying`); where there
-//!    is nothing to trace, and the cycle is far on, it cleans a card.
-//! 3. It claims a block with a free cell. Where none has one, or the cards have been passed and all packets are empty, it stops the world and ends the cycle
-//!    (`finish_cycle` of `gc_cycle`), or collects precisely, and claims in the stop (`claiming`).
-//! 4. Where every allocation word is all ones after a precise collection in that stop, the heap is full.
+//! 1. If free cells run short by the numbers of the last cycle, the mutator begins one (`pace`).
+//! 2. While a cycle marks it pays (`paying`): it marks what its own roots and those of another section refer to
+//!    (`others`), passes the next cards early in the cycle (`early`), and traces its quota.
+//! 3. It claims a block with a free cell. If none has one, or marking is done, it stops the world and ends the
+//!    cycle (`finish_cycle` of `gc_cycle`), or collects precisely, and claims in the stop (`claiming`).
+//! 4. If every allocation word is all ones after a precise collection, the heap is full.
 //!
-//! `refilling` goes these ways in rounds, `in_stops` does so for a mutator that collects in stops alone, and `trying` has a refill, an entry and a safe point for
-//! a caller that has no runtime to wait with, and `pieces` has the refill in pieces for one that may not take long either. `pace` and `quota` have the numbers;
-//! `watching` is told of the stops.
+//! `refilling` does this in rounds, `in_stops` for a mutator that collects only in stops, `trying` for a caller
+//! that can't wait, `pieces` for one that may not take long either.
 //!
-//! In `specs/`, `Pace` has when a cycle is due, what is owed and what is paid, `Refilling` what a round does, and `Getting` what a refill answers.
+//! In `specs/`, `Pace` says when a cycle is due, what is owed and what is paid, `Refilling` what a round does, and
+//! `Getting` what a refill answers.
 #![tactic(auto)]
 
 mod claiming;

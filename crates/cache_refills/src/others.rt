@@ -1,7 +1,8 @@
 //! The roots of other sections, which payments scan in turn.
 //!
-//! A mutator that stays outside the world pays nothing, so what its variables name would be left to the stop. So each payment scans the roots of one more section,
-//! and which one is told by the number of free cells, which each claim of a cache lowers. Its mutator may run meanwhile: what it stores later it scans itself.
+//! A mutator that stays outside the world pays nothing, so what its variables name would be left to the stop. So
+//! each payment scans the roots of one more section, which follows from the number of free cells: each claim of a
+//! cache lowers it. That section's mutator may run meanwhile: what it stores later it scans itself.
 ghost use Rattle.std.specs.Prelude.{◌≡◌, ◌<◌, ◌≤◌, ◌%◌, IsTrue, length, Some};
 ghost use Rattle.mark_core.specs.declared.kinds.Phase.TheVariants.{Marking};
 ghost use Rattle.gc_table.specs.Seats.{Across, did, Sits, state_of, view_of};
@@ -16,7 +17,6 @@ ghost use Rattle.gc_cycle.specs.Turns.{SeesToRoots};
 use gc_cycle::scan_roots;
 use gc_table::{Heap, HeapSeat};
 
-/// The section whose turn it is.
 pub(crate) fn section_at(turn: u32, sections: u32) -> u32
     requires { 0 < sections }
     ensures { result ≡ turn % sections }

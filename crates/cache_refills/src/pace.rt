@@ -11,7 +11,7 @@ ghost use Rattle.cache_refills.specs.Pace.Payment.{reads_number};
 use gc_table::{Heap, HeapSeat};
 use mark_core::{FREE, LAST, Phase, RESCANNED, TRACED};
 
-/// The number in the word of a statistic, which is bounded, and 0 where the word fell below 0.
+/// The number in the word of a statistic, which is bounded; 0 if the word fell below 0.
 fn statistic(word: u64) -> u32
     ensures value { result ≡ statistic_of word }
     ensures bound { result ≤ 16777216 }
@@ -35,15 +35,16 @@ pub(crate) fn read_statistic(heap: &Heap, seat: &mut HeapSeat, which: u8) -> u32
     statistic(heap.read_stat(seat, which))
 }
 
-/// Whether a cycle is far on by these numbers: seven eighths of what the last one traced are traced, or hardly a cell is free.
+/// Whether a cycle is far on by these numbers: seven eighths of what the last one traced are traced, or hardly a
+/// cell is free.
 pub(crate) fn is_late(last: u32, traced: u32, free: u32) -> bool
     ensures { result ≡ late last traced free }
 {
     7 * u64::from(last) <= 8 * u64::from(traced) || 64 * u64::from(free) <= u64::from(last)
 }
 
-/// Whether the cycle under way is far on, so that the cards of the late pass are worth cleaning: one that it cleaned early would be dirtied again, and then the
-/// stop would clean it.
+/// Whether the cycle under way is far on, so that the late pass is worth it: a card cleaned earlier is dirtied
+/// again, and then the stop cleans it.
 pub fn is_far_on(heap: &Heap, seat: &mut HeapSeat) -> bool
     requires seat { Sits heap.now seat.old }
     ensures seat { Sits heap.now seat.new }
@@ -59,7 +60,7 @@ pub fn is_far_on(heap: &Heap, seat: &mut HeapSeat) -> bool
     is_late(last, traced, free)
 }
 
-/// Begins a cycle where one is due, and wakes nobody: for a caller that can't, as a C program's thread.
+/// Begins a cycle if one is due, and wakes nobody, as a thread of a C program can't.
 pub(crate) fn begin_due(heap: &Heap, seat: &mut HeapSeat) -> bool
     requires seat { Sits heap.now seat.old }
     requires active { IsTrue (state_of seat.old).active }
@@ -80,8 +81,8 @@ pub(crate) fn begin_due(heap: &Heap, seat: &mut HeapSeat) -> bool
     heap.store_phase(seat, Phase::Marking)
 }
 
-/// Begins a cycle where one is due: where the free cells are fewer than an eighth of the work of the last one. True where it began it, and false where none was
-/// due or one was under way. Tracers that rest are woken.
+/// Begins a cycle if one is due: if fewer cells are free than an eighth of the work of the last one. It wakes the
+/// tracers that rest.
 pub fn kick_off(heap: &Heap, seat: &mut HeapSeat) -> bool
     requires seat { Sits heap.now seat.old }
     requires active { IsTrue (state_of seat.old).active }

@@ -1,13 +1,14 @@
 //! What a mutator pays for its cache while a cycle is marking.
 //!
-//! It marks the roots of its own section and of one more (`others`), and traces a quota of objects, which is larger the fewer cells are free. So marking keeps pace with allocation:
-//! Barabash and others, *A parallel, incremental, mostly concurrent garbage collector for servers*, 2005. Before it traces, it passes the cards that are next
-//! early in a cycle (`early`). Where it finds no packet to trace from, and the cycle is far on, it cleans cards, which fills packets again; and at last it brings
-//! back what was deferred. A card that was cleaned may be dirtied again, and then it is left to late payments and the stop.
+//! It marks the roots of its own section and of one more (`others`), and traces a quota of objects, which is larger
+//! the fewer cells are free. So marking keeps pace with allocation: Barabash and others, *A parallel, incremental,
+//! mostly concurrent garbage collector for servers*, 2005. Early in a cycle it passes the next cards before it
+//! traces (`early`). If it finds no packet to trace from, and the cycle is far on, it cleans cards, which fills
+//! packets again; at last it brings back what was deferred. A card that is dirtied again is left to late payments
+//! and the stop.
 //!
-//! A payment is short whatever the heap's size: it traces its quota at most, and looks at 1,024 cards at most, early in a cycle or late ([`CARD_LOOKS`]). The
-//! cards that are left are those of the next payment, of tracers and of the stop. All steps of it are counted (`few`): a bound that is linear in the packets, the
-//! fields, the objects that were traced and the cards that were looked at.
+//! A payment is short whatever the heap's size: its steps are linear in the packets, the fields, the objects traced
+//! and the cards looked at, 1,024 at most ([`CARD_LOOKS`]).
 ghost use Rattle.std.specs.Prelude.{ℕ, ◌≡◌, ◌<◌, ◌≤◌, ◌+◌, Some, IfSome, IfNone, IsTrue, ◌-◌, ◌*◌, ◌%◌, length};
 ghost use Rattle.mark_core.specs.Cards.{block_cells, card_cells};
 ghost use Rattle.mark_core.specs.Layout.{card_count};
@@ -40,8 +41,9 @@ use gc_table::{Heap, HeapSeat};
 use mark_core::{BLOCK_CELLS, FREE, LAST, RESCANNED, TRACED};
 use tracer::{RootScan, Stopped};
 
-/// How many cards a payment looks at, at most. A look takes three steps, and most cards are clean late in a cycle: so all looks together take about as long as
-/// a whole quota. They pass over 16,384 cells, where the cache has 64; so the payments for a 256th of a heap's cells pass over all cards.
+/// How many cards a payment looks at, at most. A look takes three steps, so all looks take about as long as a whole
+/// quota, since most cards are clean late in a cycle. They pass over 16,384 cells, and the cache has 64; so the
+/// payments for a 256th of a heap's cells pass over all cards.
 const CARD_LOOKS: u32 = 1_024;
 
 /// What a payment is to do.
@@ -49,23 +51,21 @@ const CARD_LOOKS: u32 = 1_024;
 struct Owed {
     /// How many objects it traces.
     quota: u32,
-    /// How many cards it looks at, at most, where it finds nothing to trace.
+    /// How many cards it looks at, at most, with nothing to trace.
     looks: u32,
-    /// The first of the cards that it passes before it traces.
+    /// The first card that it passes before it traces.
     from: u32,
-    /// The end of these cards.
     end: u32,
-    /// Which section's roots it scans besides its own, among all again and again.
+    /// Whose roots it scans too: a section's number, modulo how many there are.
     turn: u32,
 }
 
-/// What the mutator pays for a cache of `cells` free cells, at most 64, if it has read last that a cycle is marking: it marks its roots and traces its quota
-/// of objects, as [`quota_of`] has it of the numbers read now. Before it traces, it scans the roots of the section whose turn it is by these numbers, and passes the
-/// cards that are next, early in a cycle. How many objects it traced is told to the others once.
+/// What the mutator pays for a cache of `cells` free cells, at most 64, if it has read last that a cycle is
+/// marking, by the numbers read now. It tells the others once how many objects it traced.
 ///
-/// In the answer, `stopped` is Quota exactly where it traced its quota. NoWork comes only where, after its roots were read, no packet to read from was found
-/// while nothing was left in hand, and NoPacket only where none with room was found. Where no packet could be taken at all, neither roots nor objects were
-/// marked.
+/// `stopped` is Quota exactly if it traced its quota. NoWork means that, after its roots were read, no packet to
+/// read from was found while nothing was left in hand, NoPacket that none with room was found. If no packet could
+/// be taken at all, nothing was marked.
 pub(crate) fn pay(heap: &Heap, seat: &mut HeapSeat, cells: u32) -> Paid
     requires seat { Sits heap.now seat.old × Mutates (view_of seat.old) }
     requires marking { (state_of seat.old).phase_seen ≡ Some Marking }
@@ -83,14 +83,12 @@ pub(crate) fn pay(heap: &Heap, seat: &mut HeapSeat, cells: u32) -> Paid
     paid
 }
 
-/// How many cards are worth a look, by whether the cycle is far on.
 fn looks_of(late: bool) -> u32
     ensures { result ≡ looks_by (Some late) }
 {
     if late { CARD_LOOKS } else { 0 }
 }
 
-/// What is owed for a cache of `cells` free cells, by the numbers as they are now.
 fn owed_now(heap: &Heap, seat: &mut HeapSeat, cells: u32) -> Owed
     requires seat { Sits heap.now seat.old }
     requires cells { cells ≤ block_cells }
@@ -122,7 +120,7 @@ fn owed_now(heap: &Heap, seat: &mut HeapSeat, cells: u32) -> Owed
     }
 }
 
-/// Marks the roots of the seat's section and of another one, passes the cards that are next early in a cycle, and traces a quota. Where no packet can be taken, nothing is done.
+/// Marks and traces what is owed, or does nothing if no packet can be taken.
 fn mark_and_trace(heap: &Heap, seat: &mut HeapSeat, owed: Owed) -> Paid
     requires seat { Sits heap.now seat.old × Mutates (view_of seat.old) }
     requires marking { (state_of seat.old).phase_seen ≡ Some Marking }
@@ -149,7 +147,6 @@ fn mark_and_trace(heap: &Heap, seat: &mut HeapSeat, owed: Owed) -> Paid
     }
 }
 
-/// Why nothing was traced, where no packet could be taken.
 fn stopped_at(quota: u32) -> Stopped
     ensures { result ≡ stop_of quota }
 {
@@ -160,7 +157,7 @@ fn stopped_at(quota: u32) -> Stopped
     }
 }
 
-/// Traces a quota. Where there is no packet to trace from in the end, what was deferred is brought back.
+/// Traces a quota, and brings back what was deferred if no packet is left.
 fn pay_quota(heap: &Heap, seat: &mut HeapSeat, quota: u32, looks: u32) -> Paid
     requires seat { Sits heap.now seat.old × Mutates (view_of seat.old) }
     requires marking { (state_of seat.old).phase_seen ≡ Some Marking }
@@ -176,7 +173,8 @@ fn pay_quota(heap: &Heap, seat: &mut HeapSeat, quota: u32, looks: u32) -> Paid
     paid
 }
 
-/// Traces a quota. While there is no packet to trace from, it looks at cards of the pass, so many at most, and cleans those that are dirty.
+/// Traces a quota. While there is nothing to trace it cleans the dirty ones of the next cards of the pass, `looks`
+/// at most.
 fn trace_and_clean(heap: &Heap, seat: &mut HeapSeat, quota: u32, looks: u32) -> Paid
     requires seat { Sits heap.now seat.old × Mutates (view_of seat.old) }
     requires marking { (state_of seat.old).phase_seen ≡ Some Marking }
@@ -203,8 +201,8 @@ fn trace_and_clean(heap: &Heap, seat: &mut HeapSeat, quota: u32, looks: u32) -> 
     paid
 }
 
-/// Looks at the next card of the pass. Where it is dirty, cleans it and traces on, after what was paid before. None where no card is left, or no packet to clean
-/// it with.
+/// Looks at the next card of the pass; if it is dirty, cleans it and traces on. None if no card is left, or no
+/// packet.
 fn look_at_next(heap: &Heap, seat: &mut HeapSeat, before: Paid) -> Option<Paid>
     requires seat { Sits heap.now seat.old × Mutates (view_of seat.old) }
     requires marking { (state_of seat.old).phase_seen ≡ Some Marking }
@@ -223,7 +221,6 @@ fn look_at_next(heap: &Heap, seat: &mut HeapSeat, before: Paid) -> Option<Paid>
     Some(before)
 }
 
-/// Whether a card is dirty: one look, and no packet.
 fn is_dirty(heap: &Heap, seat: &mut HeapSeat, card: u32) -> bool
     requires seat { Sits heap.now seat.old × Mutates (view_of seat.old) }
     requires card { card < card_count heap.now.shape }
@@ -235,7 +232,7 @@ fn is_dirty(heap: &Heap, seat: &mut HeapSeat, card: u32) -> bool
     heap.read_card(seat, card)
 }
 
-/// Cleans a card and traces on, after what was paid before. None where there is no packet to clean it with.
+/// Cleans a card and traces on. None if there is no packet.
 fn clean_and_trace(heap: &Heap, seat: &mut HeapSeat, card: u32, before: Paid) -> Option<Paid>
     requires seat { Sits heap.now seat.old × Mutates (view_of seat.old) }
     requires marking { (state_of seat.old).phase_seen ≡ Some Marking }

@@ -1,7 +1,8 @@
-//! A refill in pieces, for a mutator that must not take long: each piece looks at so many blocks only, and pays at most for one cache.
+//! A refill in pieces, for a mutator that must not take long: each piece looks at a few blocks only, and pays for
+//! one cache at most.
 //!
-//! The caller keeps the block from which to go on. Where no block has a free cell it takes several pieces to see that: each says which blocks it saw so, and
-//! `SeenBelow` puts together what those since block 0 saw. Once that is each block, a collection is called for (`may_collect`).
+//! Each piece says which blocks it saw without a free cell, and `SeenBelow` puts together those since block 0. Once
+//! that is each block, a collection is called for (`may_collect`).
 ghost use Rattle.std.specs.Prelude.{◌≡◌, ◌≤◌, None, Some, IfNone, IfSome, IsTrue, ◌+◌, ◌*◌, length};
 ghost use Rattle.mark_core.specs.Layout.{block_count};
 ghost use Rattle.gc_table.specs.Log.{events};
@@ -31,15 +32,14 @@ pub enum Piece {
     Cache(Cache, Paid),
     /// None of the blocks that it looked at had a free cell. The search goes on from this one.
     Next(u32),
-    /// None from the first that it looked at to the last had a free cell. For a caller whose search began at block 0, a collection is called for.
+    /// None up to the last block had a free cell. If the search began at block 0, a collection is called for.
     Ended,
-    /// The cycle under way is done with marking: a collection is called for.
+    /// Marking is done: a collection is called for.
     MarkingDone,
     /// Every cell is reachable.
     Full,
 }
 
-/// The piece that came to this answer of a refill.
 fn piece_of(refill: Refill) -> Piece
     ensures { refill_of result ≡ Some refill }
 {
@@ -49,7 +49,6 @@ fn piece_of(refill: Refill) -> Piece
     }
 }
 
-/// A cache of one of these blocks, and what is paid for it.
 fn search_some(heap: &Heap, seat: &mut HeapSeat, done: u32, from: u32, most: u32) -> Piece
     requires seat { Sits heap.now seat.old × Mutates (view_of seat.old) }
     requires cache { (state_of seat.old).cache ≡ None }
@@ -73,12 +72,13 @@ fn search_some(heap: &Heap, seat: &mut HeapSeat, done: u32, from: u32, most: u32
     }
 }
 
-/// A piece of what [`try_refill`](crate::try_refill) does: it looks at `most` blocks at most, from block `from` on, and takes three steps for each, and ten
-/// more. For a cache it pays besides, while a cycle is marking: it traces 1,024 objects at most, draws 1,024 cards of the pass at most, and `longest` bounds all
-/// its steps, with those of the cards that are passed early.
+/// A piece of [`try_refill`](crate::try_refill): it looks at `most` blocks at most, from block `from` on, with
+/// three steps for each and ten more. For a cache it also pays while a cycle is marking; `longest` bounds all its
+/// steps.
 ///
-/// Next says from which block the next piece goes on, and Ended that there are no more. A search begins at block 0 where it is to be one of all blocks, and
-/// anew where the mutator came in again or got a cache: then `calls` says of its last piece that a collection is called for.
+/// Next says from which block the next piece goes on, Ended that there are no more. A search begins at block 0, and
+/// anew if the mutator came in again or got a cache: then `calls` says of its last piece that a collection is
+/// called for.
 pub fn try_refill_some(heap: &Heap, seat: &mut HeapSeat, done: u32, from: u32, most: u32) -> Piece
     requires seat { Sits heap.now seat.old × Mutates (view_of seat.old) }
     requires cache { (state_of seat.old).cache ≡ None }

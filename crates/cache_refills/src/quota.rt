@@ -4,10 +4,11 @@ ghost use Rattle.std.specs.Prelude.{◌≡◌, ◌≤◌};
 ghost use Rattle.mark_core.specs.Cards.{block_cells};
 ghost use Rattle.cache_refills.specs.Pace.Quota.{quota};
 
-/// How many objects a mutator traces for a cache of `cells` free cells, at most 64: the cache's share of the objects that are left to trace. These are the
-/// cells marked last (`last`) and the objects scanned again last (`rescanned`), less those traced in this cycle (`traced`), and a sixteenth of `last` at
-/// least, since new objects are left to trace where the old ones are done; they are shared among the `free` free cells. It is rounded up, and at most sixteen
-/// objects for each cell of the cache, which are 1,024. So marking keeps pace with allocation, as in Ossia and others, 2002, and Barabash and others, 2005.
+/// How many objects a mutator traces for a cache of `cells` free cells, at most 64: the cache's share of what is
+/// left to trace. That is `last` cells marked and `rescanned` objects scanned again in the last cycle, less
+/// `traced` in this one, but at least a sixteenth of `last`, since new objects are left when the old ones are done.
+/// It is shared among the `free` free cells and rounded up, to at most sixteen objects for each cell of the cache.
+/// So marking keeps pace with allocation, as in Ossia and others, 2002, and Barabash and others, 2005.
 pub fn quota_of(cells: u32, last: u32, rescanned: u32, traced: u32, free: u32) -> u32
     requires cells { cells ≤ block_cells }
     requires last { last ≤ 16777216 }

@@ -39,7 +39,6 @@ use std::sync::Wait;
 use stop_world::resume;
 use tracer::Stopped;
 
-/// What is paid where nothing was owed.
 pub(crate) fn nothing_paid() -> Paid
     ensures { IsFree result }
 {
@@ -50,11 +49,12 @@ pub(crate) fn nothing_paid() -> Paid
     }
 }
 
-/// A cache for a mutator without one, that has done `done` commands. While a cycle is marking, the mutator pays for it: it marks its roots, and traces
-/// a quota of objects.
+/// A cache for a mutator without one, that has done `done` commands. While a cycle is marking it pays for it
+/// ([`quota_of`](crate::quota_of)).
 ///
-/// The world is stopped only where no block has a free cell, or marking is done, and once more only where a collection left a cell free. Full comes only
-/// where the phase says so; this call says it only after a precise collection in its own stop that left no cell free.
+/// The world is stopped only if no block has a free cell, or marking is done, and once more only if a collection
+/// left a cell free. Full comes only if the phase says so; this call says it only after a precise collection in its
+/// own stop that left no cell free.
 pub fn refill<R: Wait>(rt: &R, heap: &Heap, seat: &mut HeapSeat, done: u32) -> Refill
     requires seat { Sits heap.now seat.old × Mutates (view_of seat.old) }
     requires cache { (state_of seat.old).cache ≡ None }
@@ -67,7 +67,7 @@ pub fn refill<R: Wait>(rt: &R, heap: &Heap, seat: &mut HeapSeat, done: u32) -> R
     refill_watched(rt, heap, seat, done, &mut Unwatched)
 }
 
-/// A cache as [`refill`] gives it, and `watch` is told of each stop that the call makes.
+/// [`refill`], and `watch` is told of each stop that the call makes.
 pub fn refill_watched<R: Wait, W: Watch>(
     rt: &R,
     heap: &Heap,
@@ -91,7 +91,7 @@ pub fn refill_watched<R: Wait, W: Watch>(
     unreachable!()
 }
 
-/// One round, which ends without an answer where another seat's stop came first.
+/// One round; None if another seat's stop came first.
 fn refill_once<R: Wait, W: Watch>(
     rt: &R,
     heap: &Heap,
@@ -119,9 +119,10 @@ fn refill_once<R: Wait, W: Watch>(
     claim_or_stop(rt, heap, seat, done, watch)
 }
 
-/// Begins a cycle, where the phase was read as Idle and one is due, and wakes the tracers that rest. Whether the cycle under way is done with marking.
+/// Begins a cycle, if the phase was read as Idle and one is due, and wakes the tracers that rest. The answer:
+/// whether marking is done.
 ///
-/// `begins_or_ends` in `trying` does the same and wakes none: a static library calls that one, since it may not link what wakes a thread.
+/// `begins_or_ends` in `trying` wakes none, and says why it is another.
 fn sees_to_cycle(heap: &Heap, seat: &mut HeapSeat) -> bool
     requires seat { Sits heap.now seat.old × Mutates (view_of seat.old) }
     requires marking { (state_of seat.old).phase_seen ≡ Some Marking → Known (view_of seat.old) the_phase (phase_number Marking) }
@@ -141,7 +142,6 @@ fn sees_to_cycle(heap: &Heap, seat: &mut HeapSeat) -> bool
     false
 }
 
-/// Whether the seat has read the phase last as Marking.
 pub(crate) fn has_seen_marking(seat: &HeapSeat) -> bool
     ensures seen { OnTrue result ((state_of seat.now).phase_seen ≡ Some Marking) }
 {
@@ -151,7 +151,7 @@ pub(crate) fn has_seen_marking(seat: &HeapSeat) -> bool
     }
 }
 
-/// A cache where a block can be claimed, and what is paid for it. Where none can, the mutator stops the world.
+/// Claims a block and pays for the cache, or stops the world if none can be claimed.
 fn claim_or_stop<R: Wait, W: Watch>(
     rt: &R,
     heap: &Heap,
@@ -180,14 +180,14 @@ fn claim_or_stop<R: Wait, W: Watch>(
     }
 }
 
-/// Tells what was paid for a cache.
 fn tell_paid<W: Watch>(refill: &Refill, watch: &mut W) {
     if let Refill::Cache(_, paid) = refill {
         watch.pays(*paid);
     }
 }
 
-/// Whether the pass over the cards has ended and all packets are empty. Then marking is done, but for what mutators still do.
+/// Whether marking is done, except for what mutators still do: the pass over the cards has ended and all packets
+/// are empty.
 pub(crate) fn marking_is_done(heap: &Heap, seat: &mut HeapSeat) -> bool
     requires seat { Sits heap.now seat.old × Mutates (view_of seat.old) }
     ensures seat { Sits heap.now seat.new × Mutates (view_of seat.new) }
@@ -204,7 +204,7 @@ pub(crate) fn marking_is_done(heap: &Heap, seat: &mut HeapSeat) -> bool
     all_empty(heap, seat)
 }
 
-/// What is paid for a cache, by the phase after its claim. Where the heap is full by then, the cache is given up.
+/// Pays for a cache, or gives it up if the heap is full.
 pub(crate) fn pay_for(heap: &Heap, seat: &mut HeapSeat, cache: Cache, done: u32) -> Refill
     requires seat { Sits heap.now seat.old × Mutates (view_of seat.old) }
     requires cache { IsCached cache (view_of seat.old) }
@@ -232,7 +232,7 @@ pub(crate) fn pay_for(heap: &Heap, seat: &mut HeapSeat, cache: Cache, done: u32)
     }
 }
 
-/// A round in a stop of its own. Where another seat's flag is up it waits, and has no answer.
+/// A round in a stop of its own. If another seat's flag is up it waits, and has no answer.
 pub(crate) fn refill_in_stop<R: Wait, W: Watch>(
     rt: &R,
     heap: &Heap,

@@ -1,5 +1,5 @@
-//! Safe points, entries and caches for a mutator that must not wait, since its caller (in C, say) has no runtime to wait with: where another seat's
-//! stop is under way it is told so, and comes again. Where a collection is called for it is told so as well, and makes it in steps
+//! Safe points, entries and caches for a mutator whose caller (in C, say) has no runtime to wait with. If another
+//! seat's stop is under way it is told so, and comes again. If a collection is called for it makes it in steps
 //! (`cycle_steps`).
 ghost use Rattle.std.specs.Bool.{OnFalse, OnTrue};
 ghost use Rattle.std.specs.Prelude.{◌≡◌, ◌≤◌, ◌+◌, ◌*◌, [], length, None, Some, IfNone, IfSome, IsFalse, IsTrue, is_some};
@@ -46,8 +46,9 @@ pub enum Pass {
     Full,
 }
 
-/// A safe point that doesn't wait, of a mutator that has done `done` commands. Out comes exactly where a stop was found under way: the mutator has given up
-/// its cache and left, and comes in by [`try_enter`]. Full comes exactly where none was, and it read that the heap is full: then it has no cache.
+/// A safe point that doesn't wait, of a mutator that has done `done` commands. Out: a stop was under way, and the
+/// mutator has given up its cache and left; it comes in by [`try_enter`]. Full: it read that the heap is full, and
+/// has no cache.
 pub fn try_safe_point(
     heap: &Heap,
     seat: &mut HeapSeat,
@@ -75,8 +76,8 @@ pub fn try_safe_point(
     Pass::Full
 }
 
-/// Enters the world where no stop is under way, as one step finds it, and reads the phase. Out comes exactly where a stop was: the seat is outside still, and
-/// comes again. Full comes exactly where it entered and read that the heap is full.
+/// Enters the world if one step finds no stop under way, and reads the phase. Out: there was one, and the seat is
+/// still outside. Full: it entered and read that the heap is full.
 pub fn try_enter(heap: &Heap, seat: &mut HeapSeat) -> Pass
     requires seat { Sits heap.now seat.old × IsOut (view_of seat.old) }
     requires section { IsTrue (is_some (state_of seat.old).section) }
@@ -97,11 +98,11 @@ pub fn try_enter(heap: &Heap, seat: &mut HeapSeat) -> Pass
     Pass::Going
 }
 
-/// Begins a cycle, where the phase was read as Idle and one is due, and wakes no tracer: one that rests looks again after a while. Whether the cycle under way
-/// is done with marking.
+/// Begins a cycle, if the phase was read as Idle and one is due. It wakes no tracer: one that rests looks again
+/// after a while. The answer: whether marking is done.
 ///
-/// `sees_to_cycle` in `refilling` does the same and wakes the tracers. These stay two: a static library may not link what wakes a thread, so what it calls
-/// can't reach that one, also not behind a test.
+/// `sees_to_cycle` in `refilling` also wakes the tracers. These stay two: a static library may not link what wakes
+/// a thread, so what it calls can't reach that one, not even behind a test.
 pub(crate) fn begins_or_ends(heap: &Heap, seat: &mut HeapSeat) -> bool
     requires seat { Sits heap.now seat.old × Mutates (view_of seat.old) }
     requires marking { (state_of seat.old).phase_seen ≡ Some Marking → Known (view_of seat.old) the_phase (phase_number Marking) }
@@ -123,12 +124,10 @@ pub(crate) fn begins_or_ends(heap: &Heap, seat: &mut HeapSeat) -> bool
     false
 }
 
-/// A cache for a mutator without one, as [`refill`](crate::refill) gives it: a cycle is begun where one is due, and while one is marking the mutator pays for
-/// the cache. Where no block has a free cell, or marking is done, the answer is none, and nothing was traced: a collection is called for, which the caller makes in
-/// steps.
+/// [`refill`](crate::refill) without waiting. None means that no block has a free cell or marking is done, and
+/// nothing was traced: the caller collects in steps.
 ///
-/// It takes three steps for each block, and five more; where it gets a cache six more, and those of a payment: 1,024 objects are traced and as many cards looked
-/// at, at most, while a cycle is marking.
+/// It takes three steps for each block, and five more; with a cache six more, and those of a payment.
 pub fn try_refill(heap: &Heap, seat: &mut HeapSeat, done: u32) -> Option<Refill>
     requires seat { Sits heap.now seat.old × Mutates (view_of seat.old) }
     requires cache { (state_of seat.old).cache ≡ None }
@@ -153,7 +152,6 @@ pub fn try_refill(heap: &Heap, seat: &mut HeapSeat, done: u32) -> Option<Refill>
     try_claim(heap, seat, done)
 }
 
-/// A cache where a block can be claimed, and what is paid for it.
 fn try_claim(heap: &Heap, seat: &mut HeapSeat, done: u32) -> Option<Refill>
     requires seat { Sits heap.now seat.old × Mutates (view_of seat.old) }
     requires cache { (state_of seat.old).cache ≡ None }

@@ -1,26 +1,27 @@
-//! A caller may be told when its stops begin and end, and what was done in them and beside them.
+//! A caller may be told of its stops.
 
 use gc_cycle::{Counts, Paid};
 
-/// What is told of a call that gets a cache, so that it may read a clock at a stop's two ends. No clause speaks of it, and it has no part in the heap.
+/// Is told of a call that gets a cache, so that it may read a clock at a stop's two ends. No clause speaks of it.
 pub trait Watch {
-    /// While a cycle was marking, the mutator has paid for its cache.
+    /// The mutator has paid for its cache, while a cycle was marking.
     fn pays(&mut self, paid: Paid);
 
-    /// The seat asks for a stop. Where another seat's stop came first, it is told so again before it asks once more.
+    /// The seat asks for a stop. It is told again before the seat asks once more, if another seat's stop came
+    /// first.
     fn asks(&mut self);
 
-    /// In the stop an ordinary cycle has ended: what it found.
+    /// An ordinary cycle has ended in the stop: what it found.
     fn finishes(&mut self, counts: Counts);
 
-    /// In the stop a precise collection has ended.
+    /// A precise collection has ended in the stop.
     fn collects(&mut self, counts: Counts);
 
     /// The world goes on.
     fn resumes(&mut self);
 }
 
-/// Nothing is told, and nothing is done for it.
+/// Nothing is told.
 #[derive(Clone, Copy, Debug, PartialEq, Eq, Drop)]
 pub struct Unwatched;
 

@@ -1,4 +1,4 @@
--- The end of a drain: the counter of blocks is set to 0 before it, and where nothing is left the seat may go on to the sweep, or to the clearing of marks.
+-- The end of a drain: the counter of blocks is set to 0 before it, and if nothing is left, the seat may go on to the sweep, or to the clearing of marks.
 use Rattle.std.proofs.Common.{ℕ, suc, ◌≡◌, ◌<◌, ◌+◌, ◌-◌, ◌/◌, ◌%◌, List, [], ◌∷◌, length, get_or, arith, refl, sym, ap, ◌∙◌, subst, Bool, true, not, Some, eq-eqb, ⊎_elim}
 use Rattle.std.specs.Prelude.{◌==◌}
 use Rattle.std.specs.List.{list_all}

@@ -35,7 +35,7 @@ or-mono false false false d h e = e
 abbrev pub aside : SeatState → SeatState
 aside s = record s { below_card = false; below_block = false }
 
--- a seat that traces still does, where it keeps what it knows of the phase
+-- a seat that traces still does, if it keeps what it knows of the phase
 pub still-traces : (v w : View) → aside w.state ≡ aside v.state → (v.state.knows ≡ true → look the_phase v.known ≡ Some 2 → look the_phase w.known ≡ Some 2) → Traces v → Traces w
 still-traces v w e kept t =
     record {

@@ -15,7 +15,7 @@ use Rattle.card_clean.specs.Drained.{IsBeforeSweep, IsNotedRoot, IsRooted}
 use Rattle.card_clean.specs.Passing.{draws_card}
 use Rattle.card_clean.proofs.Staying.{ready-by, root-by, rooted-by}
 
--- the pass writes its counter alone
+-- the pass writes only its counter
 spares-drawn : (at : ℕ × ℕ) → same_place the_next_card at ≡ false → Spares draws_card at
 spares-drawn at apart sh s NextOfCards p = inl apart
 spares-drawn at apart sh s (ReadStat which) p = inr refl

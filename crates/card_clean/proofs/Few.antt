@@ -27,7 +27,7 @@ pass-few first card m n sh u v w l a b p q =
     let sum = sum-cells m n (scan_steps sh.fields sh) in
     omega (arith, all, sum, l)
 
--- so many cards are left of a stretch
+-- this many cards are left of a stretch
 pub stretch-few : (first cards n : ℕ) → min (first + n) cards - first ≤ min n cards
 stretch-few first cards n =
     let a = min-le_left (first + n) cards in

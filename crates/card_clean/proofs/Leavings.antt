@@ -137,7 +137,7 @@ pub scan-left : (o : Option Cleaning) (c : ℕ) → may_scan o c ≡ true → le
 scan-left None c e = e
 scan-left (Some x) c e = (and_parts (in_set (block_of_card x.card) x.left c) (in_set (block_of_card x.card) x.published c) e).0
 
--- where no field is read nothing is scanned again
+-- if no field is read, nothing is scanned again
 unread-step : (s : SeatState) (step : Step) (found : ℕ) (xs : List (ℕ × ℕ)) → fields_read step found ++ xs ≡ [] → (rescans s step found ≡ 0) × (xs ≡ [])
 unread-step s (ReadField c i) found xs e = absurd (no_first (c, i) xs e)
 unread-step s step found xs e = (refl, e)

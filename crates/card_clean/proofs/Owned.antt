@@ -40,7 +40,7 @@ variable-there x i v u alone st a live turn below =
     subst (λ (m : Meaning). WordAgrees (words_of x.core.shape x.core.words).identities (object_count (meanings_of x.sections)) i (word_in v.state u) (variable m.heap u)) n.meaning
     (env-agrees x.core i v.state ReadCount (meanings_of x.sections) u k (st.stands (subst (λ (sh : Shape). IsFalse sh.sharing) a.shape alone)) n.mutates below)
 
--- the variable's word names a cell of the own section, where the variable holds an own object
+-- the variable's word names a cell of the own section, if the variable holds an own object
 own-there : (x : TableState) (i : ℕ) (v : View) (u : ℕ) → IsFalse v.shape.sharing → IsState x → Agrees x i v → IsFalse v.state.spent → may_mutate v.state ≡ true → HasOwn v u → may_change x.core.shape (words_of x.core.shape x.core.words).identities v.state u ≡ true
 own-there x i v u alone st a live turn own =
     let ids : List ℕ = (words_of x.core.shape x.core.words).identities in
@@ -71,7 +71,7 @@ may-dirty_owed v card turn owes x k st a =
     let card_there : card < card_count x.core.shape = subst (λ (o : Option ℕ). IfSome o (λ (n : ℕ). n < card_count x.core.shape)) owes formed.owes in
     (and_from _ _ (lt-ltb card (card_count x.core.shape) card_there) (or_left (v.state.active || v.state.knows) v.state.admitted (or_left v.state.active v.state.knows (and_parts v.state.active _ turn).0)), tt)
 
--- where objects are shared, a variable that isn't nil names one that may be changed
+-- if objects are shared, a variable that isn't nil names one that may be changed
 share-there : (x : TableState) (i : ℕ) (v : View) (u : ℕ) → IsTrue v.shape.sharing → Agrees x i v → 0 < word_in v.state u → may_change x.core.shape (words_of x.core.shape x.core.words).identities v.state u ≡ true
 share-there x i v u shared a some = and_from _ _ (ap not (ne_eqb (word_in v.state u) 0 (λ e. omega (arith, e, some)))) (or_left x.core.shape.sharing _ (subst (λ (sh : Shape). IsTrue sh.sharing) a.shape shared))
 
@@ -84,7 +84,7 @@ may-share_field v u i w shared m below some field stored x k st a = (
 pub may-share_value : (v : View) (u n : ℕ) → IsTrue v.shape.sharing → MayStore v → u < section_variables → 0 < word_in v.state u → May (StoreValue u n) v
 may-share_value v u n shared m below some x k st a = (and_from _ _ (lt-ltb u section_variables below) m.turn, (share-there x k v u shared a some, (ap is_none m.owes, tt)))
 
--- where objects are shared, a variable that isn't nil names one that may be exchanged
+-- if objects are shared, a variable that isn't nil names one that may be exchanged
 exchange-there : (x : TableState) (i : ℕ) (v : View) (u : ℕ) → IsTrue v.shape.sharing → Agrees x i v → 0 < word_in v.state u → (not (eqb (word_in v.state u) 0) && x.core.shape.sharing) ≡ true
 exchange-there x i v u shared a some = and_from _ _ (ap not (ne_eqb (word_in v.state u) 0 (λ e. omega (arith, e, some)))) (subst (λ (sh : Shape). IsTrue sh.sharing) a.shape shared)
 

@@ -21,7 +21,7 @@ scan-step sh (ReadRoot section v) n e = absurd (false≢true e)
 scan-step sh (LoadSlot section k) n e = absurd (false≢true e)
 scan-step sh step n e = refl
 
--- no root is read where a cell is marked
+-- no root is read when a cell is marked
 pub scans-none : (sh : Shape) (es : List Entry) → only_scans es ≡ true → picked (roots_read sh) es ≡ []
 scans-none sh [] o = refl
 scans-none sh (e ∷ es) o =
@@ -35,7 +35,7 @@ move-step sh (ReadRoot section v) n e = absurd (false≢true e)
 move-step sh (LoadSlot section k) n e = absurd (false≢true e)
 move-step sh step n e = refl
 
--- nor where packets are moved
+-- nor when packets are moved
 pub moves-none : (sh : Shape) (es : List Entry) → only_moves output_pools es ≡ true → picked (roots_read sh) es ≡ []
 moves-none sh [] o = refl
 moves-none sh (e ∷ es) o =

@@ -40,7 +40,7 @@ pub record FoundClean (card : ℕ) (r : Cleaned) (es : List Entry) : Type 0 wher
   pub result : r ≡ record { rescanned = 0; redirtied = false }
   pub events_are : es ≡ event (ClearCard card) 0 ∷ []
 
--- a card that was found dirty: its marked published cells were scanned again, and then it was dirtied where it has a marked cell that isn't published, or where
+-- a card that was found dirty: its marked published cells were scanned again, and then it was dirtied if it has a marked cell that isn't published, or if
 -- a cell found no packet
 pub record RescansCard (sh : Shape) (card : ℕ) (r : Cleaned) (es : List Entry) : Type 0 where
   pub marks : ℕ

@@ -16,22 +16,22 @@ pub record CleanedWhereDirty (sh : Shape) (card n : ℕ) (es : List Entry) : Typ
   pub cleaning : List Entry
   pub told : ((n ≡ 0) × (es ≡ event (ReadCard card) 0 ∷ []) × (cleaning ≡ [])) ⊎ ((r : Cleaned) × (n ≡ r.rescanned) × (es ≡ event (ReadCard card) 1 ∷ cleaning) × Cleans sh card r cleaning)
 
--- so many cards from this one on were each seen clean, or seen dirty and cleaned, in order; in all, n cells were scanned again
+-- this many cards from this one on were each seen clean, or seen dirty and cleaned, in order; in all, n cells were scanned again
 abbrev pub CleanedFrom : Shape → ℕ → ℕ → ℕ → List Entry → Type 0
 CleanedFrom sh from zero n es = (n ≡ 0) × (es ≡ [])
 CleanedFrom sh from (suc k) n es = (a b : ℕ) × (xs ys : List Entry) × (es ≡ xs ++ ys) × (n ≡ a + b) × CleanedFrom sh from k a xs × CleanedWhereDirty sh (from + k) b ys
 
--- every card was seen clean; or one was seen dirty, and then no packet was found, or each card from it on was cleaned where it was dirty
+-- every card was seen clean; or one was seen dirty, and then no packet was found, or each card from it on was cleaned if it was dirty
 abbrev pub CleansDirty : Shape → ℕ → List Entry → Type 0
 CleansDirty sh n es =
     ((n ≡ 0) × (es ≡ looks_clean 0 (card_count sh)))
     ⊎ ((card : ℕ) × (card < card_count sh) × (rest : List Entry) × (es ≡ looks_dirty 0 card ++ rest) × (((n ≡ 0) × NoPacket sh rest × IsTrue (only_moves output_pools rest)) ⊎ CleansWithPacket (CleanedFrom sh card (card_count sh - card) n) rest))
 
--- so many cards are passed with one packet
+-- this many cards are passed with one packet
 abbrev pub stretch_cards : ℕ
 stretch_cards = 4096
 
--- so many stretches have all cards of a heap
+-- this many stretches have all cards of a heap
 abbrev pub stretch_count : Shape → ℕ
 stretch_count sh = (card_count sh + (stretch_cards - 1)) / stretch_cards
 
@@ -41,7 +41,7 @@ CleansStretch sh s n es =
     ((n ≡ 0) × NoPacket sh es × IsTrue (only_moves output_pools es))
     ⊎ CleansWithPacket (CleanedFrom sh (s * stretch_cards) (min (s * stretch_cards + stretch_cards) (card_count sh) - s * stretch_cards) n) es
 
--- so many stretches from this one on, and round where the cards end, were passed in order; in all, n cells were scanned again
+-- this many stretches from this one on, and round where the cards end, were passed in order; in all, n cells were scanned again
 abbrev pub CleansStretches : Shape → ℕ → ℕ → ℕ → List Entry → Type 0
 CleansStretches sh first zero n es = (n ≡ 0) × (es ≡ [])
 CleansStretches sh first (suc k) n es =

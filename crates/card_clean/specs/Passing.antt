@@ -28,7 +28,7 @@ pub record Draws (n : ℕ) (v w : View) : Type 0 where
   pub view : w ≡ after NextOfCards n (after (ReadStat card_counter) seen v)
   pub events_are : events v w ≡ event (ReadStat card_counter) seen ∷ event NextOfCards n ∷ []
 
--- the next card, or none where the counter was seen to have reached the number of cards
+-- the next card, or none if the counter was seen to have reached the number of cards
 abbrev pub DrawsCard : Option ℕ → View → View → Type 0
 DrawsCard r v w = (PassIsOver v w × (r ≡ None)) ⊎ ((n : ℕ) × Draws n v w × (r ≡ (if nat_lt n (card_count v.shape) then Some n else None)))
 

@@ -5,7 +5,7 @@ use Rattle.mark_core.specs.declared.kinds.Shape.{Shape}
 use Rattle.packet_pools.specs.StepBounds.{any_steps, follow_steps, give_steps, output_steps, scan_steps}
 use Rattle.card_clean.specs.DirtyCards.{stretch_cards, stretch_count}
 
--- so many cells are scanned again, with all their fields
+-- this many cells are scanned again, with all their fields
 abbrev pub rescan_steps : ℕ → Shape → ℕ
 rescan_steps cells sh = cells * scan_steps sh.fields sh
 
@@ -17,7 +17,7 @@ clean_steps cells sh = rescan_steps cells sh + 4
 abbrev pub clean_one_steps : ℕ → Shape → ℕ
 clean_one_steps cells sh = output_steps sh + clean_steps cells sh + give_steps
 
--- so many cards are looked at and cleaned, and so many cells scanned again in all
+-- this many cards are looked at and cleaned, and this many cells scanned again in all
 abbrev pub pass_steps : ℕ → ℕ → Shape → ℕ
 pass_steps cards cells sh = 5 * cards + rescan_steps cells sh
 
@@ -33,6 +33,6 @@ clean_dirty_steps cells sh = card_count sh + clean_some_steps (card_count sh) ce
 abbrev pub clean_round_steps : ℕ → Shape → ℕ
 clean_round_steps cells sh = stretch_count sh * clean_some_steps (min stretch_cards (card_count sh)) 0 sh + rescan_steps cells sh
 
--- so many roots are seen to, with a packet that is taken for it and given back
+-- this many roots are seen to, with a packet that is taken for it and given back
 abbrev pub see_to_steps : ℕ → Shape → ℕ
 see_to_steps roots sh = any_steps sh + roots * follow_steps sh + give_steps

@@ -9,13 +9,15 @@ ghost use Rattle.gc_table.specs.Running.{Ran};
 
 use gc_table::{Heap, HeapSeat};
 
-/// The barrier: field `field` of variable v's object becomes what variable w is, or nil where `w` is None, and then the object's card is dirtied. The
-/// seat owes no card when the call returns.
+/// The barrier: field `field` of variable v's object becomes what variable w is, or nil if `w` is None, and then
+/// the object's card is dirtied. The seat owes no card when the call returns.
 ///
-/// Variables are numbered from 0 to 31, and fields from 0 up to the shape's number of fields. The object is of the seat's own section; the seat is in
-/// its section's turn, has read a phase other than Full, and owes no card. None is for a heap in which some variable is nil.
+/// Variables are numbered from 0 to 31, fields from 0 up to the shape's number. The object is of the seat's own
+/// section; the seat is in its section's turn, has read a phase other than Full, and owes no card. None is for a
+/// heap in which some variable is nil.
 ///
-/// The field comes first. In the other order a white cell can be lost, c being an object that was scanned and x a white cell:
+/// The field comes first. In the other order a white cell can be lost. Let c be an object that was scanned, and x a
+/// white cell:
 ///
 /// ```text
 /// mutator                         tracer
@@ -25,10 +27,11 @@ use gc_table::{Heap, HeapSeat};
 /// stores x in the field of c
 /// ```
 ///
-/// Now the card is clean and c was read, so no tracer looks at c again, and x stays white though c refers to it. With the field first, whoever clears the
-/// card before the mutator dirtied it leaves a card that is dirty again; whoever clears it later reads x.
+/// Now the card is clean and c was read, so no tracer looks at c again, and x stays white though c refers to it.
+/// With the field first, whoever clears the card before the mutator dirtied it leaves a card that is dirty again;
+/// whoever clears it later reads x.
 ///
-/// An object that isn't published yet needs no card: nobody scans it before it is published, and then all its fields are read.
+/// An object that isn't published yet needs no card: nobody scans it before, and then all its fields are read.
 pub fn store_ref(heap: &Heap, seat: &mut HeapSeat, v: u8, field: u8, w: Option<u8>)
     requires seat { Sits heap.now seat.old × MayStore (view_of seat.old) }
     requires alone { IsFalse (view_of seat.old).shape.sharing }
@@ -48,8 +51,7 @@ pub fn store_ref(heap: &Heap, seat: &mut HeapSeat, v: u8, field: u8, w: Option<u
     }
 }
 
-/// The value of variable v's object becomes this one. No card is dirtied, since a value refers to nothing. Of the seat and of variable v it asks what
-/// [`store_ref`] asks.
+/// Sets the value of variable v's object, and dirties no card. It asks what [`store_ref`] asks.
 pub fn store_value(heap: &Heap, seat: &mut HeapSeat, v: u8, value: u32)
     requires seat { Sits heap.now seat.old × MayStore (view_of seat.old) }
     requires alone { IsFalse (view_of seat.old).shape.sharing }

@@ -10,11 +10,9 @@ ghost use Rattle.card_clean.specs.Passing.{DrawsCard, card_floor, draws_card, ke
 use gc_table::{Heap, HeapSeat};
 use mark_core::{CARD_CELLS, CARD_COUNTER};
 
-/// The next card of this cycle's pass: its number, below the number of cards. None comes where the counter was seen to have
-/// reached the number of cards. It is raised at most once, and only where it was read below its end. The seat may trace.
+/// The next card of this cycle's pass, or None if the counter was seen at its end. The seat may trace.
 ///
-/// To a seat that helps, or that stopped the world, the numbers rise: each card that it draws lies above those that it drew before. So a loop
-/// that ends with None ends.
+/// To a seat that helps, or that stopped the world, the numbers rise, so a loop that ends with None ends.
 pub fn next_card(heap: &Heap, seat: &mut HeapSeat) -> Option<u32>
     requires seat { IsTracer heap.now seat.old }
     ensures seat { IsTracer heap.now seat.new }

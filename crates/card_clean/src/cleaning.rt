@@ -22,7 +22,6 @@ use gc_table::{Heap, HeapSeat};
 use mark_core::BLOCK_CARDS;
 use packet_pools::Held;
 
-/// The cells that are left in the seat's cleaning, and whether its card must be dirtied again.
 fn what_is_left(seat: &HeapSeat) -> (u64, bool)
     ensures { (result.0 ≡ left_word (state_of seat.now).cleaning) × (result.1 ≡ owes_redirty (state_of seat.now).cleaning) }
 {
@@ -32,7 +31,8 @@ fn what_is_left(seat: &HeapSeat) -> (u64, bool)
     }
 }
 
-/// Reads the mark and the allocation bits of the card's block: which of its cells are left to scan, and whether it must be dirtied again.
+/// Reads the mark and the allocation bits of the card's block: which cells are left to scan, and whether the card
+/// must be dirtied again.
 fn read_block(heap: &Heap, seat: &mut HeapSeat, card: u32) -> (u64, bool)
     requires seat { IsTracer heap.now seat.old }
     requires card { card < card_count heap.now.shape }
@@ -48,14 +48,12 @@ fn read_block(heap: &Heap, seat: &mut HeapSeat, card: u32) -> (u64, bool)
     what_is_left(seat)
 }
 
-/// Whether a card that was cleaned must be dirtied again: the seat owes it that, or a cell found no packet.
 fn is_dirty_again(owes: bool, overflowed: u32) -> bool
     ensures { result ≡ (owes || nat_lt 0 overflowed) }
 {
     owes || overflowed > 0
 }
 
-/// Dirties the card again, where the seat owes it that, or is told to.
 fn redirty(heap: &Heap, seat: &mut HeapSeat, card: u32, redirtied: bool)
     requires seat { IsTracer heap.now seat.old }
     requires card { card < card_count heap.now.shape }
@@ -74,7 +72,6 @@ fn redirty(heap: &Heap, seat: &mut HeapSeat, card: u32, redirtied: bool)
     }
 }
 
-/// Scans what is left of a card that was just cleaned, and dirties it again where it must be.
 fn rescan_card(heap: &Heap, seat: &mut HeapSeat, card: u32, out: &mut Held) -> Cleaned
     requires seat { IsTracer heap.now seat.old }
     requires card { card < card_count heap.now.shape }
@@ -102,11 +99,12 @@ fn rescan_card(heap: &Heap, seat: &mut HeapSeat, card: u32, out: &mut Held) -> C
     }
 }
 
-/// Cleans a card: where it is dirty it is cleared, and then its marked published cells are scanned again, into packet `out`. Where it has a marked cell
-/// that isn't published yet, or where a cell found no packet with room, it is dirtied again. On a clean card nothing is done. Nothing is in hand when
-/// the call returns.
+/// Cleans a card: if it is dirty it is cleared, and then its marked published cells are scanned again, into packet
+/// `out`. If it has a marked cell that isn't published yet, or a cell found no packet with room, it is dirtied
+/// again. Nothing is in hand when the call returns.
 ///
-/// The card is cleared first. In the other order a white cell can be lost, c being an object on the card and x a white cell:
+/// The card is cleared first. In the other order a white cell can be lost. Let c be an object on the card, and x a
+/// white cell:
 ///
 /// ```text
 /// tracer                          mutator
@@ -116,11 +114,11 @@ fn rescan_card(heap: &Heap, seat: &mut HeapSeat, card: u32, out: &mut Held) -> C
 /// clears the card of c
 /// ```
 ///
-/// Now the card is clean and c was read, and nothing leads a tracer to x. With the clearing first, a mutator that stores after c was read here dirties
-/// the card after it was cleared, so it is dirty when this call returns.
+/// Now the card is clean and c was read, and nothing leads a tracer to x. With the clearing first, a mutator that
+/// stores after c was read dirties the card after it was cleared, so it is dirty when this call returns.
 ///
-/// The card is below the number of cards. The seat may trace, has no work in hand, and holds at most three packets, `out` among them;
-/// `out` may be exchanged for another packet as [`scan_cell`](packet_pools::scan_cell) says.
+/// The seat may trace, has no work in hand, and holds at most three packets, `out` among them, which may be
+/// exchanged as [`scan_cell`](packet_pools::scan_cell) says.
 pub fn clean_card(heap: &Heap, seat: &mut HeapSeat, card: u32, out: &mut Held) -> Cleaned
     requires seat { IsTracer heap.now seat.old }
     requires card { card < card_count heap.now.shape }

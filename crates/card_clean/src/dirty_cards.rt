@@ -1,4 +1,7 @@
-//! A look at every card, and a pass over all cards that cleans the dirty ones.
+//! Looks at cards, and passes over them that clean the dirty ones.
+//!
+//! A public call that cleans takes a packet for it. The seat may trace, has no work in hand, and holds at most two
+//! packets. A card may be dirty again afterwards, as [`clean_card`](crate::clean_card) says.
 ghost use Rattle.std.specs.Prelude.{◌≡◌, ◌<◌, ◌≤◌, ◌-◌, ◌*◌, IsTrue, IsFalse, IfSome, IfNone, length, min};
 ghost use Rattle.mark_core.specs.Cards.{card_cells};
 ghost use Rattle.mark_core.specs.Layout.{card_count};
@@ -28,8 +31,8 @@ use gc_table::{Heap, HeapSeat};
 use mark_core::CARD_CELLS;
 use packet_pools::{Held, give};
 
-/// The first dirty card from this one on and before `end`: a look at each of these cards, and nothing more. Where there is none a seat that is alone knows
-/// them all clean.
+/// The first dirty card from this one on and before `end`. If there is none a seat that is alone knows them all
+/// clean.
 pub fn dirty_between(heap: &Heap, seat: &mut HeapSeat, from: u32, end: u32) -> Option<u32>
     requires seat { Sits heap.now seat.old }
     requires cards { from < end → end ≤ card_count heap.now.shape }
@@ -50,7 +53,6 @@ pub fn dirty_between(heap: &Heap, seat: &mut HeapSeat, from: u32, end: u32) -> O
     None
 }
 
-/// The first dirty card from this one on.
 pub(crate) fn first_dirty(heap: &Heap, seat: &mut HeapSeat, from: u32) -> Option<u32>
     requires seat { Sits heap.now seat.old }
     ensures seat { Sits heap.now seat.new }
@@ -65,7 +67,6 @@ pub(crate) fn first_dirty(heap: &Heap, seat: &mut HeapSeat, from: u32) -> Option
     dirty_between(heap, seat, from, heap.shape().cells / CARD_CELLS)
 }
 
-/// Looks at a card, and cleans it where it is dirty.
 fn clean_where_dirty(heap: &Heap, seat: &mut HeapSeat, card: u32, out: &mut Held) -> CleanedCards
     requires seat { IsTracer heap.now seat.old }
     requires card { card < card_count heap.now.shape }
@@ -94,7 +95,7 @@ fn clean_where_dirty(heap: &Heap, seat: &mut HeapSeat, card: u32, out: &mut Held
     }
 }
 
-/// Looks at each of these cards, and cleans those that are dirty. A clean card costs one look.
+/// Cleans the dirty ones of these cards. A clean card costs one look.
 fn clean_between(
     heap: &Heap,
     seat: &mut HeapSeat,
@@ -126,10 +127,7 @@ fn clean_between(
     CleanedCards { rescanned, cards }
 }
 
-/// Looks at each card, and cleans those that are dirty, with a packet that it takes for it: how many cells were scanned again. Where every card is
-/// clean no packet is taken, and where no packet is found no card is cleaned. The seat may trace, has no work in hand, and holds at most two packets.
-///
-/// A card may be dirty again afterwards, as [`clean_card`](crate::clean_card) says, so that a further pass is due.
+/// Cleans every dirty card, if it finds a packet: how many cells were scanned again.
 pub fn clean_dirty(heap: &Heap, seat: &mut HeapSeat) -> u32
     requires seat { IsTracer heap.now seat.old }
     requires free { 2 ≤ free_slots (state_of seat.old).held }
@@ -153,10 +151,8 @@ pub fn clean_dirty(heap: &Heap, seat: &mut HeapSeat) -> u32
     cleaned.rescanned
 }
 
-/// Looks at each of these cards, and cleans those that are dirty, with a packet that it takes for it. None comes only where no packet was found, and then no
-/// card was looked at. The seat may trace, has no work in hand, and holds at most two packets.
-///
-/// A card may be dirty again afterwards, as [`clean_card`](crate::clean_card) says.
+/// Cleans the dirty ones of these cards. The answer is None only if no packet was found, and then no card was
+/// looked at.
 pub fn clean_some(heap: &Heap, seat: &mut HeapSeat, first: u32, end: u32) -> Option<CleanedCards>
     requires seat { IsTracer heap.now seat.old }
     requires cards { (first ≤ end) × (end ≤ card_count heap.now.shape) }
@@ -182,7 +178,7 @@ pub fn clean_some(heap: &Heap, seat: &mut HeapSeat, first: u32, end: u32) -> Opt
 /// How many cards are passed with one packet.
 const STRETCH: u32 = 4_096;
 
-/// Looks at each card of a stretch, and cleans those that are dirty, with a packet that it takes for it: how many cells were scanned again.
+/// Cleans the dirty cards of a stretch.
 fn clean_stretch(heap: &Heap, seat: &mut HeapSeat, s: u32) -> u32
     requires seat { IsTracer heap.now seat.old }
     requires stretch { s < stretch_count heap.now.shape }
@@ -214,11 +210,10 @@ fn first_stretch(number: u32, sections: u32, stretches: u32) -> u32
     (spread % u64::from(stretches)) as u32
 }
 
-/// Looks at each card, from one of its own on and round, and cleans those that are dirty, beside others that begin elsewhere: how many cells were scanned
-/// again. A stretch of cards for which no packet is found is left as it is. The seat may trace, has no work in hand, and holds at most two packets.
+/// Cleans every dirty card, from a stretch of its own on and around, beside others that begin elsewhere: how many
+/// cells were scanned again. A stretch for which no packet is found is left as it is.
 ///
-/// A clean card costs one look, and no seat waits for another: a card that two of them find dirty is cleaned twice. A card may be dirty again afterwards, as
-/// [`clean_card`](crate::clean_card) says.
+/// No seat waits for another: a card that two of them find dirty is cleaned twice.
 pub fn clean_dirty_round(heap: &Heap, seat: &mut HeapSeat) -> u32
     requires seat { IsTracer heap.now seat.old }
     requires free { 2 ≤ free_slots (state_of seat.old).held }

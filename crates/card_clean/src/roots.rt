@@ -27,7 +27,6 @@ use packet_pools::{Held, give, mark_cell};
 /// How many variables a section has.
 const ROW: u32 = VARIABLES as u32;
 
-/// Marks what variable v of a section refers to. A seat that is alone then knows that the root is seen to.
 fn mark_root(heap: &Heap, seat: &mut HeapSeat, out: &mut Held, section: u32, v: u8)
     requires seat { IsTracer heap.now seat.old }
     requires out { HoldsPacket out.old (view_of seat.old) × IsTrue (has_free_slot (state_of seat.old).held) }
@@ -49,7 +48,6 @@ fn mark_root(heap: &Heap, seat: &mut HeapSeat, out: &mut Held, section: u32, v: 
     }
 }
 
-/// Marks what slot k of a section refers to. A seat that is alone then knows that the slot is seen to.
 fn mark_slot(heap: &Heap, seat: &mut HeapSeat, out: &mut Held, section: u32, k: u16)
     requires seat { IsTracer heap.now seat.old }
     requires out { HoldsPacket out.old (view_of seat.old) × IsTrue (has_free_slot (state_of seat.old).held) }
@@ -71,7 +69,7 @@ fn mark_slot(heap: &Heap, seat: &mut HeapSeat, out: &mut Held, section: u32, k: 
     }
 }
 
-/// Marks what root `i` refers to: a variable of a section, or one of the slots behind the variables.
+/// Marks what root `i` refers to, by the order of [`count_roots`].
 fn mark_one(heap: &Heap, seat: &mut HeapSeat, out: &mut Held, i: u32)
     requires seat { IsTracer heap.now seat.old }
     requires out { HoldsPacket out.old (view_of seat.old) × IsTrue (has_free_slot (state_of seat.old).held) }
@@ -103,7 +101,6 @@ fn mark_one(heap: &Heap, seat: &mut HeapSeat, out: &mut Held, i: u32)
     );
 }
 
-/// Marks what the roots from this one on and before `end` refer to. A seat that is alone then knows that these roots are seen to.
 fn mark_between(heap: &Heap, seat: &mut HeapSeat, out: &mut Held, from: u32, end: u32)
     requires seat { IsTracer heap.now seat.old }
     requires out { HoldsPacket out.old (view_of seat.old) × IsTrue (has_free_slot (state_of seat.old).held) }
@@ -124,11 +121,7 @@ fn mark_between(heap: &Heap, seat: &mut HeapSeat, out: &mut Held, from: u32, end
     }
 }
 
-/// Sees to the roots from this one on and before `end`, with a packet that it takes for it, for a seat that is alone in a drain: each of them is then nil, or
-/// names a cell that the seat knows marked. The seat has no work in hand and holds at most two packets.
-///
-/// False comes only where no packet was found, with room or with entries, in this call: nothing is marked then. A deferred packet isn't found
-/// here.
+/// Sees to the roots from this one on and before `end`, as [`see_to_roots`] does to all.
 pub fn see_to_some(heap: &Heap, seat: &mut HeapSeat, from: u32, end: u32) -> bool
     requires seat { IsTracer heap.now seat.old }
     requires ready { IsBeforeSweep (view_of seat.old) }
@@ -163,11 +156,11 @@ pub fn count_roots(heap: &Heap, seat: &HeapSeat) -> u32
     shape.sections * ROW + shape.sections * shape.slots
 }
 
-/// Sees to all roots, with a packet that it takes for it, for a seat that is alone in a drain: each root is then nil, or names a cell
-/// that the seat knows marked. The seat has no work in hand and holds at most two packets.
+/// Sees to all roots, for a seat that is alone in a drain: each root is then nil, or names a cell that the seat
+/// knows marked. It takes a packet for it; the seat has no work in hand and holds at most two.
 ///
-/// False comes only where no packet was found, with room or with entries, in this call: nothing is marked then. A deferred packet isn't found
-/// here.
+/// The answer is false only if this call found no packet, with room or with entries; nothing is marked then. It
+/// doesn't look for deferred packets.
 pub fn see_to_roots(heap: &Heap, seat: &mut HeapSeat) -> bool
     requires seat { IsTracer heap.now seat.old }
     requires ready { IsBeforeSweep (view_of seat.old) }

@@ -1,4 +1,4 @@
-//! A mutator's stores and exchanges where objects are shared.
+//! A mutator's stores and exchanges if objects are shared.
 ghost use Rattle.std.specs.Prelude.{◌≡◌, ◌<◌, IsTrue};
 ghost use Rattle.mark_core.specs.Numbers.{section_variables};
 ghost use Rattle.mark_core.specs.Steps.MutatorSteps.{in_variables, seat_variable as word_in};
@@ -13,11 +13,11 @@ ghost use Rattle.card_clean.specs.Barrier.{Exchanged, MayStore, barrier_steps, r
 use gc_table::{Heap, HeapSeat};
 use mark_core::variable_or_nil;
 
-/// The barrier where objects are shared: field `field` of variable v's object, whoever made it, becomes what variable w is, or nil where `w` is None, and
-/// then the object's card is dirtied, as `store_ref` does it. Variable v isn't nil.
+/// The barrier if objects are shared: as [`store_ref`](crate::store_ref), but whoever made the object. Variable v
+/// isn't nil.
 ///
-/// The store is done at the first of its steps. Other mutators may read and store in the object before and after it, and between it and the step that
-/// dirties the card; no collection ends between the two, since the seat is inside.
+/// The store is done at the first step. Other mutators may read and store in the object before and after it, also
+/// before the step that dirties the card; no collection ends between the two, since the seat is inside.
 pub fn share_ref(heap: &Heap, seat: &mut HeapSeat, v: u8, field: u8, w: Option<u8>)
     requires seat { Sits heap.now seat.old × MayStore (view_of seat.old) }
     requires shared { IsTrue (view_of seat.old).shape.sharing }
@@ -36,7 +36,7 @@ pub fn share_ref(heap: &Heap, seat: &mut HeapSeat, v: u8, field: u8, w: Option<u
     }
 }
 
-/// The value of variable v's object, whoever made it, becomes this one. Of the seat and of variable v it asks what [`share_ref`] asks.
+/// Sets the value of variable v's object, whoever made it. It asks what [`share_ref`] asks.
 pub fn share_value(heap: &Heap, seat: &mut HeapSeat, v: u8, value: u32)
     requires seat { Sits heap.now seat.old × MayStore (view_of seat.old) }
     requires shared { IsTrue (view_of seat.old).shape.sharing }
@@ -48,10 +48,11 @@ pub fn share_value(heap: &Heap, seat: &mut HeapSeat, v: u8, value: u32)
     heap.store_value(seat, v, value);
 }
 
-/// The barrier of an exchange, where objects are shared: where field `field` of variable v's object is what variable `expected` is, or nil, it becomes what
-/// variable `new` is, or nil, and then the object's card is dirtied, as [`share_ref`] does it; else nothing is done. True where it was as expected.
+/// The barrier of an exchange, if objects are shared. If field `field` of variable v's object is what variable
+/// `expected` is, or nil, it becomes what variable `new` is, or nil, and then the object's card is dirtied: true.
+/// Otherwise nothing is done.
 ///
-/// Of several mutators that expect the same one alone gets true: the exchange is one step, its first.
+/// Of several mutators that expect the same only one gets true: the exchange is one step, the first.
 pub fn exchange_ref(
     heap: &Heap,
     seat: &mut HeapSeat,
@@ -78,8 +79,8 @@ pub fn exchange_ref(
     found == word
 }
 
-/// Where the value of variable v's object is the expected one it becomes the new one: true where it was. Of the seat and of variable v it asks what
-/// [`share_ref`] asks.
+/// Sets the value of variable v's object, if it is the expected one: true if it was. It asks what [`share_ref`]
+/// asks.
 pub fn exchange_value(heap: &Heap, seat: &mut HeapSeat, v: u8, expected: u32, new: u32) -> bool
     requires seat { Sits heap.now seat.old × MayStore (view_of seat.old) }
     requires shared { IsTrue (view_of seat.old).shape.sharing }

@@ -12,7 +12,7 @@ ghost use Rattle.packet_pools.specs.StepBounds.{any_steps};
 use gc_table::{Heap, HeapSeat};
 use packet_pools::{Held, take_input, take_output};
 
-/// Takes a packet, with room where there is one.
+/// Takes a packet, with room if there is one.
 pub(crate) fn take_some(heap: &Heap, seat: &mut HeapSeat) -> Option<Held>
     requires seat { IsTracer heap.now seat.old }
     requires free { IsTrue (has_free_slot (state_of seat.old).held) }

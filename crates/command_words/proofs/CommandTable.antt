@@ -11,7 +11,7 @@ use Rattle.std.specs.List.{list_all}
 use Rattle.command_words.proofs.LeafRefused.{flip}
 
 -- The definition refuses a command that lacks an option which it needs.
--- the command is none where a required option is missing
+-- the command is none if a required option is missing
 abbrev pub NeedsAll : List Text → (List Setting → Option Command) → Type 0
 NeedsAll names inner = (all : List Setting) (n : Text) → has_name names n ≡ true → is_required n ≡ true → given (dashed n) all ≡ [] → inner all ≡ None
 

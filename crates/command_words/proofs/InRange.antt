@@ -11,7 +11,7 @@ use Rattle.play_end.specs.declared.options.Options.{Options as PlayOptions}
 use Rattle.command_words.specs.declared.asked.Asked.{Asked}
 use Rattle.command_words.specs.declared.asked.Asked.TheVariants as asked
 
--- a number, where there is one, lies in a range
+-- a number, if there is one, lies in a range
 abbrev In : ℕ → ℕ → Option ℕ → Type 0
 In least greatest None = Unit {0}
 In least greatest (Some n) = (least ≤ n) × (n ≤ greatest)

@@ -205,7 +205,7 @@ not_used n uses extra f flags h =
     go None e = refl
     go (Some u) e = absurd (true≢false e)
 
--- the fault of a missing option, where nothing else failed
+-- the fault of a missing option, if nothing else failed
 abbrev missing_fault : Bool → Kinds
 missing_fault missing = check_kinds false false missing
 

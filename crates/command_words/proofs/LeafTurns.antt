@@ -86,7 +86,7 @@ module _ (name : Text) (names : List Text) where
   pub id_is : (n : Text) → has_name names n ≡ true → is_flag n ≡ false → arg_by_id c n ≡ Some (option_rule n)
   id_is n e f = by_id names n ∙ ap₂ (λ b d. rule_met b d n) e f
 
-  -- where the option before cannot be used, no option follows
+  -- if the option before cannot be used, no option follows
   pub long_fails : (known flag : Bool) (n : Text) (v : Option Text) (waiting : Waiting) (h : Held) (x : Text) (xs : List Text) (k : ErrorKind) (ks : Kinds)
       → settle_fault c false h ≡ k ∷ ks → long_turn (rule_met known flag n) v waiting h x xs ≡ None
   long_fails false flag n v waiting h x xs k ks f = refl

@@ -109,7 +109,7 @@ named_so (n ∷ ns) text h = go (bytes_eq text (dashed n)) (bytes_eq-Decides tex
         let one = next t in
         record { name = one.name; is = one.is; known = ap (λ b. bytes_eq n one.name || b) one.known ∙ or_yes (bytes_eq n one.name) }
 
--- the command is none where what is given for one of its names is of no use
+-- the command is none if what is given for one of its names is of no use
 abbrev pub IsStrict : List Text → (List Setting → Option Command) → Type 0
 IsStrict names inner = (all : List Setting) (n : Text) → has_name names n ≡ true → Spoilt (is_flag n) (given (dashed n) all) → inner all ≡ None
 

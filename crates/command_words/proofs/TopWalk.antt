@@ -149,7 +149,7 @@ module _ (forms : List Form) where
 
 -- ---- what the words mean
 
--- the command is none where a setting is bad, or a required option is missing; no option has the empty name
+-- the command is none if a setting is bad, or a required option is missing; no option has the empty name
 pub record Keeps {Z : Type 0} (names : List Text) (K : List Setting → Option Z) : Type 0 where
   pub named : has_name names [] ≡ false
   pub refuses : (done more : List Setting) (x : Setting) → is_bad names done x ≡ true → K (done ++ x ∷ more) ≡ None

@@ -1,4 +1,3 @@
-//! What the command line asks for.
 use play_end::Options;
 
 /// A command that the program has.
@@ -6,9 +5,9 @@ use play_end::Options;
 pub enum Asked {
     /// Plays the script of the source, as these options say.
     Run(Options),
-    /// Writes the generated script of this number, with so many lines a warehouse.
+    /// Writes the generated script of this number, with this many lines a warehouse.
     Gen(u32, u32),
-    /// Plays the generated script of this number and size, as these options say, and writes five lines.
+    /// Plays the generated script of this number and size, and writes five lines.
     Load(Options, u32, u32),
     /// Writes the script of the source in the second version of the language.
     Convert,
@@ -20,6 +19,6 @@ pub enum Asked {
     Undump,
     /// Writes the census of the source's dump.
     Census,
-    /// Plays the scripts of the source's batch, each as these options say, on so many runners.
+    /// Plays the scripts of the source's batch on so many runners.
     Batch(Options, u32),
 }

@@ -1,4 +1,3 @@
-//! The commands, each from the matches of its own words.
 ghost use Rattle.std.specs.Prelude.{◌≡◌, List, ℕ, Option, Some, None, true, option_map};
 ghost use Rattle.clap.specs.Words.{first_of, found_of, rows_of};
 ghost use Rattle.clap.specs.Walk.{one_of};
@@ -11,7 +10,7 @@ use crate::number::number_in;
 use clap::ArgMatches;
 use play_end::Options;
 
-/// The number that is given for an option, where it is in the range, or without one the default.
+/// The number given for an option, if in range, or the default.
 fn chosen(
     matches: &ArgMatches<'_>,
     name: &str,
@@ -93,7 +92,7 @@ fn batch(matches: &ArgMatches<'_>) -> Option<Asked>
     Some(Asked::Batch(options, runners))
 }
 
-/// The command of this name, from the matches of its own words. None where a value is out of its range, or a required option is missing.
+/// The command of this name. None if a value is out of range or a required option is missing.
 pub fn by_name(name: &str, matches: &ArgMatches<'_>) -> Option<Asked>
     ensures { (all : List Setting) → IsAsked name.now (rows_of (found_of matches.now)) all → option_map command_of result ≡ by_name name.now all }
 {

@@ -1,33 +1,29 @@
 //! What the words of the command line ask for.
 //!
-//! The words come without the program's own name: a command, and then its options in any order, each at most once, as
-//! `--name value` or `--name=value`, or as `--name` alone where it is a flag. The definition is `command` in `specs/Words.antt`, and
-//! [`command_of`] answers exactly that, for every list of words.
+//! The words come without the program's own name: a command, and then its options in any order, each at most once,
+//! as `--name value`, `--name=value`, or `--name` for a flag. [`command_of`] answers exactly `command` in
+//! `specs/Words.antt`.
 //!
 //! # What `clap` does, and what is done here
 //!
-//! The commands and their options stand in one table (`COMMANDS` in `program`). Line by line it is told to `clap`'s builder, whose
-//! parser reads the words. Help, version and abbreviations are off, since the words of a command are fixed; a command is required.
-//! The parser's contract gives the faults and the matches of every list of words as a function of the list, and
+//! The commands and their options stand in one table (`COMMANDS` in `program`), which `clap`'s builder is told line
+//! by line. The parser's contract gives the faults and the matches as a function of the words, and
 //! `proofs/LeafWalk.antt` goes through that walk, word by word.
 //!
-//! - *Before the parse* a word `--` is refused, wherever it stands. `clap` takes one after a command's options, as the mark that no
-//!   option follows; no command asks for it.
-//! - *After the parse* the values are judged (`number`). A value is one or more digits, leading zeros allowed, in the option's range.
-//!   `clap` takes any text as a value, an empty one or one with a sign too, and its own parsers of numbers allow a sign.
-//!
-//! Every other word that the definition refuses is a fault of the parse: one that is no option, or not this command's, or cut short;
-//! an option that is given twice, or without its value, or missing though it is required; a flag with a value; no command, or two.
+//! - *Before the parse* a word `--` is refused. `clap` takes one after a command's options, as the mark that no
+//!   option follows.
+//! - *After the parse* the values are judged (`number`): one or more digits, in the option's range. `clap` takes
+//!   any text as a value, and its own parsers of numbers allow a sign.
 //!
 //! # How a further command joins
 //!
-//! 1. `COMMANDS` in `program` gets its line, and `forms` in `specs/Parsing.antt` the same one. A new flag or a required option is
-//!    named in `is_flag` or `is_required`, in both. The builder is proved for any table.
-//! 2. `Asked` gets what it asks for, with its lines in `command_of` and `IsCommandInRange` of `specs/Commands.antt`. `by_name` in
-//!    `specs/Words.antt` says which command its words are.
+//! 1. `COMMANDS` in `program` gets its line, and `forms` in `specs/Parsing.antt` the same one. A new flag or a
+//!    required option is named in `is_flag` or `is_required`, in both. The builder is proved for any table.
+//! 2. `Asked` gets what it asks for, with its lines in `command_of` and `IsCommandInRange` of
+//!    `specs/Commands.antt`. `by_name` in `specs/Words.antt` says which command its words are.
 //! 3. `choice` reads its values from the matches.
-//! 4. `the_table` in `proofs/CommandTable.antt` gets its line, with two facts: a bad value makes it none, and so does a required
-//!    option that is missing.
+//! 4. `the_table` in `proofs/CommandTable.antt` gets its line, with two facts: a bad value makes it none, and so
+//!    does a required option that is missing.
 #![tactic(auto)]
 
 ghost use Rattle.std.specs.Prelude.{◌≡◌, map, IfOk, IfSome, option_map};
@@ -54,8 +50,7 @@ fn has_no_dashes(words: &[String]) -> bool
     words.iter().all(|word| word.as_str() != "--")
 }
 
-/// The command that the words ask for, without the program's own name; none where they ask for nothing. Its values are in
-/// their ranges. It takes memory for the parse.
+/// The command that the words ask for, if any, with values in their ranges. Takes memory for the parse.
 pub fn command_of(alloc: Global, words: &[String]) -> Result<Option<Asked>, AllocError>
     ensures asked { IfOk result (λ r. option_map command_of r ≡ command (map string_bytes words.now)) }
     ensures range { IfOk result (λ r. IfSome r IsCommandInRange) }

@@ -1,10 +1,9 @@
-//! Numbers, as options are given them.
 ghost use Rattle.std.specs.Prelude.{◌≡◌};
 ghost use Rattle.command_words.specs.Words.{number_in};
 
 use script_lines::number_of;
 
-/// The number that a text says, where it is one or more digits and lies in the range. Leading zeros are allowed.
+/// The number of a text of one or more digits, if it lies in the range.
 pub fn number_in(least: u32, greatest: u32, text: &str) -> Option<u32>
     ensures { result ≡ number_in least greatest text.now }
 {

@@ -1,4 +1,3 @@
-//! The commands and their options: the one table, and how `clap` is told it.
 ghost use Rattle.std.specs.Prelude.{◌≡◌, IfOk, false};
 ghost use Rattle.clap.specs.Words.{app_of, rule_of};
 ghost use Rattle.command_words.specs.Building.{IsCommand, texts_of, with_commands};
@@ -14,7 +13,6 @@ pub struct Form {
     pub options: &'static [&'static str],
 }
 
-/// The commands that the program has. `clap` is told each line.
 const COMMANDS: [Form; 9] = [
     Form {
         name: "run",
@@ -58,14 +56,13 @@ const COMMANDS: [Form; 9] = [
     },
 ];
 
-/// Whether an option takes no value.
 fn is_flag(name: &str) -> bool
     ensures { result ≡ is_flag name.now }
 {
     name == "place"
 }
 
-/// Whether a command cannot do without an option that it has.
+/// Whether a command can't do without an option that it has.
 fn is_required(name: &str) -> bool
     ensures { result ≡ is_required name.now }
 {
@@ -113,7 +110,7 @@ fn with_commands<'a>(
     Ok(program)
 }
 
-/// The program: a command is required, and there is no help. Out of memory is the only refusal.
+/// The program: a command is required, and there is no help.
 pub fn program<'a>(alloc: Global) -> Result<Command<'a>, AllocError>
     ensures { IfOk result (λ c. app_of c ≡ asked_program) }
 {

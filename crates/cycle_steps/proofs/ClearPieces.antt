@@ -1,4 +1,4 @@
--- Blocks are cleared of their marks by a seat that is alone, in pieces of so many stretches.
+-- Blocks are cleared of their marks by a seat that is alone, in pieces of a given number of stretches.
 use Rattle.std.proofs.Common.{ℕ, zero, suc, ◌≡◌, ◌≤◌, ◌<◌, ◌+◌, ◌-◌, ◌*◌, length, refl, sym, ap, subst, arith}
 use Rattle.std.specs.Prelude.{◌++◌, replicate}
 use Rattle.std.proofs.lemmas.Bool.{lt-ltb}
@@ -33,7 +33,7 @@ cleared-one n b seen k l = let h = ap one_if (lt-ltb b n l) in let rest = clears
 pub cleared-few : (sh : Shape) (b seen : ℕ) → length (block_drawn seen b ++ replicate (stretch_end sh b - b) (event ClearMarks 0)) ≤ 2 + sh.stretch
 cleared-few sh b seen = let long = length-replicate (stretch_end sh b - b) (event ClearMarks 0) in omega (arith, long)
 
--- how many steps are taken for so many stretches
+-- how many steps are taken for this many stretches
 pub more-stretches : (k each : ℕ) → k * each + each ≡ (k + 1) * each
 more-stretches k each = omega arith
 

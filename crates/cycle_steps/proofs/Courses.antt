@@ -49,7 +49,7 @@ unpopped-in : (p : Phase) → saw (Some p) Drain ≡ false → (step : Step) (n 
 unpopped-in p d (Pop packet) n e = absurd (true≢false (sym e ∙ d))
 unpopped-in p d step n e = refl
 
--- cells are popped in a drain alone
+-- cells are popped only in a drain
 pub part-unpopped : (p : Phase) → saw (Some p) Drain ≡ false → (v w : View) → IsPart p v w → never pops (events v w) ≡ true
 part-unpopped p d v w h = ap not (none-of-steps (stays_in p) pops (unpopped-in p d) (events v w) h.only)
 

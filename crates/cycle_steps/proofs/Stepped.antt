@@ -95,7 +95,7 @@ by-knowing true r s e f = absurd (false≢true (sym e))
 by-knowing false true s e f = refl
 by-knowing false false s e f = absurd (false≢true f)
 
--- the seat knows that the world has stopped where its look found so
+-- the seat knows that the world has stopped if its look found so
 pub knows-found : (v w : View) (n : ℕ) → AwaitsStop v → Found Observe n v w → w.state.knows ≡ is_stopped n
 knows-found v w n a f = ap (λ (x : View). x.state.knows) f.0 ∙ by-knowing v.state.knows v.state.raised (is_stopped n) a.unaware a.aware.raised
 
@@ -124,11 +124,11 @@ stopped-holds u w x n m a f k g =
 some-same : {X : Type 0} {x y : X} → Some x ≡ Some y → x ≡ y
 some-same e = cc
 
--- where the phase was read as Idle, the seat is alone in it
+-- if the phase was read as Idle, the seat is alone in it
 pub holds-idle : (v : View) → HoldsWorld v → v.state.phase_seen ≡ Some Idle → IsAloneIn Idle v
 holds-idle v h f = record { rest = h.rest; alone = subst (λ q. Alone q v) (some-same (sym h.seen ∙ f)) h.alone }
 
--- where the heap was full, it is so still
+-- if the heap was full, it is so still
 pub full-resumed : (v w : View) → HoldsWorld v → v.state.phase_seen ≡ Some Full → Ran v w → Took DropStep v w → KnowsFull w
 full-resumed v w h f r t = full-known v w r (only-drop v w t) (full-alone v h f).phase
 

@@ -53,7 +53,7 @@ pub record HasLooked (v : View) : Type 0 where
   pub drains : Drains v
   pub cards : AreNotedClean 0 (card_count v.shape) v
 
--- a look at so many cards, from this one on, saw each of them clean, and fewer only where there are no more; or it saw one dirty, after those that are clean
+-- a look at this many cards, from this one on, saw each of them clean, and fewer only if there are no more; or it saw one dirty, after those that are clean
 abbrev pub LooksAt : Shape → ℕ → ℕ → Look → List Entry → Type 0
 LooksAt sh from most (looks.Clean n) es = (n ≡ min most (card_count sh - from)) × (es ≡ looks_clean from (from + n))
 LooksAt sh from most (looks.Dirty card) es = (from ≤ card) × (card < from + most) × (card < card_count sh) × (es ≡ looks_dirty from card)
@@ -67,11 +67,11 @@ StandsAfter from most (looks.Dirty card) v = Drains v
 abbrev pub ReadsCount : Bool → View → View → Type 0
 ReadsCount all v w = (n : ℕ) × (events v w ≡ event ReadCount n ∷ []) × (all ≡ (n == empty_offset + v.shape.packets))
 
--- with a packet that was taken for it, so many cards from this one on were each seen clean, or seen dirty and cleaned
+-- with a packet that was taken for it, this many cards from this one on were each seen clean, or seen dirty and cleaned
 abbrev pub CleansCards : ℕ → ℕ → View → View → Type 0
 CleansCards from n v w = (rescanned : ℕ) × CleansWithPacket (CleanedFrom v.shape from n rescanned) (events v w)
 
--- alone in a stop after the sweep, it counts the cells in use, of the blocks from this one on: so many are in the blocks below it, whose allocation bits are noted
+-- alone in a stop after the sweep, it counts the cells in use, of the blocks from this one on: this many are in the blocks below it, whose allocation bits are noted
 pub record CountsFrom (from counted : ℕ) (v : View) : Type 0 where
   pub owner : IsOwner v
   pub alone : IsAloneIn Idle v

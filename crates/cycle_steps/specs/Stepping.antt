@@ -86,7 +86,7 @@ pub record RunsAgain (v : View) : Type 0 where
 abbrev pub Keeps : View → View → Type 0
 Keeps v w = KeepsSeat v w × KeepsSection v w
 
--- the position was stored, the world was left, and then the flag was asked for: it is the seat's own where it was down
+-- the position was stored, the world was left, and then the flag was asked for: it is the seat's own if it was down
 pub record AsksOnce (done : ℕ) (yours : Bool) (v w : View) : Type 0 where
   pub left : ℕ
   pub found : ℕ
@@ -112,7 +112,7 @@ pub record IsExactSince (v w : View) : Type 0 where
   pub began : IsTrue (some_event begins_exactly (events v w))
   pub exact : IsTrue w.state.exact
 
--- the cycle ended with these counts, and then the world went on; where its drain began with no cell marked, the cells in use were the reachable ones
+-- the cycle ended with these counts, and then the world went on; if its drain began with no cell marked, the cells in use were the reachable ones
 pub record EndsCollection (counts : Counts) (v w : View) : Type 0 where
   pub idle : View
   pub ran : Ran v idle

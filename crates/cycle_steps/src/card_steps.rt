@@ -1,4 +1,4 @@
-//! A drain in pieces, once the roots are seen to: so many objects are traced, so many cards are looked at, and so many cleaned.
+//! A drain in pieces, once the roots are seen to.
 ghost use Rattle.std.specs.Prelude.{◌≡◌, ◌≤◌, ◌+◌, ◌-◌, min, length, IsTrue, IfSome, IfNone, ◌*◌};
 ghost use Rattle.std.specs.Bool.{OnFalse, OnTrue};
 ghost use Rattle.mark_core.specs.Layout.{card_count};
@@ -28,7 +28,7 @@ use mark_core::CARD_CELLS;
 /// What a look at some cards came to.
 #[derive(Clone, Copy, Debug, PartialEq, Eq, Drop)]
 pub enum Look {
-    /// So many cards were looked at, and each is clean. Where they are fewer than were to be, none is left.
+    /// So many cards are clean: none is left if they are fewer than asked for.
     Clean(u32),
     /// This card is dirty.
     Dirty(u32),
@@ -37,13 +37,14 @@ pub enum Look {
 /// What a step of cleaning came to.
 #[derive(Clone, Copy, Debug, PartialEq, Eq, Drop)]
 pub struct CleanStep {
-    /// How many cards it passed. Where they are fewer than were to be, none is left.
+    /// How many cards it passed: none is left if they are fewer than asked for.
     pub passed: u32,
     /// How many of them it cleaned.
     pub cleaned: u32,
 }
 
-/// Brings back what was deferred, and traces at most so many objects. How many it popped: fewer come only where, at some moment, there was none.
+/// Brings back what was deferred, and traces at most `most` objects: how many it popped, fewer only if at some
+/// moment there was none.
 pub fn trace_step(heap: &Heap, seat: &mut HeapSeat, most: u32) -> u32
     requires seat { Sits heap.now seat.old }
     requires drains { Drains (view_of seat.old) }
@@ -63,8 +64,8 @@ pub fn trace_step(heap: &Heap, seat: &mut HeapSeat, most: u32) -> u32
     traced.done
 }
 
-/// Looks at the cards from this one on, at most so many of them, up to the first that is dirty. What it has seen clean stays noted while the seat does nothing
-/// else.
+/// Looks at no more than `most` cards from `from` on, up to the first dirty one. What it saw clean stays noted
+/// while the seat does nothing else.
 pub fn look_step(heap: &Heap, seat: &mut HeapSeat, from: u32, most: u32) -> Look
     requires seat { Sits heap.now seat.old }
     requires looks { LooksFrom from (view_of seat.old) }
@@ -84,7 +85,7 @@ pub fn look_step(heap: &Heap, seat: &mut HeapSeat, from: u32, most: u32) -> Look
     }
 }
 
-/// Whether all is marked, where each card was seen clean: one look at the count of empty packets. False comes where it says that a packet isn't empty.
+/// Whether all is marked, once each card was seen clean: by one look at the count of empty packets.
 pub fn finds_all_marked(heap: &Heap, seat: &mut HeapSeat) -> bool
     requires seat { Sits heap.now seat.old }
     requires looked { HasLooked (view_of seat.old) }
@@ -100,8 +101,8 @@ pub fn finds_all_marked(heap: &Heap, seat: &mut HeapSeat) -> bool
     sees_all_empty(heap, seat)
 }
 
-/// Cleans what is dirty of these cards, where a packet can be had for it: how many it cleaned. Where none can, what was deferred is brought back, which is all
-/// that can keep packets from a seat that is alone.
+/// Cleans those of these cards that are dirty, and answers how many; None if no packet can be had. Then what was
+/// deferred is brought back, which is all that can keep packets from a seat that is alone.
 fn cleans_some(heap: &Heap, seat: &mut HeapSeat, first: u32, end: u32) -> Option<u32>
     requires seat { Sits heap.now seat.old }
     requires drains { Drains (view_of seat.old) }
@@ -126,10 +127,10 @@ fn cleans_some(heap: &Heap, seat: &mut HeapSeat, first: u32, end: u32) -> Option
     }
 }
 
-/// Looks at the cards from this one on, at most so many of them, cleans those that are dirty, and pops no object. How many cards it passed and cleaned: fewer are
-/// passed exactly where none is left. None comes only where no packet could be had: the deferred ones are back then, and it is to be called again.
+/// Looks at no more than `most` cards from `from` on, and cleans those that are dirty. It passes fewer only if none
+/// is left. None means that no packet could be had: the deferred ones are back, and it is to be called again.
 ///
-/// A card may be dirty again afterwards, so that a look is due.
+/// A card may be dirty again afterwards, so another look is due.
 pub fn clean_step(heap: &Heap, seat: &mut HeapSeat, from: u32, most: u32) -> Option<CleanStep>
     requires seat { Sits heap.now seat.old }
     requires drains { Drains (view_of seat.old) }

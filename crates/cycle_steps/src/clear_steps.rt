@@ -1,4 +1,4 @@
-//! All marks are cleared in pieces of so many stretches of blocks, and then the drain begins once more.
+//! All marks are cleared in pieces, and then the drain begins once more.
 ghost use Rattle.std.specs.Prelude.{◌≡◌, ◌≢◌, ◌≤◌, ◌+◌, ◌*◌, [], ◌∷◌, length, IsTrue, IsFalse};
 ghost use Rattle.mark_core.specs.Layout.{block_count};
 ghost use Rattle.mark_core.specs.Numbers.{block_counter, card_counter};
@@ -34,7 +34,6 @@ pub fn start_clear(heap: &Heap, seat: &mut HeapSeat)
     begin_clear(heap, seat);
 }
 
-/// Clears the marks of the next stretch of blocks. False where no block is left.
 fn clear_next(heap: &Heap, seat: &mut HeapSeat) -> bool
     requires seat { Sits heap.now seat.old }
     requires alone { IsAloneIn Clear (view_of seat.old) }
@@ -50,7 +49,7 @@ fn clear_next(heap: &Heap, seat: &mut HeapSeat) -> bool
     }
 }
 
-/// Clears the marks of at most so many stretches of blocks: fewer come exactly where no block is left. How many stretches it took and cleared.
+/// Clears the marks of at most `most` stretches: how many it took, fewer only if no block is left.
 pub fn clear_step(heap: &Heap, seat: &mut HeapSeat, most: u32) -> u32
     requires seat { Sits heap.now seat.old }
     requires clears { IsAtClear (view_of seat.old) }

@@ -1,4 +1,4 @@
-//! The end of a cycle in pieces: the cells in use are counted, so many blocks at a time, and then the numbers are set that pace the next cycle.
+//! The end of a cycle in pieces.
 ghost use Rattle.std.specs.Prelude.{◌≡◌, ◌≢◌, ◌≤◌, ◌+◌, ◌-◌, [], min, length, IsTrue};
 ghost use Rattle.mark_core.specs.Layout.{block_count};
 ghost use Rattle.mark_core.specs.declared.kinds.Phase.TheVariants.{Idle, Sweep};
@@ -24,9 +24,9 @@ use stop_world::resume;
 /// What a step of the count did.
 #[derive(Clone, Copy, Debug, PartialEq, Eq, Drop)]
 pub struct CountStep {
-    /// Of how many blocks it counted the cells. Where they are fewer than were to be, none is left.
+    /// How many blocks it counted: none is left if they are fewer than asked for.
     pub blocks: u32,
-    /// How many cells are in use in all blocks that were counted so far.
+    /// How many cells are in use in all blocks counted so far.
     pub counted: u32,
 }
 
@@ -43,7 +43,7 @@ pub fn start_count(heap: &Heap, seat: &mut HeapSeat)
     end_sweep(heap, seat);
 }
 
-/// Counts the cells in use of the blocks from this one on, at most so many of them: fewer come exactly where none is left.
+/// Counts the cells in use of at most `most` blocks from `from` on: fewer only if none is left.
 pub fn count_step(heap: &Heap, seat: &mut HeapSeat, from: u32, counted: u32, most: u32) -> CountStep
     requires seat { Sits heap.now seat.old }
     requires counts { CountsFrom from counted (view_of seat.old) }
@@ -63,8 +63,8 @@ pub fn count_step(heap: &Heap, seat: &mut HeapSeat, from: u32, counted: u32, mos
     CountStep { blocks, counted }
 }
 
-/// Sets the numbers for the next cycle, once all cells in use are counted, and lets the world go on: the seat runs again. `freed` is how many cells it freed in
-/// all. The number of objects that were scanned again is set to 0 for the next cycle.
+/// Sets the numbers for the next cycle and lets the world go on: the seat runs again. `freed`: how many cells it
+/// freed in all.
 pub fn finish_count(heap: &Heap, seat: &mut HeapSeat, counted: u32, freed: u32) -> Counts
     requires seat { Sits heap.now seat.old }
     requires counted { HasCounted counted (view_of seat.old) }

@@ -4,15 +4,14 @@ ghost use Rattle.cycle_steps.specs.Pieces.{stretches_in};
 
 use gc_table::Heap;
 
-/// How many there are from this one on, of so many in all, but at most `most`.
 pub(crate) fn at_most(most: u32, from: u32, all: u32) -> u32
     ensures { result ≡ min most (all - from) }
 {
     most.min(all.saturating_sub(from))
 }
 
-/// How many stretches have no more blocks than this between them, but at least one. What sweeps or clears so many stretches comes to at most so many blocks, or
-/// to those of one stretch, where they are more.
+/// How many stretches have no more than `blocks` blocks between them, but at least one. To sweep or clear so many
+/// comes to at most so many blocks, or to those of one stretch if they are more.
 pub fn stretches_of(heap: &Heap, blocks: u32) -> u32
     ensures { result ≡ stretches_in heap.now.shape blocks }
 {

@@ -1,4 +1,4 @@
-//! The roots are seen to in pieces of so many.
+//! The roots are seen to in pieces.
 ghost use Rattle.std.specs.Prelude.{◌≡◌, ◌≢◌, ◌≤◌, ◌+◌, ◌-◌, min, Some, IsTrue, IfSome, IfNone, length};
 ghost use Rattle.std.specs.List.{range_with_len};
 ghost use Rattle.mark_core.specs.Layout.{root_count};
@@ -23,8 +23,8 @@ use card_clean::count_roots;
 use gc_cycle::sees_to_some;
 use gc_table::{Heap, HeapSeat};
 
-/// Marks what the roots from this one on refer to, at most so many of them, and pops no object. How many roots it saw to: fewer come exactly where none is
-/// left. None comes only where no packet could be had: the deferred ones are back then, and it is to be called again.
+/// Marks what at most `most` roots from `from` on refer to, and answers how many: fewer only if none is left. None
+/// means that no packet could be had: the deferred ones are back, and it is to be called again.
 ///
 /// The roots are the variables of all sections, and behind them their slots.
 pub fn root_piece(heap: &Heap, seat: &mut HeapSeat, from: u32, most: u32) -> Option<u32>

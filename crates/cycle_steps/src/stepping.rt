@@ -19,8 +19,8 @@ use gc_table::{Heap, HeapSeat};
 use mark_core::BLOCK_COUNTER;
 use stop_world::{Raised, raise, resume};
 
-/// Leaves the world with the position stored, and asks for a stop: true where the flag is the seat's own now. False comes exactly where another's was
-/// up, whose stop comes first; the seat is outside then.
+/// Leaves the world with the position stored, and asks for a stop. True if the flag is the seat's own now; false if
+/// another's was up, and the seat is outside.
 pub fn ask_to_stop(heap: &Heap, seat: &mut HeapSeat, done: u32) -> bool
     requires seat { Sits heap.now seat.old × Mutates (view_of seat.old) }
     requires cache { (state_of seat.old).cache ≡ None }
@@ -40,7 +40,7 @@ pub fn ask_to_stop(heap: &Heap, seat: &mut HeapSeat, done: u32) -> bool
     }
 }
 
-/// Whether the world has stopped, as one look finds it.
+/// Whether the world has stopped, by one look.
 pub fn finds_stopped(heap: &Heap, seat: &mut HeapSeat) -> bool
     requires seat { Sits heap.now seat.old }
     requires asks { AwaitsStop (view_of seat.old) }
@@ -73,7 +73,7 @@ pub(crate) fn reset_blocks(heap: &Heap, seat: &mut HeapSeat)
     heap.reset(seat, BLOCK_COUNTER);
 }
 
-/// Begins the drain in a stopped world. False comes exactly where the heap is full: then the world goes on, and the seat runs.
+/// Begins the drain in a stopped world. False if the heap is full: then the world goes on.
 pub fn begin_collection(heap: &Heap, seat: &mut HeapSeat) -> bool
     requires seat { Sits heap.now seat.old }
     requires stopped { HoldsWorld (view_of seat.old) }

@@ -1,4 +1,4 @@
-//! The sweep of a collection in steps, in pieces of so many stretches of blocks.
+//! The sweep in pieces.
 ghost use Rattle.std.specs.Prelude.{◌≡◌, ◌≢◌, ◌≤◌, min, ◌+◌, ◌*◌, length};
 ghost use Rattle.mark_core.specs.Layout.{block_count};
 ghost use Rattle.mark_core.specs.declared.kinds.Phase.TheVariants.{Drain, Sweep};
@@ -18,7 +18,7 @@ use gc_table::{Heap, HeapSeat};
 /// What a step of the sweep did.
 #[derive(Clone, Copy, Debug, PartialEq, Eq, Drop)]
 pub struct SweepStep {
-    /// How many stretches of blocks it took and swept. Where they are fewer than it was to sweep, no block is left.
+    /// How many stretches it swept: no block is left if they are fewer than asked for.
     pub stretches: u32,
     /// How many cells it freed.
     pub freed: u32,
@@ -37,7 +37,7 @@ pub fn start_sweep(heap: &Heap, seat: &mut HeapSeat)
     begin_sweep(heap, seat);
 }
 
-/// Sweeps at most so many stretches of blocks: fewer come exactly where no block is left.
+/// Sweeps at most `most` stretches of blocks: fewer only if no block is left.
 pub fn sweep_step(heap: &Heap, seat: &mut HeapSeat, most: u32) -> SweepStep
     requires seat { Sits heap.now seat.old }
     requires sweeps { IsAtSweep (view_of seat.old) }

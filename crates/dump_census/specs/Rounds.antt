@@ -19,7 +19,7 @@ abbrev pub is_unknown : Option ℕ → Bool
 is_unknown None = true
 is_unknown (Some n) = false
 
--- the record that a reference names gets the level where it has none
+-- the record that a reference names gets the level if it has none
 abbrev pub reach : ℕ → Progress → ℕ → Progress
 reach level s zero = s
 reach level s (suc k) =

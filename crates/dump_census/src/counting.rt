@@ -1,4 +1,3 @@
-//! The census of a dump, counted by several threads.
 ghost use Rattle.std.specs.Prelude.{◌≡◌, ◌≤◌, if◌then◌else◌, length, count_by, IfOk};
 ghost use Rattle.heap_dump.specs.Reading.{heap_of_dump};
 ghost use Rattle.dump_census.specs.Rounds.{is_unknown};
@@ -30,8 +29,8 @@ fn count_unreached<R: Threads + Sync>(rt: &R, found: &[Option<u32>]) -> u32
         .sum::<u32>(rt)
 }
 
-/// Counts the records of a dump by level, by section and by value. Each count runs over ranges of the
-/// records, side by side where there are many.
+/// Counts the records of a dump by level, by section and by value, in ranges that run side by side if there are
+/// many.
 pub fn census<R: Threads + Sync>(
     rt: &R,
     alloc: Global,

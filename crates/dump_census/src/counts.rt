@@ -35,7 +35,7 @@ impl Model for Census {
 }
 
 impl Census {
-    /// How many records each level has, from level 0 up to the greatest.
+    /// How many records each level has, from level 0 on.
     pub fn levels(&self) -> &[u32]
         ensures { result.now ≡ self.now.levels }
     {
@@ -49,14 +49,14 @@ impl Census {
         self.unreached
     }
 
-    /// How many records each section has, and the sum of their values, from section 0 on.
+    /// What each section has, from section 0 on.
     pub fn sections(&self) -> &[SectionCount]
         ensures { result.now ≡ self.now.sections }
     {
         self.sections.as_slice()
     }
 
-    /// Each value that a record has, in order, and how many records have it.
+    /// Each value, in order, and how many records have it.
     pub fn values(&self) -> &[ValueCount]
         ensures { result.now ≡ self.now.values }
     {

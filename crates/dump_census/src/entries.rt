@@ -1,4 +1,3 @@
-//! The sections and the values of the records, read by several threads, each a range of records.
 ghost use Rattle.std.specs.Prelude.{◌≡◌, ◌<◌, length, map, IfOk};
 ghost use Rattle.heap_dump.specs.Final.{object};
 ghost use Rattle.heap_dump.specs.Reading.{heap_of_dump};
@@ -30,7 +29,7 @@ fn read_entry(dump: &Dump<'_>, k: u32) -> Entry
     }
 }
 
-/// The section and the value of each record. Out of memory is the only refusal.
+/// The section and the value of each record, read by several threads.
 pub fn read_entries<R: Threads + Sync>(
     rt: &R,
     alloc: Global,

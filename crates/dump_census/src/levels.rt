@@ -1,4 +1,3 @@
-//! The level of each record: rounds over the records whose level is new, until a round finds none.
 ghost use Rattle.std.specs.Prelude.{◌≡◌, ◌<◌, ◌+◌, [], length, OnOk, IfOk, count_by};
 ghost use Rattle.heap_dump.specs.Final.{HasDump};
 ghost use Rattle.heap_dump.specs.Reading.{heap_of_dump};
@@ -12,7 +11,7 @@ use plain_heap::OutOfMemory;
 use std::alloc::Global;
 use std::mem;
 
-/// The level of each record, none where no path reaches it, and how many records each level has.
+/// The level of each record, None if no path reaches it, and how many records each level has.
 #[derive(Drop)]
 pub struct Levels {
     pub found: Vec<Option<u32>>,
@@ -54,7 +53,7 @@ fn next_round(
     search.reach_from(dump, counts.len() as u32, front.as_slice())
 }
 
-/// The level of each record, and how many records each level has. Out of memory is the only refusal.
+/// The level of each record, and how many records each level has.
 pub fn find_levels(alloc: Global, dump: &Dump<'_>) -> Result<Levels, OutOfMemory>
     requires { HasDump (heap_of_dump dump.now) }
     ensures { IfOk result (λ r. AreLevels (heap_of_dump dump.now) r.found.items × (r.counts.items ≡ level_counts r.found.items)) }

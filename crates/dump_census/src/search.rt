@@ -1,4 +1,3 @@
-//! The search for the levels of records: one round gives a level to the records that references of the last round's records reach.
 ghost use Rattle.std.specs.Prelude.{◌≡◌, ◌<◌, ◌≤◌, length, All, OnOk, IfOk, replicate, None, []};
 ghost use Rattle.heap_dump.specs.Final.{HasDump, object};
 ghost use Rattle.heap_dump.specs.Reading.{heap_of_dump};
@@ -25,7 +24,7 @@ impl Model for Search {
 }
 
 impl Search {
-    /// A search among so many records, of which none is found yet. Out of memory is the only refusal.
+    /// A search among so many records, none of them found yet.
     pub fn start(alloc: Global, records: u32) -> Result<Search, OutOfMemory>
         ensures { IfOk result (λ s. s ≡ record { found = replicate records None; fresh = [] }) }
     {
@@ -79,7 +78,7 @@ impl Search {
         Ok(())
     }
 
-    /// Gives level 0 to what the variables refer to. Out of memory is the only refusal. Some records may have the level then.
+    /// Gives level 0 to what the variables refer to. If memory runs out, some records may have the level.
     pub fn reach_variables(&mut self, dump: &Dump<'_>) -> Result<(), OutOfMemory>
         requires legal { HasDump (heap_of_dump dump.now) }
         requires long { length self.old.found ≡ length (heap_of_dump dump.now).records }
@@ -97,7 +96,7 @@ impl Search {
         Ok(())
     }
 
-    /// Gives this level to what these records refer to. Out of memory is the only refusal. Some records may have the level then.
+    /// Gives this level to what these records refer to. If memory runs out, some records may have the level.
     pub fn reach_from(
         &mut self,
         dump: &Dump<'_>,

@@ -1,4 +1,3 @@
-//! How many records a section has and the sum of their values, counted by several threads, each a range of records.
 ghost use Rattle.std.specs.Prelude.{◌≡◌, ◌≤◌, ◌<◌, ◌^◌, ◌==◌, if◌then◌else◌, length, map, count_by, sum_by, All, IfOk};
 ghost use Rattle.std.specs.List.{range_with_len};
 ghost use Rattle.dump_census.specs.Entries.{entry_count};
@@ -47,7 +46,7 @@ fn add_values<R: Threads + Sync>(rt: &R, entries: &[Entry], section: u32) -> u64
         .sum::<u64>(rt)
 }
 
-/// The number of records and the sum of values of each section. Out of memory is the only refusal.
+/// The number of records and the sum of values of each section.
 pub fn count_sections<R: Threads + Sync>(
     rt: &R,
     alloc: Global,

@@ -1,4 +1,4 @@
-//! A census as a text that people read. Each line is one piece, and no call takes memory.
+//! A census as a text. Each line is one piece, and no call takes memory.
 ghost use Rattle.std.specs.Prelude.{◌++◌, codes, flat_map};
 ghost use Rattle.play_report.specs.Causes.{WritesTo};
 ghost use Rattle.play_report.specs.Text.{named_text, numbered_texts};
@@ -69,7 +69,6 @@ fn write_counts<K: Sink>(census: &Census, sink: &mut K) -> Result<(), Failed>
     }
 }
 
-/// The records without a level, the sections and the values.
 fn write_rest<K: Sink>(census: &Census, sink: &mut K) -> Result<(), Failed>
     ensures { WritesTo K.written K.faults result sink.old sink.new
         (named_text (codes "unreached ") census.now.unreached ++ (numbered_texts section_text 0 census.now.sections ++ flat_map value_text census.now.values)) }
@@ -80,7 +79,6 @@ fn write_rest<K: Sink>(census: &Census, sink: &mut K) -> Result<(), Failed>
     }
 }
 
-/// All but the number of levels.
 fn write_after<K: Sink>(census: &Census, sink: &mut K) -> Result<(), Failed>
     ensures { WritesTo K.written K.faults result sink.old sink.new
         (numbered_texts level_text 0 census.now.levels ++ (named_text (codes "unreached ") census.now.unreached
@@ -92,9 +90,9 @@ fn write_after<K: Sink>(census: &Census, sink: &mut K) -> Result<(), Failed>
     }
 }
 
-/// Writes a census: `levels d`, a line `level n count` for each level, `unreached u`, a line `section w count total` for each
-/// section, and a line `value v count` for each value, in order. Failed only where the sink's count of faults rose in this call,
-/// and a prefix of the text was then written.
+/// Writes a census: `levels d`, a line `level n count` for each level, `unreached u`, a line `section w count
+/// total` for each section, and a line `value v count` for each value, in order. If it fails, the sink's count of
+/// faults rose and a prefix was written.
 pub fn write_census<K: Sink>(census: &Census, sink: &mut K) -> Result<(), Failed>
     ensures { WritesTo K.written K.faults result sink.old sink.new (census_text census.now) }
 {

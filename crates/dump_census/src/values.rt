@@ -1,4 +1,3 @@
-//! How many records have each value: the values are read and sorted by several threads, and equal ones then stand together.
 ghost use Rattle.std.specs.Prelude.{◌≡◌, ◌≤◌, ◌<◌, ℕ, length, map, OnOk, IfOk};
 ghost use Rattle.dump_census.specs.Values.{value_count_at, count_value, AreValueCounts, IsRising, IsSortedOf};
 
@@ -34,7 +33,7 @@ fn sorted_values<R: Threads + Sync>(
     }
 }
 
-/// Counts one more value, which is no less than those counted before.
+/// Counts one more value, no less than those before.
 fn count_value(counts: &mut Vec<ValueCount>, value: u32) -> Result<(), OutOfMemory>
     requires { (i : ℕ) → i < length counts.old.items → (value_count_at counts.old.items i).count < 65536 }
     ensures { OnOk result (counts.new.items ≡ count_value counts.old.items value) }
@@ -50,7 +49,6 @@ fn count_value(counts: &mut Vec<ValueCount>, value: u32) -> Result<(), OutOfMemo
     }
 }
 
-/// How often each of these values occurs, which are in order.
 fn count_sorted(alloc: Global, values: &[u32]) -> Result<Vec<ValueCount>, OutOfMemory>
     requires few { length values.now ≤ 65536 }
     requires rising { IsRising values.now }
@@ -66,7 +64,7 @@ fn count_sorted(alloc: Global, values: &[u32]) -> Result<Vec<ValueCount>, OutOfM
     Ok(counts)
 }
 
-/// Each value that occurs, in order, and how many records have it. Out of memory is the only refusal.
+/// Each value that occurs, in order, and how many records have it.
 pub fn count_values<R: Threads + Sync>(
     rt: &R,
     alloc: Global,

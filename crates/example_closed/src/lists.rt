@@ -1,4 +1,4 @@
-//! Two threads that make lists, of which all but the last of each are garbage.
+//! Two threads that make lists, all garbage but the last of each.
 ghost use Rattle.std.specs.Prelude.{◌≡◌, IfSome};
 ghost use Rattle.std.specs.Arc.{arc_value};
 ghost use Rattle.std.specs.Thread.{IsSync};
@@ -14,10 +14,8 @@ const LIST: u8 = 0;
 
 const MADE: u8 = 1;
 
-/// How many objects a list has.
 const LENGTH: u32 = 20;
 
-/// Puts one object in front of the list.
 fn push<R: Wait>(rt: &R, m: &mut Mutator, value: u32) -> Result<(), Refused>
     ensures world { arc_value m.new.heap ≡ arc_value m.old.heap }
 {
@@ -27,7 +25,6 @@ fn push<R: Wait>(rt: &R, m: &mut Mutator, value: u32) -> Result<(), Refused>
     m.forget(MADE)
 }
 
-/// Makes a list, and forgets the one before.
 fn make_list<R: Wait>(rt: &R, m: &mut Mutator) -> Result<(), Refused>
     ensures world { arc_value m.new.heap ≡ arc_value m.old.heap }
 {
@@ -38,7 +35,7 @@ fn make_list<R: Wait>(rt: &R, m: &mut Mutator) -> Result<(), Refused>
     Ok(())
 }
 
-/// What one thread does: it makes so many lists, and collects.
+/// One thread: it makes so many lists, and collects.
 fn act<R: Wait>(rt: &R, m: &mut Mutator, lists: u32) -> Result<(), Refused>
     ensures world { arc_value m.new.heap ≡ arc_value m.old.heap }
 {
@@ -51,7 +48,6 @@ fn act<R: Wait>(rt: &R, m: &mut Mutator, lists: u32) -> Result<(), Refused>
     Ok(())
 }
 
-/// What the two threads do. False where a call was refused.
 fn act_both<R: Wait + Threads + Sync>(
     rt: &R,
     first: &mut Mutator,
@@ -75,8 +71,8 @@ fn act_both<R: Wait + Threads + Sync>(
     one && two
 }
 
-/// Two threads make so many lists each, and their world is closed. Whatever the schedule, the words are the end of one run of the two, no event of which freed a
-/// reachable cell. None where a call was refused or there is no memory.
+/// Two threads make so many lists each, and their world is closed. Whatever the schedule, the words are the end of
+/// one run of the two, no event of which freed a reachable cell. None if a call was refused or there is no memory.
 pub fn play<R: Wait + Threads + AllocGlobal + Sync>(rt: &R, lists: u32) -> Option<Words>
     ensures ended { IfSome result (λ w. EndsWhole w) }
 {

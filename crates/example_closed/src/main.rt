@@ -1,4 +1,4 @@
-//! Two threads make lists and forget them, and their world is closed for its words: what they did is one run, in which nothing reachable was freed.
+//! Two threads make lists and forget them, and their world is closed for its words.
 #![tactic(auto)]
 
 mod lists;
@@ -8,10 +8,8 @@ use crate::lists::play;
 use managed_heap::Words;
 use std::io;
 
-/// How many lists each thread makes.
 const LISTS: u32 = 500;
 
-/// How many objects lie in the cells.
 fn count(words: &Words) -> u32 {
     let mut all = 0u32;
     for word in words.alloc.iter() {

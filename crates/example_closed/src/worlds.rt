@@ -1,4 +1,3 @@
-//! A world for two threads, which is opened before them and closed after them.
 ghost use Rattle.std.specs.Prelude.{◌≡◌, [], ◌∷◌, IfSome};
 ghost use Rattle.std.specs.Arc.{arc_value};
 ghost use Rattle.managed_heap.specs.Closing.{IsWorldEnd};
@@ -18,7 +17,7 @@ pub struct Pair {
     pub second: Mutator,
 }
 
-/// Opens a world for two threads. None where there is no memory.
+/// Opens a world for two threads.
 pub fn open(alloc: Global) -> Option<Pair>
     ensures own { IfSome result (λ p. AreOwn p.world p.first p.second) }
 {
@@ -38,7 +37,7 @@ pub fn open(alloc: Global) -> Option<Pair>
     })
 }
 
-/// Closes a world with its two mutators. None where there is no memory.
+/// Closes a world with its two mutators.
 pub fn close(alloc: Global, world: World, first: Mutator, second: Mutator) -> Option<Words>
     requires first { arc_value first.heap ≡ arc_value world.heap }
     requires second { arc_value second.heap ≡ arc_value world.heap }

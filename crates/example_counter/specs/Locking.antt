@@ -11,7 +11,7 @@ use Rattle.shared_heap.specs.Threads.{IsWhole}
 use Rattle.shared_heap.specs.declared.mutator.SharedMutator.{SharedMutator}
 use Rattle.shared_heap.specs.declared.world.SharedWorld.{SharedWorld}
 
--- the words are the end of one run of two mutators and nobody else, each of which took the lock so many times and left it as often; no two had it at once, after whatever number of its events
+-- the words are the end of one run of two mutators and nobody else, each of which took the lock this many times and left it as often; no two had it at once, after whatever number of its events
 pub record IsAlone (n : ℕ) (w : Words) : Type 0 where
   pub world : SharedWorld
   pub first : SharedMutator

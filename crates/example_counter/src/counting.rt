@@ -12,7 +12,8 @@ use std::thread::{Threads, join_mut};
 /// The variable that refers to the root.
 const ROOT: u8 = 0;
 
-/// Raises the counter by one, if it is still what it was read to be: true where it was. None where a call was refused, or where no 32 bits have the next number.
+/// Raises the counter by one, if it is still what it was read to be: whether it was. None if a call was refused, or
+/// 32 bits are too few.
 fn raise_once(m: &mut SharedMutator) -> Option<bool>
     ensures raised { IfSome result (λ won. AddsRaises (if won then 1 else 0) m.old m.new) }
     ensures stopped { IfNone result (AddsQuiet m.old m.new) }
@@ -43,7 +44,7 @@ fn round<R: Wait>(rt: &R, m: &mut SharedMutator) -> Option<u32>
     }
 }
 
-/// Raises the counter so many times. False where a call was refused.
+/// Raises the counter so many times; false if refused.
 fn raise<R: Wait>(rt: &R, m: &mut SharedMutator, times: u32) -> bool
     ensures raised { OnTrue result (AddsRaises times m.old m.new) }
 {
@@ -60,7 +61,6 @@ fn raise<R: Wait>(rt: &R, m: &mut SharedMutator, times: u32) -> bool
     true
 }
 
-/// What one thread does: it raises the counter so many times.
 fn act<R: Wait>(rt: &R, m: &mut SharedMutator, times: u32) -> bool
     ensures raised { OnTrue result (AddsRaises times m.old m.new) }
 {
@@ -95,8 +95,8 @@ fn play<R: Wait + Threads + Sync>(
     one && two
 }
 
-/// Two threads raise a counter so many times each, by exchanges. The answer is the value that the words of the closed world have: twice as many, whatever the
-/// schedule. None where a call was refused or there is no memory.
+/// Two threads raise a counter so many times each, by exchanges. The closed world's words have twice as many,
+/// whatever the schedule. None if a call was refused or there is no memory.
 pub fn count<R: Wait + Threads + AllocGlobal + Sync>(rt: &R, times: u32) -> Option<u64>
     ensures counted { IfSome result (λ n. n ≡ times + times) }
 {

@@ -1,4 +1,3 @@
-//! A lock: the value of the root, which is 1 while one of two threads has it.
 ghost use Rattle.std.specs.Prelude.{◌+◌, IfOk, IfSome, false, if◌then◌else◌, true};
 ghost use Rattle.std.specs.Bool.{OnTrue};
 ghost use Rattle.std.specs.Thread.{IsSync};
@@ -17,7 +16,7 @@ const FOUND: u8 = 1;
 
 const NONE: u8 = 2;
 
-/// Tries to take the lock, and lets a collection go by: true where it is had.
+/// Tries to take the lock, and lets a collection go by: whether it was taken.
 fn try_take<R: Wait>(rt: &R, m: &mut SharedMutator) -> Option<bool>
     ensures taken { IfSome result (λ had. AddsLocks false had (if had then 1 else 0) m.old m.new) }
 {
@@ -30,7 +29,7 @@ fn try_take<R: Wait>(rt: &R, m: &mut SharedMutator) -> Option<bool>
     }
 }
 
-/// Takes the lock, as soon as nobody has it. False where a call was refused.
+/// Takes the lock as soon as nobody has it; false if refused.
 fn take<R: Wait>(rt: &R, m: &mut SharedMutator) -> bool
     ensures taken { OnTrue result (AddsLocks false true 1 m.old m.new) }
 {
@@ -47,7 +46,7 @@ fn take<R: Wait>(rt: &R, m: &mut SharedMutator) -> bool
     true
 }
 
-/// Leaves the lock. False where it wasn't had, or a call was refused.
+/// Leaves the lock. False if it wasn't held, or a call was refused.
 fn leave(m: &mut SharedMutator) -> bool
     ensures left { OnTrue result (AddsLocks true false 1 m.old m.new) }
 {
@@ -57,8 +56,7 @@ fn leave(m: &mut SharedMutator) -> bool
     }
 }
 
-/// Lets the root's field 0 refer to the root where it referred to nothing, and to nothing where it referred to the root: a look and then a store, which nobody is
-/// to come between.
+/// Flips the root's field 0 between nothing and the root: a look and then a store, between which nobody is to come.
 fn flip(m: &mut SharedMutator) -> Result<(), Refused>
     ensures quiet { IfOk result (λ _. AddsQuiet m.old m.new) }
 {
@@ -67,7 +65,6 @@ fn flip(m: &mut SharedMutator) -> Result<(), Refused>
     m.set(ROOT, 0, next)
 }
 
-/// Takes the lock, flips the field and leaves the lock.
 fn visit_once<R: Wait>(rt: &R, m: &mut SharedMutator) -> bool
     ensures visited { OnTrue result (AddsLocks false false 2 m.old m.new) }
 {
@@ -80,7 +77,6 @@ fn visit_once<R: Wait>(rt: &R, m: &mut SharedMutator) -> bool
     }
 }
 
-/// Does so as often as is asked.
 fn visit_often<R: Wait>(rt: &R, m: &mut SharedMutator, times: u32) -> bool
     ensures visited { OnTrue result (AddsLocks false false (times + times) m.old m.new) }
 {
@@ -97,7 +93,6 @@ fn visit_often<R: Wait>(rt: &R, m: &mut SharedMutator, times: u32) -> bool
     true
 }
 
-/// What one thread does: it takes the lock so many times.
 fn act<R: Wait>(rt: &R, m: &mut SharedMutator, times: u32) -> bool
     ensures visited { OnTrue result (AddsLocks false false (times + times) m.old m.new) }
 {
@@ -132,8 +127,9 @@ fn play<R: Wait + Threads + Sync>(
     one && two
 }
 
-/// Two threads take a lock so many times each, and flip a field while they have it. Whatever the schedule, at no moment of the run whose end the words say both had
-/// it, and each had it so many times. None where a call was refused or there is no memory.
+/// Two threads take a lock so many times each, and flip a field while they have it. Whatever the schedule, at no
+/// moment of the run did both have it, and each had it so many times. None if a call was refused or there is no
+/// memory.
 pub fn visit<R: Wait + Threads + AllocGlobal + Sync>(rt: &R, times: u32) -> Option<Words>
     ensures alone { IfSome result (IsAlone times) }
 {

@@ -1,4 +1,4 @@
-//! Two programs of two threads over one object, the root, whose ends are proved whatever the schedule: a counter that both raise, and a lock that both take.
+//! Two programs of two threads over one object, the root: a counter that both raise, and a lock that both take.
 #![tactic(auto)]
 
 mod counting;
@@ -10,7 +10,6 @@ use crate::locking::visit;
 use shared_heap::Words;
 use std::io;
 
-/// How often each thread raises the counter.
 const TIMES: u32 = 2000;
 
 /// How often each thread takes the lock.

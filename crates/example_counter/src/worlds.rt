@@ -1,4 +1,3 @@
-//! A world for two threads, which is opened before them and closed after them.
 ghost use Rattle.std.specs.Prelude.{◌≡◌, [], ◌∷◌, IfSome};
 ghost use Rattle.std.specs.Arc.{arc_value};
 ghost use Rattle.shared_heap.specs.Closing.{IsSharedEnd};
@@ -18,7 +17,7 @@ pub struct Pair {
     pub second: SharedMutator,
 }
 
-/// Opens a world for two threads. None where there is no memory.
+/// Opens a world for two threads.
 pub fn open(alloc: Global) -> Option<Pair>
     ensures new { IfSome result (λ p. AreNew p.world p.first p.second) }
 {
@@ -38,7 +37,7 @@ pub fn open(alloc: Global) -> Option<Pair>
     })
 }
 
-/// Closes a world with its two mutators. None where there is no memory.
+/// Closes a world with its two mutators.
 pub fn close(
     alloc: Global,
     world: SharedWorld,

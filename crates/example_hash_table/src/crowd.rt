@@ -6,7 +6,6 @@ use std::alloc::Global;
 use std::sync::Wait;
 use std::thread::{Threads, for_each_mut, join_mut};
 
-/// How many keys a table has.
 const KEYS: u32 = 200;
 
 /// How often a table is filled and emptied.
@@ -19,7 +18,7 @@ pub struct Tally {
     pub found: u64,
     /// The sum of what was kept under these keys.
     pub sum: u64,
-    /// How many were found when every other key was taken out.
+    /// How many were found after every other key was taken out.
     pub left: u64,
 }
 
@@ -126,7 +125,8 @@ fn gather(world: &mut World, workers: Vec<Worker>) -> Option<Tally> {
     Some(all)
 }
 
-/// Opens a world, plays in it, and closes it. None where there is no memory, or where a mutator or the tracer could not be given back.
+/// Opens a world, plays in it, and closes it. None if there is no memory, or a mutator or the tracer could not be
+/// given back.
 pub fn run<R: Threads + Wait + Sync>(rt: &R, alloc: Global) -> Option<Tally> {
     let sizes = Sizes::of_cells(2048).fields(16).mutators(2).tracers(1);
     let mut world = World::open(alloc, sizes).ok()?;

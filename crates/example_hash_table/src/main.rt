@@ -1,5 +1,5 @@
-//! A hash table with chains, in a heap that collects its garbage: it grows, is asked and is emptied again and again, by two threads with a tracer beside
-//! them. Nothing of it is proved but that each call's conditions hold: `managed_heap` asks for none.
+//! A hash table with chains, in a heap that collects its garbage: it grows, is asked and is emptied again and
+//! again, by two threads with a tracer beside them.
 #![tactic(auto)]
 
 mod crowd;

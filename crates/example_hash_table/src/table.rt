@@ -1,11 +1,12 @@
-//! A table: an object whose references are rows, each with 16 buckets. A bucket is a chain of entries. An entry's value is its key; its reference 0 is the
-//! next entry, and its reference 1 the object that is kept under the key.
+//! A table: an object whose references are rows of 16 buckets each. A bucket is a chain of entries. An entry's
+//! value is its key; its reference 0 is the next entry, and its reference 1 the object kept under the key.
 ghost use Rattle.std.specs.Prelude.{◌≡◌, ◌<◌};
 
 use managed_heap::{Mutator, Refused};
 use std::sync::Wait;
 
-/// The variables: the table, a row of it, an entry, the entry before or behind it, what was made last, and the table before it grew.
+/// The variables: the table, a row of it, an entry, the entry before or behind it, what was made last, and the
+/// table before it grew.
 const TABLE: u8 = 0;
 
 const ROW: u8 = 1;
@@ -21,7 +22,7 @@ const OLD: u8 = 5;
 /// How many entries a chain has at most.
 const ENTRIES: u32 = 1000;
 
-/// The row of a key, and its bucket there, in a table of so many rows, 1 or 16. Both are fields of an object, and of one row it is the first.
+/// The row of a key, and its bucket there, in a table of 1 or 16 rows. Of one row it is the first.
 fn place_of(key: u32, rows: u8) -> (u8, u8)
     ensures row { (result.0 < 16) × (rows ≡ 1 → result.0 ≡ 0) }
     ensures bucket { result.1 < 16 }
@@ -31,7 +32,7 @@ fn place_of(key: u32, rows: u8) -> (u8, u8)
     (row as u8, (hash % 16) as u8)
 }
 
-/// Makes an empty table of so many rows. Refused where a call of `managed_heap` is.
+/// Makes an empty table of so many rows.
 pub fn make<R: Wait>(m: &mut Mutator, rt: &R, rows: u8) -> Result<(), Refused> {
     m.make(rt, TABLE, 0)?;
     for row in 0..rows {
@@ -41,7 +42,6 @@ pub fn make<R: Wait>(m: &mut Mutator, rt: &R, rows: u8) -> Result<(), Refused> {
     Ok(())
 }
 
-/// Puts the entry in hand before the others of its chain.
 fn link(m: &mut Mutator, rows: u8, key: u32) -> Result<(), Refused> {
     let (row, bucket) = place_of(key, rows);
     m.get(ROW, TABLE, row)?;
@@ -50,7 +50,7 @@ fn link(m: &mut Mutator, rows: u8, key: u32) -> Result<(), Refused> {
     m.set(ROW, bucket, ENTRY)
 }
 
-/// Keeps a number under a key. Refused where a call of `managed_heap` is.
+/// Keeps a number under a key.
 pub fn insert<R: Wait>(
     m: &mut Mutator,
     rt: &R,
@@ -64,7 +64,7 @@ pub fn insert<R: Wait>(
     link(m, rows, key)
 }
 
-/// Moves the entries of a chain, which begins with the entry in hand, to the table.
+/// Moves a chain, which begins with the entry in hand, to the table.
 fn move_chain(m: &mut Mutator, rows: u8) -> Result<(), Refused> {
     for _ in 0..ENTRIES {
         if m.is_nil(ENTRY)? {
@@ -78,7 +78,7 @@ fn move_chain(m: &mut Mutator, rows: u8) -> Result<(), Refused> {
     Ok(())
 }
 
-/// Lets a table of one row grow to 16 rows. Refused where a call of `managed_heap` is.
+/// Lets a table of one row grow to 16 rows.
 pub fn grow<R: Wait>(m: &mut Mutator, rt: &R) -> Result<(), Refused> {
     m.get(OLD, TABLE, 0)?;
     make(m, rt, 16)?;
@@ -89,7 +89,7 @@ pub fn grow<R: Wait>(m: &mut Mutator, rt: &R) -> Result<(), Refused> {
     m.forget(OLD)
 }
 
-/// Comes to the entry of a key, with what is before it in its chain in hand too. False where there is none.
+/// Comes to the entry of a key, with the one before it in hand too; false if there is none.
 fn seek(m: &mut Mutator, rows: u8, key: u32) -> Result<bool, Refused> {
     let (row, bucket) = place_of(key, rows);
     m.get(ROW, TABLE, row)?;
@@ -108,7 +108,7 @@ fn seek(m: &mut Mutator, rows: u8, key: u32) -> Result<bool, Refused> {
     Ok(false)
 }
 
-/// The number that is kept under a key, if there is one. Refused where a call of `managed_heap` is.
+/// The number kept under a key, if there is one.
 pub fn find(m: &mut Mutator, rows: u8, key: u32) -> Result<Option<u32>, Refused> {
     if !seek(m, rows, key)? {
         return Ok(None);
@@ -117,7 +117,7 @@ pub fn find(m: &mut Mutator, rows: u8, key: u32) -> Result<Option<u32>, Refused>
     Ok(Some(m.value(MADE)?))
 }
 
-/// Takes a key out of the table. Refused where a call of `managed_heap` is.
+/// Takes a key out of the table.
 pub fn remove(m: &mut Mutator, rows: u8, key: u32) -> Result<(), Refused> {
     if !seek(m, rows, key)? {
         return Ok(());

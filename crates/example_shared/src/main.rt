@@ -1,5 +1,5 @@
-//! Two threads that pass objects to each other through the root's fields, in a heap of 128 cells that is collected many times; a second world, in which each
-//! other call is made once; and a third, in which no call waits, with a tracer.
+//! Two threads that pass objects to each other through the root's fields, in a heap of 128 cells that is collected
+//! many times; a world in which each other call is made once; and one in which no call waits, with a tracer.
 #![tactic(auto)]
 
 mod sending;
@@ -14,10 +14,10 @@ use std::io;
 use std::sync::Wait;
 use std::thread::{Threads, join_mut};
 
-/// How many lists each thread passes on.
 const COUNT: u32 = 2000;
 
-/// What one thread does: it passes lists on through field `out` of the root and takes some from field `from`. The sum of the values that it took.
+/// One thread: passes lists on through field `out` of the root and takes some from field `from`. The sum of the
+/// values it took.
 fn act<R: Wait>(rt: &R, m: &mut SharedMutator, out: u8, from: u8) -> Result<u64, Refused> {
     m.enter(rt)?;
     let sum = play(rt, m, out, from, COUNT)?;

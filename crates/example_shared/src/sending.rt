@@ -14,7 +14,7 @@ const NEXT: u8 = 3;
 
 const NONE: u8 = 4;
 
-/// Sends a list of three objects through field `out` of the root, once the last one was taken: its first has the value n.
+/// Sends a list of three objects through field `out` of the root, once the last one was taken.
 fn send<R: Wait>(rt: &R, m: &mut SharedMutator, out: u8, n: u32) -> Result<(), Refused> {
     for _ in rt.forever() {
         m.get(FOUND, ROOT, out)?;
@@ -35,7 +35,7 @@ fn send<R: Wait>(rt: &R, m: &mut SharedMutator, out: u8, n: u32) -> Result<(), R
     m.forget(NEXT)
 }
 
-/// Takes a list from field `from` of the root, as soon as there is one, and the sum of its values.
+/// Takes a list from field `from` of the root, as soon as there is one: the sum of its values.
 fn receive<R: Wait>(rt: &R, m: &mut SharedMutator, from: u8) -> Result<u64, Refused> {
     m.forget(NONE)?;
     for _ in rt.forever() {
@@ -55,7 +55,7 @@ fn receive<R: Wait>(rt: &R, m: &mut SharedMutator, from: u8) -> Result<u64, Refu
     Ok(sum)
 }
 
-/// Sends and receives by turns: through one field of the root it sends, from the other it receives. The sum of all that came.
+/// Sends and receives by turns: the sum of all that came.
 pub fn play<R: Wait>(
     rt: &R,
     m: &mut SharedMutator,

@@ -13,7 +13,6 @@ const NONE: u8 = 2;
 /// How many steps a collection of 64 cells has at most.
 const STEPS: u32 = 1_000;
 
-/// Whether an object is made, reached from the root, and read there.
 fn reads_back(s: &mut Stepper) -> bool {
     let mut value = 0;
     s.enter() == Came::Done
@@ -37,14 +36,12 @@ fn collects(s: &mut Stepper) -> bool {
     false
 }
 
-/// Whether a tracer finds nothing to do, and then that it is dismissed.
 fn turns(world: &mut SharedWorld, t: &mut Tracer) -> bool {
     t.try_turn() == TryTurn::Idle
         && world.try_dismiss_tracers()
         && t.try_turn() == TryTurn::Dismissed
 }
 
-/// Whether the world takes both back, and frees its heap.
 fn frees(world: SharedWorld, s: Stepper, t: Tracer) -> bool {
     let mut world = world;
     match SharedMutator::of_steps(s) {

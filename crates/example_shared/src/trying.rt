@@ -28,7 +28,6 @@ fn finds_again(m: &mut SharedMutator, cell: u32, number: u64) -> Result<bool, Re
     Ok(place == cell && found == number && value == 7)
 }
 
-/// Whether the slots refer to nothing once they are let go of.
 fn forgets(m: &mut SharedMutator) -> Result<bool, Refused>
     ensures world { arc_value m.new.heap ≡ arc_value m.old.heap }
 {
@@ -37,7 +36,7 @@ fn forgets(m: &mut SharedMutator) -> Result<bool, Refused>
     m.is_nil(NONE)
 }
 
-/// Keeps an object in a slot alone while the heap is collected, and finds it there again: whether it is the same one, where it was.
+/// Keeps an object only in a slot while the heap is collected: whether it is found there again, where it was.
 fn keep_in_slot<R: Wait>(rt: &R, m: &mut SharedMutator) -> Result<bool, Refused>
     ensures world { arc_value m.new.heap ≡ arc_value m.old.heap }
 {
@@ -51,7 +50,7 @@ fn keep_in_slot<R: Wait>(rt: &R, m: &mut SharedMutator) -> Result<bool, Refused>
     Ok(same && forgotten && number == FIRST)
 }
 
-/// Lets the root's field 0 refer to an object by an exchange, which a second one that expects the same doesn't win.
+/// Lets the root's field 0 refer to an object by an exchange; a second one that expects the same loses.
 fn exchange_twice(m: &mut SharedMutator) -> Result<bool, Refused>
     ensures world { arc_value m.new.heap ≡ arc_value m.old.heap }
 {
@@ -76,7 +75,6 @@ fn try_all<R: Wait>(rt: &R, m: &mut SharedMutator) -> Result<bool, Refused>
     Ok(kept && won && put && refused)
 }
 
-/// A world that isn't closed without its mutator, and is handed back.
 fn stays_open<R: AllocGlobal>(rt: &R, world: SharedWorld) -> Option<SharedWorld>
     ensures same { IfSome result (λ w. w ≡ world) }
 {
@@ -86,7 +84,7 @@ fn stays_open<R: AllocGlobal>(rt: &R, world: SharedWorld) -> Option<SharedWorld>
     }
 }
 
-/// Whether the world is closed with this mutator and this tracer, and hands out a value for each cell.
+/// Whether the world closes with this mutator and this tracer, with a value for each cell.
 fn closes<R: AllocGlobal>(rt: &R, world: SharedWorld, m: SharedMutator, t: Tracer) -> bool
     requires same { arc_value m.heap ≡ arc_value world.heap }
     requires same_tracer { arc_value t.heap ≡ arc_value world.heap }
@@ -103,8 +101,8 @@ fn closes<R: AllocGlobal>(rt: &R, world: SharedWorld, m: SharedMutator, t: Trace
     }
 }
 
-/// A world with one mutator, which makes each call, and one tracer: they are missed where the world is closed without them, and handed in at the end. Whether
-/// all went well.
+/// A world with one mutator, which makes each call, and one tracer: it isn't closed without them. Whether all went
+/// well.
 pub fn open_and_close<R: Wait + AllocGlobal>(rt: &R) -> bool {
     let sizes = SharedSizes::of_cells(64).slots(4).packets(8, 16).tracers(1);
     let Ok(mut world) = SharedWorld::open(rt.alloc(), sizes) else {

@@ -7,7 +7,7 @@ use Rattle.gc_table.specs.Seats.{state_of, view_of}
 use Rattle.gc_table.specs.declared.view.Entry.{Entry}
 use Rattle.shared_heap.specs.declared.mutator.SharedMutator.{SharedMutator}
 
--- a step that stores or exchanges a reference or a value of an object, and whether it took place: an exchange does where it found what it expected
+-- a step that stores or exchanges a reference or a value of an object, and whether it took place: an exchange does if it found what it expected
 pub record Change : Type 0 where
   pub step : Step
   pub won : Bool

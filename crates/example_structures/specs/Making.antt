@@ -14,7 +14,7 @@ is_laid v step won = false
 abbrev pub is_not_laid : ℕ → Step → Bool → Bool
 is_not_laid v step won = not (is_laid v step won)
 
--- so many references of variable v's object were laid, and nothing else was changed
+-- this many references of variable v's object were laid, and nothing else was changed
 pub record Lays (v count : ℕ) (x y : SharedMutator) : Type 0 where
   pub laid : count_of (is_laid v) (changes_of y) ≡ count_of (is_laid v) (changes_of x) + count
   pub others : count_of (is_not_laid v) (changes_of y) ≡ count_of (is_not_laid v) (changes_of x)

@@ -20,11 +20,11 @@ is_made step won = false
 abbrev pub is_unlike : Step → Bool → Bool
 is_unlike step won = not (is_renewed step won || is_made step won)
 
--- so many chains were renewed, and no object was changed but entries that were made
+-- this many chains were renewed, and no object was changed but entries that were made
 pub record Renews (count : ℕ) (x y : SharedMutator) : Type 0 where
   pub renewed : count_of is_renewed (changes_of y) ≡ count_of is_renewed (changes_of x) + count
   pub others : count_of is_unlike (changes_of y) ≡ count_of is_unlike (changes_of x)
 
--- how many references the objects of a map want with so many rows and chains
+-- how many references the objects of a map want with this many rows and chains
 abbrev pub width_of : ℕ → ℕ → ℕ
 width_of rows chains = let greater : ℕ = if nat_lt rows chains then chains else rows in if nat_lt greater 2 then 2 else greater

@@ -25,7 +25,7 @@ is_beside q step won = false
 abbrev pub is_other : ℕ → Step → Bool → Bool
 is_other q step won = not (is_put step won || is_taking q step won || is_beside q step won)
 
--- so many nodes were put in, and so many taken out of variable q's queue; nothing else was changed but what is beside
+-- this many nodes were put in, and this many taken out of variable q's queue; nothing else was changed but what is beside
 pub record Moves (q puts takes : ℕ) (x y : SharedMutator) : Type 0 where
   pub put : count_of is_put (changes_of y) ≡ count_of is_put (changes_of x) + puts
   pub taken : count_of (is_taking q) (changes_of y) ≡ count_of (is_taking q) (changes_of x) + takes

@@ -1,8 +1,8 @@
 //! What the structures do with a mutator that is inside.
 //!
-//! The numbers of the variables are in range, and the world's objects have as many references as are used. So most of it can't be refused. Each call says that it
-//! changed no object, and that the mutator's log tells what variable `SEEN` refers to, where it told so before: by this an exchange that expects it says whether it
-//! was won.
+//! The variables are in range, and objects have as many references as are used, so most of it can't be refused.
+//! Each call says that it changed no object, and that the mutator's log still tells what variable `SEEN` refers to:
+//! by this an exchange that expects it says whether it was won.
 ghost use Rattle.std.specs.Arc.{arc_value};
 ghost use Rattle.std.specs.Prelude.{◌≡◌, ℕ, ◌<◌, ◌≢◌, IfErr, IfOk, IsFalse, IsTrue};
 ghost use Rattle.mark_core.specs.Steps.MutatorSteps.{seat_variable as word_in};
@@ -17,7 +17,7 @@ use crate::hands::{OWN, SEEN};
 use shared_heap::{Refused, SharedMutator};
 use std::sync::Wait;
 
-/// Variable w becomes what reference i of variable v's object is found to refer to, or refers to nothing where v does.
+/// Variable w becomes what reference i of variable v's object refers to; nothing if v is nil.
 pub(crate) fn get(m: &mut SharedMutator, w: u8, v: u8, i: u8)
     requires inside { m.old.place ≡ Inside }
     requires range { (w < 32) × (v < 32) × (i < field_count_of m.old) }
@@ -42,7 +42,6 @@ pub(crate) fn see(m: &mut SharedMutator, v: u8, i: u8)
     let _done = m.get(SEEN, v, i);
 }
 
-/// Variable w becomes what variable v is.
 pub(crate) fn copy(m: &mut SharedMutator, w: u8, v: u8)
     requires inside { m.old.place ≡ Inside }
     requires range { (w < 32) × (v < 32) }
@@ -55,7 +54,6 @@ pub(crate) fn copy(m: &mut SharedMutator, w: u8, v: u8)
     let _done = m.copy(w, v);
 }
 
-/// Variable v refers to nothing any more.
 pub(crate) fn forget(m: &mut SharedMutator, v: u8)
     requires inside { m.old.place ≡ Inside }
     requires range { v < 32 }
@@ -67,7 +65,7 @@ pub(crate) fn forget(m: &mut SharedMutator, v: u8)
     let _done = m.forget(v);
 }
 
-/// Makes an object with this value, to which variable v refers. It is a safe point.
+/// Makes an object with this value, for variable v. It is a safe point.
 pub(crate) fn make<R: Wait>(rt: &R, m: &mut SharedMutator, v: u8, value: u32) -> Result<(), Refused>
     requires inside { m.old.place ≡ Inside }
     requires range { v < 32 }
@@ -97,7 +95,7 @@ pub(crate) fn pass<R: Wait>(rt: &R, m: &mut SharedMutator) -> Result<(), Refused
     m.safe_point(rt)
 }
 
-/// The value of variable v's object. Nil where it refers to nothing.
+/// The value of variable v's object.
 pub(crate) fn value(m: &mut SharedMutator, v: u8) -> Result<u64, Refused>
     requires inside { m.old.place ≡ Inside }
     requires range { v < 32 }
@@ -110,7 +108,6 @@ pub(crate) fn value(m: &mut SharedMutator, v: u8) -> Result<u64, Refused>
     m.value(v)
 }
 
-/// Whether variable v refers to nothing.
 pub(crate) fn is_nil(m: &SharedMutator, v: u8) -> bool
     requires inside { m.now.place ≡ Inside }
     requires range { v < 32 }
@@ -130,7 +127,7 @@ pub(crate) fn same(m: &SharedMutator, v: u8, w: u8) -> bool
     m.same(v, w).unwrap_or(true)
 }
 
-/// Reference i of variable v's object, which was made in this call, becomes what variable `OWN` refers to.
+/// Reference i of variable v's object, made in this call, becomes what variable `OWN` refers to.
 pub(crate) fn lay(m: &mut SharedMutator, v: u8, i: u8)
     requires inside { m.old.place ≡ Inside }
     requires range { (v < 32) × (i < field_count_of m.old) }

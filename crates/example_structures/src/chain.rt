@@ -1,4 +1,4 @@
-//! A chain of a map, which is made anew where one of its keys is changed.
+//! A chain of a map, which is made anew if one of its keys is changed.
 ghost use Rattle.std.specs.Arc.{arc_value};
 ghost use Rattle.std.specs.Prelude.{◌≡◌, ◌<◌, ◌≤◌, IfErr, IfNone, IfOk, IfSome, IsTrue};
 ghost use Rattle.shared_heap.specs.Calls.{field_count_of};
@@ -17,8 +17,8 @@ const NEXT: u8 = 0;
 
 const KEPT: u8 = 1;
 
-/// The variables beside the row in hand, and its chain as it was seen: the entry of a key, what is kept there, the chain that is made, an entry that is copied, its
-/// copy, what it keeps, and one that always refers to nothing.
+/// Further variables: the entry of a key, what is kept there, the chain that is made, an entry that is copied, its
+/// copy, what it keeps, and one that is always nil.
 const ENTRY: u8 = 22;
 
 pub(crate) const FOUND: u8 = 23;
@@ -98,7 +98,6 @@ pub(crate) fn renew<R: Wait>(
     Ok(())
 }
 
-/// Makes the chain anew without the entry in hand, if there is one.
 fn leave_out<R: Wait>(rt: &R, m: &mut SharedMutator) -> Result<(), Refused>
     requires inside { m.old.place ≡ Inside }
     requires wide { 2 ≤ field_count_of m.old }
@@ -134,7 +133,6 @@ fn put_before<R: Wait>(rt: &R, m: &mut SharedMutator, key: u32, kept: u8) -> Res
     Ok(())
 }
 
-/// A reference of the entry that is made becomes what variable v refers to.
 fn keep(m: &mut SharedMutator, i: u8, v: u8)
     requires inside { m.old.place ≡ Inside }
     requires wide { (i < 2) × (v < 32) × (2 ≤ field_count_of m.old) }
@@ -146,7 +144,7 @@ fn keep(m: &mut SharedMutator, i: u8, v: u8)
     let _done = m.set(COPY, i, v);
 }
 
-/// Copies the entries that stand before the one in hand, each before the chain that is made. Nil where the chain ends before.
+/// Copies the entries before the one in hand to the front of the chain that is made. Nil if the chain ends before.
 fn copy_before<R: Wait>(rt: &R, m: &mut SharedMutator) -> Result<(), Refused>
     requires inside { m.old.place ≡ Inside }
     requires wide { 2 ≤ field_count_of m.old }
@@ -166,7 +164,6 @@ fn copy_before<R: Wait>(rt: &R, m: &mut SharedMutator) -> Result<(), Refused>
     Ok(())
 }
 
-/// Copies one entry, and goes on to the next.
 fn copy_one<R: Wait>(rt: &R, m: &mut SharedMutator) -> Result<(), Refused>
     requires inside { m.old.place ≡ Inside }
     requires wide { 2 ≤ field_count_of m.old }
@@ -183,7 +180,7 @@ fn copy_one<R: Wait>(rt: &R, m: &mut SharedMutator) -> Result<(), Refused>
     Ok(())
 }
 
-/// So many of the structures' variables refer to nothing any more.
+/// So many of the structures' variables refer to nothing.
 pub(crate) fn let_go(m: &mut SharedMutator, count: u8)
     requires inside { m.old.place ≡ Inside }
     requires range { count ≤ 8 }

@@ -1,4 +1,3 @@
-//! The variables of a mutator: its caller's, and those that the structures work with.
 ghost use Rattle.std.specs.Arc.{arc_value};
 ghost use Rattle.std.specs.Prelude.{◌≡◌, ◌<◌, IfErr, IfOk};
 ghost use Rattle.shared_heap.specs.declared.mutator.Place.TheVariants.{Inside};
@@ -7,8 +6,8 @@ ghost use Rattle.example_structures.specs.Refusing.{IsFor, NotBegun};
 
 use shared_heap::{Refused, SharedMutator};
 
-/// How many variables are the caller's: 0 to 19. The structures work with the others, which refer to nothing between two calls. After a call that was refused
-/// they may refer to something, until a later call is done.
+/// How many variables are the caller's: 0 to 19. The structures work with the others, which refer to nothing
+/// between two calls, except after a call that was refused.
 pub const CALLERS: u8 = 20;
 
 /// The variable of what is made: a node, or a row.
@@ -17,8 +16,8 @@ pub(crate) const OWN: u8 = 20;
 /// The variable of what was seen in a structure: what an exchange expects there.
 pub(crate) const SEEN: u8 = 21;
 
-/// Begins a call that uses this variable of the caller's, and so many references of an object. Refused where the variable isn't the caller's, the world's objects
-/// have fewer, or the mutator is outside: then nothing was done.
+/// Begins a call that uses this variable of the caller's, and so many references of an object. Refused, with
+/// nothing done, if the variable isn't the caller's, objects have fewer references, or the mutator is outside.
 pub(crate) fn begin(m: &mut SharedMutator, v: u8, least: u8) -> Result<(), Refused>
     requires least { 0 < least }
     ensures begun { IfOk result (λ _. (m.old.place ≡ Inside) × (m.new.place ≡ Inside) × IsFor v least m.new) }

@@ -1,12 +1,10 @@
-//! Structures that threads fill and empty together, in a heap whose objects they share: a queue of several producers and consumers, and a hash map.
+//! Structures that threads fill and empty together, in a heap whose objects they share: a queue of several
+//! producers and consumers, and a hash map.
 //!
-//! Both are made of objects of the heap alone, and changed by exchanges of their references. There is no lock: a thread that loses an exchange looks again, and
-//! then another has won one. Whoever has a reference in a variable keeps its object, so that no other is ever taken for it: an exchange that expects the object
-//! finds that one or none.
-//!
-//! - `queue`: objects in the order in which they came, each with a number; several threads put some in and take some out.
-//! - `map`: objects under keys; several threads put some in, exchange them and take them out. `chain`: a chain of it.
-//! - `hands`: which variables of a mutator the two use, and which are the caller's. `calls`: what they do with theirs.
+//! Both are made only of objects of the heap, and changed by exchanges of their references. There is no lock: a
+//! thread that loses an exchange looks again, and then another has won one. Whoever has a reference in a variable
+//! keeps its object, so no other is ever taken for it (no ABA): an exchange that expects the object finds that one
+//! or none.
 //!
 //! No call asks for a proof. Each answers by name why it was refused, as those of `shared_heap` do.
 #![tactic(auto)]

@@ -1,9 +1,10 @@
 //! A hash map with chains, whose every change is one exchange.
 //!
-//! The map is an object whose references are rows, and a row's references are chains of entries. An entry's value is its key; its reference 0 is the next entry,
-//! and its reference 1 the object that is kept under the key. An entry that a chain has never changes: whoever changes a key makes anew what stands before its
-//! entry, lets it end in what stands behind it, and puts the new chain in the old one's place by an exchange. So each change happens at one moment, a reader finds
-//! a chain as it was at one moment, and what was replaced is garbage.
+//! The map is an object whose references are rows, and a row's references are chains of entries. An entry's value
+//! is its key; its reference 0 is the next entry, and its reference 1 the object kept under the key. An entry of a
+//! chain never changes: whoever changes a key makes anew what stands before its entry, ends it in what stands
+//! behind, and puts the new chain in the old one's place by an exchange. So each change happens at one moment, and
+//! a reader finds a chain as it was at one moment.
 ghost use Rattle.std.specs.Arc.{arc_value};
 ghost use Rattle.std.specs.Prelude.{◌≡◌, ◌<◌, ◌≤◌, IfErr, IfNone, IfOk, IfSome, IsFalse, IsTrue, is_none, if◌then◌else◌};
 ghost use Rattle.mark_core.specs.Steps.MutatorSteps.{seat_variable as word_in};
@@ -27,14 +28,14 @@ pub struct SharedMap {
     map: u8,
     rows: u8,
     chains: u8,
-    /// How many references an object wants: the greater number, and two at least.
+    /// How many references an object needs: the greater number, at least two.
     width: u8,
     ghost some: { (map < 20) × (0 < rows) × (rows ≤ width) × (0 < chains) × (chains ≤ width) × (2 ≤ width) × (width ≤ 16) },
 }
 
 impl SharedMap {
-    /// The map of this variable, with 1 to 16 rows of 1 to 16 chains each. None where a number is out of its range, or where the variable isn't one of the
-    /// caller's, 0 to 19. The world's objects want as many references as the greater number, and two at least.
+    /// The map of this variable (0 to 19), with 1 to 16 rows of 1 to 16 chains each; None if out of range. Objects
+    /// need as many references as the greater number, at least two.
     pub fn at(map: u8, rows: u8, chains: u8) -> Option<SharedMap>
         ensures some { IfSome result (λ r. (r.map ≡ map) × (r.rows ≡ rows) × (r.chains ≡ chains) × (r.width ≡ width_of rows chains)) }
         ensures none { IfNone result ((map < 20) × (0 < rows) × (rows ≤ 16) × (0 < chains) × (chains ≤ 16) → ⊥) }
@@ -50,7 +51,6 @@ impl SharedMap {
         })
     }
 
-    /// The row of a key, and its chain there.
     fn place_of(self, key: u32) -> (u8, u8)
         ensures row { result.0 < self.rows }
         ensures chain { result.1 < self.chains }
@@ -61,7 +61,7 @@ impl SharedMap {
         (row as u8, chain as u8)
     }
 
-    /// Makes an empty map, to which the variable refers from then on.
+    /// Makes an empty map, for the variable.
     pub fn make<R: Wait>(self, rt: &R, m: &mut SharedMutator) -> Result<(), Refused>
         ensures made { IfOk result (λ _. (m.new.place ≡ Inside) × Lays self.map self.rows m.old m.new) }
         ensures refused { IfErr result (λ e. IsRefused e (IsFor self.map self.width m.old) m.old m.new) }
@@ -77,7 +77,7 @@ impl SharedMap {
         Ok(())
     }
 
-    /// Variable `found` refers to what is kept under a key: true where something is. Else it refers to nothing.
+    /// Variable `found` refers to what is kept under a key, if anything: whether it is.
     pub fn find<R: Wait>(
         self,
         rt: &R,
@@ -100,7 +100,7 @@ impl SharedMap {
         Ok(!is_nil(m, found))
     }
 
-    /// The object of variable `item` is kept under a key, whatever was kept before, or nothing is where it refers to nothing: true where something was.
+    /// Keeps variable `item`'s object under a key, or nothing if it is nil: whether something was kept before.
     pub fn put<R: Wait>(
         self,
         rt: &R,
@@ -119,7 +119,7 @@ impl SharedMap {
         Ok(was)
     }
 
-    /// Takes out what is kept under a key, to which variable `found` refers then: true where something was.
+    /// Takes out what is kept under a key, for variable `found`: whether something was.
     pub fn take<R: Wait>(
         self,
         rt: &R,
@@ -140,8 +140,8 @@ impl SharedMap {
         Ok(!is_nil(m, found))
     }
 
-    /// Where what variable `expected` refers to is kept under a key, what variable `new` refers to is kept from then on: true where it was. A variable that
-    /// refers to nothing stands for nothing. Of several threads that expect the same one alone succeeds.
+    /// Keeps what variable `new` refers to under a key, if what `expected` refers to is kept there: whether it was.
+    /// Nil stands for nothing. Of several threads that expect the same, only one succeeds.
     pub fn exchange<R: Wait>(
         self,
         rt: &R,
@@ -163,7 +163,6 @@ impl SharedMap {
         Ok(won)
     }
 
-    /// Comes to the chain of a key, with its row in hand.
     fn come(self, m: &mut SharedMutator, key: u32)
         requires inside { m.old.place ≡ Inside }
         requires wide { self.width ≤ field_count_of m.old }
@@ -177,7 +176,7 @@ impl SharedMap {
         see(m, OWN, chain);
     }
 
-    /// What is kept under a key becomes what variable `new` refers to, if it is what variable `expected` refers to or none is named: true where it did.
+    /// Keeps what variable `new` refers to, if `expected` is kept or none is named: whether it was.
     fn change<R: Wait>(
         self,
         rt: &R,
@@ -209,7 +208,7 @@ impl SharedMap {
         Ok(false)
     }
 
-    /// The chain that was made comes in the place of the one that was seen, if that is still there: true where it was.
+    /// Puts the chain that was made in the place of the one that was seen, if that is still there: whether it was.
     fn publish(self, m: &mut SharedMutator, key: u32) -> Result<bool, Refused>
         requires inside { m.old.place ≡ Inside }
         requires wide { self.width ≤ field_count_of m.old }
@@ -223,7 +222,7 @@ impl SharedMap {
     }
 }
 
-/// How many references the objects of a map want.
+/// How many references the objects of a map need.
 fn width(rows: u8, chains: u8) -> u8
     ensures { result ≡ width_of rows chains }
 {

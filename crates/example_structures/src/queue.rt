@@ -1,11 +1,13 @@
 //! A queue of several producers and consumers: that of Michael and Scott (PODC 1996).
 //!
-//! The queue is an object with two references, to the first node and to the last. A node's value is the number that was put in; its reference 0 is the next node,
-//! and its reference 1 the object that was put in. The first node is always one whose number was taken, or that the queue began with: so the queue is never
-//! without a node, and producers and consumers work at its two ends.
+//! The queue is an object with two references, to the first node and to the last. A node's value is the number put
+//! in; its reference 0 is the next node, and its reference 1 the object put in. The first node is one whose number
+//! was taken, or that the queue began with: so the queue always has a node, and producers and consumers work at its
+//! two ends.
 //!
-//! A node is put in by one exchange of the last node's reference, which must be nil, and taken out by one exchange of the queue's first. The queue's last follows:
-//! where it lags behind, whoever finds it so moves it on. What a taken node had is read before the exchange: until that is won no other changes it.
+//! A node is put in by one exchange of the last node's reference, which must be nil, and taken out by one exchange
+//! of the queue's first. The queue's last follows: if it lags behind, whoever finds it so moves it on. What a taken
+//! node had is read before the exchange: until that is won no other changes it.
 ghost use Rattle.std.specs.Arc.{arc_value};
 ghost use Rattle.std.specs.Prelude.{◌≡◌, ◌<◌, ◌≤◌, IfErr, IfNone, IfOk, IfSome, ◌⊎◌, if◌then◌else◌};
 ghost use Rattle.shared_heap.specs.Calls.{field_count_of};
@@ -31,7 +33,7 @@ const NEXT: u8 = 0;
 
 const ITEM: u8 = 1;
 
-/// The variables beside the node that is put in, and what is seen: the last node, the one behind the first, and its object.
+/// Further variables: the last node, the one behind the first, and its object.
 const TAIL: u8 = 22;
 
 const BEHIND: u8 = 23;
@@ -49,7 +51,8 @@ enum Look {
     Again,
 }
 
-/// The queue that a variable refers to. Its objects want two references at least. The queue's own value is the caller's.
+/// The queue that a variable refers to. Objects need two references at least. The queue's own value is the
+/// caller's.
 #[derive(Clone, Copy, Debug, PartialEq, Eq, Drop)]
 pub struct SharedQueue {
     queue: u8,
@@ -57,7 +60,7 @@ pub struct SharedQueue {
 }
 
 impl SharedQueue {
-    /// The queue of this variable. None where that isn't one of the caller's, 0 to 19.
+    /// The queue of this variable, 0 to 19; else None.
     pub fn at(queue: u8) -> Option<SharedQueue>
         ensures some { IfSome result (λ q. (q.queue ≡ queue) × (queue < 20)) }
         ensures none { IfNone result (20 ≤ queue) }
@@ -68,7 +71,7 @@ impl SharedQueue {
         Some(SharedQueue { queue })
     }
 
-    /// Makes an empty queue, to which the variable refers from then on.
+    /// Makes an empty queue, for the variable.
     pub fn make<R: Wait>(self, rt: &R, m: &mut SharedMutator) -> Result<(), Refused>
         ensures made { IfOk result (λ _. (m.new.place ≡ Inside) × Lays self.queue 2 m.old m.new) }
         ensures refused { IfErr result (λ e. IsRefused e (IsFor self.queue 2 m.old) m.old m.new × Lays self.queue 0 m.old m.new) }
@@ -83,7 +86,7 @@ impl SharedQueue {
         Ok(())
     }
 
-    /// Puts in a number, and the object of variable `item`, if it refers to one. It is a safe point.
+    /// Puts in a number, and the object of variable `item`, if any. It is a safe point.
     pub fn put<R: Wait>(
         self,
         rt: &R,
@@ -109,7 +112,8 @@ impl SharedQueue {
         Ok(())
     }
 
-    /// The node in hand comes behind the last, if that is found to be last: true where it was. Else it is a safe point.
+    /// The node in hand comes behind the last, if that is found to be last: whether it was. Else it is a safe
+    /// point.
     fn try_put<R: Wait>(self, rt: &R, m: &mut SharedMutator) -> Result<bool, Refused>
         requires inside { m.old.place ≡ Inside }
         requires wide { 2 ≤ field_count_of m.old }
@@ -124,7 +128,7 @@ impl SharedQueue {
         Ok(false)
     }
 
-    /// The node in hand comes behind the last, if that is found to be last: true where it was. Else the queue's last moves on.
+    /// The node in hand comes behind the last, if that is found to be last. Else the queue's last moves on.
     fn append(self, m: &mut SharedMutator) -> Result<bool, Refused>
         requires inside { m.old.place ≡ Inside }
         requires wide { 2 ≤ field_count_of m.old }
@@ -143,7 +147,8 @@ impl SharedQueue {
         Ok(false)
     }
 
-    /// The node in hand comes behind the last, behind which nothing was seen, if no other does first: true where it did, and then the queue's last moves on.
+    /// The node in hand comes behind the last, behind which nothing was seen, if no other does first; then the
+    /// queue's last moves on.
     fn link(self, m: &mut SharedMutator) -> Result<bool, Refused>
         requires inside { m.old.place ≡ Inside }
         requires wide { 2 ≤ field_count_of m.old }
@@ -160,7 +165,7 @@ impl SharedQueue {
         Ok(won)
     }
 
-    /// One exchange, by which the node in hand comes behind the last: true where it was won. Nil where no last one was found.
+    /// One exchange that puts the node in hand behind the last: whether it was won. Nil if no last one was found.
     fn come_behind(self, m: &mut SharedMutator) -> Result<bool, Refused>
         requires inside { m.old.place ≡ Inside }
         requires wide { 2 ≤ field_count_of m.old }
@@ -172,7 +177,6 @@ impl SharedQueue {
         m.exchange(TAIL, NEXT, SEEN, OWN)
     }
 
-    /// The queue's last moves on to what this variable refers to, if no other moved it.
     fn follow(self, m: &mut SharedMutator, to: u8)
         requires inside { m.old.place ≡ Inside }
         requires wide { (to < 32) × (2 ≤ field_count_of m.old) }
@@ -183,7 +187,6 @@ impl SharedQueue {
         let _moved = m.exchange(self.queue, LAST, TAIL, to);
     }
 
-    /// What a node in hand keeps beside its number becomes what this variable refers to.
     fn keep(self, m: &mut SharedMutator, node: u8, item: u8)
         requires inside { m.old.place ≡ Inside }
         requires wide { (item < 32) × (2 ≤ field_count_of m.old) }
@@ -195,7 +198,8 @@ impl SharedQueue {
         let _done = m.set(node, ITEM, item);
     }
 
-    /// Takes the first out: its number. Variable `item` refers to its object, if it has one. None where the queue was empty at some moment of the call.
+    /// Takes the first out: its number, with its object for variable `item`. None if the queue was empty at some
+    /// moment of the call.
     pub fn take<R: Wait>(
         self,
         rt: &R,
@@ -217,7 +221,8 @@ impl SharedQueue {
         Ok(None)
     }
 
-    /// One look at the queue, which takes the first out if it can. Afterwards no variable keeps a node, and with it all that came behind it.
+    /// One look at the queue, which takes the first out if it can. Afterwards no variable keeps a node, and with it
+    /// all that came behind it.
     fn look(self, m: &mut SharedMutator, item: u8) -> Result<Look, Refused>
         requires inside { m.old.place ≡ Inside }
         requires wide { IsFor item 2 m.old }
@@ -240,7 +245,7 @@ impl SharedQueue {
         Ok(look)
     }
 
-    /// The first node was the last one too: the queue is empty, or its last lags behind and moves on.
+    /// The first node is the last one too: the queue is empty, or its last lags behind and moves on.
     fn look_behind(self, m: &mut SharedMutator) -> Result<Look, Refused>
         requires inside { m.old.place ≡ Inside }
         requires wide { 2 ≤ field_count_of m.old }
@@ -258,7 +263,8 @@ impl SharedQueue {
         Ok(Look::Again)
     }
 
-    /// The node behind the first becomes the first, if no other thread was faster: then its number is taken, and its object, which it lets go of.
+    /// The node behind the first becomes the first, if no other thread was faster; it lets go of its object, which
+    /// is taken with its number.
     fn try_take(self, m: &mut SharedMutator, item: u8) -> Result<Look, Refused>
         requires inside { m.old.place ≡ Inside }
         requires wide { IsFor item 2 m.old }
@@ -278,7 +284,7 @@ impl SharedQueue {
         Ok(Look::Taken(number))
     }
 
-    /// One exchange, by which the node behind the first becomes the first: true where it was won.
+    /// One exchange by which the node behind the first becomes the first: whether it was won.
     fn come_first(self, m: &mut SharedMutator) -> Result<bool, Refused>
         requires inside { m.old.place ≡ Inside }
         requires wide { 2 ≤ field_count_of m.old }

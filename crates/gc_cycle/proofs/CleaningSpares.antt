@@ -19,7 +19,7 @@ use Rattle.gc_cycle.specs.Events.{never, Sort}
 use Rattle.gc_cycle.proofs.Ends.Finishes.{never-both}
 use Rattle.gc_cycle.proofs.TracingSpares.{moved-untaken, scan-steps, Spares, untaken}
 
--- the card is dirtied again where it has to be
+-- the card is dirtied again if it has to be
 abbrev ending : ℕ → Bool → List Entry
 ending card b = if b then event (DirtyCard card) 1 ∷ [] else []
 

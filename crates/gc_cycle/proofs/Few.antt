@@ -22,7 +22,7 @@ giving-few (Some h) used = either (used == 0) (ones h.cells)
     either true n = omega arith
     either false n = omega arith
 
--- so many blocks were swept, each by four steps
+-- this many blocks were swept, each by four steps
 pub swept-few : (b : ℕ) (xs : List (ℕ × ℕ)) → length (swept_blocks b xs) ≡ 4 * length xs
 swept-few b [] = refl
 swept-few b (x ∷ xs) = let rest = swept-few (b + 1) xs in omega (arith, rest)

@@ -1,4 +1,4 @@
--- A seat at rest may trace with nothing in hand, and is at rest again where its record is as before.
+-- A seat at rest may trace with nothing in hand, and is at rest again if its record is as before.
 use Rattle.mark_core.specs.Layout.{root_count}
 use Rattle.std.proofs.Common.{ℕ, ◌≡◌, [], ◌∷◌, List, length, refl, sym, ap, ◌∙◌, subst, arith, cond, Bool, true, false, not, ◌<◌, ◌&&◌, Some, None, Option}
 use Rattle.std.specs.Prelude.{is_some, is_none, ◌==◌}
@@ -193,7 +193,7 @@ rest-but v w e = e ∙ (λ i. record (rest_of v.state) { below_card = sym (ap (�
 pub traced-of : {b : Bool} (v w : View) → OnlyTracedBy b v w → is_at_rest w.shape w.state ≡ true → HasTraced v w
 traced-of v w l rest = record { ran = l.ran; only = only-more traces_cells traces_or_cleans widened v w l.only; rest = rest; record_is = rest-but v w l.rest; rooted = rooted-by v w l rest }
 
--- what it says where the packets in hand are as before, and no work is left
+-- what it says if the packets in hand are as before, and no work is left
 pub traced-held : {b : Bool} (v w : View) → OnlyTracedBy b v w → Traces w → w.state.held ≡ v.state.held → work_in_hand w.shape.fields w.state ≡ false → is_at_rest v.shape v.state ≡ true → HasTraced v w
 traced-held v w l t h k r = traced-of v w l (rest-again v w l t (ap holds_any h ∙ (rest-parts v.shape v.state r).packets) k r)
 

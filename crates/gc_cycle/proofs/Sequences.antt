@@ -38,7 +38,7 @@ count-none f [] h = refl
 count-none f (e ∷ es) h =
     let p = or_parts (f e.step e.found) (some_event f es) h in ap (λ (b : Bool). (if b then 1 else 0) + count_of f es) p.0 ∙ (zero-add (count_of f es) ∙ count-none f es p.1)
 
--- none, where no step of this sort is like it
+-- none, if no step of this sort is like it
 pub none-of-steps : (P : Step → Bool) (f : Sort) → ((step : Step) (n : ℕ) → P step ≡ true → f step n ≡ false) → (es : List Entry) → all_steps P es ≡ true → some_event f es ≡ false
 none-of-steps P f h [] a = refl
 none-of-steps P f h (e ∷ es) a =
@@ -96,7 +96,7 @@ total-join f v (x ∷ xs) ys = ap (λ n. f v.state x.step x.found + n) (total-jo
     sums : (a b c : ℕ) → a + (b + c) ≡ (a + b) + c
     sums a b c = omega arith
 
--- nothing, where no step of this sort counts
+-- nothing, if no step of this sort counts
 pub total-none : (f : SeatState → Step → ℕ → ℕ) (P : Step → Bool) → ((s : SeatState) (step : Step) (n : ℕ) → P step ≡ true → f s step n ≡ 0) → (es : List Entry) (v : View) → all_steps P es ≡ true → total_of f v es ≡ 0
 total-none f P h [] v a = refl
 total-none f P h (e ∷ es) v a =

@@ -33,7 +33,7 @@ since-more f (x ∷ xs) ys a b = either (f x.step x.found) (some_event f xs) ref
         ap (λ (b : Bool). if b then xs ++ ys else since_last f (xs ++ ys)) (and_from (f x.step x.found) (not (some_event f (xs ++ ys))) here (ap not none))
         ∙ sym (ap (λ (b : Bool). (if b then xs else since_last f xs) ++ ys) (and_from (f x.step x.found) (not (some_event f xs)) here (ap not g)))
 
--- or since the first event, where none was like it
+-- or since the first event, if none was like it
 pub since-unlike : (f : Sort) (xs ys : List Entry) → some_event f ys ≡ false → since_or_all f (xs ++ ys) ≡ since_or_all f xs ++ ys
 since-unlike f xs ys n = either (some_event f xs) refl
   where

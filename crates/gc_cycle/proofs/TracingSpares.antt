@@ -87,7 +87,7 @@ moves-unrooted qs (ReadRoot section v) n e = absurd (false≢true e)
 moves-unrooted qs (LoadSlot section k) n e = absurd (false≢true e)
 moves-unrooted qs step n e = refl
 
--- moves of packets alone
+-- only moves of packets
 pub moved-untaken : (qs : List ℕ) (f : Sort) → Spares (moves_packet qs) f → (es : List Entry) → only_moves qs es ≡ true → never f es ≡ true
 moved-untaken qs f h es m = untaken (moves_packet qs) f h es (sym (move-steps qs es) ∙ m)
 

@@ -35,7 +35,7 @@ traced-for Quota quota r v w e t = let all = t.all.0 e in let done = t.done in o
 traced-for NoWork quota r v w e t = or_right _ _ (t.no_work e)
 traced-for NoPacket quota r v w e t = absurd (t.packet e)
 
--- it is so of all calls where it is so of one of them
+-- it is so of all calls if it is so of one of them
 pub drained-within : (quota : ℕ) (u v w x : View) → Ran u v → Ran v w → Ran w x → DrainsFor quota v w → DrainsFor quota u x
 drained-within quota u v w x a b d h =
     ⊎_elim
@@ -64,7 +64,7 @@ pub roots-scanned : (section : ℕ) (r : RootScan) (v w : View) → ScansRoots s
 roots-scanned section (roots.Done marked) v w s = or_left _ _ s
 roots-scanned section roots.NoPacket v w s = or_right (roots_scanned section (events v w)) _ (this-moment v.shape (finds_no_packet v.shape) (events v w) (begins v) s.0)
 
--- it is so of two calls where it is so of the first
+-- it is so of two calls if it is so of the first
 pub roots-earlier : (section : ℕ) (u v w : View) → Ran u v → Ran v w → SeesToRoots section u v → SeesToRoots section u w
 roots-earlier section u v w a b h =
     ⊎_elim
@@ -73,7 +73,7 @@ roots-earlier section u v w a b h =
     or_right (roots_scanned section (events u w)) _ (earlier-moment (finds_no_packet u.shape) u v w (packet-longer u.shape (events v w)) a b k))
     (or_cases (roots_scanned section (events u v)) _ h)
 
--- two calls saw to the roots where the second did
+-- two calls saw to the roots if the second did
 pub roots-later : (section : ℕ) (u v w : View) → Ran u v → Ran v w → SeesToRoots section v w → SeesToRoots section u w
 roots-later section u v w a b h =
     ⊎_elim

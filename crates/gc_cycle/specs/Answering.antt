@@ -34,7 +34,7 @@ abbrev pub phase_read : Step → ℕ → Option Phase
 phase_read ReadPhase found = Some (phase_of found)
 phase_read step found = None
 
--- the later one, where there is one
+-- the later one, if there is one
 abbrev pub later_or : Option Phase → Option Phase → Option Phase
 later_or None earlier = earlier
 later_or (Some p) earlier = Some p
@@ -44,11 +44,11 @@ abbrev pub last_phase : List Entry → Option Phase
 last_phase [] = None
 last_phase (e ∷ es) = later_or (last_phase es) (phase_read e.step e.found)
 
--- where the phase was read as Full, the seat knows that the heap is full
+-- if the phase was read as Full, the seat knows that the heap is full
 abbrev pub TellsFull : View → View → Type 0
 TellsFull v w = IsTrue (saw_full (events v w)) → KnowsFull w
 
--- where the seat left the world, its section's position is this one
+-- if the seat left the world, its section's position is this one
 abbrev pub StoredAt : ℕ → View → View → Type 0
 StoredAt done v w = IsTrue (some_event leaves (events v w)) → w.own.position ≡ done
 
@@ -72,7 +72,7 @@ abbrev pub HasCache : Option Cache → View → Type 0
 HasCache None v = v.state.cache ≡ None
 HasCache (Some h) v = IsCached h v
 
--- a step of an answer: the phase is read, and where the heap is full the cache is given up and the position stored
+-- a step of an answer: the phase is read, and if the heap is full, the cache is given up and the position stored
 abbrev pub answers : Step → Bool
 answers ReadPhase = true
 answers PublishCells = true
@@ -88,7 +88,7 @@ retires (AddStat which by down) = not (which == done_count)
 retires ReleaseBlock = true
 retires step = false
 
--- the steps that give up this cache, in which these cells were made since the last were published; none where there is none
+-- the steps that give up this cache, in which these cells were made since the last were published; none if there is none
 abbrev pub giving_up : Option Cache → ℕ → List Step
 giving_up None used = []
 giving_up (Some h) used = retiring_steps h used
@@ -105,7 +105,7 @@ abbrev pub AnswersTo : Safe → Option Cache → ℕ → View → View → Type 
 AnswersTo (safes.Going kept) handed done v w = KeepsOn handed kept v w
 AnswersTo safes.Full handed done v w = EndsFull done v w × KnowsFull w
 
--- the mutator polled; where that found a stop it gave up its cache, stored its position, left, offered its help and entered again, and else it has what it had
+-- the mutator polled; if that found a stop, it gave up its cache, stored its position, left, offered its help and entered again, and else it has what it had
 pub record GivesWay (handed kept : Option Cache) (done : ℕ) (v w : View) : Type 0 where
   pub out : GoesOut v w
   pub cached : HasCache kept w
@@ -114,7 +114,7 @@ pub record GivesWay (handed kept : Option Cache) (done : ℕ) (v w : View) : Typ
   pub position : IsTrue (poll_found_stop (events v w)) → (w.own.position ≡ done) × IsTrue (some_event leaves (events v w))
   pub waits : IsTrue (waits_helping (events v w))
 
--- the mutator polled; where the first poll found a stop it stored its position, left, offered its help and gave up its cache, and else it has what it had
+-- the mutator polled; if the first poll found a stop, it stored its position, left, offered its help and gave up its cache, and else it has what it had
 pub record PassesSafely (handed kept : Option Cache) (done : ℕ) (v w : View) : Type 0 where
   pub goes_on : GoesOn v w
   pub cached : HasCache kept w

@@ -24,7 +24,7 @@ use Rattle.gc_cycle.specs.Sorts.{moves_to, sees_all_empty}
 use Rattle.gc_cycle.specs.RoundParts.{BringsBack, CleansLast}
 use Rattle.gc_cycle.specs.Turns.{DrainsFor, SeesToRoots, round_quota}
 
--- a look at the cards and at the count of packets found something left; and after it a round was made: first what was deferred was brought back; then so many
+-- a look at the cards and at the count of packets found something left; and after it a round was made: first what was deferred was brought back; then this many
 -- cells were popped, or at some moment nothing was left in hand and there was no packet to read from; and at last the cards were cleaned
 pub record GoesRound (v w : View) : Type 0 where
   pub looked : View
@@ -56,7 +56,7 @@ pub record BringsAtLast (v w : View) : Type 0 where
   pub before : Ran v begun
   pub round : BringsBack begun w
 
--- a drain with helpers, part by part: help was opened before all else; then all cards were passed, and cleaned where they were dirty; then the roots of all
+-- a drain with helpers, part by part: help was opened before all else; then all cards were passed, and cleaned if they were dirty; then the roots of all
 -- sections were seen to, as far as packets could be had; then the seat traced in rounds, which brought back first what was deferred, until the count said that
 -- all packets are empty; and only then help was closed
 pub record DrainsTogether (v w : View) : Type 0 where

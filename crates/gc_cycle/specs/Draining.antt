@@ -21,7 +21,7 @@ use Rattle.gc_cycle.specs.Moments.{Moment, at_some_moment, begins, finds_no_room
 use Rattle.gc_cycle.specs.Sorts.{clears, draws_block, pops, sees_last_block}
 use Rattle.gc_cycle.specs.Standing.{Helps}
 
--- why a helper ended, where its tracing stopped for this
+-- why a helper ended, if its tracing stopped for this
 abbrev pub end_as : Stopped → HelpEnd
 end_as stops.Quota = Quota
 end_as stops.NoWork = NoWork
@@ -54,12 +54,12 @@ pub record HelpsOn (quota : ℕ) (helped : Helped) (v w : View) : Type 0 where
   pub most : helped.traced ≤ quota
   pub stops : StopsFor helped.ended quota helped.traced v w
 
--- where there was no work left, the count said that all packets are empty, or it was read as often as a helper waits
+-- if there was no work left, the count said that all packets are empty, or it was read as often as a helper waits
 abbrev pub EndsAt : HelpEnd → View → View → Type 0
 EndsAt NoWork v w = IsTrue (waited v.shape (events v w))
 EndsAt ended v w = Unit {0}
 
--- what holds where a helper ended as its answer says
+-- what holds if a helper ended as its answer says
 abbrev pub EndsAs : Helped → View → View → Type 0
 EndsAs helped v w = EndsAt helped.ended v w
 

@@ -15,21 +15,21 @@ abbrev pub followed_by : Sort → Sort → List Entry → Bool
 followed_by f g [] = false
 followed_by f g (e ∷ es) = (f e.step e.found && some_event g es) || followed_by f g es
 
--- the events after the last one like f, and none where no event is like it
+-- the events after the last one like f, and none if no event is like it
 abbrev pub since_last : Sort → List Entry → List Entry
 since_last f [] = []
 since_last f (e ∷ es) = if f e.step e.found && not (some_event f es) then es else since_last f es
 
--- the events after the last one like f, and all where no event is like it
+-- the events after the last one like f, and all if no event is like it
 abbrev pub since_or_all : Sort → List Entry → List Entry
 since_or_all f es = if some_event f es then since_last f es else es
 
--- the events before the last one like f, and none where no event is like it
+-- the events before the last one like f, and none if no event is like it
 abbrev pub before_last : Sort → List Entry → List Entry
 before_last f [] = []
 before_last f (e ∷ es) = if some_event f es then e ∷ before_last f es else []
 
--- the events before the first one like f, and all where no event is like it
+-- the events before the first one like f, and all if no event is like it
 abbrev pub until_first : Sort → List Entry → List Entry
 until_first f [] = []
 until_first f (e ∷ es) = if f e.step e.found then [] else e ∷ until_first f es

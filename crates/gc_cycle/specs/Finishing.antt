@@ -40,7 +40,7 @@ finishes (StorePhase to) = true
 finishes ReadPhase = true
 finishes step = stays step
 
--- a step that stays in one phase: cells are popped, and fields scanned, in a drain alone, and cells are freed in a sweep alone
+-- a step that stays in one phase: cells are popped, and fields scanned, only in a drain, and cells are freed only in a sweep
 abbrev pub stays_in : Phase → Step → Bool
 stays_in p (Pop packet) = saw (Some p) Drain
 stays_in p (ReadField c i) = saw (Some p) Drain
@@ -104,7 +104,7 @@ pub record Completes (v w : View) : Type 0 where
   pub once : count_of ends_cycle (events v w) ≡ 1
   pub not_full : IsTrue (never tells_full (events v w))
   pub unbegun : IsTrue (never tries_marking (events v w))
-  -- where it began exactly it ended so
+  -- if it began exactly, it ended so
   pub exactly : IsTrue v.state.exact → IsTrue (at_some_moment v.shape ends_exactly (begins v) (events v w)) × IsTrue w.state.exact
 
 -- a drain began in which no cell is marked, and no later move was made

@@ -29,7 +29,7 @@ help_looks = 64
 abbrev pub waited : Shape → List Entry → Bool
 waited sh es = some_event (sees_all_empty (empty_offset + sh.packets)) es || nat_le help_looks (count_of reads_count es)
 
--- why a helper ended that traces: Quota exactly where it traced as many as it should, and NoWork only once it had waited for work
+-- why a helper that traces ended: Quota exactly if it traced as many as it should, and NoWork only once it had waited for work
 abbrev pub DrainsTo : HelpEnd → Shape → ℕ → ℕ → Moment → List Entry → Type 0
 DrainsTo Quota sh quota done m es = done ≡ quota
 DrainsTo NoWork sh quota done m es = (done ≢ quota) × IsTrue (helped_to_the_end sh m es) × IsTrue (waited sh es)

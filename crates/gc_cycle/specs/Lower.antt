@@ -50,7 +50,7 @@ pub record EndsTrace (quota : ℕ) (r : Traced) (v w : View) : Type 0 where
   -- never for want of a packet with room, since what finds none is left to its card
   pub packet : r.stopped ≢ NoPacket
 
--- the pass gave out this card, or none where the counter was seen at its end
+-- the pass gave out this card, or none if the counter was seen at its end
 abbrev pub GivesCard : Option ℕ → View → View → Type 0
 GivesCard None v w = IsTrue (some_event (sees_last_card (card_count v.shape)) (events v w))
 GivesCard (Some card) v w = (card < card_count v.shape) × IsTrue (some_event (gives_card card) (events v w))

@@ -42,7 +42,7 @@ tries_stopping step = stays_calm step
 abbrev pub is_in_stop : List Entry → Bool
 is_in_stop es = some_event leaves (since_or_all comes_in es) || some_event raises_flag (since_or_all resumes es)
 
--- cells were popped in such stops alone
+-- cells were popped only in such stops
 abbrev pub pops_in_stops : List Entry → Bool
 pops_in_stops es = each_after is_in_stop pops [] es
 

@@ -18,6 +18,6 @@ poll_found_stop es = first_is polls sees_flag es
 abbrev pub saw_resumed : List Entry → Bool
 saw_resumed es = last_is polls sees_no_flag es
 
--- where the first poll found a stop under way, the seat offered its help
+-- if the first poll found a stop under way, the seat offered its help
 abbrev pub offered_help : List Entry → Bool
 offered_help es = not (poll_found_stop es) || some_event joins es

@@ -1,4 +1,4 @@
--- The parts of a round of a drain: what is brought back, and what is cleaned; and what is done where no packet is found.
+-- The parts of a round of a drain: what is brought back, and what is cleaned; and what is done if no packet is found.
 use Rattle.std.specs.Prelude.{ℕ}
 use Rattle.gc_table.specs.Log.{events}
 use Rattle.gc_table.specs.Running.{Ran}
@@ -16,7 +16,7 @@ pub record LacksPacket (v w : View) : Type 0 where
   pub count : ℕ
   pub brings : Recycled v.shape count (events looked w)
 
--- after whatever was done first, every card was seen clean, or one was seen dirty, and then no packet was found, or each card from it on was cleaned where it
+-- after whatever was done first, every card was seen clean, or one was seen dirty, and then no packet was found, or each card from it on was cleaned if it
 -- was dirty
 pub record CleansLast (v w : View) : Type 0 where
   pub traced : View

@@ -16,7 +16,7 @@ adjusts which (Reset w) = w == which
 adjusts which (AddStat w by down) = w == which
 adjusts which step = false
 
--- the allocation bits of so many blocks are read, from this one on
+-- the allocation bits of this many blocks are read, from this one on
 abbrev pub alloc_reads : ℕ → ℕ → List Step
 alloc_reads from n = map (λ b. ReadAlloc b) (range_with_len from n)
 

@@ -32,12 +32,12 @@ abbrev pub spares_part : Step → Bool
 spares_part (StorePhase to) = not (saw (Some to) Full)
 spares_part step = fills_part step
 
--- where the answer is Full, the seat knows it
+-- if the answer is Full, the seat knows it
 abbrev pub KnowsAnswer : Safe → View → Type 0
 KnowsAnswer (safes.Going kept) w = Unit {0}
 KnowsAnswer safes.Full w = KnowsFull w
 
--- the heap is said to be full only where the answer is Full, and then the seat knows it
+-- the heap is said to be full only if the answer is Full, and then the seat knows it
 abbrev pub SparesRefill : Refill → View → View → Type 0
 SparesRefill (refills.Cache h paid) v w = Only spares_part v w
 SparesRefill refills.Full v w = KnowsFull w

@@ -23,7 +23,7 @@ leaves_numbers (AddStat which by down) = false
 leaves_numbers (Reset which) = false
 leaves_numbers step = true
 
--- the step, where it does
+-- the step, if it does
 abbrev pub changing_step : Step → ℕ → List Step
 changing_step (AddStat which by down) found = AddStat which by down ∷ []
 changing_step (Reset which) found = Reset which ∷ []
@@ -80,7 +80,7 @@ abbrev pub PaysNumbers : Cache → Refill → View → View → Type 0
 PaysNumbers h (refills.Cache k paid) v w = (k ≡ h) × (ChangesBy [] v w ⊎ ChangesBy (tells paid.done ∷ []) v w)
 PaysNumbers h refills.Full v w = ChangesBy (gives_back h ∷ []) v w
 
--- what is changed where a mutator was handed the first and has the second afterwards
+-- what is changed if a mutator was handed the first and has the second afterwards
 abbrev pub given_up : Option Cache → Option Cache → List Step
 given_up None kept = []
 given_up (Some h) None = gives_back h ∷ []

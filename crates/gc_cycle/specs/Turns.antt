@@ -16,15 +16,15 @@ use Rattle.gc_cycle.specs.Moments.{at_some_moment, begins, finds_no_packet, find
 use Rattle.gc_cycle.specs.Roots.{roots_scanned}
 use Rattle.gc_cycle.specs.Sorts.{joins, pops}
 
--- how many cells a round of the drain pops, where there are as many
+-- how many cells a round of the drain pops, if there are as many
 abbrev pub round_quota : ℕ
 round_quota = 4294967295
 
--- how many cells a seat that waits pops in a turn as a helper, where there are as many
+-- how many cells a seat that waits pops in a turn as a helper, if there are as many
 abbrev pub help_quota : ℕ
 help_quota = 1024
 
--- so many cells were popped, or at some moment nothing was left in hand and there was no packet to read from
+-- this many cells were popped, or at some moment nothing was left in hand and there was no packet to read from
 abbrev pub DrainsFor : ℕ → View → View → Type 0
 DrainsFor quota v w = IsTrue (nat_le quota (count_of pops (events v w)) || at_some_moment v.shape (finds_no_work v.shape) (begins v) (events v w))
 
@@ -32,7 +32,7 @@ DrainsFor quota v w = IsTrue (nat_le quota (count_of pops (events v w)) || at_so
 abbrev pub SeesToRoots : ℕ → View → View → Type 0
 SeesToRoots section v w = IsTrue (roots_scanned section (events v w) || at_some_moment v.shape (finds_no_packet v.shape) (begins v) (events v w))
 
--- where the phase was read as Drain or Sweep, it helped: in a drain until so many objects were traced, or no work or no packet was found, and in a sweep until
+-- if the phase was read as Drain or Sweep, it helped: in a drain until this many objects were traced, or no work or no packet was found, and in a sweep until
 -- no block was left
 abbrev pub HelpsFor : ℕ → View → View → Type 0
 HelpsFor quota v w = IsTrue (saw v.state.phase_seen Drain || saw v.state.phase_seen Sweep) → (helped : Helped) × HelpsAs quota helped v (events v w)

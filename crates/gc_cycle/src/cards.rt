@@ -1,4 +1,4 @@
-//! Cards are cleaned, and looked at: the calls of `card_clean`, told in the words of this crate.
+//! Cards are looked at and cleaned, through `card_clean`.
 ghost use Rattle.std.specs.Prelude.{◌≡◌, ◌<◌, ◌≤◌, ◌+◌, IsTrue, IsFalse, IfSome, IfNone, false, ◌*◌, ◌-◌, length};
 ghost use Rattle.mark_core.specs.Cards.{card_cells};
 ghost use Rattle.mark_core.specs.Layout.{card_count};
@@ -38,7 +38,7 @@ pub(crate) fn clean_dirty(heap: &Heap, seat: &mut HeapSeat) -> u32
     card_clean::clean_dirty(heap, seat)
 }
 
-/// Looks at each card, from one of its own on and round, and cleans those that are dirty, beside others: how many objects were scanned again.
+/// Cleans the dirty cards beside others, from a card of its own on and around: how many objects were scanned again.
 pub(crate) fn clean_dirty_round(heap: &Heap, seat: &mut HeapSeat) -> u32
     requires seat { Sits heap.now seat.old × IsTrue (traces (view_of seat.old)) }
     requires rest { IsTrue (is_at_rest heap.now.shape (state_of seat.old)) }
@@ -51,7 +51,7 @@ pub(crate) fn clean_dirty_round(heap: &Heap, seat: &mut HeapSeat) -> u32
     card_clean::clean_dirty_round(heap, seat)
 }
 
-/// The next card of the pass, or none where the counter was at its end.
+/// The next card of the pass; None if none is left.
 pub fn next_card(heap: &Heap, seat: &mut HeapSeat) -> Option<u32>
     requires seat { Sits heap.now seat.old × IsTrue (traces (view_of seat.old)) }
     requires rest { IsTrue (is_at_rest heap.now.shape (state_of seat.old)) }
@@ -74,7 +74,7 @@ pub fn next_card(heap: &Heap, seat: &mut HeapSeat) -> Option<u32>
     card_clean::next_card(heap, seat)
 }
 
-/// Cleans a card with a packet of its own: how many objects were scanned again, or none where no packet could be had.
+/// Cleans a card: how many objects were scanned again, or None if no packet could be had.
 pub fn clean(heap: &Heap, seat: &mut HeapSeat, card: u32) -> Option<u32>
     requires seat { Sits heap.now seat.old × IsTrue (traces (view_of seat.old)) }
     requires rest { IsTrue (is_at_rest heap.now.shape (state_of seat.old)) }
@@ -99,7 +99,7 @@ pub fn clean(heap: &Heap, seat: &mut HeapSeat, card: u32) -> Option<u32>
     }
 }
 
-/// Looks at each of these cards, and cleans those that are dirty, beside others, with a packet that it takes for it. Where no packet can be had, it looks at none.
+/// Cleans those of these cards that are dirty, beside others, or looks at none if no packet can be had.
 pub fn clean_between(heap: &Heap, seat: &mut HeapSeat, first: u32, end: u32)
     requires seat { Sits heap.now seat.old × IsTrue (traces (view_of seat.old)) }
     requires rest { IsTrue (is_at_rest heap.now.shape (state_of seat.old)) }
@@ -116,7 +116,7 @@ pub fn clean_between(heap: &Heap, seat: &mut HeapSeat, first: u32, end: u32)
     let _ = card_clean::clean_some(heap, seat, first, end);
 }
 
-/// Whether the drain is at its end, where all roots are seen to.
+/// Whether nothing is left to mark, once all roots are seen to.
 pub(crate) fn is_drained(heap: &Heap, seat: &mut HeapSeat) -> bool
     requires seat { Sits heap.now seat.old × RootedAlone (view_of seat.old) }
     ensures seat { Sits heap.now seat.new × RootedAlone (view_of seat.new) }

@@ -31,9 +31,8 @@ use mark_core::Phase;
 use std::sync::Wait;
 use stop_world::{poll, resume};
 
-/// A precise collection that this mutator makes. Where another seat's stop comes first it waits for its end, and tries again.
-///
-/// `done` is how many commands the mutator has done. It has no cache. Full comes exactly where it read that the heap is full.
+/// A precise collection by this mutator, which has no cache and has done `done` commands. If another seat's stop
+/// comes first it tries again. Full: it read that the heap is full.
 pub fn collect<R: Wait>(rt: &R, heap: &Heap, seat: &mut HeapSeat, done: u32) -> Safe
     requires seat { Sits heap.now seat.old × Mutates (view_of seat.old) }
     requires cache { (state_of seat.old).cache ≡ None }
@@ -56,7 +55,7 @@ pub fn collect<R: Wait>(rt: &R, heap: &Heap, seat: &mut HeapSeat, done: u32) -> 
     unreachable!()
 }
 
-/// One try, which ends without an answer where another seat's stop came first.
+/// One try; None if another seat's stop came first.
 fn collect_once<R: Wait>(rt: &R, heap: &Heap, seat: &mut HeapSeat, done: u32) -> Option<Safe>
     requires seat { Sits heap.now seat.old × Mutates (view_of seat.old) }
     requires cache { (state_of seat.old).cache ≡ None }
@@ -83,7 +82,7 @@ fn collect_once<R: Wait>(rt: &R, heap: &Heap, seat: &mut HeapSeat, done: u32) ->
     Some(Safe::Going(None))
 }
 
-/// A precise collection in a stop of its own, and the end of the stop. There is none where the heap is full.
+/// Collects in a stop of its own, unless the heap is full, and ends the stop.
 fn collect_in_stop<R: Wait>(rt: &R, heap: &Heap, seat: &mut HeapSeat)
     requires seat { Sits heap.now seat.old }
     requires stopped { HoldsWorld (view_of seat.old) }
@@ -100,7 +99,7 @@ fn collect_in_stop<R: Wait>(rt: &R, heap: &Heap, seat: &mut HeapSeat)
     resume(heap, seat);
 }
 
-/// Whether the seat has read the phase last as Full.
+/// Whether the seat read the phase as Full last.
 pub fn has_seen_full(seat: &HeapSeat) -> bool
     ensures seen { OnTrue result ((state_of seat.now).phase_seen ≡ Some Full) }
     ensures other { OnFalse result ((state_of seat.now).phase_seen ≢ Some Full) }
@@ -111,8 +110,8 @@ pub fn has_seen_full(seat: &HeapSeat) -> bool
     }
 }
 
-/// A safe point of a mutator that has done `done` commands. Where a stop is under way it gives up its cache, leaves until the stop has ended, and helps
-/// meanwhile. Full comes exactly where it read that the heap is full.
+/// A safe point of a mutator that has done `done` commands. If a stop is under way it gives up its cache, leaves
+/// until the stop has ended, and helps meanwhile. Full: it read that the heap is full.
 pub fn safe_point<R: Wait>(
     rt: &R,
     heap: &Heap,
@@ -143,8 +142,8 @@ pub fn safe_point<R: Wait>(
     Safe::Full
 }
 
-/// A safe point as [`safe_point`] makes it, with the cache lent, for a player that comes to one at each command: the cache moves only where a stop is under
-/// way or the heap is full. True where the mutator goes on, with the cache that it has then; where it doesn't, it has none.
+/// [`safe_point`] with the cache lent, which moves only if a stop is under way or the heap is full: for a player
+/// that comes to one at each command. True if the mutator goes on; otherwise it has no cache.
 #[inline(always)]
 pub fn pass_safe_point<R: Wait>(
     rt: &R,
@@ -172,7 +171,7 @@ pub fn pass_safe_point<R: Wait>(
     goes_on(heap, seat, cache, done)
 }
 
-/// Gives way to a stop, if one is under way: the mutator gives up its cache, leaves, helps, and enters once the stop has ended.
+/// Gives way to a stop, if one is under way.
 #[inline(always)]
 fn give_way<R: Wait>(rt: &R, heap: &Heap, seat: &mut HeapSeat, cache: &mut Option<Cache>, done: u32)
     requires seat { Sits heap.now seat.old × Mutates (view_of seat.old) }
@@ -189,7 +188,7 @@ fn give_way<R: Wait>(rt: &R, heap: &Heap, seat: &mut HeapSeat, cache: &mut Optio
     go_in(rt, heap, seat);
 }
 
-/// Whether a mutator goes on, with its cache. Where it reads that the heap is full it gives the cache up, and stores its position.
+/// Whether a mutator goes on, with its cache. If the heap is full it gives the cache up and stores its position.
 pub fn go_on(heap: &Heap, seat: &mut HeapSeat, cache: Option<Cache>, done: u32) -> Safe
     requires seat { Sits heap.now seat.old × Mutates (view_of seat.old) }
     requires cache { HasCache cache (view_of seat.old) }
@@ -207,7 +206,7 @@ pub fn go_on(heap: &Heap, seat: &mut HeapSeat, cache: Option<Cache>, done: u32) 
     Safe::Full
 }
 
-/// Whether a mutator goes on, as `go_on` finds, with the cache lent. Where it doesn't, it has none.
+/// [`go_on`] with the cache lent. A mutator that doesn't go on has none.
 #[inline(always)]
 pub fn goes_on(heap: &Heap, seat: &mut HeapSeat, cache: &mut Option<Cache>, done: u32) -> bool
     requires seat { Sits heap.now seat.old × Mutates (view_of seat.old) }
@@ -228,7 +227,6 @@ pub fn goes_on(heap: &Heap, seat: &mut HeapSeat, cache: &mut Option<Cache>, done
     false
 }
 
-/// There is no cache to give up.
 fn spend_none(cache: Option<Cache>)
     requires { cache ≡ None }
 {
@@ -238,7 +236,7 @@ fn spend_none(cache: Option<Cache>)
     }
 }
 
-/// Whether the heap is full, as a mutator without a cache reads it. Where it is, the mutator stores its position.
+/// Whether the heap is full; if so the mutator, which has no cache, stores its position.
 pub fn ends_full(heap: &Heap, seat: &mut HeapSeat, done: u32) -> bool
     requires seat { Sits heap.now seat.old × Mutates (view_of seat.old) }
     requires cache { (state_of seat.old).cache ≡ None }
@@ -257,7 +255,7 @@ pub fn ends_full(heap: &Heap, seat: &mut HeapSeat, done: u32) -> bool
     true
 }
 
-/// Whether the heap is full, as a mutator reads it. Where it isn't, the mutator goes on after whatever it did before.
+/// Whether the heap is full, as a mutator reads it.
 #[inline(always)]
 pub fn finds_full(heap: &Heap, seat: &mut HeapSeat) -> bool
     requires seat { Sits heap.now seat.old × Mutates (view_of seat.old) }
@@ -272,8 +270,8 @@ pub fn finds_full(heap: &Heap, seat: &mut HeapSeat) -> bool
     }
 }
 
-/// Gives a cache up, if there is one: of the seat's record it takes the cache alone, and its section stays. That takes two steps, and one more where objects
-/// were made that aren't published; none where there is no cache.
+/// Gives a cache up, if there is one. That takes two steps, and one more if objects in it aren't published yet. Of
+/// the seat's record only the cache changes.
 #[cold]
 #[inline(never)]
 pub fn retire_some(heap: &Heap, seat: &mut HeapSeat, cache: Option<Cache>)

@@ -1,4 +1,4 @@
-//! The drain: what the mutators left is marked, first with the helpers and then alone.
+//! The drain: what the mutators left is marked, first with helpers and then alone.
 ghost use Rattle.std.specs.Prelude.{ℕ, ◌≡◌, ◌<◌, ◌+◌, ◌⊎◌, [], ◌∷◌, min, IsTrue};
 ghost use Rattle.mark_core.specs.Numbers.{card_counter, empty_offset};
 ghost use Rattle.mark_core.specs.Seats.{phase_number};
@@ -27,8 +27,8 @@ use std::sync::Wait;
 use std::thread;
 use stop_world::{close_help, open_help};
 
-/// How many objects a round of the drain pops at most: all that there are. A round passes over all cards at its end, so it would cost too much to make one
-/// before there is nothing left to trace.
+/// How many objects a round of the drain pops at most: all there are, since each round ends with a pass over all
+/// cards.
 const ROUND: u32 = u32::MAX;
 
 /// Begins the drain. The pass over all cards begins again.
@@ -45,7 +45,8 @@ pub fn begin_drain(heap: &Heap, seat: &mut HeapSeat)
     heap.reset(seat, CARD_COUNTER);
 }
 
-/// One round, alone or beside helpers: what was deferred, so many objects of the packets, and all cards. How many objects were scanned again.
+/// One round, alone or beside helpers: deferred packets, `quota` objects, and all cards. How many objects were
+/// scanned again.
 fn drain_round(heap: &Heap, seat: &mut HeapSeat, quota: u32) -> u32
     requires seat { Sits heap.now seat.old }
     requires drains { DrainsInStop (view_of seat.old) }
@@ -61,7 +62,7 @@ fn drain_round(heap: &Heap, seat: &mut HeapSeat, quota: u32) -> u32
     clean_dirty(heap, seat)
 }
 
-/// Marks what the roots of all sections refer to, as far as packets can be had, alone or beside helpers.
+/// Marks what the roots of all sections refer to, as far as packets can be had.
 fn scan_all_roots(heap: &Heap, seat: &mut HeapSeat)
     requires seat { Sits heap.now seat.old }
     requires drains { DrainsInStop (view_of seat.old) }
@@ -75,7 +76,7 @@ fn scan_all_roots(heap: &Heap, seat: &mut HeapSeat)
     }
 }
 
-/// Traces what there is, what was deferred too, and looks whether all packets are empty then.
+/// Traces, deferred packets included, and looks whether all packets are empty.
 fn trace_and_look(heap: &Heap, seat: &mut HeapSeat) -> bool
     requires seat { Sits heap.now seat.old }
     requires drains { DrainsInStop (view_of seat.old) }
@@ -91,7 +92,7 @@ fn trace_and_look(heap: &Heap, seat: &mut HeapSeat) -> bool
     sees_all_empty(heap, seat)
 }
 
-/// Traces beside helpers, until all packets are empty: so nobody has work in hand then.
+/// Traces beside helpers until all packets are empty: then nobody has work in hand.
 fn trace_to_end<R: Wait>(rt: &R, heap: &Heap, seat: &mut HeapSeat)
     requires seat { Sits heap.now seat.old }
     requires drains { DrainsInStop (view_of seat.old) }
@@ -111,8 +112,7 @@ fn trace_to_end<R: Wait>(rt: &R, heap: &Heap, seat: &mut HeapSeat)
     unreachable!()
 }
 
-/// Marks together with helpers, which are let in first: passes all cards, marks what the roots refer to, and traces until all packets are empty. How many
-/// objects this seat scanned again.
+/// Marks together with helpers, which are let in first. How many objects this seat scanned again.
 pub(crate) fn drain_together<R: Wait>(rt: &R, heap: &Heap, seat: &mut HeapSeat) -> u32
     requires seat { Sits heap.now seat.old }
     requires alone { IsAloneIn Drain (view_of seat.old) }
@@ -128,10 +128,12 @@ pub(crate) fn drain_together<R: Wait>(rt: &R, heap: &Heap, seat: &mut HeapSeat) 
     rescanned
 }
 
-/// Marks what is left, alone. Then every packet is empty, no card is dirty, and each root is nil or marked. How many objects were scanned again.
+/// Marks what is left, alone. Then every packet is empty, no card is dirty, and each root is nil or marked. The
+/// answer: how many objects were scanned again.
 ///
-/// What was noted before help was opened ended with it, since helpers dirty cards and mark cells. So the roots, the cards and the count are looked
-/// at again here, and the counter of blocks is set. What is found stays, because nobody else is there; where something is left it goes round again.
+/// Notes taken before help was opened ended with it, since helpers dirty cards and mark cells. So the roots, the
+/// cards and the count are looked at again, and the counter of blocks is set. What is read now stays; a look that
+/// finds work is followed by another round.
 pub(crate) fn drain_alone<R: Wait>(rt: &R, heap: &Heap, seat: &mut HeapSeat) -> u32
     requires seat { Sits heap.now seat.old }
     requires alone { IsAloneIn Drain (view_of seat.old) }

@@ -22,7 +22,7 @@ use gc_table::{Heap, HeapSeat};
 use mark_core::Phase as CyclePhase;
 use std::sync::Wait;
 
-/// From a drain that has begun to the end of the cycle. So many objects were scanned again before.
+/// From a drain that has begun to the end of the cycle.
 fn complete<R: Wait>(rt: &R, heap: &Heap, seat: &mut HeapSeat, before: u32) -> Counts
     requires seat { Sits heap.now seat.old }
     requires alone { IsAloneIn Drain (view_of seat.old) }
@@ -41,7 +41,7 @@ fn complete<R: Wait>(rt: &R, heap: &Heap, seat: &mut HeapSeat, before: u32) -> C
     settle(heap, seat, rescanned, freed)
 }
 
-/// Whether no cycle is under way, where else one is marking.
+/// Whether no cycle is under way. Otherwise one is marking.
 fn finds_idle(heap: &Heap, seat: &mut HeapSeat) -> bool
     requires seat { Sits heap.now seat.old }
     requires alone { IsAloneIn Idle (view_of seat.old) ⊎ IsAloneIn Marking (view_of seat.old) }
@@ -76,9 +76,9 @@ fn begin_exactly<R: Wait>(rt: &R, heap: &Heap, seat: &mut HeapSeat) -> u32
     rescanned
 }
 
-/// Ends a cycle that is marking: what the mutators left is marked, and white cells are freed. It frees no reachable cell.
+/// Ends a cycle that is marking: marks what the mutators left, and frees white cells, none of them reachable.
 ///
-/// Helpers are let in for the drain and for the sweep, and have left again before each move of the phase.
+/// Helpers are let in for the drain and the sweep, and have left before each move of the phase.
 pub fn finish_cycle<R: Wait>(rt: &R, heap: &Heap, seat: &mut HeapSeat) -> Counts
     requires seat { Sits heap.now seat.old }
     requires alone { IsAloneIn Marking (view_of seat.old) }
@@ -91,8 +91,8 @@ pub fn finish_cycle<R: Wait>(rt: &R, heap: &Heap, seat: &mut HeapSeat) -> Counts
 
 /// A precise collection: the cells in use afterwards are exactly the reachable ones.
 ///
-/// A cycle that is marking has marked cells that died since. So what it left is marked first, for only then are all packets empty, all marks are
-/// cleared, and the drain begins once more from the roots.
+/// A cycle that was marking has marked cells that died since. So it drains first, because only then are all packets
+/// empty, clears all marks, and drains once more from the roots.
 pub fn precise<R: Wait>(rt: &R, heap: &Heap, seat: &mut HeapSeat) -> Counts
     requires seat { Sits heap.now seat.old }
     requires alone { IsAloneIn Idle (view_of seat.old) ⊎ IsAloneIn Marking (view_of seat.old) }

@@ -25,7 +25,7 @@ use mark_core::Phase;
 use std::thread;
 use tracer::Stopped;
 
-/// Helps the stop of another seat: in a drain it traces at most `quota` objects, and in a sweep it sweeps blocks until none is left. It ends by itself.
+/// Helps another seat's stop: traces at most `quota` objects in a drain, or sweeps until no block is left.
 pub fn help(heap: &Heap, seat: &mut HeapSeat, quota: u32) -> Helped
     requires seat { Sits heap.now seat.old × Helps (view_of seat.old) }
     ensures seat { Sits heap.now seat.new × Helps (view_of seat.new) }
@@ -43,9 +43,9 @@ pub fn help(heap: &Heap, seat: &mut HeapSeat, quota: u32) -> Helped
     help_with(heap, seat, quota, false)
 }
 
-/// Helps as [`help`] does. In a drain it passes all cards before, where this is asked for.
+/// [`help`], which passes all cards first in a drain if `cards` says so.
 ///
-/// It ends by itself: the numbers that the sweep gives out never fall while the seat is admitted.
+/// It ends by itself: the counter of blocks never falls while the seat is admitted.
 pub(crate) fn help_with(heap: &Heap, seat: &mut HeapSeat, quota: u32, cards: bool) -> Helped
     requires seat { Sits heap.now seat.old × Helps (view_of seat.old) }
     ensures seat { Sits heap.now seat.new × Helps (view_of seat.new) }
@@ -69,7 +69,6 @@ pub(crate) fn help_with(heap: &Heap, seat: &mut HeapSeat, quota: u32, cards: boo
     help_drain(heap, seat, quota)
 }
 
-/// Whether the seat has read the phase last as Sweep.
 fn sees_sweep(seat: &HeapSeat) -> bool
     ensures sweep { OnTrue result ((state_of seat.now).phase_seen ≡ Some Sweep) }
     ensures other { OnFalse result ((state_of seat.now).phase_seen ≢ Some Sweep) }
@@ -80,7 +79,6 @@ fn sees_sweep(seat: &HeapSeat) -> bool
     }
 }
 
-/// Sweeps until no block is left.
 fn help_sweep(heap: &Heap, seat: &mut HeapSeat) -> Helped
     requires seat { Sits heap.now seat.old × Helps (view_of seat.old) }
     requires sweep { (state_of seat.old).phase_seen ≡ Some Sweep }
@@ -99,7 +97,7 @@ fn help_sweep(heap: &Heap, seat: &mut HeapSeat) -> Helped
     }
 }
 
-/// Where others have what is left to trace, a helper that ended for want of work looks whether they give some of it away, and traces on where they do.
+/// A helper that found no work traces on if others give some of theirs away.
 fn trace_on(heap: &Heap, seat: &mut HeapSeat, quota: u32, before: Helped) -> Helped
     requires seat { Sits heap.now seat.old × Helps (view_of seat.old) }
     requires drain { (state_of seat.old).phase_seen ≡ Some Drain }
@@ -126,7 +124,7 @@ fn trace_on(heap: &Heap, seat: &mut HeapSeat, quota: u32, before: Helped) -> Hel
 /// How often a helper without work looks whether others give it some.
 const LOOKS: u32 = 64;
 
-/// Traces until the quota is spent, or until all packets are empty. Where others have what is left it looks some times whether they give some of it away.
+/// Traces until the quota is spent or all packets are empty, and waits a while for work that others give away.
 fn help_drain(heap: &Heap, seat: &mut HeapSeat, quota: u32) -> Helped
     requires seat { Sits heap.now seat.old × Helps (view_of seat.old) }
     requires drain { (state_of seat.old).phase_seen ≡ Some Drain }
@@ -154,7 +152,7 @@ fn help_drain(heap: &Heap, seat: &mut HeapSeat, quota: u32) -> Helped
     helped
 }
 
-/// Passes all cards, and helps then.
+/// Passes all cards, then helps.
 fn help_anew(heap: &Heap, seat: &mut HeapSeat, quota: u32) -> Helped
     requires seat { Sits heap.now seat.old × Helps (view_of seat.old) }
     requires drain { (state_of seat.old).phase_seen ≡ Some Drain }
@@ -172,7 +170,6 @@ fn help_anew(heap: &Heap, seat: &mut HeapSeat, quota: u32) -> Helped
     }
 }
 
-/// Why a helper ends whose trace ended so.
 fn end_of(stopped: Stopped) -> HelpEnd
     ensures { result ≡ end_as stopped }
 {

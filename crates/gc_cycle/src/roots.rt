@@ -1,4 +1,4 @@
-//! Roots are scanned, and seen to: the calls of the crates below, told in the words of this one.
+//! Roots are scanned, and seen to.
 ghost use Rattle.std.specs.Prelude.{◌≡◌, ◌<◌, ◌≤◌, ◌+◌, Some, IsTrue, IsFalse, ◌-◌, length, ℕ};
 ghost use Rattle.std.specs.List.{range_with_len};
 ghost use Rattle.mark_core.specs.Places.{the_next_block};
@@ -46,8 +46,8 @@ pub fn scan_roots(heap: &Heap, seat: &mut HeapSeat, section: u32) -> RootScan
     tracer::scan_roots(heap, seat, section)
 }
 
-/// Marks what the roots from this one on and before `end` refer to, where a packet can be had for it. Where none can, what was deferred is brought back, which
-/// is all that can keep packets from a seat that is alone.
+/// Marks what the roots from `from` on and before `end` refer to, and is true; or finds no packet, and brings back
+/// what was deferred, which is all that can keep packets from a seat that is alone.
 pub fn sees_to_some(heap: &Heap, seat: &mut HeapSeat, from: u32, end: u32) -> bool
     requires seat { Sits heap.now seat.old }
     requires alone { IsAloneIn Drain (view_of seat.old) × (look the_next_block (view_of seat.old).known ≡ Some 0) }
@@ -72,8 +72,7 @@ pub fn sees_to_some(heap: &Heap, seat: &mut HeapSeat, from: u32, end: u32) -> bo
     false
 }
 
-/// Marks what the roots of all sections refer to, where a packet can be had for it. Where none can, what was deferred is brought back, which is all
-/// that can keep packets from a seat that is alone.
+/// [`sees_to_some`] of the roots of all sections.
 fn sees_to_roots(heap: &Heap, seat: &mut HeapSeat) -> bool
     requires seat { Sits heap.now seat.old }
     requires alone { IsAloneIn Drain (view_of seat.old) × (look the_next_block (view_of seat.old).known ≡ Some 0) }
@@ -87,9 +86,8 @@ fn sees_to_roots(heap: &Heap, seat: &mut HeapSeat) -> bool
     sees_to_some(heap, seat, 0, end)
 }
 
-/// Marks what the roots of all sections refer to, for a seat that is alone, until each is nil or marked.
-///
-/// It ends because nobody else is there: each packet is then in a pool, and once the deferred ones are back one of them can be had.
+/// Marks what the roots of all sections refer to, for a seat that is alone, until each is nil or marked. It ends
+/// because each packet is in a pool then: once the deferred ones are back one can be had.
 pub(crate) fn see_to_roots<R: Wait>(rt: &R, heap: &Heap, seat: &mut HeapSeat)
     requires seat { Sits heap.now seat.old }
     requires alone { IsAloneIn Drain (view_of seat.old) × (look the_next_block (view_of seat.old).known ≡ Some 0) }

@@ -17,7 +17,7 @@ use crate::counts::Counts;
 use gc_table::{Heap, HeapSeat};
 use mark_core::{BLOCK_CELLS, CARD_COUNTER, FREE, LAST, RESCANNED, TRACED};
 
-/// How many allocation bits are set in the blocks before `end`, of which those before this one were counted already, as a seat that is alone reads them.
+/// How many allocation bits are set in the blocks before `end`, of which `counted` were counted before `from`.
 pub fn count_between(heap: &Heap, seat: &mut HeapSeat, from: u32, end: u32, counted: u32) -> u32
     requires seat { Sits heap.now seat.old }
     requires alone { IsAloneIn Idle (view_of seat.old) }
@@ -40,7 +40,6 @@ pub fn count_between(heap: &Heap, seat: &mut HeapSeat, from: u32, end: u32, coun
     published
 }
 
-/// How many allocation bits are set, as a seat that is alone reads them.
 fn count_published(heap: &Heap, seat: &mut HeapSeat) -> u32
     requires seat { Sits heap.now seat.old }
     requires alone { IsAloneIn Idle (view_of seat.old) }
@@ -54,7 +53,6 @@ fn count_published(heap: &Heap, seat: &mut HeapSeat) -> u32
     count_between(heap, seat, 0, end, 0)
 }
 
-/// Sets a statistic, from `LAST` to `FREE`, to a number.
 fn set_statistic(heap: &Heap, seat: &mut HeapSeat, which: u8, number: u32)
     requires seat { Sits heap.now seat.old }
     requires alone { IsAloneIn Idle (view_of seat.old) }
@@ -68,7 +66,7 @@ fn set_statistic(heap: &Heap, seat: &mut HeapSeat, which: u8, number: u32)
     heap.add_stat(seat, which, number, false);
 }
 
-/// Sets the numbers that pace the next cycle, once the cells in use were counted.
+/// Sets the numbers that pace the next cycle.
 pub fn set_numbers(
     heap: &Heap,
     seat: &mut HeapSeat,
@@ -101,7 +99,7 @@ pub fn set_numbers(
     }
 }
 
-/// Ends the count of a cycle: the cells in use are counted, and the numbers are set that pace the next one.
+/// Counts the cells in use, and sets the numbers that pace the next cycle.
 pub(crate) fn settle(heap: &Heap, seat: &mut HeapSeat, rescanned: u32, freed: u32) -> Counts
     requires seat { Sits heap.now seat.old }
     requires alone { IsAloneIn Idle (view_of seat.old) }

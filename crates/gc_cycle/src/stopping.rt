@@ -31,11 +31,11 @@ use stop_world::{Raised, await_stopped, enter, join_help, leave, leave_help, pol
 /// How many objects a waiting seat traces before it looks again whether the stop has ended.
 const TURN: u32 = 1_024;
 
-/// How often a waiting seat looks whether the stop has ended, or its help is wanted, before it offers it unasked: seldom, since helpers hold each other up in a
-/// sweep whose blocks are handed out one by one.
+/// How often a waiting seat looks whether the stop has ended, or its help is wanted, before it offers help unasked:
+/// seldom, since helpers hold each other up in a sweep whose blocks are handed out one by one.
 const PAUSE: u32 = 65_536;
 
-/// Helps, where the stop is in a drain or a sweep. In a drain all cards are passed before, where this is asked for.
+/// Helps, and in a drain passes all cards first if `cards` says so.
 fn help_joined(heap: &Heap, seat: &mut HeapSeat, cards: bool)
     requires seat { Sits heap.now seat.old × IsAdmitted (view_of seat.old) }
     ensures seat { Sits heap.now seat.new × IsAdmitted (view_of seat.new) }
@@ -57,7 +57,7 @@ fn help_joined(heap: &Heap, seat: &mut HeapSeat, cards: bool)
     }
 }
 
-/// Joins the helpers once, where help is open, and helps.
+/// Joins the helpers once, if help is open, and helps.
 fn help_once(heap: &Heap, seat: &mut HeapSeat, cards: bool) -> bool
     requires seat { Sits heap.now seat.old × IsOut (view_of seat.old) }
     ensures seat { Sits heap.now seat.new × IsOut (view_of seat.new) }
@@ -76,18 +76,19 @@ fn help_once(heap: &Heap, seat: &mut HeapSeat, cards: bool) -> bool
     false
 }
 
-/// How often a waiting seat yields between two looks: the word that it looks at stands beside those that the seat which stopped the world counts with.
+/// How often a waiting seat yields between two looks: the stopping seat counts in a word beside the one that it
+/// reads.
 const YIELDS: u32 = 16;
 
-/// Whether blocks are left to hand out where some were, by the number of the next one. Where they are handed out one by one helpers hold each other up, so then
-/// none is called left.
+/// Whether some blocks were handed out and some are left. If they are handed out one by one none is called left,
+/// since helpers then hold each other up.
 fn is_partly_handed_out(shape: &Shape, next: u64) -> bool
     ensures { IsTrue result ↔ ((1 < shape.now.stretch) × (0 < next) × (next < block_count shape.now)) }
 {
     1 < shape.stretch && 0 < next && next < u64::from(shape.cells / BLOCK_CELLS)
 }
 
-/// Whether a sweep is under way that has blocks left to hand out, by a look at the number of the next one.
+/// Whether a sweep has blocks left.
 fn has_blocks_left(heap: &Heap, seat: &mut HeapSeat) -> bool
     requires seat { Sits heap.now seat.old × IsOut (view_of seat.old) }
     ensures seat { Sits heap.now seat.new × IsOut (view_of seat.new) }
@@ -101,8 +102,7 @@ fn has_blocks_left(heap: &Heap, seat: &mut HeapSeat) -> bool
     is_partly_handed_out(&heap.shape(), next)
 }
 
-/// Whether help is open, and the count doesn't say that all packets are empty: so there is something to trace. In a sweep there is none; then whether blocks
-/// are left.
+/// Whether help is open and there is work: a packet isn't empty, or, in a sweep, blocks are left.
 fn is_wanted(heap: &Heap, seat: &mut HeapSeat) -> bool
     requires seat { Sits heap.now seat.old × IsOut (view_of seat.old) }
     ensures seat { Sits heap.now seat.new × IsOut (view_of seat.new) }
@@ -121,7 +121,6 @@ fn is_wanted(heap: &Heap, seat: &mut HeapSeat) -> bool
     has_blocks_left(heap, seat)
 }
 
-/// Looks whether the stop has ended, or the seat's help is wanted.
 fn is_over_or_wanted(heap: &Heap, seat: &mut HeapSeat) -> bool
     requires seat { Sits heap.now seat.old × IsOut (view_of seat.old) }
     ensures seat { Sits heap.now seat.new × IsOut (view_of seat.new) }
@@ -137,14 +136,13 @@ fn is_over_or_wanted(heap: &Heap, seat: &mut HeapSeat) -> bool
     is_wanted(heap, seat)
 }
 
-/// Yields some times.
 fn yield_some() {
     for _ in 0..YIELDS {
         thread::yield_now();
     }
 }
 
-/// Looks some times whether the stop has ended, and no longer once it has, or once its help is wanted.
+/// Looks some times whether the stop has ended or help is wanted.
 fn pause(heap: &Heap, seat: &mut HeapSeat)
     requires seat { Sits heap.now seat.old × IsOut (view_of seat.old) }
     ensures seat { Sits heap.now seat.new × IsOut (view_of seat.new) }
@@ -162,7 +160,7 @@ fn pause(heap: &Heap, seat: &mut HeapSeat)
     }
 }
 
-/// Waits until no stop is under way. Meanwhile it joins the helpers of the stop, and helps.
+/// Waits until no stop is under way, and meanwhile joins the helpers.
 pub fn await_resumed_helping<R: Wait>(rt: &R, heap: &Heap, seat: &mut HeapSeat)
     requires seat { Sits heap.now seat.old × IsOut (view_of seat.old) }
     ensures seat { Sits heap.now seat.new × IsOut (view_of seat.new) }
@@ -189,7 +187,7 @@ pub fn await_resumed_helping<R: Wait>(rt: &R, heap: &Heap, seat: &mut HeapSeat)
     unreachable!()
 }
 
-/// Leaves the world with the position stored: the mutator has done `done` commands. It has no cache.
+/// Leaves the world with the position stored, without a cache.
 #[inline(never)]
 pub fn go_out(heap: &Heap, seat: &mut HeapSeat, done: u32)
     requires seat { Sits heap.now seat.old × Mutates (view_of seat.old) }
@@ -205,7 +203,7 @@ pub fn go_out(heap: &Heap, seat: &mut HeapSeat, done: u32)
     leave(heap, seat);
 }
 
-/// Enters the world, as soon as no stop is under way. Meanwhile the seat helps.
+/// Enters the world as soon as no stop is under way, and helps meanwhile.
 #[inline(never)]
 pub fn go_in<R: Wait>(rt: &R, heap: &Heap, seat: &mut HeapSeat)
     requires seat { Sits heap.now seat.old × IsOut (view_of seat.old) }
@@ -229,8 +227,8 @@ pub fn go_in<R: Wait>(rt: &R, heap: &Heap, seat: &mut HeapSeat)
     unreachable!()
 }
 
-/// Asks for a stop of its own, with the position stored: true where the seat has stopped the world and is alone in it. Where another seat's flag is up it
-/// waits until that stop has ended, and enters again.
+/// Asks for a stop of its own, with the position stored. True if the seat is now alone in the world. If another
+/// seat's flag is up it waits until that stop has ended, and enters again.
 pub fn stop<R: Wait>(rt: &R, heap: &Heap, seat: &mut HeapSeat, done: u32) -> bool
     requires seat { Sits heap.now seat.old × Mutates (view_of seat.old) }
     requires cache { (state_of seat.old).cache ≡ None }

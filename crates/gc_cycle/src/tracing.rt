@@ -1,4 +1,4 @@
-//! Tracing, and what waits to be traced: the calls of the crates below, told in the words of this one.
+//! Tracing, and what waits to be traced.
 ghost use Rattle.std.specs.Prelude.{◌==◌, ◌≡◌, ◌≤◌, ◌+◌, IsTrue, length};
 ghost use Rattle.mark_core.specs.Numbers.{empty_offset};
 ghost use Rattle.mark_core.specs.declared.kinds.Step.TheVariants.{ReadCount};
@@ -19,7 +19,7 @@ ghost use Rattle.gc_cycle.specs.Standing.{is_at_rest};
 use gc_table::{Heap, HeapSeat};
 use tracer::Traced;
 
-/// Traces at most so many objects.
+/// Traces at most this many objects.
 pub fn trace(heap: &Heap, seat: &mut HeapSeat, quota: u32) -> Traced
     requires seat { Sits heap.now seat.old × IsTrue (traces (view_of seat.old)) }
     requires rest { IsTrue (is_at_rest heap.now.shape (state_of seat.old)) }
@@ -70,7 +70,7 @@ pub(crate) fn lacks_work(heap: &Heap, seat: &mut HeapSeat) -> bool
     tracer::lacks_work(heap, seat)
 }
 
-/// Whether the count of empty packets says all packets, so that nothing is left to trace.
+/// Whether the count of empty packets says all: then nothing is left to trace.
 pub fn sees_all_empty(heap: &Heap, seat: &mut HeapSeat) -> bool
     requires seat { Sits heap.now seat.old }
     requires rest { IsTrue (is_at_rest heap.now.shape (state_of seat.old)) }

@@ -44,7 +44,7 @@ module _ (r : Ended) (h : Heap) (s : Sections) (z : ℕ) (xs : List HeapSeat) (m
   came-at k x e low = ((left-at k x e).of_section (omega (arith, low, section-count s))).came
 
 module _ (h : Heap) (s : Sections) (z : ℕ) (xs : List HeapSeat) (made : IsMadeForScript s h xs) where
-  -- where all was played
+  -- if all was played
   pub all-played : Numbered (IsSeatLeftBy Done h s z) 0 xs → z ≡ seasons s → SettlesEnd Done xs → PlayedAll s xs
   all-played left all settles = record {
     played = λ k x e low. subst (λ n. HasPlayed s k n (view_of x).own) all (came-at Done h s z xs made left k x e low);
@@ -70,7 +70,7 @@ module _ (h : Heap) (s : Sections) (z : ℕ) (xs : List HeapSeat) (made : IsMade
   came-later zero y low c = absurd (omega (arith, low))
   came-later (suc w) y low c = c
 
-  -- where the heap was found full
+  -- if the heap was found full
   pub have-stopped : (r : Ended) → r ≢ Done → 0 < z → Numbered (IsSeatLeftBy r h s z) 0 xs → SeatsStopped s z xs
   have-stopped Done n season left = absurd (n refl)
   have-stopped First n season left =

@@ -127,14 +127,14 @@ handed-seat (Absent y) x said places dropped o = sym o.0
 knows : HeapSeat → Type 0
 knows x = KnowsFull (view_of x)
 
--- where the heap is full, some seat knows it
+-- if the heap is full, some seat knows it
 pub crew-knows : (r : Ended) (h : Heap) (s : Sections) (n z : ℕ) (c : Crew) (x : HeapSeat) (xs : List HeapSeat) → seat_in c.catalogue ≡ x → PlayEnds r h s n z c → (SomeKnows c.workers.items → SomeSeatKnows xs) → KnowsEnd r (x ∷ xs)
 unfolding knows
 crew-knows Done h s n z c x xs same e f = tt
 crew-knows First h s n z c x xs same e f = some-first knows x xs (subst knows same e.catalogue.full)
 crew-knows Later h s n z c x xs same e f = ⊎_elim (λ (k : KnowsFull (view_of (seat_in c.catalogue))). some-first knows x xs (subst knows same k)) (λ (k : SomeKnows c.workers.items). some-ahead knows x xs (f k)) e.known
 
--- where all was played, the catalogue's seat ended an exact cycle
+-- if all was played, the catalogue's seat ended an exact cycle
 pub crew-settles : (r : Ended) (h : Heap) (s : Sections) (n z : ℕ) (c : Crew) (x : HeapSeat) (xs : List HeapSeat) → seat_in c.catalogue ≡ x → PlayEnds r h s n z c → SettlesEnd r (x ∷ xs)
 crew-settles Done h s n z c x xs same e = λ d. subst (λ (y : HeapSeat). IsTrue (view_of y).own.settled) same e.1
 crew-settles First h s n z c x xs same e = tt

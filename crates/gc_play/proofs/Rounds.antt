@@ -176,7 +176,7 @@ is-marking Full = inr (λ e. absurd (cc))
 pays-after : (n : ℕ) (es : List Entry) → PaysForPops es → PaysForPops (event ReadPhase n ∷ es)
 pays-after n es p = p ∙ ap payment (omega arith)
 
--- where no phase is read, no trace is asked
+-- if no phase is read, no trace is asked
 blind-traces : (sh : Shape) (es : List Entry) (s : SeatState) → some_event looks_at_phase es ≡ false → seat_traces_where_marking sh s es ≡ true
 blind-traces sh [] s o = refl
 blind-traces sh (e ∷ es) s o =

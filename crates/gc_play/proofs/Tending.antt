@@ -46,7 +46,7 @@ marked-stays n h x y a b t =
       ran = t.ran;
     }
 
--- where cells were popped, one was
+-- if cells were popped, one was
 pub some-counted : (f : Step → ℕ → Bool) (es : List Entry) → 0 < count_of f es → some_event f es ≡ true
 some-counted f [] low = absurd (omega (arith, low))
 some-counted f (x ∷ xs) low = of (f x.step x.found) (some_event f xs) (count_of f xs) (some-counted f xs) low
@@ -119,7 +119,7 @@ tend-blind es o = none-of-steps tends_inside looks_at_phase tend-looks es o
 tend-unbegun : (es : List Entry) → all_steps tends_inside es ≡ true → some_event tries_marking es ≡ false
 tend-unbegun es o = none-of-steps tends_inside tries_marking tend-untried es o
 
--- what is to be told where something was popped
+-- what is to be told if something was popped
 payment-some : (n : ℕ) → 0 < n → payment n ≡ tells n ∷ []
 payment-some n low = ap (λ b. cond b [] (tells n ∷ [])) (ne_eqb n 0 (λ z. omega (arith, z, low)))
 

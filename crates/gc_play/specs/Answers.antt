@@ -14,7 +14,7 @@ use Rattle.play_end.specs.Reported.{AreSurvivorsPlaced, AreParts, AreStored}
 use Rattle.gc_play.specs.Traced.{TracersRan}
 
 -- a heap of these sizes was closed with these words when each section had played all its parts; the report's parts are those of its seats,
--- a survivor's place is the cell that holds it, and each of so many tracers traced in each season until its parts were played
+-- a survivor's place is the cell that holds it, and each of this many tracers traced in each season until its parts were played
 pub record IsPlayed (s : Sections) (sh : Shape) (tracers : ℕ) (r : Report) (w : Words) : Type 0 where
   pub seats : List HeapSeat
   pub closed : IsClosed s sh.cells sh seats w
@@ -49,7 +49,7 @@ abbrev pub FinalEnds : Result (Report × Words) PlayError → Sections → Shape
 FinalEnds (Ok r) s sh tracers = IsPlayed s sh tracers r.0 r.1
 FinalEnds (Err e) s sh tracers = StopsIn e s sh tracers
 
--- how the heap of a play ended, where the caller gets the report without the words
+-- how the heap of a play ended, if the caller gets the report without the words
 abbrev pub EndsIn : Result Report PlayError → Sections → Shape → ℕ → Type 0
 EndsIn (Ok r) s sh tracers = (w : Words) × IsPlayed s sh tracers r w
 EndsIn (Err e) s sh tracers = StopsIn e s sh tracers

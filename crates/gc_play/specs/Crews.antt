@@ -115,7 +115,7 @@ CatalogueSettles ends.Full h s z c = CatalogueWaits h s z c × KnowsFull (view_o
 abbrev pub AreTracers : Heap → Sections → List HeapSeat → Type 0
 AreTracers h s xs = Numbered (IsTracerSeat h) (1 + length s.warehouses) xs
 
--- the first stand in the others, after so many more
+-- the first stand in the others, after this many more
 abbrev pub AreAfter : ℕ → List HeapSeat → List HeapSeat → Type 0
 AreAfter n xs ys = (before : List HeapSeat) × (length before ≡ n) × (ys ≡ before ++ xs)
 
@@ -158,7 +158,7 @@ CrewEnds plays.Done h s n z c = IsCrew h s n z (2 * z - 1) c
 CrewEnds plays.First h s n z c = IsHaltedFirst h s n z c
 CrewEnds plays.Later h s n z c = IsHaltedLater h s n z c
 
--- how a play ends: where all was played, the last stop was made
+-- how a play ends: if all was played, the last stop was made
 abbrev pub PlayEnds : Ended → Heap → Sections → ℕ → ℕ → Crew → Type 0
 PlayEnds plays.Done h s n z c = IsCrew h s n z (2 * z) c × IsTrue (own_of c.catalogue).settled
 PlayEnds plays.First h s n z c = IsHaltedFirst h s n z c
@@ -175,7 +175,7 @@ WarehouseEndsAt plays.Done h s z m = StandsAt h s z m
 WarehouseEndsAt plays.First h s z m = StandsAt h s (z - 1) m
 WarehouseEndsAt plays.Later h s z m = HaltsAt h s z m
 
--- what a section came to, where a play ended
+-- what a section came to, when a play ended
 abbrev pub CameIn : Ended → Sections → ℕ → ℕ → SectionState → Type 0
 CameIn plays.Done s z w y = HasPlayed s w z y
 CameIn plays.First s z zero y = (k : ℕ) × HasStoppedInPart s 0 z k y
@@ -196,7 +196,7 @@ pub record IsSeatLeftBy (r : Ended) (h : Heap) (s : Sections) (z n : ℕ) (x : H
   pub outside : IsOutside (view_of x)
   pub of_section : n ≤ length s.warehouses → IsLeftOf r s z n x
 
--- what was printed, dropped and placed is that of section w, where all was played
+-- what was printed, dropped and placed is that of section w, if all was played
 abbrev pub SaysOfSection : Ended → Sections → ℕ → ℕ → HeapSeat → Part → Type 0
 SaysOfSection plays.Done s z w x p = HasSaid s w (end_of s w z) (map printed_of p.said.items) p.dropped p.places.items (view_of x).own
 SaysOfSection plays.First s z w x p = Unit {0}
@@ -207,7 +207,7 @@ abbrev pub HandsOver : Catalogue → HeapSeat → List Said → List ℕ → ℕ
 HandsOver (seats.Playing m) x said places dropped = (x ≡ m.seat) × (said ≡ m.said.items) × (places ≡ m.places.items) × (dropped ≡ m.dropped)
 HandsOver (seats.Absent y) x said places dropped = (x ≡ y) × (said ≡ []) × (places ≡ []) × (dropped ≡ 0)
 
--- what was printed, dropped and placed is that of the sections from number n on, one after another, where all was played
+-- what was printed, dropped and placed is that of the sections from number n on, one after another, if all was played
 abbrev pub AreSaid : Ended → Sections → ℕ → ℕ → List HeapSeat → List Part → Type 0
 AreSaid r s z n xs ps = (i : ℕ) (d : HeapSeat) (p : Part) → i < length ps → SaysOfSection r s z (n + i) (slice_index_or xs i d) (slice_index_or ps i p)
 
@@ -215,13 +215,13 @@ AreSaid r s z n xs ps = (i : ℕ) (d : HeapSeat) (p : Part) → i < length ps �
 abbrev pub SomeSeatKnows : List HeapSeat → Type 0
 SomeSeatKnows xs = SomeAt (λ (x : HeapSeat). KnowsFull (view_of x)) xs
 
--- where not all was played, some seat knows that the heap is full
+-- if not all was played, some seat knows that the heap is full
 abbrev pub KnowsEnd : Ended → List HeapSeat → Type 0
 KnowsEnd plays.Done xs = Unit {0}
 KnowsEnd plays.First xs = SomeSeatKnows xs
 KnowsEnd plays.Later xs = SomeSeatKnows xs
 
--- where all was played, the catalogue's seat ended an exact cycle at last
+-- if all was played, the catalogue's seat ended an exact cycle at last
 abbrev pub SettlesEnd : Ended → List HeapSeat → Type 0
 SettlesEnd plays.Done xs = (d : HeapSeat) → IsTrue (view_of (slice_index_or xs 0 d)).own.settled
 SettlesEnd plays.First xs = Unit {0}

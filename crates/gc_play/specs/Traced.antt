@@ -18,17 +18,17 @@ use Rattle.gc_play.specs.Turns.{HasTakenTurns, record_after}
 abbrev pub parts_by : Sections → ℕ → ℕ
 parts_by s z = z * (1 + length s.warehouses)
 
--- y is the seat x after a run of a tracer's turns, at rest; the run ended when so many parts were played, or the heap was full
+-- y is the seat x after a run of a tracer's turns, at rest; the run ended when this many parts were played, or the heap was full
 pub record TracedUntil (h : Heap) (until : ℕ) (x y : HeapSeat) : Type 0 where
   pub kept : RestsUnchanged h x y
   pub traced : HasTakenTurns h.shape until (view_of x).state (events (view_of x) (view_of y))
 
--- each of these seats traced until so many parts were played, or the heap was full
+-- each of these seats traced until this many parts were played, or the heap was full
 pub record AllTracedUntil (h : Heap) (until : ℕ) (xs ys : List HeapSeat) : Type 0 where
   pub count : length ys ≡ length xs
   pub each : (i : ℕ) (d : HeapSeat) → i < length xs → TracedUntil h until (slice_index_or xs i d) (slice_index_or ys i d)
 
--- what the tracers did in season z: each traced until its parts were played, but where it was not played to the warehouses' turn
+-- what the tracers did in season z: each traced until its parts were played, unless it was not played to the warehouses' turn
 abbrev pub SeasonTraced : Ended → Heap → Sections → ℕ → List HeapSeat → List HeapSeat → Type 0
 SeasonTraced plays.Done h s z xs ys = AllTracedUntil h (parts_by s z) xs ys
 SeasonTraced plays.First h s z xs ys = ys ≡ xs
@@ -45,7 +45,7 @@ TracedSeasons sh s zero t es = es ≡ []
 TracedSeasons sh s (suc z) t es =
     (before : List Entry) × (season : List Entry) × (es ≡ before ++ season) × TracedSeasons sh s z t before × HasTakenTurns sh (parts_by s (suc z)) (record_after sh t before) season
 
--- beside the seats of the sections there are so many of tracers, and each traced so from the start of the heap on
+-- beside the seats of the sections there are this many of tracers, and each traced so from the start of the heap on
 pub record TracersRan (s : Sections) (sh : Shape) (tracers z : ℕ) (seats : List HeapSeat) : Type 0 where
   pub count : length seats ≡ 1 + length s.warehouses + tracers
   pub each : (i : ℕ) (x : HeapSeat) → slice_get seats i ≡ Some x → 1 + length s.warehouses ≤ i → TracedSeasons sh s z (start_seat sh i) (view_of x).log

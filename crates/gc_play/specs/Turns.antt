@@ -107,7 +107,7 @@ each_visit sh s [] = true
 each_visit sh s (e ∷ es) =
     let t = seat_after sh s e.step e.found in (not (enters_freely e.step e.found) || visits sh t (until_leave es)) && each_visit sh t es
 
--- the number of traced cells is raised by so many
+-- the number of traced cells is raised by this many
 abbrev pub payment : ℕ → List Step
 payment n = if n == 0 then [] else tells n ∷ []
 
@@ -115,7 +115,7 @@ payment n = if n == 0 then [] else tells n ∷ []
 abbrev pub PaysForPops : List Entry → Type 0
 PaysForPops es = numbers_changed es ≡ payment (count_of pops es)
 
--- each time that the seat enters while no stop is under way, what it pops before it leaves is told by one step, and no other number is changed
+-- each time that the seat enters while no stop is under way, what it pops before it leaves is reported by one step, and no other number is changed
 abbrev pub EachPays : List Entry → Type 0
 EachPays [] = Unit {0}
 EachPays (e ∷ es) = (IsTrue (enters_freely e.step e.found) → PaysForPops (until_leave es)) × EachPays es
@@ -143,7 +143,7 @@ pub record IsTracerTurn (sh : Shape) (until : ℕ) (last : Bool) (t : Turn) : Ty
   pub unbegun : IsTrue (never tries_marking t.rest)
   pub ends : last ≡ is_last until t
 
--- turn t is the last where no turn follows; else it is not, and the rest holds
+-- turn t is the last if no turn follows; else it is not, and the rest holds
 abbrev pub then_turns : Shape → ℕ → Turn → List Turn → Type 0 → Type 0
 then_turns sh until t [] rest = IsTracerTurn sh until true t
 then_turns sh until t (u ∷ us) rest = IsTracerTurn sh until false t × rest
@@ -153,7 +153,7 @@ abbrev pub AreTurns : Shape → ℕ → List Turn → Type 0
 AreTurns sh until [] = ⊥
 AreTurns sh until (t ∷ ts) = then_turns sh until t ts (AreTurns sh until ts)
 
--- a tracer, with this record at first, ran until it read that so many parts were played, or that the heap was full, and no longer
+-- a tracer, with this record at first, ran until it read that this many parts were played, or that the heap was full, and no longer
 pub record HasTakenTurns (sh : Shape) (until : ℕ) (s : SeatState) (es : List Entry) : Type 0 where
   pub first : lead es ≡ []
   pub turns : AreTurns sh until (turns_of sh s es)

@@ -1,4 +1,3 @@
-//! All seats of a play, dealt out at the start.
 ghost use Rattle.std.specs.Prelude.{◌≡◌, ◌+◌, ◌<◌, ◌≤◌, [], All, false, IfOk, OnOk, length, vec_len};
 ghost use Rattle.gc_play.specs.Crews.{CatalogueAt, IsCrew, IsNewSeatOfPlay, Numbered};
 ghost use Rattle.gc_play.specs.Dealing.{EachOne, IsDealt, StandsAt};
@@ -10,14 +9,13 @@ use plain_heap::OutOfMemory;
 use std::alloc::Global;
 use warehouse::Mutator;
 
-/// The seat of section 0: with what it printed, or alone where the script has no catalogue.
+/// The seat of section 0, with what it printed if the script has a catalogue.
 #[derive(Drop)]
 pub(crate) enum Catalogue<'a> {
     Playing(Mutator<'a>),
     Absent(HeapSeat),
 }
 
-/// All seats of a play, in the hands of those that play.
 #[derive(Drop)]
 pub(crate) struct Crew<'a> {
     pub(crate) catalogue: Catalogue<'a>,
@@ -43,7 +41,6 @@ fn make_catalogue<'a>(
     }
 }
 
-/// Workers that have nothing yet.
 fn hire<'a>(alloc: Global, workers: u32) -> Result<Vec<Worker<'a>>, OutOfMemory>
     ensures dealt { IfOk result (λ v. IsDealt workers 0 v.items) }
     ensures empty { IfOk result (λ v. All (λ x. (x.mutators.items ≡ []) × (x.full ≡ false)) v.items) }
@@ -90,7 +87,7 @@ fn deal_one<'a>(
     }
 }
 
-/// Deals the seats of the warehouses out among the workers, one after the other. What is left are the tracers' seats.
+/// Deals the seats of the warehouses out among the workers. The tracers' seats are left.
 fn deal<'a>(
     alloc: Global,
     heap: &Heap,
@@ -120,7 +117,7 @@ fn deal<'a>(
     Ok(())
 }
 
-/// All seats of a heap, dealt out. All memory that playing needs is taken here.
+/// All seats of a heap, dealt out, with all the memory that playing needs.
 pub(crate) fn muster<'a>(
     alloc: Global,
     heap: &Heap,

@@ -1,4 +1,4 @@
-//! How a tracer goes into the world, and leaves it: by the gate of `stop_world`, told by what stays of the seat and by the list of the events.
+//! How a tracer enters and leaves the world, through `stop_world`.
 ghost use Rattle.std.specs.Prelude.{IsTrue, IsFalse};
 ghost use Rattle.mark_core.specs.declared.kinds.Step.TheVariants.{LeaveStep};
 ghost use Rattle.gc_table.specs.Seats.{Across, did};
@@ -9,7 +9,7 @@ ghost use Rattle.gc_play.specs.Turns.{EntersOrLeaves, IsOne};
 
 use gc_table::{Heap, HeapSeat};
 
-/// Enters the world: true where the seat is active. Else it is outside again.
+/// Enters the world; if false, the seat is outside again.
 pub(crate) fn enter(heap: &Heap, seat: &mut HeapSeat) -> bool
     requires { Rests heap.now seat.old }
     ensures stays { Across SeatStays seat.old seat.new }

@@ -1,4 +1,3 @@
-//! A gate that holds nobody.
 use gc_script::Section;
 use gc_table::HeapSeat;
 use warehouse::Gate;

@@ -1,4 +1,3 @@
-//! All seats of a play, gathered at the end, with what each section's player had.
 ghost use Rattle.std.specs.Prelude.{◌≡◌, ◌+◌, ◌%◌, ◌<◌, ◌≤◌, [], ◌∷◌, IfOk, OnOk, length, vec_len};
 ghost use Rattle.gc_play.specs.Crews.{AreAfter, AreSaid, AreTracers, WarehouseEndsAt, HandsOver, IsSeatLeftBy, KnowsEnd, Numbered, PlayEnds, SettlesEnd, SomeKnows, SomeSeatKnows};
 ghost use Rattle.gc_play.specs.Dealing.{EachOne, IsDealt, TakesLast, seat_number};
@@ -13,7 +12,6 @@ use play_report::{Part, Said};
 use std::alloc::Global;
 use warehouse::Mutator;
 
-/// Takes the last warehouse of those that are left from its worker.
 fn take_back<'a>(workers: &mut Vec<Worker<'a>>, at: usize) -> Mutator<'a>
     requires some { 0 < vec_len workers.old }
     requires dealt { IsDealt (vec_len workers.old) (at + 1) workers.old.items }
@@ -57,7 +55,7 @@ fn hand_over<'a>(
     }
 }
 
-/// Puts the seats of the warehouses back before those of the tracers, in order, and their parts of the report beside them.
+/// Puts the seats of the warehouses back before those of the tracers, in order, with their parts of the report.
 pub(crate) fn gather<'a>(
     heap: &Heap,
     script: &Script<'a>,
@@ -93,7 +91,7 @@ pub(crate) fn gather<'a>(
     Ok(())
 }
 
-/// What section 0 had: where the script has no catalogue it printed nothing and made nothing.
+/// What section 0 had: nothing if the script has no catalogue.
 fn hand_catalogue<'a>(
     alloc: Global,
     catalogue: Catalogue<'a>,

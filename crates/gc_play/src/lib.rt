@@ -2,40 +2,32 @@
 //!
 //! # How a play goes
 //!
-//! 1. All memory is taken: the heap, with a seat for each section and each tracer, the sections' players, and room for the
-//!    report. The plan of the heap is the script's catalogue. `muster` deals the warehouses out: worker j plays those with
-//!    `(w - 1) mod workers = j`, in order.
-//! 2. Season by season the catalogue plays its part, and its seat moves the season on. Then all workers and tracers run side by
-//!    side, each in a thread of its own, and are awaited (`run_threads`). A thread that can't be started is run where it was to
-//!    be started, after the others there. A tracer that is run so late reads at once that all parts were played, so it costs
-//!    time alone. The next season begins where the catalogue's seat moves the season on again.
-//! 3. After the last season the catalogue's seat makes the last stop, in which an exact cycle ends. The seats are gathered in
-//!    the order of their numbers, each player's lines and places beside its seat, and the heap is closed: the report has what
-//!    the players had, and the objects that the words of the heap list.
-//! 4. Where a part or a stop found the heap full, nothing more is played. The heap is closed without a collection, and its
-//!    words give the section that found it and how far each section came.
+//! 1. All memory is taken: the heap, with a seat for each section and each tracer, the sections' players, and room
+//!    for the report. `muster` deals the warehouses out: worker j plays those with `(w - 1) mod workers = j`, in
+//!    order.
+//! 2. Season by season the catalogue plays its part, and its seat moves the season on. Then all workers and tracers
+//!    run side by side, each in a thread of its own, and are awaited (`run_threads`). A thread that can't be
+//!    started is run there after the others; a tracer that is run so late reads at once that all parts were played,
+//!    so it only costs time.
+//! 3. After the last season the catalogue's seat makes the last stop, in which an exact cycle ends. The seats are
+//!    gathered in order, and the heap is closed: the report has what the players had, and the objects that the
+//!    words of the heap list.
+//! 4. If a part or a stop found the heap full, nothing more is played. The heap is closed without a collection, and
+//!    its words give the section that found it and how far each section came.
 //!
 //! # Why the report follows
 //!
-//! What a section came to is told by its seat's view, and `PlayedTo` and `StoppedIn` (`specs/Standing.antt`) say that it is
-//! what the plain run says, by the words of the crate play_end. No other thread can change that, since no other has the seat:
-//! so it is enough that each thread says so of the seats that it borrowed, and that fork and join hand these back. `IsCrew`
-//! says it of all seats between two seasons, `IsHaltedFirst` and `IsHaltedLater` of a play that stopped in the catalogue's turn
-//! or later (`specs/Crews.antt`). From this the closing of play_end gives the report, or the positions.
+//! `PlayedTo` and `StoppedIn` (`specs/Standing.antt`) say that a seat's view is what the plain run says, in the
+//! terms of `play_end`. No other thread can change that, since no other has the seat: so it is enough that each
+//! thread says so of the seats it borrowed, and that fork and join hand them back. `IsCrew` says it of all seats
+//! between two seasons, `IsHaltedFirst` and `IsHaltedLater` of a play that stopped in the catalogue's turn or later
+//! (`specs/Crews.antt`). From this the closing of `play_end` gives the report, or the positions.
 //!
-//! The season word is moved on by the catalogue's seat alone, 2z - 1 times up to the warehouses' turn of season z; its view
-//! counts them, and so an even number at the end tells that no section plays any more.
+//! Only the catalogue's seat moves the season word on, 2z - 1 times up to the warehouses' turn of season z; its
+//! view counts them, so an even number at the end tells that no section plays any more.
 //!
-//! # Where things are
-//!
-//! - `workers`: the warehouses, dealt out among the threads that play them, and one season of them.
-//! - `tracers`: the seats that trace beside them, turn by turn; `specs/Turns.antt` says by their events what a turn does and
-//!   which is the last, and `specs/Traced.antt` that each seat traces so in each season until its parts were played;
-//!   `specs/Answers.antt` says what a play answers, and what its heap was when it was closed.
-//!   `entering`: how such a seat goes in and out. `marking`: what it does inside while marking is under way.
-//! - `season`: all threads of a season, and the stops between two turns.
-//! - `crew`: all seats, dealt out at the start. `gathering`: the same at the end.
-//! - `playing`: a whole play. `limits`: what a script that was read is known to keep to.
+//! `specs/Turns.antt` says what a tracer's turn does and which is the last, and `specs/Traced.antt` that each seat
+//! traces so in each season until its parts were played.
 #![tactic(auto)]
 
 mod crew;

@@ -1,4 +1,3 @@
-//! The limits of a script that was read, by which its play is one that may be played.
 ghost use Rattle.std.specs.Prelude.{◌≤◌, length, IsFalse};
 ghost use Rattle.std.specs.List.{list_any};
 ghost use Rattle.plain_heap.specs.Sections.{joined, parts_of, lends};
@@ -6,21 +5,18 @@ ghost use Rattle.gc_play.specs.Options.{IsPlayable};
 
 use gc_script::Script;
 
-/// Looks at the number of warehouses.
 fn see_warehouses(script: &Script<'_>)
     ensures { length script.now.sections.warehouses ≤ 32 }
 {
     let _warehouses = script.warehouses();
 }
 
-/// Looks at the catalogue's commands: none reads a variable of a catalogue.
 fn see_catalogue(script: &Script<'_>)
     ensures { IsFalse (list_any (λ e. lends e.op) (joined (parts_of script.now.sections 0))) }
 {
     let _catalogue = script.catalogue();
 }
 
-/// Looks at the limits of a script.
 pub(crate) fn see_script(script: &Script<'_>)
     ensures { IsPlayable script.now.sections }
 {

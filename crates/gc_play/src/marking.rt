@@ -1,6 +1,4 @@
-//! What a tracer does inside while marking is under way: it marks, and tells how many objects it traced.
-//!
-//! Each turn is short, since a stop waits until it has ended.
+//! What a tracer does inside while marking is under way. Each turn is short, since a stop waits until it has ended.
 ghost use Rattle.std.specs.Prelude.{false};
 ghost use Rattle.mark_core.specs.Numbers.{traced_count};
 ghost use Rattle.mark_core.specs.declared.kinds.Step.TheVariants.{AddStat};
@@ -13,7 +11,6 @@ use gc_table::{Heap, HeapSeat};
 use mark_core::TRACED;
 use seat_turns::mark_some;
 
-/// Adds to the number of traced objects.
 fn count_traced(heap: &Heap, seat: &mut HeapSeat, by: u32)
     requires { Goes heap.now seat.old }
     ensures seat { Goes heap.now seat.new }
@@ -23,7 +20,7 @@ fn count_traced(heap: &Heap, seat: &mut HeapSeat, by: u32)
     heap.add_stat(seat, TRACED, by, false);
 }
 
-/// What a tracer does in a turn. What it traced it adds to the number of traced objects, by one step.
+/// Does a tracer's turn, and adds what it traced to the number of traced objects, by one step.
 pub(crate) fn trace_inside(heap: &Heap, seat: &mut HeapSeat)
     requires { GoesMarking heap.now seat.old }
     ensures seat { Goes heap.now seat.new }

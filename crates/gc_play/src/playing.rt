@@ -24,7 +24,6 @@ use std::sync::Wait;
 use std::thread::Threads;
 use warehouse::Gate;
 
-/// How many sections there are.
 fn count_sections(script: &Script<'_>) -> u32
     requires { IsPlayable script.now.sections }
     ensures count { result ≡ 1 + length script.now.sections.warehouses }
@@ -72,7 +71,6 @@ fn make_heap(
     }
 }
 
-/// Room for the parts of a report.
 fn make_parts<'a>(alloc: Global, script: &Script<'a>) -> Result<Vec<Part<'a>>, OutOfMemory>
     ensures { IfOk result (λ v. v.items ≡ []) }
 {
@@ -82,7 +80,7 @@ fn make_parts<'a>(alloc: Global, script: &Script<'a>) -> Result<Vec<Part<'a>>, O
     }
 }
 
-/// Plays all seasons, up to one in which the heap is found full, and says which was the last.
+/// Plays the seasons, up to one that finds the heap full; says which was the last.
 fn play_seasons<'a, R: Threads + Wait + Sync, G: Gate + Sync>(
     rt: &R,
     heap: &Heap,
@@ -114,7 +112,6 @@ fn play_seasons<'a, R: Threads + Wait + Sync, G: Gate + Sync>(
     }
 }
 
-/// Closes the heap of a play.
 fn close<'a>(
     alloc: Global,
     script: &Script<'a>,
@@ -149,7 +146,7 @@ fn close<'a>(
     }
 }
 
-/// All that a play needs before its first command: the heap, the sections' players, the tracers' seats, and room for the report.
+/// All that a play needs before its first command.
 fn prepare<'a>(
     alloc: Global,
     script: &Script<'a>,
@@ -176,7 +173,7 @@ fn prepare<'a>(
     }
 }
 
-/// Plays a script as [`play`] does, and gives the words of the heap besides. The refusals are those of `play`: the heap is full, or there is no memory.
+/// [`play`], with the words of the closed heap besides.
 pub fn play_final<'a, R: Threads + Wait + Sync, G: Gate + Sync>(
     rt: &R,
     alloc: Global,
@@ -219,12 +216,12 @@ pub fn play_final<'a, R: Threads + Wait + Sync, G: Gate + Sync>(
     )
 }
 
-/// Plays a script over a heap of `options.cells` cells, on `options.workers` threads with `options.tracers` beside them: each
-/// section's transcript and dropped stores, exactly the objects that are reachable at the end, and the cell of each object.
-/// None of this depends on the threads but for the cells.
+/// Plays a script over a heap of `options.cells` cells, on `options.workers` threads with `options.tracers` beside
+/// them: each section's transcript and dropped stores, exactly the objects that are reachable at the end, and the
+/// cell of each. Only the cells depend on the threads.
 ///
-/// `Full` says that the reachable objects filled all cells where a section was to make one more. Memory is taken before the
-/// first command and after the last one only.
+/// `Full` says that the reachable objects filled all cells when a section was to make one more. Memory is taken
+/// only before the first command and after the last.
 pub fn play<'a, R: Threads + Wait + Sync, G: Gate + Sync>(
     rt: &R,
     alloc: Global,

@@ -30,7 +30,7 @@ pub(crate) enum Ended {
     Later,
 }
 
-/// Runs all workers and tracers, each in a thread of its own. It ends when all of them have ended.
+/// Runs all workers and tracers, each in a thread of its own, until all have ended.
 fn run_threads<'a, R: Threads + Wait + Sync, G: Gate + Sync>(
     rt: &R,
     heap: &Heap,
@@ -63,7 +63,6 @@ fn run_threads<'a, R: Threads + Wait + Sync, G: Gate + Sync>(
     );
 }
 
-/// The warehouses' turn of a season.
 fn play_turn<'a, R: Threads + Wait + Sync, G: Gate + Sync>(
     rt: &R,
     heap: &Heap,
@@ -92,7 +91,6 @@ fn play_turn<'a, R: Threads + Wait + Sync, G: Gate + Sync>(
     }
 }
 
-/// The catalogue's turn of a season.
 fn play_catalogue<'a, R: Threads + Wait + Sync, G: Gate>(
     rt: &R,
     heap: &Heap,
@@ -118,7 +116,7 @@ fn play_catalogue<'a, R: Threads + Wait + Sync, G: Gate>(
     }
 }
 
-/// The catalogue's seat moves the season on, after so many parts.
+/// The catalogue's seat moves the season on, after this many parts.
 fn next_turn<'a, R: Threads + Wait + Sync>(
     rt: &R,
     heap: &Heap,
@@ -139,7 +137,6 @@ fn next_turn<'a, R: Threads + Wait + Sync>(
     }
 }
 
-/// The last stop of a play.
 pub(crate) fn settle<'a, R: Threads + Wait + Sync>(
     rt: &R,
     heap: &Heap,
@@ -156,7 +153,7 @@ pub(crate) fn settle<'a, R: Threads + Wait + Sync>(
     }
 }
 
-/// The turn comes back to the catalogue, but for the first season, which begins with it.
+/// Hands the turn back to the catalogue; the first season begins with it.
 fn begin_season<'a, R: Threads + Wait + Sync>(
     rt: &R,
     heap: &Heap,

@@ -1,4 +1,3 @@
-//! The seats that trace beside the mutators.
 ghost use Rattle.std.specs.Prelude.{◌≡◌, ◌∷◌, [], All, None, Some};
 ghost use Rattle.gc_table.specs.Seats.{Across, did, state_of};
 ghost use Rattle.gc_play.specs.Crews.{IsAnyTracer};
@@ -25,7 +24,7 @@ use std::thread::{Threads, yield_now};
 use std::time::Duration;
 use warehouse::Gate;
 
-/// Waits until no stop is under way, and helps until then.
+/// Helps until no stop is under way.
 fn await_resumed<R: Wait>(rt: &R, heap: &Heap, seat: &mut HeapSeat)
     requires { Rests heap.now seat.old }
     ensures seat { Rests heap.now seat.new }
@@ -46,7 +45,6 @@ fn see_done(heap: &Heap, seat: &mut HeapSeat) -> u64
     heap.read_stat(seat, DONE)
 }
 
-/// Traces, where marking is under way.
 fn trace_if(heap: &Heap, seat: &mut HeapSeat, phase: Phase)
     requires seat { Goes heap.now seat.old }
     requires seen { (state_of seat.old).phase_seen ≡ Some phase }
@@ -60,7 +58,7 @@ fn trace_if(heap: &Heap, seat: &mut HeapSeat, phase: Phase)
     }
 }
 
-/// What a tracer does in the world. True where the heap is full.
+/// What a tracer does in the world. True if the heap is full.
 fn go_round<G: Gate>(heap: &Heap, seat: &mut HeapSeat, gate: &G) -> bool
     requires seat { Goes heap.now seat.old }
     requires section { (state_of seat.old).section ≡ None }
@@ -75,7 +73,7 @@ fn go_round<G: Gate>(heap: &Heap, seat: &mut HeapSeat, gate: &G) -> bool
     matches!(phase, Phase::Full)
 }
 
-/// One turn of a tracer. True where nothing more is to be traced.
+/// One turn of a tracer. True if nothing more is to be traced.
 fn take_turn<R: Threads + Wait + Sync, G: Gate>(
     rt: &R,
     heap: &Heap,
@@ -98,10 +96,12 @@ fn take_turn<R: Threads + Wait + Sync, G: Gate>(
     go_round(heap, seat, gate)
 }
 
-/// How often a tracer yields between two turns. A turn changes the word of the world, which each mutator reads at each command.
+/// How often a tracer yields between two turns. A turn changes the word of the world, which each mutator reads at
+/// each command.
 const YIELDS: u32 = 64;
 
-/// How long a tracer sleeps at most where no cycle marks, in microseconds. It is woken where one begins, and where a part was played.
+/// How long a tracer sleeps at most if no cycle marks, in microseconds. It is woken when one begins or a part was
+/// played.
 const SLEEP: u64 = 2_000;
 
 /// Lets others run, and sleeps while no cycle marks.
@@ -112,7 +112,7 @@ fn rest<R: Wait>(rt: &R, heap: &Heap) {
     heap.rest(rt, Duration::from_micros(SLEEP));
 }
 
-/// Traces beside the mutators, turn by turn, until so many parts were played or the heap is full.
+/// Traces beside the mutators until so many parts were played or the heap is full.
 pub fn run_tracer<R: Threads + Wait + Sync, G: Gate>(
     rt: &R,
     heap: &Heap,

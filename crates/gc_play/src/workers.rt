@@ -1,4 +1,3 @@
-//! The warehouses, dealt out among the threads that play them.
 ghost use Rattle.std.specs.Prelude.{◌≡◌, ◌-◌, ◌≤◌, All, false, IsTrue, IsFalse};
 ghost use Rattle.gc_play.specs.Dealing.{EachOne, OneEnds, ShareEnds, SomeFull, StandsAt, seat_number, sections_of_worker, SameShares};
 
@@ -10,14 +9,13 @@ use std::thread;
 use std::thread::Threads;
 use warehouse::{Gate, Mutator, play_part};
 
-/// The warehouses that one thread plays, in order, and whether one of them found the heap full.
+/// The warehouses that one thread plays, in order, and whether one found the heap full.
 #[derive(Drop)]
 pub(crate) struct Worker<'a> {
     pub(crate) mutators: Vec<Mutator<'a>>,
     pub(crate) full: bool,
 }
 
-/// Plays one part of a warehouse.
 fn play_one<'a, R: Threads + Wait + Sync, G: Gate>(
     rt: &R,
     heap: &Heap,
@@ -35,7 +33,7 @@ fn play_one<'a, R: Threads + Wait + Sync, G: Gate>(
     play_part(rt, heap, mutator, section, season, gate)
 }
 
-/// Plays one part of each warehouse of a worker, in order, up to one that finds the heap full.
+/// Plays one part of each of a worker's warehouses, up to one that finds the heap full.
 fn play_share<'a, R: Threads + Wait + Sync, G: Gate>(
     rt: &R,
     heap: &Heap,

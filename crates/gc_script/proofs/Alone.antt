@@ -28,7 +28,7 @@ lends_nothing catalogue e (SayOf label v) h = refl
 lends_nothing catalogue e (SumOf label v i limit) h = refl
 lends_nothing catalogue e CollectOf h = refl
 
--- what these lines make of the catalogue, where it is open or was closed
+-- what these lines make of the catalogue, if it is open or was closed
 pub record AreAlone (catalogue : List (List ℕ)) (e : List Statement) : Type 0 where
   pub first : AllFit LendsNothing (unwrap_or (closed_catalogue catalogue e) [])
   pub ended : open_section e ≡ Some 0 → AllFit LendsNothing (ended_parts catalogue e)

@@ -68,7 +68,7 @@ executed_is version catalogue (Command spoken ∷ e) h =
     one_more (open_repeat e) _ (settled catalogue e) (pending catalogue e) (execution catalogue e spoken) (executed_is version catalogue e h.1)
 executed_is version catalogue (Wrong ∷ e) h = executed_is version catalogue e h.1
 
--- where no `repeat` is open
+-- if no `repeat` is open
 pub executed_outside : (version : ℕ) (catalogue : List (List ℕ)) (e : List Statement) → AreClear version e → open_repeat e ≡ None
     → executed catalogue e ≡ settled catalogue e ++ repeated 1 (pending catalogue e)
 executed_outside version catalogue e h o =

@@ -89,7 +89,7 @@ fit_warehouses P None parts closed h k = All-same (AllFit P) _ closed (append-ni
 fit_warehouses P (Some zero) parts closed h k = All-same (AllFit P) _ closed (append-nil closed) k
 fit_warehouses P (Some (suc w)) parts closed h k = All-push (AllFit P) closed parts k h
 
--- a section stands only where the number of fields is known
+-- a section stands only if the number of fields is known
 fields_known : (version : ℕ) (e : List Statement) → AreClear version e → is_some (open_section e) ≡ true → is_none (known_fields version e) ≡ true → ⊥
 fields_known version [] h o n = cc
 fields_known version (Blank ∷ e) h o n = fields_known version e h.1 o n

@@ -1,4 +1,4 @@
--- What the reader keeps of the lines before, and what it tests of a line by that alone.
+-- What the reader keeps of the lines before, and what it tests of a line with only that.
 use Rattle.std.specs.Prelude.{ℕ, ◌≡◌, ◌≤◌, ◌+◌, zero, suc, List, [], ◌∷◌, length, Bool, true, false, not, ◌&&◌, ◌==◌, nat_le, Option, Some, None, is_some, is_none, unwrap_or}
 use Rattle.std.specs.List.{list_all}
 use Rattle.plain_heap.specs.declared.operation.Op.{Op}
@@ -46,7 +46,7 @@ context_of version earlier = record {
   catalogue = closed_names earlier;
 }
 
--- the context of the next line, where this line changes nothing else
+-- the context of the next line, if this line changes nothing else
 abbrev pub next : Context → Context
 next c = record c { line = c.line + 1 }
 

@@ -12,7 +12,7 @@ use Rattle.gc_script.specs.declared.script.ScriptError.{ScriptError}
 abbrev pub conversion_of : Converted → Conversion
 conversion_of c = record { added = c.added; rest = c.rest.now }
 
--- an answer, where the source has this conversion or this fault
+-- an answer, if the source has this conversion or this fault
 abbrev pub ConvertAnswers : Result Converted ScriptError → Result Conversion Fault → Type 0
 ConvertAnswers (Ok c) r = r ≡ Ok (conversion_of c)
 ConvertAnswers (Err e) r = is_refused (fault_of e) r

@@ -22,7 +22,7 @@ abbrev pub is_refused : {A : Type 0} → Option Fault → Result A Fault → Typ
 is_refused None r = Unit {0}
 is_refused (Some fault) r = r ≡ Err fault
 
--- an answer of the reader, where the source is this script or has this fault
+-- an answer of the reader, if the source is this script or has this fault
 abbrev pub ReadAnswers : Result Script ScriptError → Result Script Fault → Type 0
 ReadAnswers (Ok s) r = r ≡ Ok s
 ReadAnswers (Err e) r = is_refused (fault_of e) r
@@ -31,14 +31,14 @@ ReadAnswers (Err e) r = is_refused (fault_of e) r
 abbrev pub script_made : ℕ → ℕ → Option (List (List Execution)) → List (List (List Execution)) → Script
 script_made version fields catalogue warehouses = record { version = version; sections = record { fields = fields; catalogue = catalogue; warehouses = warehouses } }
 
--- the script of these sections, where not too many commands are executed and not too many print
+-- the script of these sections, if not too many commands are executed and not too many print
 abbrev pub limited_script : ℕ → ℕ → Option (List (List Execution)) → List (List (List Execution)) → Result Script Fault
 limited_script version fields catalogue warehouses =
     if nat_lt 2000000 (in_sections (counts All) catalogue warehouses) then Err TooManyCommands
     else (if nat_lt 65536 (in_sections (counts Printing) catalogue warehouses) then Err TooManyLines
     else Ok (script_made version fields catalogue warehouses))
 
--- the script at the end of input: the fault of the end where it has one, else the script within its limits
+-- the script at the end of input: the fault of the end if it has one, else the script within its limits
 abbrev pub ended_script : Option Fault → Context → Content → Result Script Fault
 ended_script (Some fault) c content = Err fault
 ended_script None c content = limited_script c.version (unwrap_or c.fields 0) content.catalogue content.warehouses
@@ -47,7 +47,7 @@ ended_script None c content = limited_script c.version (unwrap_or c.fields 0) co
 abbrev pub finished_script : Context → Content → Result Script Fault
 finished_script c content = ended_script (end_fault_in c) c (close c.section (end_part content))
 
--- where the input may end, its sections are in range
+-- if the input may end, its sections are in range
 abbrev pub IsWhole : Context → Content → Type 0
 IsWhole c content =
     end_fault_in c ≡ None → AreLegal (unwrap_or c.fields 0) (close c.section (end_part content)).catalogue (close c.section (end_part content)).warehouses

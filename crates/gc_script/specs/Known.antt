@@ -9,7 +9,7 @@ use Rattle.script_lines.specs.Statement.{Spoken, NewOf, LetOf, NilOf, SetOf, Get
 abbrev pub next_line : List Statement → ℕ
 next_line earlier = 2 + length earlier
 
--- the number of a name: its place among these, or the next number where it isn't among them
+-- the number of a name: its place among these, or the next number if it isn't among them
 abbrev pub place : List (List ℕ) → List ℕ → ℕ
 place names name = position_or_len (λ other. bytes_eq other name) names
 
@@ -30,7 +30,7 @@ assigns (SayOf label v) = None
 assigns (SumOf label v i limit) = None
 assigns CollectOf = None
 
--- these names and one more, where there is one and it is new
+-- these names and one more, if there is one and it is new
 abbrev pub with_name : Option (List ℕ) → List (List ℕ) → List (List ℕ)
 with_name None names = names
 with_name (Some name) names = if has_name name names then names else names ++ name ∷ []
@@ -41,7 +41,7 @@ stated_fields [] = None
 stated_fields (Fields n ∷ earlier) = Some n
 stated_fields (statement ∷ earlier) = stated_fields earlier
 
--- the number of fields, where it is known already: version 1 has four, the others state it
+-- the number of fields, if it is known already: version 1 has four, the others state it
 abbrev pub known_fields : ℕ → List Statement → Option ℕ
 known_fields version earlier = if version == 1 then Some 4 else stated_fields earlier
 
@@ -83,7 +83,7 @@ assigned_names names (Warehouse ∷ rest) = names
 assigned_names names (Command spoken ∷ rest) = assigned_names (with_name (assigns spoken) names) rest
 assigned_names names (statement ∷ rest) = assigned_names names rest
 
--- the names that the catalogue assigns anywhere, where the first section line is its
+-- the names that the catalogue assigns anywhere, if the first section line is its
 abbrev pub catalogue_names : List Statement → List (List ℕ)
 catalogue_names [] = []
 catalogue_names (Catalogue ∷ rest) = assigned_names [] rest

@@ -1,4 +1,4 @@
--- What a script means: the sections that its lines make, where it has no fault.
+-- What a script means: the sections that its lines make, if it has no fault.
 use Rattle.std.specs.Prelude.{ℕ, ◌≡◌, zero, suc, List, [], ◌∷◌, ◌++◌, if◌then◌else◌, Option, Some, None, is_some, unwrap_or, map}
 use Rattle.std.specs.Option.{option_or}
 use Rattle.plain_heap.specs.declared.operation.Op.{Op}
@@ -79,13 +79,13 @@ ended_parts catalogue (statement ∷ earlier) = ended_parts catalogue earlier
 abbrev pub parts_of_open_section : List (List ℕ) → List Statement → List (List Execution)
 parts_of_open_section catalogue earlier = ended_parts catalogue earlier ++ executed catalogue earlier ∷ []
 
--- the parts, where the section is a warehouse
+-- the parts, if the section is a warehouse
 abbrev pub if_warehouse : Option ℕ → List (List Execution) → List (List (List Execution))
 if_warehouse None parts = []
 if_warehouse (Some zero) parts = []
 if_warehouse (Some (suc w)) parts = parts ∷ []
 
--- the parts, where the section is the catalogue
+-- the parts, if the section is the catalogue
 abbrev pub if_catalogue : Option ℕ → List (List Execution) → Option (List (List Execution))
 if_catalogue None parts = None
 if_catalogue (Some zero) parts = Some parts
@@ -97,7 +97,7 @@ closed_warehouses catalogue [] = []
 closed_warehouses catalogue (Warehouse ∷ earlier) = closed_warehouses catalogue earlier ++ if_warehouse (open_section earlier) (parts_of_open_section catalogue earlier)
 closed_warehouses catalogue (statement ∷ earlier) = closed_warehouses catalogue earlier
 
--- the catalogue, where its section isn't the one that was started last
+-- the catalogue, if its section isn't the one that was started last
 abbrev pub closed_catalogue : List (List ℕ) → List Statement → Option (List (List Execution))
 closed_catalogue catalogue [] = None
 closed_catalogue catalogue (Warehouse ∷ earlier) = option_or (if_catalogue (open_section earlier) (parts_of_open_section catalogue earlier)) (closed_catalogue catalogue earlier)
@@ -116,7 +116,7 @@ abbrev pub turned : List Statement → List Statement → List Statement
 turned earlier [] = earlier
 turned earlier (statement ∷ rest) = turned (statement ∷ earlier) rest
 
--- the text has a header and lines after it, and these are their sections; what a script may not say is told by its faults
+-- the text has a header and lines after it, and these are their sections; what a script may not say is defined by its faults
 pub record Means (bytes : List ℕ) (s : Sections) : Type 0 where
   pub version : ℕ
   pub first : List (List ℕ)

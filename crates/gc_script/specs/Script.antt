@@ -13,7 +13,7 @@ pub record Script : Type 0 where
   pub version : ℕ
   pub sections : Sections
 
--- one, where the test holds
+-- one, if the test holds
 abbrev pub one_if : Bool → ℕ
 one_if test = if test then 1 else 0
 
@@ -34,13 +34,13 @@ executed_count test (End ∷ earlier) = executed_count test earlier + repetition
 executed_count test (Command spoken ∷ earlier) = executed_count test earlier + (if is_some (open_repeat earlier) then 0 else one_if (test spoken))
 executed_count test (statement ∷ earlier) = executed_count test earlier
 
--- the sections, where not too many commands are executed and not too many print
+-- the sections, if not too many commands are executed and not too many print
 abbrev pub limited : Bool → Bool → ℕ → List (List ℕ) → List Statement → Result Script Fault
 limited true too_many_lines version catalogue all = Err TooManyCommands
 limited false true version catalogue all = Err TooManyLines
 limited false false version catalogue all = Ok (record { version = version; sections = sections version catalogue all })
 
--- the sections, where no line has a fault
+-- the sections, if no line has a fault
 abbrev pub judged : Option Fault → ℕ → List (List ℕ) → List Statement → Result Script Fault
 judged (Some fault) version catalogue all = Err fault
 judged None version catalogue all =

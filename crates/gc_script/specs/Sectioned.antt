@@ -10,7 +10,7 @@ pub record IsSmall (fields : ℕ) (parts : List (List Execution)) : Type 0 where
   pub few : length (joined parts) ≤ 2000000
   pub seasons : length parts ≤ 64
 
--- few parts, of few commands in range; so many commands are executed, so many make an object, and so many print
+-- few parts, of few commands in range; this many commands are executed, this many make an object, and this many print
 pub record IsCounted (fields : ℕ) (parts : List (List Execution)) (commands made printed : ℕ) : Type 0 where
   pub small : IsSmall fields parts
   pub executed_is : commands ≡ length (joined parts)
@@ -63,7 +63,7 @@ sections_shown fields catalogue warehouses = record {
   warehouses = map (λ w. w.parts) warehouses;
 }
 
--- where there are parts, they are those of section 0
+-- if there are parts, they are those of section 0
 abbrev pub is_catalogue : Sections → Option Parts → Type 0
 is_catalogue s None = Unit {0}
 is_catalogue s (Some c) = c ≡ section_of s 0

@@ -1,4 +1,3 @@
-//! The context after a line without a fault.
 ghost use Rattle.std.specs.Prelude.{◌≡◌, ◌<◌, ◌≤◌, ◌^◌, ◌+◌, Some, OnOk, unwrap_or};
 ghost use Rattle.plain_heap.specs.PlainStep.{IsInRange};
 ghost use Rattle.script_lines.specs.Statement.{Warehouse, Command as Ordered};
@@ -46,7 +45,6 @@ impl<'a> Context<'a> {
         self.names = Vec::new(alloc);
     }
 
-    /// Keeps the names of the catalogue, if that is the section that ends.
     fn close_catalogue(&mut self, alloc: Global)
         ensures { context_shown self.new ≡ record (context_shown self.old) { names = (context_shown self.new).names; catalogue = closing (context_shown self.old).section (context_shown self.old).names (context_shown self.old).catalogue } }
     {
@@ -65,7 +63,6 @@ impl<'a> Context<'a> {
         self.begin_section(alloc, self.warehouses);
     }
 
-    /// The context after a command.
     fn follow(&mut self, spoken: &Spoken<'a>, found: Found) -> Result<(), OutOfMemory>
         requires line { self.old.line < 2 ^ 31 }
         requires places { ArePlaces (context_shown self.old) (said_command spoken.now) found }
@@ -78,7 +75,7 @@ impl<'a> Context<'a> {
         }
     }
 
-    /// The context after a line. Out of memory is the only refusal.
+    /// The context after a line.
     pub fn advance(
         &mut self,
         alloc: Global,

@@ -1,4 +1,3 @@
-//! The commands of a part, with each `repeat` as it is written.
 ghost use Rattle.std.specs.Prelude.{◌≡◌, min, map, count_by};
 ghost use Rattle.gc_script.specs.Shown.{execution_of};
 ghost use Rattle.gc_script.specs.Blocks.{is_counted, counts, block_shown, blocks_shown, part_shown};
@@ -7,7 +6,7 @@ ghost use Rattle.plain_heap.specs.Sections.{joined, makes_object, prints_line};
 use crate::command::Command;
 use plain_heap::Op;
 
-/// Commands that are executed one after the other, so many times.
+/// Commands that are executed one after the other, this many times.
 #[derive(Drop)]
 pub struct Block<'a> {
     pub times: u32,
@@ -92,7 +91,7 @@ fn count_in_blocks(kind: Kind, blocks: &[Block<'_>]) -> u64
 }
 
 #[tactic(auto, using(crate::proofs::Repeats::count_more))]
-/// How many commands of a kind are executed, or the greatest number where there are more.
+/// How many commands of a kind are executed, at most the greatest number.
 pub fn count_in_parts(kind: Kind, parts: &[Part<'_>]) -> u64
     ensures { result ≡ min (count_by (counts kind) (joined (map part_shown parts.now))) u64.MAX }
 {

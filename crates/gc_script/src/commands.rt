@@ -1,4 +1,3 @@
-//! Lends the executed commands of parts one after the other, with each `repeat` unrolled on the way.
 ghost use Rattle.std.specs.Prelude.{◌≡◌, ◌<◌, ◌∷◌, [], map, IsTrue, IsFalse, MatchOption};
 ghost use Rattle.std.specs.Iterator.{YieldsFirstBy, item_count};
 ghost use Rattle.plain_heap.specs.Sections.{joined};
@@ -9,7 +8,7 @@ use crate::block::{Block, Part};
 use crate::command::Command;
 use std::marker::Model;
 
-/// What is left: commands, then their block so many times again, then blocks, then parts.
+/// What is left: commands, then their block this many times again, then blocks, then parts.
 #[derive(Clone, Copy)]
 pub struct Cursor<'s, 'a> {
     pub rest: &'s [Command<'a>],
@@ -22,7 +21,7 @@ pub struct Cursor<'s, 'a> {
 impl<'s, 'a> Cursor<'s, 'a> {
     ghost use Rattle.gc_script.specs.Cursor.{commands_left, steps_left};
 
-    /// Goes to the next block, where no command of this one is left. Out of line, so that a step stays short.
+    /// Goes to the next block. Out of line, so that a step stays short.
     #[inline(never)]
     fn turn(&mut self) -> bool
         requires { self.old.rest.now ≡ [] }

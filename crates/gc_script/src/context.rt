@@ -1,4 +1,3 @@
-//! What the reader keeps of the lines before a line, and what it tests of the line by that alone.
 ghost use Rattle.std.specs.Prelude.{◌≡◌, ◌≤◌, ◌<◌, ◌+◌, length, unwrap_or, Some, option_map};
 ghost use Rattle.script_lines.specs.Statement.{Warehouse, Command};
 ghost use Rattle.gc_script.specs.Earlier.{is_for_catalogue, is_too_large, assigns, with_name};
@@ -110,7 +109,7 @@ fn has_large_number(fields: u64, statement: &Statement) -> bool
     }
 }
 
-/// The name that a command assigns. None where the command assigns none.
+/// The name that a command assigns, if any.
 pub fn assigned<'a>(spoken: &Spoken<'a>) -> Option<&'a str>
     ensures { option_map (λ v. v.now) result ≡ assigns (said_command spoken.now) }
 {
@@ -155,7 +154,6 @@ impl<'a> Context<'a> {
         has_large_number(u64::from(self.fields.unwrap_or(0)), statement)
     }
 
-    /// Each name of the section that a command reads is known.
     fn knows_read(&self, spoken: &Spoken, found: Found) -> bool
         requires { ArePlaces (context_shown self.now) (said_command spoken.now) found }
         ensures { result ≡ list_all (λ name. has_name name (context_shown self.now).names) (names_read (said_command spoken.now)) }
@@ -176,7 +174,6 @@ impl<'a> Context<'a> {
         }
     }
 
-    /// The name of the catalogue that a command reads is known.
     fn knows_of_catalogue(&self, spoken: &Spoken, found: Found) -> bool
         requires { ArePlaces (context_shown self.now) (said_command spoken.now) found }
         ensures { result ≡ list_all (λ name. has_name name (context_shown self.now).catalogue) (reads_of_catalogue (said_command spoken.now)) }
@@ -199,7 +196,6 @@ impl<'a> Context<'a> {
         }
     }
 
-    /// How many names the section has once a command has assigned its own.
     fn names_with(&self, spoken: &Spoken, found: Found) -> usize
         requires places { ArePlaces (context_shown self.now) (said_command spoken.now) found }
         requires few { length (context_shown self.now).names < 1048576 }
@@ -246,7 +242,6 @@ impl<'a> Context<'a> {
         }
     }
 
-    /// The first fault of a line that does not cut a `repeat`.
     fn fault_of(&self, statement: &Statement, found: Found) -> Option<ScriptError>
         requires places { AreFound (context_shown self.now) (said statement.now) found }
         requires names { length (context_shown self.now).names ≤ 32 }
@@ -276,7 +271,7 @@ impl<'a> Context<'a> {
         None
     }
 
-    /// The first fault of a line. None where it has none.
+    /// The first fault of a line, if any.
     pub fn fault(&self, statement: &Statement, found: Found) -> Option<ScriptError>
         requires places { AreFound (context_shown self.now) (said statement.now) found }
         requires names { length (context_shown self.now).names ≤ 32 }

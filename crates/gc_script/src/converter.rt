@@ -10,7 +10,7 @@ use std::alloc::Global;
 
 const ADDED: usize = 20;
 
-/// The text of a conversion: the lines `gcscript 2` and `fields 4`, where they are added, and then the rest, which is lent from the source.
+/// The text of a conversion: the lines that are added, and the rest, which is lent from the source.
 #[derive(Clone, Copy, Debug)]
 pub struct Converted<'a> {
     pub added: bool,
@@ -42,7 +42,6 @@ fn after_line(source: &[u8]) -> &[u8]
     &source[end..]
 }
 
-/// The conversion, where its text is not too long.
 fn if_short<'a>(converted: Converted<'a>) -> Result<Converted<'a>, ScriptError>
     requires { length converted.rest.now ≤ LONGEST }
     ensures { ConvertAnswers result (if_short (conversion_of converted.entry)) }
@@ -54,7 +53,9 @@ fn if_short<'a>(converted: Converted<'a>) -> Result<Converted<'a>, ScriptError>
 }
 
 /// Makes of a script of version 1 one of version 2 that means the same; a later version is left as it is.
-/// Its faults are those of `read`, and after them `ConvertedTooLong`. Out of memory comes only of a source that is not too long.
+///
+/// Its faults are those of `read`, then `ConvertedTooLong`. Out of memory comes only of a source that is not too
+/// long.
 pub fn convert<'a>(alloc: Global, source: &'a [u8]) -> Result<Converted<'a>, ScriptError>
     ensures answers { ConvertAnswers result (convert source.now) }
     ensures memory { result ≡ Err ScriptError.OutOfMemory → length source.now ≤ 1048576 }
@@ -82,7 +83,7 @@ fn conversion<'a>(version: u32, source: &'a [u8]) -> Converted<'a>
     }
 }
 
-/// A law: the text of a conversion is a script of the same fields and sections as the source, apart from line numbers.
+/// A law: a conversion has the fields and sections of its source, apart from line numbers.
 pub fn keeps_meaning()
     ensures { KeepsMeaning }
 {}

@@ -1,4 +1,3 @@
-//! The script of lines that were read to their end.
 ghost use Rattle.std.specs.Prelude.{◌≡◌, ◌≤◌, ◌+◌, [], Ok, Err, Option, map, min, max, length, fold, unwrap_or, option_map, OnErr, IfOk};
 ghost use Rattle.std.specs.List.{All};
 ghost use Rattle.gc_script.specs.Context.{end_fault_in};
@@ -30,7 +29,6 @@ fn count_in_catalogue(kind: Kind, catalogue: &Option<Vec<Part<'_>>>) -> u64
     }
 }
 
-/// How many commands of a kind are executed, over all sections.
 fn count_in_sections(
     kind: Kind,
     catalogue: &Option<Vec<Part<'_>>>,
@@ -54,7 +52,6 @@ fn seasons_of_catalogue(catalogue: &Option<Section<'_>>) -> u32
     }
 }
 
-/// How many parts the section has that has most.
 fn most_seasons(catalogue: &Option<Section<'_>>, warehouses: &[Section<'_>]) -> u32
     ensures { result ≡ fold (λ most p. max most (length p)) (max 1 (length (unwrap_or (option_map (λ c. c.parts) catalogue.now) []))) (map (λ w. w.parts) warehouses.now) }
 {
@@ -124,7 +121,6 @@ fn script_of_sections<'a>(
     }
 }
 
-/// The script, where not too many commands are executed and not too many print.
 fn limited<'a>(
     alloc: Global,
     version: u32,
@@ -146,7 +142,6 @@ fn limited<'a>(
 }
 
 impl<'a> Context<'a> {
-    /// The fault of the end of input.
     fn end_fault(&self) -> Option<ScriptError>
         ensures { told result ≡ end_fault_in (context_shown self.now) }
     {
@@ -160,7 +155,7 @@ impl<'a> Context<'a> {
     }
 }
 
-/// The script of the lines that were read. It is refused where too many commands are executed, or too many lines printed, or where there is no memory.
+/// The script of the lines that were read; refused if its limits are passed or there is no memory.
 pub fn script_of<'a>(alloc: Global, progress: Progress<'a>) -> Result<Script<'a>, ScriptError>
     requires { IsWhole (context_shown progress.context) (kept_shown progress.kept) }
     ensures { ReadAnswers result (finished_script (context_shown progress.entry.context) (kept_shown progress.entry.kept)) }

@@ -1,4 +1,3 @@
-//! Where the names of a line stand, which is looked up once for each line.
 ghost use Rattle.std.specs.Prelude.{◌≡◌, ◌≤◌, length, nat_lt};
 ghost use Rattle.gc_script.specs.Earlier.{place};
 ghost use Rattle.script_lines.specs.Said.{said, said_command};
@@ -7,7 +6,8 @@ use crate::context::Context;
 use crate::names::place_of;
 use script_lines::{Spoken, Statement};
 
-/// The place of a line's first name, and that of its second, among the names of the section; a `cat` has its second in the catalogue.
+/// The places of a line's first and second name among the names of the section; a `cat` has its second in the
+/// catalogue.
 #[derive(Clone, Copy)]
 pub struct Found {
     pub v: u8,

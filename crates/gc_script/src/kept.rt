@@ -1,4 +1,3 @@
-//! What the reader keeps of the commands before a line.
 ghost use Rattle.std.specs.Prelude.{◌≡◌, ◌++◌, ◌∷◌, [], OnOk};
 ghost use Rattle.script_lines.specs.Said.{said};
 ghost use Rattle.gc_script.specs.Context.{IsClear, IsSane};
@@ -36,7 +35,7 @@ impl<'a> Kept<'a> {
         }
     }
 
-    /// Ends a block of commands, which are executed so often. One that executes nothing is left out.
+    /// Ends a block of commands that are executed so often; one that executes nothing is left out.
     fn settle(&mut self, alloc: Global, times: u32) -> Result<(), OutOfMemory>
         ensures { OnOk result (kept_shown self.new ≡ settle times (kept_shown self.old)) }
     {
@@ -84,7 +83,7 @@ impl<'a> Kept<'a> {
         }
     }
 
-    /// Ends the open section. Out of memory is the only refusal.
+    /// Ends the open section.
     pub fn end_section(&mut self, alloc: Global, section: Option<u32>) -> Result<(), OutOfMemory>
         ensures { OnOk result (kept_shown self.new ≡ close section (end_part (kept_shown self.old))) }
     {

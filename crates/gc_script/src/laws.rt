@@ -1,4 +1,4 @@
-// Laws over definitions: each is the contract of a function that does nothing.
+// Laws: each is the contract of a function that does nothing.
 ghost use Rattle.gc_script.specs.Script.{ScriptsMean};
 
 /// The sections of a script that has no fault are what its lines mean, line by line.

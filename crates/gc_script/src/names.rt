@@ -1,4 +1,3 @@
-//! The names of a section.
 ghost use Rattle.std.specs.Prelude.{◌≡◌, ◌≤◌, map, length};
 ghost use Rattle.std.specs.List.{position};
 ghost use Rattle.std.specs.Str.{bytes_eq};
@@ -12,7 +11,7 @@ fn position_of(names: &[&str], name: &str) -> Option<usize>
     names.iter().position(|other| is_same(other, name))
 }
 
-/// A name's place, or the next one where it is not there.
+/// A name's place, or the next free one.
 pub fn place_of(names: &[&str], name: &str) -> usize
     ensures place { result ≡ place (map (λ n. n.now) names.now) name.now }
     ensures within { result ≤ length names.now }

@@ -1,4 +1,3 @@
-//! Reads the lines of a script in order.
 ghost use Rattle.std.specs.Prelude.{◌≡◌, ◌<◌, ◌^◌, [], None, Err, List, ℕ, map, length, OnOk, OnErr};
 ghost use Rattle.script_lines.specs.ScriptText.{words, lines};
 ghost use Rattle.script_lines.specs.Statement.{Statement as Said, statement};
@@ -80,7 +79,6 @@ impl<'a> Progress<'a> {
         }
     }
 
-    /// Takes what a line says, where it has no fault.
     fn follow(&mut self, alloc: Global, statement: &Statement<'a>) -> Result<(), ScriptError>
         requires line { self.old.context.line < 2 ^ 31 }
         requires sane { IsSane (context_shown self.old.context) }
@@ -124,7 +122,7 @@ fn first_progress<'a>(alloc: Global, version: u32) -> Progress<'a>
     }
 }
 
-/// Reads the lines after the header. It is refused with the first fault of the lines or of their end, or where there is no memory.
+/// Reads the lines after the header, up to their first fault.
 pub fn read_lines<'a>(
     alloc: Global,
     version: u32,

@@ -38,7 +38,8 @@ fn script_of_text<'a>(alloc: Global, text: &'a str) -> Result<Script<'a>, Script
     }
 }
 
-/// Reads a script, which lends parts of the source. Want of memory may be answered for any source that is not too long.
+/// Reads a script, which lends parts of the source. Out of memory may be answered for any source that is not too
+/// long.
 pub fn read<'a>(alloc: Global, source: &'a [u8]) -> Result<Script<'a>, ScriptError>
     ensures answers { ReadAnswers result (script source.now) }
     ensures memory { result ≡ Err ScriptError.OutOfMemory → length source.now ≤ 1048576 }

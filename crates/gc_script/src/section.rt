@@ -1,4 +1,3 @@
-//! A section of a script.
 ghost use Rattle.std.specs.Prelude.{◌≡◌, ◌≤◌, ◌-◌, [], map, length, slice_index_or};
 ghost use Rattle.std.specs.List.{All};
 ghost use Rattle.plain_heap.specs.PlainStep.{IsInRange};
@@ -105,7 +104,7 @@ impl<'a> Section<'a> {
         Commands::of_parts(self.parts.as_slice())
     }
 
-    /// Lends each executed command of a part, counted from 1, and none past the last part.
+    /// Lends each executed command of a part, counted from 1; none past the last part.
     pub fn commands_of<'s>(&'s self, season: u32) -> Commands<'s, 'a>
         requires { 1 ≤ season }
         ensures commands { result ≡ slice_index_or self.now.parts (season - 1) [] }

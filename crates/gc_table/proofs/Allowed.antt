@@ -43,7 +43,7 @@ St = State (Unit {0}) View
 zero-plus : (n : ℕ) → 0 + n ≡ n
 zero-plus n = omega arith
 
--- the rule after a step, where the seat's view is then w
+-- the rule after a step, if the seat's view is then w
 pub rule-kept : (sh : Shape) (plan : List (List Op)) (s : St) (id : ℕ) (v w : View) (step : Step) (o : Holds sh plan s) (t : Takes (table_state sh plan o.sections s) id v step) → get_elem? s.views id ≡ some v → IsFalse w.state.spent → w.opened ≡ v.opened → (told : ℕ) → told ≡ word_told (core_of sh s) v.state step → w.log ≡ v.log ++ event step told ∷ [] → w.logs ≡ v.logs
     → w.state ≡ seat_after sh v.state step (finds (table_state sh plan o.sections s) id v step t) → Agrees (left_whole (table_state sh plan o.sections s) id v step t) id w
     → Holds sh plan (stepped s (address sh (place sh v.state step)) (written sh v.state step (finds (table_state sh plan o.sections s) id v step t)) id [] w keeps)
@@ -91,7 +91,7 @@ rule-kept sh plan s id v w step o t me live same told is_told log logs state agr
           (at_set s.views id 0 w u h);
     }
 
--- the view after a step, where the word that it is told tells as much as the word that was there
+-- the view after a step, if the word that it is told tells as much as the word that was there
 pub after-agrees : (x : TableState) (i : ℕ) (v : View) (step : Step) (t : Takes x i v step) (n : ℕ) → seat_after v.shape v.state step n ≡ seat_after v.shape v.state step (finds x i v step t)
     → written v.shape v.state step n ≡ written v.shape v.state step (finds x i v step t) → Agrees (left_whole x i v step t) i (after step n v)
 after-agrees x i v step t n state word =
@@ -104,7 +104,7 @@ after-agrees x i v step t n state word =
     n refl q.0
     refl (λ y. section_after (t.agrees.shape y) (t.agrees.plan y) v.state step v.own) refl
 
--- a step that is told n, where n tells as much as the word that was there
+-- a step that is told n, if n tells as much as the word that was there
 takes-told : (sh : Shape) (plan : List (List Op)) (s : St) (id : ℕ) (v : View) (step : Step) (at word n : ℕ) (carried : List (ℕ × Unit {0})) (o : Holds sh plan s) (t : Takes (table_state sh plan o.sections s) id v step) → get_elem? s.views id ≡ some v → at ≡ address sh (place sh v.state step)
     → word ≡ written sh v.state step (finds (table_state sh plan o.sections s) id v step t) → seat_after v.shape v.state step n ≡ seat_after v.shape v.state step (finds (table_state sh plan o.sections s) id v step t)
     → written v.shape v.state step n ≡ written v.shape v.state step (finds (table_state sh plan o.sections s) id v step t) → n ≡ word_told (core_of sh s) v.state step → carried ≡ [] → Holds sh plan (stepped s at word id carried (after step n v) keeps) × IsPossible (after step n v)

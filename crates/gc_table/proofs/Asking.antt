@@ -44,7 +44,7 @@ has-section s e = by_section s.section refl
 pub own-is : (x : TableState) (i : ℕ) (v : View) (w : ℕ) → Agrees x i v → v.state.section ≡ Some w → v.own ≡ section_at x.sections (own_section v.state)
 own-is x i v w a e = sym (ap (λ (o : Option ℕ). section_at x.sections (unwrap_or o 0)) e ∙ get_or_from_slice_get x.sections w v.own no_section (a.own w e))
 
--- where the seat has a section, what is asked of the view is asked of the state
+-- if the seat has a section, what is asked of the view is asked of the state
 asked_same : (x : TableState) (i : ℕ) (v : View) (w : ℕ) (step : Step) → Agrees x i v → v.state.section ≡ Some w → AskedOf v.shape v.plan v.state v.own (Some (words_of x.core.shape x.core.words).named) step → AskedIn x v.state step
 asked_same x i v w step a e h =
     subst (λ (q : Shape × List (List Op) × SectionState). AskedOf q.0 q.1 v.state q.2 (Some (words_of x.core.shape x.core.words).named) step) (λ y. (a.shape y, a.plan y, own-is x i v w a e y)) h

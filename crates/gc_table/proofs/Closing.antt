@@ -1,4 +1,4 @@
--- The rule holds where a seat takes in another, and says what the words are in the end.
+-- The rule holds when a seat takes in another, and says what the words are in the end.
 use Rattle.std.proofs.Common.{ℕ, ◌≡◌, ◌≢◌, ◌+◌, List, set, length, refl, sym, ap, ◌∙◌, subst, ⊎_elim, Bool, true, false, Option, Some, None, eqb, length-set}
 use Rattle.std.specs.Prelude.{slice_get, slice_index, IsTrue, IsFalse, not, ◌&&◌, is_none}
 use Rattle.std.specs.List.{All}

@@ -131,7 +131,7 @@ heads-of (StoreLength r) = inr (inl (r, refl))
 heads-of (ReadLength r) = inr (inr (r, refl))
 heads-of step = inl refl
 
--- the bit that a take found is told by what became of the record
+-- the bit that a take found follows from what became of the record
 pub taken-told : (sh : Shape) (s : SeatState) (step : Step) (m n p : ℕ) → ((q r : ℕ) → step ≡ Take q r → (holds s.held r ≡ false) × (has_free_slot s.held ≡ true)) → seat_after sh s step m ≡ seat_after sh s step n → taken_out p step m ≡ taken_out p step n
 taken-told sh s (Take q r) m n p ok e = by_packet (cases_eq r p)
   where

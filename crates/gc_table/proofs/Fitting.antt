@@ -61,7 +61,7 @@ takes-within v step h may = ∥∥₁_elim h (Prim.hlevel props) (λ p. takes_wi
 pub takes-room : (v : View) (step : Step) → ∥ IsPossible v ∥₁ → May step v → HasRoom v.state step
 takes-room v step h may = ∥∥₁_elim h (room-prop v.state step) (λ p. takes_room v step p may)
 
--- the word of the step is there, where its address was worked out by the seat's record beside its view, in a heap of this shape
+-- the word of the step is there, if its address was worked out by the seat's record beside its view, in a heap of this shape
 pub step-word : (sh : Shape) (s : SeatState) (v : View) (step : Step) (at words : ℕ) → at ≡ address sh (place sh s step) → s ≡ v.state → v.shape ≡ sh → words ≡ total_words (region_sizes sh) → ∥ IsPossible v ∥₁ → May step v
     → (at < words) × (at ≡ address v.shape (place v.shape v.state step))
 step-word sh s v step at words is same shaped sized h may =

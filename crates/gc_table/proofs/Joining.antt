@@ -59,7 +59,7 @@ takes-full v w e = ap (λ (o : Option ℕ). look the_phase (told_full o v.known)
 pub keeps-full : (v w : View) → KnowsFull v → KnowsFull (takes_in v w)
 keeps-full v w e = told-more (look the_phase w.known) v.known e
 
--- the notes of a seat that takes in another are true, where both knew what is true
+-- the notes of a seat that takes in another are true, if both knew what is true
 told-noted : (c : Core) (v : View) (o : Option ℕ) → Noted c v → ((n : ℕ) → o ≡ Some n → word_at c.shape c.words the_phase ≡ n) → (at : ℕ × ℕ) (m : ℕ) → look at (told_full o v.known) ≡ Some m
     → (steady v.state at m ≡ true) × (word_at c.shape c.words at ≡ m)
 told-noted c v None mine theirs at m e = mine at m e

@@ -97,13 +97,13 @@ load-found SeeHelp e = refl
 load-found ReadSeason e = refl
 load-found step e = absurd (true≢false (sym e))
 
--- what is noted of another place stays, where it may be kept
+-- what is noted of another place stays, if it may be kept
 pub note-stays : (keeps : ℕ × ℕ → ℕ → Bool) (to at : ℕ × ℕ) (word n : ℕ) (xs : Notes) → same_place to at ≡ false → keeps at n ≡ true → look at xs ≡ Some n → look at (noting keeps to word xs) ≡ Some n
 note-stays keeps to at word n xs apart k h =
     look-map keeps at ((to, Some word) ∷ xs)
     ∙ (ap (λ (b : Bool). if_kept keeps at (cond b (Some word) (look at xs))) apart ∙ (ap (if_kept keeps at) h ∙ ap (λ (b : Bool). cond b (Some n) None) k))
 
--- the word that a step leaves is noted, where it may be kept
+-- the word that a step leaves is noted, if it may be kept
 pub note-left : (keeps : ℕ × ℕ → ℕ → Bool) (to at : ℕ × ℕ) (word : ℕ) (xs : Notes) → same_place to at ≡ true → keeps at word ≡ true → look at (noting keeps to word xs) ≡ Some word
 note-left keeps to at word xs here k =
     look-map keeps at ((to, Some word) ∷ xs) ∙ (ap (λ (b : Bool). if_kept keeps at (cond b (Some word) (look at xs))) here ∙ ap (λ (b : Bool). cond b (Some word) None) k)
@@ -200,7 +200,7 @@ alone-step p v step n e s a =
 pub alone-kept : (p : Phase) (P : Step → Bool) → ((step : Step) → P step ≡ true → ends_alone step ≡ false) → (v w : View) → Ran v w → Only P v w → Alone p v → Alone p w
 alone-kept p P h v w r o a = run-keeps P (Alone p) (λ x step n b s q. alone-step p x step n (h step b) s q) v w r o a
 
--- what a seat that is alone has noted of a word stays, where no step of the call writes the word
+-- what a seat that is alone has noted of a word stays, if no step of the call writes the word
 pub known-alone : (P : Step → Bool) (at : ℕ × ℕ) (m : ℕ) → ((step : Step) → P step ≡ true → ends_alone step ≡ false) → Spares P at → is_gate at ≡ false → (v w : View) → Ran v w → Only P v w → v.state.alone ≡ true → Known v at m → Known w at m
 known-alone P at m h spares g v w r o a k =
     (run-keeps P (λ (x : View). (x.state.alone ≡ true) × Known x at m)

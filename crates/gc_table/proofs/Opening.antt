@@ -1,4 +1,4 @@
--- The rule holds at the start, and where the first seat makes another.
+-- The rule holds at the start, and when the first seat makes another.
 use Rattle.std.proofs.Common.{ℕ, ◌≡◌, ◌≢◌, ◌<◌, ◌+◌, zero, suc, List, [], ◌∷◌, ◌++◌, map, set, length, arith, refl, sym, ap, ◌∙◌, subst, inl, inr, ◌⊎◌, ⊎_elim, true, Some, None, length-set, length-append}
 use Rattle.std.specs.Prelude.{slice_get, slice_index, IsFalse, nat_lt}
 use Rattle.std.specs.List.{range_with_len}

@@ -1,4 +1,4 @@
--- A step whose condition speaks of the seat's record alone may be taken wherever the record is this one, and the record after it is known. This crate rests
+-- A step whose condition speaks only of the seat's record may be taken wherever the record is this one, and the record after it is known. This crate rests
 -- nothing on it. It stands here for the crates that take single steps of the table: those of tests and benchmarks, and the opening of a world.
 use Rattle.std.proofs.Common.{ℕ, ◌≡◌, List, arith, sym, ap, ◌∙◌, subst, Bool, true, cond, not}
 use Rattle.std.specs.Prelude.{nat_lt}
@@ -16,7 +16,7 @@ use Rattle.mark_core.specs.declared.seat.SeatState.{SeatState}
 use Rattle.gc_table.specs.declared.view.View.{View}
 use Rattle.gc_table.specs.Taking.{after, May}
 
--- a step whose condition speaks of the record alone
+-- a step whose condition speaks only of the record
 pub may-by : (sh : Shape) (v : View) (s : SeatState) (step : Step) → v.shape ≡ sh → v.state ≡ s → ((w : Words) (seats : List SeatState) → AllTrue (parts sh w seats s step)) → May step v
 may-by sh v s step shaped is h x i w a =
     let c : Core = x.core in

@@ -90,7 +90,7 @@ followed_is = refl
 fresh_newcomer : IsFresh small [] 1 (newcomer small [] 1)
 fresh_newcomer = record { shape = refl; state = refl; log = refl; known = refl; floors = refl; plan_is = refl; own = refl; joined = refl; logs = refl }
 
--- a view with a note, or with a floor, is no newcomer's, even where the word says what was noted
+-- a view with a note, or with a floor, is no newcomer's, even if the word says what was noted
 fresh_noted : IsFresh small [] 1 (record (newcomer small [] 1) { known = (the_phase, Some 0) ∷ [] }) → ⊥
 fresh_noted k = let e : (the_phase, Some 0) ∷ [] ≡ [] = k.known in cc
 

@@ -56,5 +56,5 @@ pub record IsEnd (sh : Shape) (seats : List HeapSeat) (w : Words) : Type 0 where
   -- on the way each state met the rule, with what the sections had come to by then
   pub came : Leads past (start_state sh state.plan 1) state
   pub logs : (i : ℕ) (s : HeapSeat) → slice_get seats i ≡ Some s → (view_of s).log ≡ log_of sh past i
-  -- nobody else took part, where all seats were handed in
+  -- nobody else took part, if all seats were handed in
   pub theirs : (s : HeapSeat) → slice_get seats 0 ≡ Some s → (view_of s).opened ≡ length seats → (i : ℕ) → length seats ≤ i → log_of sh past i ≡ []

@@ -10,12 +10,12 @@ use Rattle.mark_core.specs.declared.kinds.Step.TheVariants.{Take, SetMark, Clear
 use Rattle.gc_table.specs.declared.view.Entry.{Entry}
 use Rattle.mark_core.specs.Numbers.{word_bits}
 
--- a move of the phase takes place, where this phase is found
+-- a move of the phase takes place, if this phase is found
 abbrev pub moves_from : ℕ → Phase → Bool
 moves_from n Marking = is_phase n Idle
 moves_from n to = true
 
--- the step got what it tried to get, where it found this word; whether an exchange of a field did, its seat tells by its variables
+-- the step got what it tried to get, if it found this word; whether an exchange of a field did, its seat tells by its variables
 abbrev pub won : Step → ℕ → Bool
 won (Take q p) n = has_bit n (p % word_bits)
 won (SetMark c) n = not (has_bit n (c % block_cells))

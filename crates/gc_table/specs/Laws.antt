@@ -52,7 +52,7 @@ PlainStepsAreInRange =
     (c : Core) (e : Event) (s : SeatState) (op : Op) (ms : List Meaning) → IsCore c → StandsFor c ms → slice_get c.seats e.seat ≡ Some s → AsksIn s ms e.step op → failing_part c e ≡ None → IsTrue (changes_heap e.step)
     → IsInRange c.shape.fields op
 
--- a step of a section's seat changes the meaning of this section alone, by what it was and what the section sees of the catalogue
+-- a step of a section's seat changes only the meaning of this section, by what it was and what the section sees of the catalogue
 abbrev pub OneMeaningChanges : Type 0
 OneMeaningChanges =
     (sh : Shape) (s : SeatState) (step : Step) (op : Op) (ms : List Meaning) (w : ℕ) (m : Meaning) → s.section ≡ Some w → slice_get ms w ≡ Some m → meanings_after sh s step op ms ≡ slice_set ms w (meaning_after sh s (catalogue_seen ms w) step op m)
@@ -86,7 +86,7 @@ pub record IsRunOf (sh : Shape) (seats : List HeapSeat) (w : Words) (es : List E
   pub allowed : first_refused 0 es (start_core sh 1) ≡ None
   -- the log of each seat is its part of the run, each step with the word that it found there, or stored
   pub parts : (i : ℕ) (s : HeapSeat) → slice_get seats i ≡ Some s → (view_of s).log ≡ log_of sh es i
-  -- where all seats of the heap are among these, nobody else has a part
+  -- if all seats of the heap are among these, nobody else has a part
   pub no_others : (s : HeapSeat) → slice_get seats 0 ≡ Some s → (view_of s).opened ≡ length seats → (i : ℕ) → length seats ≤ i → log_of sh es i ≡ []
   pub sound : (n : ℕ) → IsCore (run_of (take n es) (start_core sh 1))
   pub ends : AreWords sh (run_of es (start_core sh 1)).words w

@@ -42,7 +42,7 @@ left_by (Keep bits) n = bit_and n bits
 left_by (Set bits) n = bit_or n bits
 left_by (Exchange old new) n = either (n == old) new n
 
--- where the step finds a word n it leaves f n
+-- if the step finds a word n, it leaves f n
 abbrev pub Writes : Step → (ℕ → ℕ) → View → Type 0
 Writes step f v = (n : ℕ) → written v.shape v.state step n ≡ f n
 

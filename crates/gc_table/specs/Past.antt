@@ -18,7 +18,7 @@ use Rattle.gc_table.specs.Entries.{event, is_store, is_logged}
 abbrev pub word_told : Core → SeatState → Step → ℕ
 word_told c s step = if is_store step then written c.shape s step 0 else slice_index c.words (address c.shape (place c.shape s step))
 
--- what an event adds to the log of its seat, where the seat's record was looked up
+-- what an event adds to the log of its seat, if the seat's record was looked up
 abbrev pub entries_of : Core → Option SeatState → Step → List Entry
 entries_of c None step = []
 entries_of c (Some s) step = if is_logged step then event step (word_told c s step) ∷ [] else []
@@ -32,7 +32,7 @@ abbrev pub log_from : ℕ → Core → List Event → List Entry
 log_from i c [] = []
 log_from i c (e ∷ es) = adds i c e ++ log_from i (after_event c e) es
 
--- the log of seat i, where these events are all that has happened: a single seat, the first, makes the others
+-- the log of seat i, if these events are all that has happened: a single seat, the first, makes the others
 abbrev pub log_of : Shape → List Event → ℕ → List Entry
 log_of sh es i = log_from i (start_core sh 1) es
 

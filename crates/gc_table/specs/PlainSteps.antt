@@ -17,7 +17,7 @@ use Rattle.plain_heap.specs.PlainStep.{heap_after, followed, lent_variable}
 use Rattle.gc_table.specs.declared.view.Meaning.{Meaning}
 use Rattle.mark_core.specs.Numbers.{section_variables}
 
--- the heap of a meaning, where there is one
+-- the heap of a meaning, if there is one
 abbrev pub heap_in : Option Meaning → Option Heap
 heap_in None = None
 heap_in (Some m) = Some m.heap
@@ -39,7 +39,7 @@ no_meaning = record { heap = record { section = 0; fields = 0; objects = []; var
 abbrev pub meaning_of : List Meaning → ℕ → Meaning
 meaning_of ms w = slice_index_or ms w no_meaning
 
--- the meanings where that of section w changes
+-- the meanings when that of section w changes
 abbrev pub changed : List Meaning → ℕ → (Meaning → Meaning) → List Meaning
 changed ms w f = slice_set ms w (f (meaning_of ms w))
 
@@ -64,7 +64,7 @@ with_got ref m = record m { got = ref }
 abbrev pub with_part : Shape → ℕ → ℕ → Meaning → Meaning
 with_part sh part word m = record m { value = if part == sh.fields then word else m.value }
 
--- what the words of its section mean after a step of a seat, whose plain step is `op` where it has one
+-- what the words of its section mean after a step of a seat, whose plain step is `op` if it has one
 abbrev pub meaning_after : Shape → SeatState → Option Heap → Step → Op → Meaning → Meaning
 meaning_after sh s catalogue (StoreField v i w) op m = stepped catalogue op m
 meaning_after sh s catalogue (StoreValue v n) op m = stepped catalogue op m
@@ -75,7 +75,7 @@ meaning_after sh s catalogue (ReadSlot k) op m = with_got refs.Nil m
 meaning_after sh s catalogue (StoreNew c part word) op m = with_part sh part word m
 meaning_after sh s catalogue step op m = m
 
--- the meanings of all sections, where a step changes that of its seat's own
+-- the meanings of all sections, when a step changes that of its seat's own
 abbrev pub changed_by : Shape → SeatState → Step → Op → List Meaning → List Meaning
 changed_by sh s step op ms = changed ms (own_section s) (meaning_after sh s (catalogue_seen ms (own_section s)) step op)
 
@@ -99,7 +99,7 @@ abbrev pub IsSet : Heap → ℕ → ℕ → Option ℕ → Op → Type 0
 IsSet heap v i None op = (u : ℕ) × (u < section_variables) × (variable heap u ≡ refs.Nil) × (op ≡ ops.Set v i u)
 IsSet heap v i (Some w) op = op ≡ ops.Set v i w
 
--- what becomes of variable v where a root is stored: the object for which a cell was made, nil, another variable, or what the register has by a field or from
+-- what becomes of variable v when a root is stored: the object for which a cell was made, nil, another variable, or what the register has by a field or from
 -- the catalogue
 abbrev pub IsAssignment : SeatState → Meaning → Option Heap → ℕ → ℕ → Op → Type 0
 IsAssignment s m catalogue v r (ops.New u n) = (u ≡ v) × (n ≡ m.value) × IsTrue (names_last s.cache r) × (length m.heap.objects + 1 ≡ s.made)

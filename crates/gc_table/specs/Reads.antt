@@ -12,13 +12,13 @@ use Rattle.gc_table.specs.declared.view.View.{View}
 use Rattle.gc_table.specs.PlainSteps.{own_section, known_as}
 use Rattle.gc_table.specs.Sections.{seen_by, section_after}
 
--- what n is, where a step of the seat with this view found it
+-- what n is, if a step of the seat with this view found it
 abbrev pub Reads : Step → ℕ → View → Type 0
 -- the value of the object that the seat knows by this cell
 Reads (ReadValue c) n v = IsFalse v.shape.sharing → (o : Object) × (object_of v.own.meaning.heap (seen_by v.shape v.plan v.state) (known_as v.state v.own.meaning c) ≡ Some o) × (n ≡ o.value)
 -- the section and the number of this object
 Reads (ReadIdent c) n v = IsFalse v.shape.sharing → Names (own_section v.state) (known_as v.state v.own.meaning c) (record { section = n / flag; number = n % flag })
--- nil exactly where the plain heap has nil
+-- nil exactly if the plain heap has nil
 Reads (ReadOwn c i) n v = IsFalse v.shape.sharing → (n ≡ 0) ↔ ((section_after v.shape v.plan v.state (ReadOwn c i) v.own).meaning.got ≡ refs.Nil)
 Reads (ReadCat u) n v = IsFalse v.shape.sharing → (n ≡ 0) ↔ ((section_after v.shape v.plan v.state (ReadCat u) v.own).meaning.got ≡ refs.Nil)
 -- how many times the catalogue's seat moved the season on

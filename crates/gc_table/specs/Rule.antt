@@ -26,7 +26,7 @@ use Rattle.gc_table.specs.Told.{IsTold}
 use Rattle.gc_table.specs.Past.{LeadTo, IsLogged}
 use Rattle.gc_table.specs.declared.view.Entry.{Entry}
 
--- the record of seat k, where a seat that was joined into another has that of a spent seat
+-- the record of seat k; a seat that was joined into another has that of a spent seat
 abbrev pub record_of : Shape → ℕ → View → SeatState
 record_of sh k v = if v.state.spent then spent_seat sh k else v.state
 
@@ -48,7 +48,7 @@ pub record IsState (x : TableState) : Type 0 where
   pub core : IsCore x.core
   pub swept : IsSweptCore x.core
   pub sections : length x.sections ≡ x.core.shape.sections
-  -- where objects aren't shared, the words of each section stand for a plain heap of its own
+  -- if objects aren't shared, the words of each section stand for a plain heap of its own
   pub stands : IsFalse x.core.shape.sharing → StandsFor x.core (meanings_of x.sections)
   pub told : IsTold x
 
@@ -117,7 +117,7 @@ opens v = record v { opened = v.opened + 1 }
 abbrev pub opened_by : View → View
 opened_by v = newcomer v.shape v.plan v.opened
 
--- the seat's own section, where it has one
+-- the seat's own section, if it has one
 abbrev pub own_entry : Option ℕ → SectionState → List (ℕ × SectionState)
 own_entry None x = []
 own_entry (Some w) x = (w, x) ∷ []

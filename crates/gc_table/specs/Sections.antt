@@ -20,7 +20,7 @@ use Rattle.gc_table.specs.declared.view.SectionState.{SectionState}
 use Rattle.gc_table.specs.StandsFor.{start_meaning}
 use Rattle.gc_table.specs.PlainSteps.{known_as, with_got, with_part, Asks, HasSeenPhase}
 
--- what a warehouse sees of the catalogue in season z, where the season word is 2z - 1: what the plan says of the end of part z
+-- what a warehouse sees of the catalogue in season z, in which the season word is 2z - 1: what the plan says of the end of part z
 abbrev pub planned : Shape → List (List Op) → ℕ → Heap
 planned sh plan season = plan_end sh.fields plan ((season + 1) / 2)
 
@@ -34,7 +34,7 @@ seen_of sh plan (Some (suc w)) season = Some (planned sh plan season)
 abbrev pub season_of : SeatState → ℕ
 season_of s = unwrap_or s.season_seen 0
 
--- what a seat sees of the catalogue, by the plan alone
+-- what a seat sees of the catalogue, by the plan only
 abbrev pub seen_by : Shape → List (List Op) → SeatState → Option Heap
 seen_by sh plan s = seen_of sh plan s.section (season_of s)
 
@@ -48,7 +48,7 @@ abbrev pub stored_ref : Heap → Option ℕ → Ref
 stored_ref heap None = refs.Nil
 stored_ref heap (Some w) = variable heap w
 
--- the plain heap where a root is stored: the first store of a new cell makes its object
+-- the plain heap when a root is stored: the first store of a new cell makes its object
 abbrev pub rooted : SeatState → Meaning → ℕ → ℕ → Heap
 rooted s m v r = if names_last s.cache r && (length m.heap.objects + 1 == s.made) then with_new m.heap v m.value else assigned m.heap v (named_by s m r)
 
@@ -59,7 +59,7 @@ meaning_by sh s catalogue (StoreValue v n) m = record m { heap = stored_at m.hea
 meaning_by sh s catalogue (StoreRoot v r) m = with_got refs.Nil (record m { heap = rooted s m v r })
 meaning_by sh s catalogue (ReadOwn c i) m = with_got (followed m.heap catalogue (known_as s m c) i) m
 meaning_by sh s catalogue (ReadCat v) m = with_got (lent_variable catalogue v) m
--- where objects aren't shared slots are nil, and elsewhere nothing is told of the register
+-- if objects aren't shared, slots are nil, and otherwise nothing is told of the register
 meaning_by sh s catalogue (ReadSlot k) m = with_got refs.Nil m
 meaning_by sh s catalogue (StoreNew c part word) m = with_part sh part word m
 meaning_by sh s catalogue step m = m
@@ -104,7 +104,7 @@ AskedOf sh plan s x named (StoreSlot k r) = HasSeenPhase s × IsTrue sh.sharing
 AskedOf sh plan s x named (StoreNew c part word) = part ≡ 0 → length x.meaning.heap.objects ≡ s.made
 -- the seat has named its section before it says that the heap is full
 AskedOf sh plan s x named (StorePhase to) = IsTrue (saw (Some to) Full) → (w : ℕ) × (s.section ≡ Some w) × (named ≡ Some w)
--- the catalogue's seat alone moves the season on, and its own turn ends where the plan's part ends
+-- only the catalogue's seat moves the season on, and its own turn ends where the plan's part ends
 AskedOf sh plan s x named NextSeason = (s.section ≡ Some 0) × (IsTrue (x.seasons % 2 == 0) → x.meaning.heap ≡ planned sh plan (x.seasons + 1))
 AskedOf sh plan s x named step = Unit {0}
 

@@ -26,7 +26,7 @@ heaps_of ms = map (λ (m : Meaning). m.heap) ms
 abbrev pub name_at : List ℕ → ℕ → Name
 name_at identities c = record { section = section_of_cell identities c; number = number_of_cell identities c }
 
--- how many objects there are, where there is a heap
+-- how many objects there are, if there is a heap
 abbrev pub objects_in : Option Meaning → ℕ
 objects_in None = 0
 objects_in (Some m) = length m.heap.objects

@@ -9,7 +9,7 @@ use Rattle.mark_core.specs.declared.kinds.Step.TheVariants.{RaiseStep, StorePhas
 use Rattle.gc_table.specs.declared.view.Entry.{Entry}
 use Rattle.gc_table.specs.declared.view.View.{View}
 
--- the seat has moved the phase since it raised the flag, where it had before or not
+-- the seat has moved the phase since it raised the flag, given whether it had before
 abbrev pub moves_on : Bool → Step → Bool
 moves_on b RaiseStep = false
 moves_on b (StorePhase to) = true

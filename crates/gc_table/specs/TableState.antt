@@ -1,4 +1,4 @@
--- A state of the core together with what contracts alone see: the catalogue's plan, and what each section has come to.
+-- A state of the core together with what only contracts see: the catalogue's plan, and what each section has come to.
 use Rattle.std.specs.Prelude.{ℕ, List, [], map, false, Option, Some, None, slice_get, slice_set, slice_index_or}
 use Rattle.mark_core.specs.Layout.{words_of}
 use Rattle.mark_core.specs.Steps.{Core, after_event, start_core}
@@ -32,12 +32,12 @@ no_section = record { meaning = no_meaning; places = []; history = []; position 
 abbrev pub section_at : List SectionState → ℕ → SectionState
 section_at xs w = slice_index_or xs w no_section
 
--- the sections where that of a seat changes
+-- the sections when that of a seat changes
 abbrev pub with_section : Option ℕ → (SectionState → SectionState) → List SectionState → List SectionState
 with_section None f xs = xs
 with_section (Some w) f xs = slice_set xs w (f (section_at xs w))
 
--- the sections after a step of a seat, where its record was looked up
+-- the sections after a step of a seat, if its record was looked up
 abbrev pub sections_after : Shape → List (List Op) → Option SeatState → Step → List SectionState → List SectionState
 sections_after sh plan None step xs = xs
 sections_after sh plan (Some s) step xs = with_section s.section (section_after sh plan s step) xs

@@ -28,7 +28,7 @@ EachSection xs P = (w : ℕ) (x : SectionState) → slice_get xs w ≡ Some x �
 abbrev pub LiesAt : SectionState → ℕ → ℕ → Type 0
 LiesAt x n c = (p : Place) × (slice_get x.places n ≡ Some p) × (p.cell ≡ c)
 
--- where the objects lie that have cells
+-- where the objects that have cells lie
 pub record Placed (sh : Shape) (identities : List ℕ) (used : ℕ → Type 0) (seats : List SeatState) (xs : List SectionState) : Type 0 where
   -- a cell in use is the place of the object that its identity names
   pub at_place : EachCell sh (λ c. used c → (x : SectionState) × (slice_get xs (section_of_cell identities c) ≡ Some x) × LiesAt x (number_of_cell identities c) c)
@@ -43,7 +43,7 @@ Positioned positions xs = EachSection xs (λ w x. slice_index positions w ≡ x.
 
 -- the catalogue's turn, and then the warehouses'
 pub record Seasons (sh : Shape) (plan : List (List Op)) (season : ℕ) (xs : List SectionState) : Type 0 where
-  -- the catalogue's seat alone moves the season on
+  -- only the catalogue's seat moves the season on
   pub moved : season ≡ (section_at xs 0).seasons
   -- while the warehouses have their turn, the catalogue is what its plan says
   pub planned_there : season % 2 ≡ 1 → (section_at xs 0).meaning.heap ≡ planned sh plan season

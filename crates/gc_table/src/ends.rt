@@ -96,9 +96,9 @@ impl Heap {
         Ok((heap, all))
     }
 
-    /// A heap in which nothing has happened, with all its seats in the order of their numbers. Seat w has section w, and
-    /// seats past the sections have none. The plan says what the catalogue's seat is going to do, part by part; nothing
-    /// reads it as the program runs, and all views hold it for good. It is refused only where memory ran out.
+    /// A heap in which nothing has happened, with all its seats in the order of their numbers. Seat w has section
+    /// w, and seats past the sections have none. Only contracts see the plan. It is refused only if memory runs
+    /// out.
     pub fn create<P: Plan>(
         alloc: Global,
         shape: Shape,
@@ -165,10 +165,8 @@ impl Heap {
         words
     }
 
-    /// Joins all seats, and gives the words that say what lies where. The seats are all the heap's, in order, and each is
-    /// outside the world, its stop and its help. Contracts are told what the words mean: each section's plain heap, the
-    /// places of its objects and its position, as its seat left them; and that they are the end of one run of the core, of which
-    /// the log of each seat is its part. Where memory ran out the heap and the seats are gone.
+    /// Joins all seats, and gives the words that say what lies where. The seats are all the heap's, in order, each
+    /// outside the world, its stop and its help. If memory runs out the heap and the seats are gone.
     pub fn close(self, alloc: Global, seats: Vec<HeapSeat>) -> Result<Words, OutOfMemory>
         requires some { 0 < vec_len seats }
         requires seats { (i : ℕ) (s : HeapSeat) → slice_get seats.items i ≡ Some s → Sits self s × ((state_of s).number ≡ i) × IsOutside (view_of s) }
@@ -189,7 +187,7 @@ impl Heap {
 }
 
 impl HeapSeat {
-    /// Where a search of the seat ended last, as it was told: no contract rests on it.
+    /// Where a search of the seat ended last; no contract rests on it.
     pub fn hint(&self) -> u32 {
         self.hint
     }

@@ -2,7 +2,7 @@
 ghost use Rattle.std.specs.Prelude.{◌≡◌, ◌<◌, ◌^◌};
 ghost use Rattle.mark_core.specs.Bits.{complement};
 
-/// Bit i alone.
+/// Only bit i.
 pub fn bit(i: u32) -> u64
     requires { i < 64 }
     ensures { result ≡ 2 ^ i }

@@ -8,7 +8,7 @@ use crate::seat::{Heap, HeapSeat};
 use mark_core::{Cell, Step, used_bits, variable_or_nil};
 
 impl Heap {
-    /// Field i of an object that the seat's variables or register name. The register has what was read.
+    /// Field i of an object that the seat's variables or register name. The register gets it.
     pub fn read_own(&self, seat: &mut HeapSeat, c: Cell, i: u8) -> u64
         requires seat { Sits self.now seat.old }
         requires may { May (Step.ReadOwn c i) (view_of seat.old) }
@@ -28,7 +28,7 @@ impl Heap {
         self.take_step(seat, Operation::Load, Step::ReadValue { c })
     }
 
-    /// Whose object it is, and which.
+    /// Which object it is: its section and number, in one word.
     pub fn read_ident(&self, seat: &mut HeapSeat, c: Cell) -> u64
         requires seat { Sits self.now seat.old }
         requires may { May (Step.ReadIdent c) (view_of seat.old) }
@@ -38,7 +38,7 @@ impl Heap {
         self.take_step(seat, Operation::Load, Step::ReadIdent { c })
     }
 
-    /// Variable v of the catalogue, 0 to 31, for a warehouse in its turn. The register has what was read.
+    /// Variable v of the catalogue, 0 to 31, for a warehouse in its turn. The register gets it.
     pub fn read_cat(&self, seat: &mut HeapSeat, v: u8) -> u64
         requires seat { Sits self.now seat.old }
         requires may { May (Step.ReadCat v) (view_of seat.old) }
@@ -48,8 +48,8 @@ impl Heap {
         self.take_step(seat, Operation::Load, Step::ReadCat { v })
     }
 
-    /// Stores variable w, or nil, in field i of variable v's object, which is of the seat's section. The seat owes the object's card then, unless it made the
-    /// object and hasn't published it.
+    /// Stores variable w, or nil, in field i of variable v's object, which is of the seat's section. The seat then
+    /// owes the object's card, unless it made the object and hasn't published it.
     pub fn store_field(&self, seat: &mut HeapSeat, v: u8, i: u8, w: Option<u8>)
         requires seat { Sits self.now seat.old }
         requires may { May (Step.StoreField v i w) (view_of seat.old) }
@@ -61,7 +61,8 @@ impl Heap {
         self.store_step(seat, Step::StoreField { v, i, w });
     }
 
-    /// Stores a value in variable v's object, which is of the seat's section. No card is owed for it, since a value refers to nothing.
+    /// Stores a value in variable v's object, which is of the seat's section. A value refers to nothing, so no card
+    /// is owed.
     pub fn store_value(&self, seat: &mut HeapSeat, v: u8, n: u32)
         requires seat { Sits self.now seat.old }
         requires may { May (Step.StoreValue v n) (view_of seat.old) }
@@ -73,8 +74,9 @@ impl Heap {
         self.store_step(seat, Step::StoreValue { v, n });
     }
 
-    /// Where field i of variable v's object is what variable `expected` is, or nil, stores variable `new`, or nil, there. Answers the word that it found: it has won
-    /// where this is the word of variable `expected`, and then owes the object's card as after a store. Only where objects are shared.
+    /// Stores variable `new`, or nil, in field i of variable v's object, if that is what variable `expected` is, or
+    /// nil. Answers the word that it found; if that is the word of `expected` the exchange is won, and the card is
+    /// owed as after a store. Objects must be shared.
     pub fn exchange_field(
         &self,
         seat: &mut HeapSeat,
@@ -100,7 +102,8 @@ impl Heap {
         self.take_step(seat, Operation::Exchange { old, new: word }, step)
     }
 
-    /// Where the value of variable v's object is the expected one, stores a new one there: true where it was. Only where objects are shared.
+    /// Stores a new value in variable v's object, if the value is the expected one: true if it was. Objects must be
+    /// shared.
     pub fn exchange_value(&self, seat: &mut HeapSeat, v: u8, expected: u32, new: u32) -> bool
         requires seat { Sits self.now seat.old }
         requires may { May (Step.ExchangeValue v expected new) (view_of seat.old) }
@@ -120,7 +123,8 @@ impl Heap {
         found == u64::from(expected)
     }
 
-    /// Stores a reference in variable v: nil, or that of a variable, of the register, or of the cell that was made last. No card may be owed.
+    /// Stores a reference in variable v: nil, or that of a variable, of the register, or of the cell made last. No
+    /// card may be owed.
     pub fn store_root(&self, seat: &mut HeapSeat, v: u8, r: u64)
         requires seat { Sits self.now seat.old }
         requires may { May (Step.StoreRoot v r) (view_of seat.old) }
@@ -132,7 +136,8 @@ impl Heap {
         self.store_step(seat, Step::StoreRoot { v, r });
     }
 
-    /// Stores a reference in slot k of the seat's section, as in a variable; the seat keeps no copy of it. Only where objects are shared.
+    /// Stores a reference in slot k of the seat's section, as in a variable; the seat keeps no copy. Objects must
+    /// be shared.
     pub fn store_slot(&self, seat: &mut HeapSeat, k: u16, r: u64)
         requires seat { Sits self.now seat.old }
         requires may { May (Step.StoreSlot k r) (view_of seat.old) }
@@ -143,7 +148,7 @@ impl Heap {
         self.store_step(seat, Step::StoreSlot { k, r });
     }
 
-    /// Slot k of the seat's section. The register has what was read.
+    /// Slot k of the seat's section. The register gets it.
     pub fn read_slot(&self, seat: &mut HeapSeat, k: u16) -> u64
         requires seat { Sits self.now seat.old }
         requires may { May (Step.ReadSlot k) (view_of seat.old) }
@@ -153,7 +158,7 @@ impl Heap {
         self.take_step(seat, Operation::Load, Step::ReadSlot { k })
     }
 
-    /// Claims block b to make cells in, for a seat without a cache: true where nobody had it.
+    /// Claims block b to make cells in, for a seat without a cache: true if nobody had it.
     pub fn claim_block(&self, seat: &mut HeapSeat, b: u32) -> bool
         requires seat { Sits self.now seat.old }
         requires may { May (Step.ClaimBlock b) (view_of seat.old) }
@@ -202,7 +207,8 @@ impl Heap {
         self.store_step(seat, Step::StoreNew { c, part, word });
     }
 
-    /// Publishes the cells that the seat made, all by one step: from then on they may be scanned, and a store in them owes their card.
+    /// Publishes the cells that the seat made by one step: from then on they may be scanned, and a store in them
+    /// owes their card.
     pub fn publish_cells(&self, seat: &mut HeapSeat) -> u64
         requires seat { Sits self.now seat.old }
         requires may { May Step.PublishCells (view_of seat.old) }

@@ -39,7 +39,8 @@ pub enum Operation {
 }
 
 impl Heap {
-    /// An operation that tells the word that it finds. Each caller names the operation, so none is chosen as the program runs.
+    /// An operation that tells the word that it finds. Each caller names the operation, so none is chosen as the
+    /// program runs.
     #[inline(always)]
     pub(crate) fn take_told<T: PicksStep>(
         &self,
@@ -69,7 +70,7 @@ impl Heap {
         }
     }
 
-    /// Stores a word, whatever is there: it is told nothing of what it overwrites, so the step has to be blind to it.
+    /// Stores a word, whatever is there. It isn't told what it overwrites, so the step has to be blind to that.
     pub(crate) fn store_told<T: PicksStep>(
         &self,
         token: &mut Seat<(), View>,

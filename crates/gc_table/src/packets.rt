@@ -1,4 +1,4 @@
-//! The steps on packets. `mark_core` names the numbers of the pools (`EMPTY_POOL` to `DEFERRED_POOL`).
+//! The steps on packets.
 ghost use Rattle.std.specs.Prelude.{◌≡◌};
 ghost use Rattle.mark_core.specs.Bits.{cell_of as cell_of_word};
 ghost use Rattle.mark_core.specs.Held.{length_in_hand};
@@ -22,7 +22,7 @@ impl Heap {
         self.take_step(seat, Operation::Sub(1), Step::Reserve);
     }
 
-    /// Takes packet p out of pool q: true where it was there.
+    /// Takes packet p out of pool q: true if it was there.
     pub fn take(&self, seat: &mut HeapSeat, q: u8, p: u32) -> bool
         requires seat { Sits self.now seat.old }
         requires may { May (Step.Take q p) (view_of seat.old) }
@@ -61,8 +61,7 @@ impl Heap {
         self.take_step(seat, Operation::Add(1), Step::Credit);
     }
 
-    /// Puts a grey cell into packet p: the call of its kind of step, for a caller that doesn't know the packet's
-    /// length.
+    /// Puts a grey cell into packet p.
     pub fn push(&self, seat: &mut HeapSeat, p: u32, cell: Cell)
         requires seat { Sits self.now seat.old }
         requires may { May (Step.Push p cell) (view_of seat.old) }
@@ -72,8 +71,7 @@ impl Heap {
         self.store_step(seat, Step::Push { p, cell });
     }
 
-    /// Puts a grey cell into packet p, for a caller that knows how many cells are in it, as `packet_pools` does: its
-    /// length isn't looked up.
+    /// [`Heap::push`], for a caller that knows the packet's length.
     #[inline(always)]
     pub fn push_at(&self, seat: &mut HeapSeat, p: u32, length: u32, cell: Cell)
         requires seat { Sits self.now seat.old }
@@ -88,8 +86,7 @@ impl Heap {
         push_at(&mut seat.state, p, length, cell);
     }
 
-    /// Takes the grey cell that was put in last: the call of its kind, for a caller that doesn't know the packet's
-    /// length.
+    /// Takes the grey cell that was put in last.
     pub fn pop(&self, seat: &mut HeapSeat, p: u32) -> Cell
         requires seat { Sits self.now seat.old }
         requires may { May (Step.Pop p) (view_of seat.old) }
@@ -99,8 +96,7 @@ impl Heap {
         cell_of(self.take_step(seat, Operation::Load, Step::Pop { p }))
     }
 
-    /// Takes the grey cell that was put into packet p last, for a caller that knows how many cells are in it, as
-    /// `packet_pools` does: its length isn't looked up.
+    /// [`Heap::pop`], for a caller that knows the packet's length.
     #[inline(always)]
     pub fn pop_at(&self, seat: &mut HeapSeat, p: u32, length: u32) -> Cell
         requires seat { Sits self.now seat.old }
@@ -130,7 +126,7 @@ impl Heap {
         self.take_step(seat, Operation::Load, Step::Look { q, g })
     }
 
-    /// The count of empty packets, and [`mark_core::EMPTY_OFFSET`].
+    /// The count of empty packets, plus [`mark_core::EMPTY_OFFSET`].
     pub fn read_count(&self, seat: &mut HeapSeat) -> u64
         requires seat { Sits self.now seat.old }
         requires may { May Step.ReadCount (view_of seat.old) }

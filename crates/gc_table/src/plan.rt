@@ -1,4 +1,4 @@
-//! The plan of a catalogue, as contracts alone see it.
+//! The plan of a catalogue, which only contracts see.
 ghost use Rattle.std.specs.Prelude.{◌≡◌, List};
 ghost use base.Fml.{ftrue};
 ghost use Rattle.plain_heap.specs.declared.operation.Op.{Op};
@@ -9,7 +9,7 @@ use std::marker::{Model, PhantomData};
 /// The operations of a catalogue, part by part. It has no bytes.
 pub struct PlanTag {
     marker: PhantomData<()>,
-    /// By part of the catalogue, its operations in order.
+    /// The operations of each part of the catalogue, in order.
     pub ghost parts: { List (List Op) },
 }
 

@@ -1,5 +1,5 @@
-//! A thread that has nothing to trace sleeps until a cycle marks. Sleeping and waking take no seat, change no word and
-//! tell nothing: they are no steps of the core, and no contract rests on them.
+//! A thread that has nothing to trace sleeps until a cycle marks. Sleeping and waking are no steps of the core, and
+//! no contract rests on them.
 use crate::seat::Heap;
 use mark_core::PHASE;
 use std::sync::Wait;
@@ -9,7 +9,7 @@ use std::time::Duration;
 const MARKING: u64 = 1;
 
 impl Heap {
-    /// Sleeps while no cycle marks, until a thread wakes those that rest or for this long. It may return sooner.
+    /// Sleeps while no cycle marks, until a thread wakes those that rest, or for this long. It may return sooner.
     pub fn rest<R: Wait>(&self, rt: &R, most: Duration) {
         let phase = self.table.shared.peek(PHASE);
         if phase != MARKING {
@@ -18,7 +18,7 @@ impl Heap {
         }
     }
 
-    /// Wakes every thread that rests. Who moves the phase to Marking calls it, and who ends what tracers wait for.
+    /// Wakes every thread that rests. Called by whoever moves the phase to Marking, or ends what tracers wait for.
     pub fn wake_resting(&self) {
         self.table.shared.wake_all(PHASE);
     }

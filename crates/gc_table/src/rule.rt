@@ -28,7 +28,7 @@ impl TableRule<(), View, Key> for Rule {
     ghost first = { λ k. newcomer k.shape k.plan.parts 0 };
 }
 
-/// Which step an operation of the table is: the rule is told by this type, since the program needs no such value.
+/// Which step an operation of the table is: this type tells the rule, since the program needs no such value.
 ///
 /// Each call of an operation is made at [`Brand`], whose step is picked anew there. It is the value that is handed to
 /// the operation as `_step`: `ghosts-take_told a = record { step = a._step }`, in
@@ -46,7 +46,7 @@ impl PicksStep for Brand {
     ghost step = { ReadCount };
 }
 
-/// A word that was read, or read and written: the seat is as after the step, and the word is as it was noted.
+/// A word that was read, and perhaps written: the seat is as after the step, and the word is as it was noted.
 pub struct AtFound<T> {
     of: PhantomData<T>,
 }

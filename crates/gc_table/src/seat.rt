@@ -28,9 +28,9 @@ pub struct Heap {
 pub struct HeapSeat {
     /// Its record in the core.
     pub(crate) state: SeatState,
-    /// Its part in the table, with the view that contracts see.
+    /// Its part in the table, with its view.
     pub(crate) token: Seat<(), View>,
-    /// Where its last search for a block ended. No contract speaks of it.
+    /// Where its last search for a block ended; no contract speaks of it.
     pub(crate) hint: u32,
     ghost agrees: { state ≡ token.me.0.state },
     ghost bare: { token.me.1 ≡ [] },

@@ -15,7 +15,6 @@ use mark_core::{SeatState, Step, act, address_by};
 use std::marker::Brand;
 
 impl Heap {
-    /// The address of the word of a step.
     #[inline(always)]
     fn address(&self, s: &SeatState, step: &Step) -> usize
         ensures { result ≡ address_of self.now.shape (place self.now.shape s.now step.now) }

@@ -9,8 +9,8 @@ use crate::seat::{Heap, HeapSeat};
 use mark_core::Step;
 
 impl Heap {
-    /// Draws the next stretch of blocks of the sweep, or of clearing, by the number of its first (a block has 64 cells): it is in hand then, unless the counter
-    /// was at its end. The seat sweeps or clears, has no block in hand, and has read the counter below its end.
+    /// Draws the next stretch of blocks by the number of its first; it is in hand, unless the counter was at its
+    /// end. The seat sweeps or clears, has no block in hand, and has read the counter below its end.
     pub fn next_block(&self, seat: &mut HeapSeat) -> u64
         requires seat { Sits self.now seat.old }
         requires may { May Step.NextBlock (view_of seat.old) }
@@ -24,7 +24,7 @@ impl Heap {
         )
     }
 
-    /// Draws the next card of the pass, by its number (`CARD_CELLS` cells a card); the counter may be at its end already. The seat is a tracer that has read
+    /// Draws the next card of the pass; the counter may be at its end already. The seat is a tracer that has read
     /// the counter below its end.
     pub fn next_of_cards(&self, seat: &mut HeapSeat) -> u64
         requires seat { Sits self.now seat.old }
@@ -35,7 +35,7 @@ impl Heap {
         self.take_step(seat, Operation::Add(1), Step::NextOfCards)
     }
 
-    /// The mark bits of the block in hand, a bit for each of its 64 cells, in Sweep.
+    /// The mark bits of the block in hand, in Sweep.
     pub fn read_block_marks(&self, seat: &mut HeapSeat) -> u64
         requires seat { Sits self.now seat.old }
         requires may { May Step.ReadBlockMarks (view_of seat.old) }
@@ -45,7 +45,8 @@ impl Heap {
         self.take_step(seat, Operation::Load, Step::ReadBlockMarks)
     }
 
-    /// Frees the white cells of the block in hand, and answers the bits of those that stay. Both words of the block were read, and it is not swept yet.
+    /// Frees the white cells of the block in hand, and answers the bits of those that stay. Both words of the block
+    /// were read, and it isn't swept yet.
     pub fn store_alloc(&self, seat: &mut HeapSeat) -> u64
         requires seat { Sits self.now seat.old }
         requires may { May Step.StoreAlloc (view_of seat.old) }
@@ -56,7 +57,8 @@ impl Heap {
         self.store_step(seat, Step::StoreAlloc)
     }
 
-    /// Clears the marks of the block in hand, and goes on to the next one of its stretch, where there is one. In Sweep the block was swept before.
+    /// Clears the marks of the block in hand, and goes on to the next one of its stretch, if there is one. In Sweep
+    /// the block was swept before.
     pub fn clear_marks(&self, seat: &mut HeapSeat)
         requires seat { Sits self.now seat.old }
         requires may { May Step.ClearMarks (view_of seat.old) }
@@ -66,7 +68,7 @@ impl Heap {
         self.store_step(seat, Step::ClearMarks);
     }
 
-    /// Makes a card clean, in Sweep or Clear, where no card stands for cells to scan.
+    /// Cleans a card in Sweep or Clear, where no card stands for cells to scan.
     pub fn wipe_card(&self, seat: &mut HeapSeat, card: u32)
         requires seat { Sits self.now seat.old }
         requires may { May (Step.WipeCard card) (view_of seat.old) }
@@ -96,7 +98,7 @@ impl Heap {
         self.store_step(seat, Step::StoreNamed);
     }
 
-    /// Sets a counter or statistic, `CARD_COUNTER` to `TRACED`, to 0, for a seat that is alone in Idle or Drain.
+    /// Sets a counter or statistic, `CARD_COUNTER` to `FREE`, to 0, for a seat that is alone in Idle or Drain.
     pub fn reset(&self, seat: &mut HeapSeat, which: u8)
         requires seat { Sits self.now seat.old }
         requires may { May (Step.Reset which) (view_of seat.old) }
@@ -106,7 +108,8 @@ impl Heap {
         self.store_step(seat, Step::Reset { which });
     }
 
-    /// A counter, a statistic, the named section (`NAMED_SECTION`), or a position (`FIRST_POSITION` and the section).
+    /// A counter, a statistic, the named section (`NAMED_SECTION`), or a position (`FIRST_POSITION` and the
+    /// section's number).
     pub fn read_stat(&self, seat: &mut HeapSeat, which: u8) -> u64
         requires seat { Sits self.now seat.old }
         requires may { May (Step.ReadStat which) (view_of seat.old) }

@@ -10,7 +10,7 @@ use crate::seat::{Heap, HeapSeat};
 use mark_core::{BLOCK_CELLS, Cell, Phase, Step, has_bit, phase_of};
 
 impl Heap {
-    /// The allocation bits of block b, a bit for each of its 64 cells. A popped cell whose bit is set is in scan then.
+    /// The allocation bits of block b. A popped cell whose bit is set is then in scan.
     pub fn read_alloc(&self, seat: &mut HeapSeat, b: u32) -> u64
         requires seat { Sits self.now seat.old }
         requires may { May (Step.ReadAlloc b) (view_of seat.old) }
@@ -20,7 +20,8 @@ impl Heap {
         self.take_step(seat, Operation::Load, Step::ReadAlloc { b })
     }
 
-    /// The next field of the cell in scan, or the first one of a cell left in cleaning. The cell that it names is in hand then, to be marked.
+    /// The next field of the cell in scan, or the first one of a cell left in cleaning. The cell that it names is
+    /// in hand.
     pub fn read_field(&self, seat: &mut HeapSeat, c: Cell, i: u8) -> u64
         requires seat { Sits self.now seat.old }
         requires may { May (Step.ReadField c i) (view_of seat.old) }
@@ -30,7 +31,7 @@ impl Heap {
         self.take_step(seat, Operation::Load, Step::ReadField { c, i })
     }
 
-    /// Variable v of a section, 0 to 31, for a tracer that holds a packet. The cell that it names is in hand then, to be marked.
+    /// Variable v of a section, 0 to 31, for a tracer that holds a packet. The cell that it names is in hand.
     pub fn read_root(&self, seat: &mut HeapSeat, section: u32, v: u8) -> u64
         requires seat { Sits self.now seat.old }
         requires may { May (Step.ReadRoot section v) (view_of seat.old) }
@@ -40,7 +41,7 @@ impl Heap {
         self.take_step(seat, Operation::Load, Step::ReadRoot { section, v })
     }
 
-    /// Slot k of a section, for a tracer that holds a packet, as a variable.
+    /// Slot k of a section, as [`Heap::read_root`] reads a variable.
     pub fn load_slot(&self, seat: &mut HeapSeat, section: u32, k: u16) -> u64
         requires seat { Sits self.now seat.old }
         requires may { May (Step.LoadSlot section k) (view_of seat.old) }
@@ -50,7 +51,7 @@ impl Heap {
         self.take_step(seat, Operation::Load, Step::LoadSlot { section, k })
     }
 
-    /// Marks the cell that was loaded: true where it was white, and then it is in hand until it is pushed or its card is dirty.
+    /// Marks the cell that was loaded: true if it was white. It is in hand until it is pushed or its card is dirty.
     pub fn set_mark(&self, seat: &mut HeapSeat, c: Cell) -> bool
         requires seat { Sits self.now seat.old }
         requires may { May (Step.SetMark c) (view_of seat.old) }
@@ -75,7 +76,8 @@ impl Heap {
         self.store_step(seat, Step::DirtyCard { card });
     }
 
-    /// Clears a card: true where it was dirty, and then its marked cells are to be scanned. The seat is a tracer that holds a packet.
+    /// Clears a card: true if it was dirty, and then its marked cells are to be scanned. The seat is a tracer that
+    /// holds a packet.
     pub fn clear_card(&self, seat: &mut HeapSeat, card: u32) -> bool
         requires seat { Sits self.now seat.old }
         requires may { May (Step.ClearCard card) (view_of seat.old) }
@@ -86,7 +88,7 @@ impl Heap {
         found == 1
     }
 
-    /// The mark bits of block b, a bit for each of its 64 cells. Where the seat cleans a card of the block, they tell the cells to scan.
+    /// The mark bits of block b. If the seat cleans a card of the block, they tell the cells to scan.
     pub fn read_marks(&self, seat: &mut HeapSeat, b: u32) -> u64
         requires seat { Sits self.now seat.old }
         requires may { May (Step.ReadMarks b) (view_of seat.old) }

@@ -1,4 +1,4 @@
-//! What a seat knows. It stands in contracts alone.
+//! What a seat knows. Only contracts see it.
 ghost use Rattle.std.specs.Prelude.{◌≡◌};
 
 use mark_core::{SeatState, Shape, Step};
@@ -7,11 +7,11 @@ use std::collections::LinkedList;
 
 /// A step that the seat took.
 pub struct Entry {
-    /// What it did.
+    /// The step.
     pub step: Step,
-    /// The word that it found. A store finds nothing, and has the word that it stored.
+    /// The word that it found, or that a store stored.
     pub found: u64,
-    /// It got what it tried to get.
+    /// Whether it got what it tried to get.
     pub won: bool,
 }
 
@@ -69,18 +69,19 @@ pub struct View {
     pub state: SeatState,
     /// All steps that it took, in order.
     pub log: LinkedList<Entry>,
-    /// Words that stay as the seat found or left them, by region and index. The first pair for a word counts, and nothing there means that the note has ended.
+    /// Words that stay as the seat found or left them, by region and index. The first pair for a word counts; None
+    /// there means that the note has ended.
     pub known: LinkedList<((u32, u32), Option<u64>)>,
-    /// Counters that don't fall below what the seat found or left there, in the same form.
+    /// Counters that don't fall below what the seat found or left, in the same form.
     pub floors: LinkedList<((u32, u32), Option<u64>)>,
-    /// How many seats there are, where this is the first one.
+    /// How many seats there are, if this is the first one.
     pub opened: u32,
-    /// The operations of the catalogue, part by part. It stays as it is.
+    /// The operations of the catalogue, part by part, for good.
     pub plan: LinkedList<LinkedList<Op>>,
-    /// What the seat's section has come to, where it has one.
+    /// What the seat's section has come to, if it has one.
     pub own: SectionState,
-    /// What the sections of the seats that were joined into this one have come to, by the numbers of the seats.
+    /// What the sections of the seats that were joined into this one have come to, by their seats' numbers.
     pub joined: LinkedList<(u32, SectionState)>,
-    /// The logs of the seats that were joined into this one, by their numbers.
+    /// The logs of those seats, by their numbers.
     pub logs: LinkedList<(u32, LinkedList<Entry>)>,
 }

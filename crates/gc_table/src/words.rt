@@ -8,28 +8,27 @@ use atomic_table::Closed;
 use mark_core::{Bases, NAMED, PHASE, Phase, phase_of, reference_in};
 use std::alloc::{AllocError, Global};
 
-/// What lay in the words of a heap when it was closed.
+/// The words of a heap when it was closed.
 #[derive(Drop)]
 pub struct Words {
     /// By cell: its object's section times [`mark_core::SECTION_SPAN`], and the object's number.
     pub idents: Vec<u64>,
     /// By cell: its value.
     pub values: Vec<u64>,
-    /// Field i of cell c, at c times the fields of a cell and i: 0 for nil, else a cell's number and 1.
+    /// Field i of cell c, at c times the fields of a cell plus i: 0 for nil, else a cell's number plus 1.
     pub fields: Vec<u64>,
     /// By block of 64 cells: a bit for each cell that is allocated.
     pub alloc: Vec<u64>,
-    /// By section: how many commands it had done, as it stored last.
+    /// By section: how many commands it had done.
     pub positions: Vec<u64>,
     /// The phase.
     pub phase: Phase,
-    /// Where the phase is `Full`, the section that found the heap full.
+    /// The section that found the heap full, if the phase is `Full`.
     pub named: u32,
     /// Variable v of section w, at `VARIABLES * w + v`, in the form of a field.
     pub roots: Vec<u64>,
 }
 
-/// Copies the words from one place up to another.
 fn region(
     alloc: Global,
     closed: &Closed<(), Global>,
@@ -47,7 +46,6 @@ fn region(
     Ok(words)
 }
 
-/// Copies the regions.
 pub(crate) fn words_of(
     alloc: Global,
     bases: &Bases,

@@ -8,7 +8,8 @@ use crate::seat::{Heap, HeapSeat};
 use mark_core::{FLAG, Phase, Step, has_flag, phase_number};
 
 impl Heap {
-    /// Enters the world, from outside: true where the seat is active, since no stop is under way. Else it has to leave again.
+    /// Enters the world, from outside: true if the seat is active. Otherwise a stop is under way, and it has to
+    /// leave again.
     pub fn enter_step(&self, seat: &mut HeapSeat) -> bool
         requires seat { Sits self.now seat.old }
         requires may { May Step.EnterStep (view_of seat.old) }
@@ -19,7 +20,7 @@ impl Heap {
         !has_flag(found)
     }
 
-    /// Leaves the world, with no packet, no work, no cache, no card that is owed and nothing in the register. The phase and the season are forgotten.
+    /// Leaves the world, with nothing in hand and no card owed. The phase and the season are forgotten.
     pub fn leave_step(&self, seat: &mut HeapSeat)
         requires seat { Sits self.now seat.old }
         requires may { May Step.LeaveStep (view_of seat.old) }
@@ -29,7 +30,8 @@ impl Heap {
         self.take_step(seat, Operation::Sub(1), Step::LeaveStep);
     }
 
-    /// Raises the stop flag, from outside the world: true where it is now the seat's own, and false where another seat's was up.
+    /// Raises the stop flag, from outside the world: true if it is now the seat's own, false if another seat's was
+    /// up.
     pub fn raise_step(&self, seat: &mut HeapSeat) -> bool
         requires seat { Sits self.now seat.old }
         requires may { May Step.RaiseStep (view_of seat.old) }
@@ -40,7 +42,7 @@ impl Heap {
         !has_flag(found)
     }
 
-    /// The word of the world. The seat whose flag it is learns from it that the world has stopped.
+    /// The word of the world. By it the seat whose flag it is learns that the world has stopped.
     pub fn observe(&self, seat: &mut HeapSeat) -> u64
         requires seat { Sits self.now seat.old }
         requires may { May Step.Observe (view_of seat.old) }
@@ -50,8 +52,8 @@ impl Heap {
         self.take_step(seat, Operation::Load, Step::Observe)
     }
 
-    /// Resumes the world, in Idle or Full: the flag is cleared and the seat runs, in one step, so no other stop comes between. The seat is alone, with nothing
-    /// in hand.
+    /// Resumes the world, in Idle or Full. The flag is cleared and the seat runs in one step, so that no other stop
+    /// comes between. The seat is alone, with nothing in hand.
     pub fn drop_step(&self, seat: &mut HeapSeat)
         requires seat { Sits self.now seat.old }
         requires may { May Step.DropStep (view_of seat.old) }
@@ -61,7 +63,8 @@ impl Heap {
         self.take_step(seat, Operation::Sub(FLAG - 1), Step::DropStep);
     }
 
-    /// Opens the stopped world to helpers, in Drain or Sweep. The seat is not alone then, until it has closed help and seen that no helper is left.
+    /// Opens the stopped world to helpers, in Drain or Sweep. The seat isn't alone until it has closed help and
+    /// seen that no helper is left.
     pub fn open_step(&self, seat: &mut HeapSeat)
         requires seat { Sits self.now seat.old }
         requires may { May Step.OpenStep (view_of seat.old) }
@@ -71,7 +74,7 @@ impl Heap {
         self.take_step(seat, Operation::Set(FLAG), Step::OpenStep);
     }
 
-    /// Joins the helpers, from outside the world: true where help is open. Else the seat has to leave them again.
+    /// Joins the helpers, from outside the world: true if help is open. Otherwise the seat has to leave them again.
     pub fn join_help_step(&self, seat: &mut HeapSeat) -> bool
         requires seat { Sits self.now seat.old }
         requires may { May Step.JoinHelpStep (view_of seat.old) }
@@ -102,7 +105,7 @@ impl Heap {
         self.take_step(seat, Operation::Sub(FLAG), Step::CloseStep);
     }
 
-    /// The word of help. The seat that stopped the world learns from it that no helper is left.
+    /// The word of help. By it the seat that stopped the world learns that no helper is left.
     pub fn see_help(&self, seat: &mut HeapSeat) -> u64
         requires seat { Sits self.now seat.old }
         requires may { May Step.SeeHelp (view_of seat.old) }
@@ -112,7 +115,8 @@ impl Heap {
         self.take_step(seat, Operation::Load, Step::SeeHelp)
     }
 
-    /// The season word, even in the catalogue's turn and odd in the warehouses', for a seat that runs: it holds until the seat leaves.
+    /// The season, even in the catalogue's turn and odd in the warehouses', for a seat that runs: it holds until
+    /// the seat leaves.
     pub fn read_season(&self, seat: &mut HeapSeat) -> u64
         requires seat { Sits self.now seat.old }
         requires may { May Step.ReadSeason (view_of seat.old) }
@@ -122,7 +126,7 @@ impl Heap {
         self.take_step(seat, Operation::Load, Step::ReadSeason)
     }
 
-    /// Turns the season, between the catalogue's turn and the warehouses', at most 128 times. The seat has stopped the world, in Idle.
+    /// Turns the season, at most 128 times. The seat has stopped the world, in Idle.
     pub fn next_season(&self, seat: &mut HeapSeat)
         requires seat { Sits self.now seat.old }
         requires may { May Step.NextSeason (view_of seat.old) }
@@ -133,8 +137,8 @@ impl Heap {
         self.take_step(seat, Operation::Add(1), Step::NextSeason);
     }
 
-    /// Moves the phase. The move to Marking is a try of a mutator: false where the phase wasn't Idle. Any other move is of the seat that stopped the world, and
-    /// succeeds.
+    /// Moves the phase. The move to Marking is a mutator's try: false if the phase wasn't Idle. Any other is of the
+    /// seat that stopped the world.
     pub fn store_phase(&self, seat: &mut HeapSeat, to: Phase) -> bool
         requires seat { Sits self.now seat.old }
         requires may { May (Step.StorePhase to) (view_of seat.old) }

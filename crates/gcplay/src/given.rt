@@ -1,4 +1,3 @@
-//! From what the program is given to what it hands on.
 ghost use Rattle.std.specs.Prelude.{◌≡◌, ◌<◌, ◌-◌, ◌^◌, ◌⊎◌, Some};
 ghost use Rattle.std.specs.Io.KnownBytes.{Keeps};
 ghost use Rattle.command_words.specs.Words.{Options, Run};
@@ -16,8 +15,8 @@ use std::io;
 use std::sync::Wait;
 use std::thread::Threads;
 
-/// Does what the words behind the program's name ask for. All that it writes it gathers, and hands on to the sink, which it gives back with the status.
-/// Where std tells no words, they ask for nothing.
+/// Does what the words behind the program's name ask for. Gathers what it writes, and hands it on to the sink,
+/// which it gives back with the status. If std tells no words, they ask for nothing.
 pub fn play_given<R: Threads + Wait + Sync, S: Source, K: Sink + Drop>(
     rt: &R,
     alloc: Global,
@@ -29,7 +28,7 @@ pub fn play_given<R: Threads + Wait + Sync, S: Source, K: Sink + Drop>(
     requires sink { K.faults sink < 2 ^ 64 - 1 }
     // What was handed on answers the words, whole.
     ensures answers { HasItsText result.0 → WritesSome (K.written sink) (K.written result.1) (IsAnswer (wanted (words_behind given)) (S.left source.old) result.0) }
-    // Of `run` that is done, more: a text of what the script means.
+    // `run` with status 0: a text of what the script means.
     ensures run { (o : Options) → wanted (words_behind given) ≡ Some (Run o) → result.0 ≡ 0
         → WritesSome (K.written sink) (K.written result.1) (FromSource (IsRunText o) (S.left source.old)) }
     ensures silent { (result.0 ≡ 4) ⊎ (result.0 ≡ 6) → Keeps (K.written sink) (K.written result.1) }

@@ -1,4 +1,3 @@
-//! A dump that was read, and its records: parts of the bytes, and nothing copied.
 ghost use Rattle.std.specs.Prelude.{◌≡◌, ◌<◌, ◌≤◌, ◌+◌, ◌*◌, ◌++◌, ℕ, List, [], length, slice_index, IfOk, IsOkAnd, MatchOption, SomeIff};
 ghost use Rattle.std.specs.Result.{result_err};
 ghost use Rattle.heap_dump.specs.Final.{DumpedHeap, HasDump, object};
@@ -28,7 +27,7 @@ impl<'a> Model for Dump<'a> {
     ghost invariant = { λ d. HasDump (heap_of_dump d.frame.bytes.now) };
 }
 
-/// A record of a dump: the part of its bytes that tells one object.
+/// The part of a dump's bytes that tells one object.
 #[derive(Drop)]
 pub struct Record<'a> {
     bytes: &'a [u8],
@@ -47,11 +46,9 @@ impl<'a> Model for Record<'a> {
 
 /// The dump that the bytes are, or their first fault. Nothing is copied, and no memory is taken.
 pub fn read_dump<'a>(bytes: &'a [u8]) -> Result<Dump<'a>, DumpError>
-    // An error is the first fault of the bytes, and comes exactly where they have one.
+    // An error is the first fault of the bytes.
     ensures exact { result_err result ≡ first_dump_fault bytes.now }
-    // The dump is these bytes, and they are the one dump of a legal heap.
     ensures found { IfOk result (λ d. (d ≡ bytes.now) × HasDump (heap_of_dump d) × (d ≡ dump (heap_of_dump d))) }
-    // The dump of a legal heap is read, and tells that heap.
     ensures only { (h : DumpedHeap) → HasDump h → bytes.now ≡ dump h → IsOkAnd result (λ d. heap_of_dump d ≡ h) }
 {
     match frame_of(bytes) {
@@ -90,8 +87,8 @@ impl<'a> Dump<'a> {
         self.frame.records
     }
 
-    /// Variable v of a section: 0 for nil, k + 1 for record k. None exactly where there is no such
-    /// section or v is not below 32.
+    /// Variable v of a section: 0 for nil, k + 1 for record k. None if there is no such section or variable (v is
+    /// below 32).
     pub fn root(&self, section: u32, v: u32) -> Option<u32>
         ensures { SomeIff result ((section < (heap_of_dump self.now).sections) × (v < 32))
             (slice_index (heap_of_dump self.now).roots (32 * section + v)) }
@@ -103,7 +100,7 @@ impl<'a> Dump<'a> {
         }
     }
 
-    /// Record k, a part of the bytes that were read. None exactly where there is no such record.
+    /// Record k, if there is one.
     pub fn nth(&self, k: u32) -> Option<Record<'a>>
         ensures { MatchOption result (length (heap_of_dump self.now).records ≤ k) (λ r. (k < length (heap_of_dump self.now).records)
             × (r ≡ record_bytes (heap_of_dump self.now).fields (heap_of_dump self.now).sections self.now k)
@@ -151,7 +148,7 @@ impl<'a> Record<'a> {
         number_in(self.bytes, 2)
     }
 
-    /// Field i: 0 for nil, k + 1 for record k. None exactly where the object has no such field.
+    /// Field i: 0 for nil, k + 1 for record k. None if the object has no such field.
     pub fn reference(&self, i: u32) -> Option<u32>
         ensures { SomeIff result (i < length (object_in self.now).refs) (slice_index (object_in self.now).refs i) }
     {
@@ -162,7 +159,7 @@ impl<'a> Record<'a> {
         }
     }
 
-    /// The bytes of the record, a part of the bytes that were read.
+    /// The bytes of the record.
     pub fn bytes(&self) -> &'a [u8]
         ensures { result.now ≡ self.now }
     {

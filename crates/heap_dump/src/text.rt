@@ -1,4 +1,4 @@
-//! A dump as a text, a line for each record, and the texts of its faults. Each line is one piece, and no call takes memory.
+//! A dump and its faults as texts. Each line is one piece, and no call takes memory.
 ghost use Rattle.std.specs.Prelude.{flat_map};
 ghost use Rattle.play_report.specs.Causes.{WritesTo};
 ghost use Rattle.heap_dump.specs.Reading.{heap_of_dump, object_in};
@@ -54,8 +54,8 @@ fn write_objects<K: Sink>(dump: &Dump<'_>, sink: &mut K) -> Result<(), Failed>
     Ok(())
 }
 
-/// Writes a dump as a text: a line `sections S fields F records m`, and for each record a line with its section, its number and
-/// its value. Failed only where the sink's count of faults rose in this call, and a prefix of the text was then written.
+/// Writes a line `sections S fields F records m`, and for each record a line with its section, its number and its
+/// value. If it fails, the sink's count of faults rose and a prefix was written.
 pub fn write_undump<K: Sink>(dump: &Dump<'_>, sink: &mut K) -> Result<(), Failed>
     ensures { WritesTo K.written K.faults result sink.old sink.new (undump_text (heap_of_dump dump.now)) }
 {
@@ -78,8 +78,8 @@ fn write_reference_fault<K: Sink>(k: u32, field: u32, sink: &mut K) -> Result<()
     line.write(sink)
 }
 
-/// Writes the first fault of bytes that are no dump: its number, its name and its place. Failed only where the sink's count of
-/// faults rose in this call, and a prefix of the text was then written.
+/// Writes the first fault of bytes that are no dump: number, name and place. If it fails, the sink's count of
+/// faults rose and a prefix was written.
 pub fn write_dump_fault<K: Sink>(fault: &DumpError, sink: &mut K) -> Result<(), Failed>
     ensures { WritesTo K.written K.faults result sink.old sink.new (dump_fault_text fault.now) }
 {

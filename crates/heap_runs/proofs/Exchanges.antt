@@ -1,4 +1,4 @@
--- 50 and 51: a field or the value of an object is exchanged: the words found and expected are equal exactly where the heap has the expected there.
+-- 50 and 51: a field or the value of an object is exchanged: the words found and expected are equal exactly if the heap has the expected there.
 use Rattle.std.proofs.Common.{ℕ, ◌≡◌, ◌+◌, ◌-◌, ◌*◌, ◌<◌, List, set, arith, refl, sym, ap, ◌∙◌, subst, Bool, true, false, cond, not, eqb, ◌&&◌, ◌||◌, Option, Some, None}
 use Rattle.std.specs.Prelude.{IsTrue, slice_index, nat_lt}
 use Rattle.std.proofs.lemmas.Bool.{and_parts, and_from, or_left, eqb-true, eq-eqb, ltb-true}
@@ -43,7 +43,7 @@ one_test true false f g = sym (f refl)
 one_test false true f g = g refl
 one_test false false f g = refl
 
--- where objects are shared each object that a variable names may change
+-- if objects are shared, each object that a variable names may change
 may_too : (sh : Shape) (ids : List ℕ) (s : SeatState) (v : ℕ) → (not (eqb (word_in s v) 0) && sh.sharing) ≡ true → may_change sh ids s v ≡ true
 may_too sh ids s v e =
     let a = and_parts (not (eqb (word_in s v) 0)) sh.sharing e in

@@ -68,7 +68,7 @@ same-is (Some x) (Some y) e =
     let a = and_parts (eqb x.section y.section) (eqb x.number y.number) e in
     ap (λ (n : Name). Some n) (name-is x y (sym (eqb-true x.section y.section a.0)) (sym (eqb-true x.number y.number a.1)))
 
--- an object changes where it has what is expected
+-- an object changes if it has what is expected
 exchanged : (world : World) (to : Option Name) (won : Bool) (f g : WorldObject → WorldObject) (name : Name) (object : WorldObject) (Has : Type 0) → object_of world name ≡ Some object → f object ≡ cond won (g object) object → (won ≡ true → Has)
     → (p : WorldObject) × (object_of (with_object world to f) name ≡ Some p) × ((p ≡ object) ⊎ ((to ≡ Some name) × Has))
 exchanged world to won f g name object Has e is has =

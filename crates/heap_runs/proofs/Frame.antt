@@ -1,4 +1,4 @@
--- What agrees with the heap still does where words, records and the heap stay, and the agreement put together after one seat has acted.
+-- What agrees with the heap still does if words, records and the heap stay, and the agreement put together after one seat has acted.
 use Rattle.std.proofs.Common.{ℕ, ◌≡◌, ◌≢◌, ◌+◌, ◌*◌, ◌<◌, ◌≤◌, zero, suc, List, set, length, arith, refl, sym, ap, ◌∙◌, subst, true, Option, Some, None, ◌⊎◌, inl, inr, ⊎_elim}
 use Rattle.std.specs.Prelude.{IsTrue, IsFalse, IfSome, slice_get, slice_index}
 use Rattle.std.proofs.lemmas.Bool.{cases_eq}
@@ -21,7 +21,7 @@ use Rattle.heap_runs.specs.World.{World, WorldObject, section_of, variable_of, o
 use Rattle.heap_runs.specs.Agreement.{HoldsObject, SeatAgrees, Agrees, AgreesWith}
 use Rattle.heap_runs.proofs.Seats.{looks, got-used, last-used}
 
--- a word refers to the same object, where the cell that it names keeps its identity
+-- a word refers to the same object, if the cell that it names keeps its identity
 pub referred-on : (ids ids' : List ℕ) (word : ℕ) → ((c : ℕ) → word ≡ suc c → slice_index ids' c ≡ slice_index ids c) → referred ids' word ≡ referred ids word
 referred-on ids ids' zero same = refl
 referred-on ids ids' (suc c) same = ap (λ (n : ℕ). Some (name_in n)) (same c refl)

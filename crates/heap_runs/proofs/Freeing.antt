@@ -14,7 +14,7 @@ use Rattle.heap_runs.specs.Runs.{AreAllowed, NoneFreed}
 abbrev Stays : Core → Core → ℕ → Type 0
 Stays c d x = IsReachableIn c x → IsTrue (is_published c x) → IsTrue (is_published d x)
 
--- after k events of a run and after one more, where each state meets the rule of the core
+-- after k events of a run and after one more, if each state meets the rule of the core
 pub stays : (c : Core) (es : List Event) → ((n : ℕ) → IsCore (run_of (take n es) c)) → AreAllowed c es → (k x : ℕ) → k < length es → Stays (run_of (take k es) c) (run_of (take (k + 1) es) c) x
 stays c [] core ok k x below = absurd (omega (arith, below))
 stays c (e ∷ es) core ok k x below =

@@ -1,4 +1,4 @@
--- What stays, and what changes, where a section or an object of the heap changes.
+-- What stays, and what changes, when a section or an object of the heap changes.
 use Rattle.std.proofs.Common.{ℕ, ◌≡◌, ◌≢◌, ◌<◌, ◌≤◌, zero, suc, List, [], ◌∷◌, ◌++◌, set, get_or, length, arith, refl, sym, ap, ◌∙◌, subst, Some, None, ⊎_elim}
 use Rattle.std.specs.Prelude.{slice_get}
 use Rattle.std.proofs.lemmas.Bool.{cases_eq, cases_lt}
@@ -49,7 +49,7 @@ view-kept {Y} view world w k f h same =
     (λ (d : k ≢ w). ap view (section-other world w k f d))
     (cases_eq k w)
 
--- where the objects of the section stay, every object does
+-- if the objects of the section stay, every object does
 pub object-kept : (world : World) (w : ℕ) (f : WorldSection → WorldSection) (name : Name) → w < length world → (f (section_of world w)).objects ≡ (section_of world w).objects → object_of (in_section world w f) name ≡ object_of world name
 object-kept world w f name h same = ap (λ (xs : List WorldObject). slice_get xs name.number) (view-kept (λ (x : WorldSection). x.objects) world w name.section f h same)
 

@@ -1,4 +1,4 @@
--- A variable of section 0 refers to one object in the whole run, where its seat stores there once.
+-- A variable of section 0 refers to one object in the whole run, if its seat stores there once.
 use Rattle.std.proofs.Common.{ℕ, zero, suc, ◌≡◌, ◌≢◌, ◌⊎◌, ◌+◌, ◌<◌, ◌≤◌, ◌==◌, ◌&&◌, ◌∙◌, List, [], ◌∷◌, ◌++◌, set, take, length, ap, arith, inl, inr, not, refl, subst, sym, ⊎_elim, Bool, true, false, Option, None, Some}
 use Rattle.std.specs.Prelude.{if◌then◌else◌, nat_lt, replicate, slice_get, slice_index_or}
 use Rattle.std.proofs.lemmas.Bool.{and_from, and_parts, cases_eq, cases_lt, eq-eqb, false≢true}

@@ -61,7 +61,7 @@ exchange_held v m x n a b d false is turn here others h =
         subst (λ (z : Bool). Held (if z then x else n) d) (sym r)
         (held_less n b d (λ i t. ⊎_elim (λ (e : i ≡ a). absurd (false≢true (sym out ∙ (ap d (sym e) ∙ t)))) (λ (f : i ≢ a). sym (others i f) ∙ t) (cases_eq i a)) h)
 
--- whether a seat is inside after its step, where the value before it is n
+-- whether a seat is inside after its step, if the value before it is n
 abbrev inside_after : Step → ℕ → Bool → Bool
 inside_after (ExchangeValue v m x) n b = if n == m then x == 1 else b
 inside_after step n b = b
@@ -95,7 +95,7 @@ logged_inside c i s Split world n h k a single b = refl
 logged_inside c i s (Join o) world n h k a single b = refl
 logged_inside c i s step world n h k a single b = refl
 
--- what is asked of all logs, where each seat is inside or not
+-- what is asked of all logs, given whether each seat is inside
 record Locking (fields : ℕ) (es : List Event) (c : Core) (h : ℕ) (b : ℕ → Bool) : Type 0 where
   leaves : (i : ℕ) → all_steps (leaves_values fields) (log_from i c es) ≡ true
   turns : (i : ℕ) → takes_turns (b i) (log_from i c es) ≡ true

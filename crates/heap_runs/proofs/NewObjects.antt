@@ -168,7 +168,7 @@ made_moves c i s x part word world p last identity = record {
           each_field = λ j l. ap (referred ids) (new-fields c i s x part word k last j l) ∙ sym (get_or-replicate c.shape.fields j None None l);
         })
 
--- what agrees after the part, where it is a field, at most the value, and the value
+-- what agrees after the part, if it is a field, at most the value, and the value
 abbrev NewAgrees : Core → ℕ → SeatState → ℕ → ℕ → ℕ → World → Bool → Bool → Bool → Type 0
 NewAgrees c i s x part word world field_part early value_part =
     let w : Words = put_word (cond field_part (11, x * c.shape.fields + part) (cond value_part (10, x) (9, x))) word (words_of c.shape c.words) in

@@ -28,7 +28,7 @@ making_last : (o : Option CacheState) (x p : ℕ) → last_made (with_making o x
 making_last None x p = refl
 making_last (Some z) x p = refl
 
--- what is known where a part of a new cell may be stored
+-- what is known if a part of a new cell may be stored
 pub record MakesPart (c : Core) (i : ℕ) (s : SeatState) (x part word : ℕ) (world : World) : Type 0 where
   pub taken : Taken c i s (StoreNew x part word)
   pub agrees : AgreesWith c world

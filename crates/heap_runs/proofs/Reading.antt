@@ -25,7 +25,7 @@ use Rattle.heap_runs.proofs.Heap.{section-same, section-other, sections-kept, vi
 use Rattle.heap_runs.proofs.Frame.{holds-on, Moves, moved, had-object}
 use Rattle.heap_runs.proofs.Seats.{Mutates, mutates}
 
--- the register alone has changed
+-- only the register has changed
 got_moves : (c : Core) (i : ℕ) (s : SeatState) (step : Step) (world : World) (word : ℕ) (to : Option Name) → Taken c i s step → AgreesWith c world → Mutates c i s → ((y : ℕ) → IsMadeBy c.shape step y → ⊥)
     → referred (words_of c.shape c.words).identities word ≡ to → Moves c i s step (words_of c.shape c.words) (record s { got = word }) world (in_section world i (with_register to))
 got_moves c i s step world word to k a mu none is =

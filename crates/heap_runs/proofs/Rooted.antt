@@ -122,7 +122,7 @@ lent_on (e ∷ es) c world v sound ok a below once first counted new none =
     rest : List Entry
     rest = log_from 0 d es
 
-    -- what is so, where the event adds this to the log
+    -- what is so, if the event adds this to the log
     By : List Entry → Type 0
     By l = l ≡ adds 0 c e → stores_once v (l ++ rest) ≡ true → fills_first v (l ++ rest) ≡ true → season_in d ≡ season_count l + season_in c → Lent (e ∷ es) c world v
 

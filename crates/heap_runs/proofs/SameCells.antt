@@ -13,7 +13,7 @@ use Rattle.heap_runs.specs.Laws.{SameWords}
 use Rattle.heap_runs.proofs.Heap.{none-some}
 use Rattle.heap_runs.proofs.Seats.{names, used-exists}
 
--- where both are nil or name cells in use
+-- if both are nil or name cells in use
 pub words-same : (c : Core) (r q : ℕ) → IsCore c → nil_or (Used c) r ≡ true → nil_or (Used c) q ≡ true → referred (words_of c.shape c.words).identities r ≡ referred (words_of c.shape c.words).identities q → r ≡ q
 words-same c zero zero k u v e = refl
 words-same c zero (suc y) k u v e = absurd (none-some (name_at (words_of c.shape c.words).identities y) e)

@@ -1,4 +1,4 @@
--- The season moves at least as often as the first seat's log says; where it moves just as often, no other seat moves it.
+-- The season moves at least as often as the first seat's log says; if it moves just as often, no other seat moves it.
 use Rattle.std.proofs.Common.{ℕ, ◌≡◌, ◌+◌, ◌≤◌, ◌==◌, ◌∙◌, List, [], ◌∷◌, ◌++◌, ap, arith, refl, subst, sym, Bool, true, false, Option, None, Some, eqb-true}
 use Rattle.std.specs.Prelude.{if◌then◌else◌, slice_get}
 use Rattle.mark_core.specs.Laws.{IsCore}
@@ -22,7 +22,7 @@ use Rattle.heap_runs.specs.Rooted.{moves_season, season_count}
 use Rattle.heap_runs.specs.Runs.{AreAllowed}
 use Rattle.heap_runs.proofs.Sharing.{Sound, later-sound}
 
--- what is so of nothing, and of the entry of the event where it is this seat's, is so of what the event adds to the seat's log
+-- what is so of nothing, and of the entry of the event if it is this seat's, is so of what the event adds to the seat's log
 pub adds-cases : (P : List Entry → Type 0) (i : ℕ) (c : Core) (e : Event) (s : SeatState) → slice_get c.seats e.seat ≡ Some s → P [] → (e.seat ≡ i → is_logged e.step ≡ true → P (event e.step (word_told c s e.step) ∷ [])) → P (adds i c e)
 adds-cases P i c e s got none some =
     by_seat (e.seat == i) refl
@@ -75,7 +75,7 @@ season_grown (e ∷ es) c sound ok =
     let last = ap season_in (run-first c e es ok.0) in
     omega (arith, rest, one, most, both, last)
 
--- the season moved by the first seat alone
+-- the season moved only by the first seat
 abbrev pub Counted : List Event → Core → Type 0
 Counted es c = season_in (run_of es c) ≡ season_count (log_from 0 c es) + season_in c
 

@@ -41,7 +41,7 @@ changed P world w k f other own =
     (λ (h : length world ≤ w). subst (λ (x : World). P (section_of x k)) (sym (set_past world w (f (section_of world w)) h)) other)
     (cases_lt w (length world))
 
--- no object yet, or one of this value; so many
+-- no object yet, or one of this value; this many
 abbrev pub FirstIs : List WorldObject → ℕ → ℕ → Type 0
 FirstIs xs n h = ((xs ≡ []) × (n ≡ 0) × (h ≡ 0)) ⊎ ((o : WorldObject) × (xs ≡ o ∷ []) × (o.value ≡ n) × (h ≡ 1))
 
@@ -89,7 +89,7 @@ coming_after : (world : World) (to : Option Name) (g : WorldObject → WorldObje
 coming_after world None g = refl
 coming_after world (Some name) g = kept (λ (x : WorldSection). x.coming) world name.section 0 (changed_objects name.number g) (λ x. refl)
 
--- where the object has this value after the change
+-- if the object has this value after the change
 single_changed : (world : World) (to : Option Name) (g : WorldObject → WorldObject) (n m h : ℕ) → IsSingle world n h → ((section_of world 0).objects ≡ [] → m ≡ n)
     → ((o p : WorldObject) → (section_of world 0).objects ≡ o ∷ [] → o.value ≡ n → (section_of (with_object world to g) 0).objects ≡ p ∷ [] → (p ≡ o) ⊎ (p ≡ g o) → p.value ≡ m) → IsSingle (with_object world to g) m h
 single_changed world to g n m h s empty full =
@@ -105,7 +105,7 @@ single_changed world to g n m h s empty full =
       coming = coming_after world to g ∙ s.coming;
     }
 
--- where values stay
+-- if values stay
 same_value : (world : World) (to : Option Name) (g : WorldObject → WorldObject) (n h : ℕ) → ((o : WorldObject) → (g o).value ≡ o.value) → IsSingle world n h → IsSingle (with_object world to g) n h
 same_value world to g n h same s =
     single_changed world to g n n h s (λ e. refl)

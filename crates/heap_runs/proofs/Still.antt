@@ -87,7 +87,7 @@ still c i s step world k a r f none longer each =
     (subst (λ (vs : List ℕ). Agrees c.shape w.roots w.identities vs (words_left c s step).fields after seats world) (sym (values-same c i s step k f))
     (subst (λ (fs : List ℕ). Agrees c.shape w.roots w.identities w.values fs after seats world) (sym (fields-same c i s step k f)) same)))
 
--- each seat where one record changed
+-- each seat when one record changed
 pub each-but : (c : Core) (i : ℕ) (t : SeatState) (seats : List SeatState) (world : World) → (i < c.shape.sections → IsFalse t.spent → HasNow c world i t) → EachAgrees c seats world → EachAgrees c (set seats i t) world
 each-but c i t seats world own each w s f h live =
     ⊎_elim

@@ -28,7 +28,7 @@ abbrev pub has_value : Option WorldObject → ℕ → Bool
 has_value None m = false
 has_value (Some object) m = object.value == m
 
--- an exchange in the object of this name that finds what it expects, where the seat's record was looked up
+-- an exchange in the object of this name that finds what it expects, if the seat's record was looked up
 abbrev pub wins_in : World → Option SeatState → Step → Name → Bool
 wins_in world None step name = false
 wins_in world (Some s) (ExchangeValue v m n) name = is_same (variable_of world (own_section s) v) (Some name) && has_value (object_of world name) m
@@ -45,7 +45,7 @@ RaisesCounted =
     (c : Core) (world : World) (es : List Event) → AreAllowed c es → (name : Name) (object : WorldObject) → object_of world name ≡ Some object → OnlyRaised es c world name
     → (after : WorldObject) × (object_of (world_run es c world) name ≡ Some after) × (after.value ≡ object.value + count_won es c world name)
 
--- an exchange that a seat takes through a variable that refers to the object is won there exactly where the seat's log says so
+-- an exchange that a seat takes through a variable that refers to the object is won there exactly if the seat's log says so
 abbrev pub WinsTold : Type 0
 WinsTold =
     (c : Core) (world : World) (e : Event) (s : SeatState) (v m n : ℕ) (name : Name) → IsCore c → AgreesWith c world → failing_part c e ≡ None → slice_get c.seats e.seat ≡ Some s → e.step ≡ ExchangeValue v m n

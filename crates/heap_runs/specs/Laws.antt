@@ -20,7 +20,7 @@ use Rattle.mark_core.specs.declared.seat.SeatState.{SeatState}
 use Rattle.heap_runs.specs.World.{World, WorldObject, section_of, variable_of, object_of, reference_of, name_in, name_at, referred, own_section, world_by, start_world, stored, is_same, with_reference, with_value}
 use Rattle.heap_runs.specs.Agreement.{HoldsObject, AgreesWith}
 
--- the heap after a step, where the seat's record was looked up
+-- the heap after a step, if the seat's record was looked up
 abbrev pub world_of : Core → Option SeatState → Step → World → World
 world_of c None step world = world
 world_of c (Some s) step world = world_by c.shape (words_of c.shape c.words) s step world
@@ -50,7 +50,7 @@ HasReference world name i to = (object : WorldObject) × (object_of world name �
 abbrev pub HasValue : World → Name → ℕ → Type 0
 HasValue world name m = (object : WorldObject) × (object_of world name ≡ Some object) × (object.value ≡ m)
 
--- the seat of this section stores in the object of this name, to which one of its variables refers; an exchange stores where the object has what it expects
+-- the seat of this section stores in the object of this name, to which one of its variables refers; an exchange stores if the object has what it expects
 abbrev pub StoresIn : World → ℕ → Step → Name → Type 0
 StoresIn world w (StoreField v i x) name = variable_of world w v ≡ Some name
 StoresIn world w (StoreValue v n) name = variable_of world w v ≡ Some name
@@ -88,7 +88,7 @@ OnRuns P =
 abbrev pub RunsAgree : Type 0
 RunsAgree = OnRuns AgreesWith
 
--- the word that a step finds, where the seat's record was looked up
+-- the word that a step finds, if the seat's record was looked up
 abbrev pub found_of : Core → Option SeatState → Step → ℕ
 found_of c None step = 0
 found_of c (Some s) step = slice_index c.words (address c.shape (place c.shape s step))
@@ -114,7 +114,7 @@ pub record FindsReference (c : Core) (world : World) (s : SeatState) (v i : ℕ)
   pub there : object_of world name ≡ Some object
   pub exists : i < length object.refs
   pub found : referred (words_of c.shape c.words).identities word ≡ reference_of object i
-  -- the seat has found its variable's word exactly where the heap has there what the variable refers to
+  -- the seat has found its variable's word exactly if the heap has there what the variable refers to
   pub won : (word == variable_or_nil s x) ≡ is_same (reference_of object i) (stored world (own_section s) x)
   -- exactly then the reference is replaced
   pub after : object_of (world_by c.shape (words_of c.shape c.words) s (ExchangeField v i x y) world) name ≡ Some (if word == variable_or_nil s x then with_reference i (stored world (own_section s) y) object else object)
@@ -126,7 +126,7 @@ pub record FindsValue (c : Core) (world : World) (s : SeatState) (v m n word : �
   pub variable : variable_of world (own_section s) v ≡ Some name
   pub there : object_of world name ≡ Some object
   pub found : word ≡ object.value
-  -- the value is replaced exactly where it was the expected one
+  -- the value is replaced exactly if it was the expected one
   pub after : object_of (world_by c.shape (words_of c.shape c.words) s (ExchangeValue v m n) world) name ≡ Some (if word == m then with_value n object else object)
 
 -- the word that the step finds is what the heap has there, and what it stores in a variable the section has
@@ -144,7 +144,7 @@ TellsIn c world s (ExchangeField v i x y) word = FindsReference c world s v i x 
 TellsIn c world s (ExchangeValue v m n) word = FindsValue c world s v m n word
 TellsIn c world s step word = Unit {0}
 
--- what the seat of an event finds, where its record was looked up
+-- what the seat of an event finds, if its record was looked up
 abbrev pub TellsOf : Core → World → Option SeatState → Step → Type 0
 TellsOf c world None step = ⊥
 TellsOf c world (Some s) step = TellsIn c world s step (found_of c (Some s) step)
@@ -218,7 +218,7 @@ IsCellFor c world name x =
 abbrev pub ReachedHaveCells : Type 0
 ReachedHaveCells = OnRuns (λ c world. (name : Name) → IsReached world name → (x : ℕ) × IsCellFor c world name x)
 
--- after every run two words that are nil or name cells in use are the same where they refer to the same
+-- after every run two words that are nil or name cells in use are the same if they refer to the same
 abbrev pub SameWords : Type 0
 SameWords =
     OnRuns
@@ -226,7 +226,7 @@ SameWords =
     let w = words_of c.shape c.words in
     (r q : ℕ) → IsTrue (nil_or (in_use w.allocs (makers c.seats)) r) → IsTrue (nil_or (in_use w.allocs (makers c.seats)) q) → referred w.identities r ≡ referred w.identities q → r ≡ q)
 
--- where a heap isn't shared, a seat stores in no other section's objects, whatever the run
+-- if a heap isn't shared, a seat stores in no other section's objects, whatever the run
 abbrev pub UnsharedStores : Type 0
 UnsharedStores =
     OnRuns

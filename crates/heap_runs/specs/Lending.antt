@@ -1,4 +1,4 @@
--- The one object to which a variable of section 0 refers, where the seat of that section stores there once.
+-- The one object to which a variable of section 0 refers, if the seat of that section stores there once.
 use Rattle.std.specs.Prelude.{ℕ, ◌≡◌, ◌⊎◌, ◌<◌, ◌==◌, if◌then◌else◌, not, List, [], ◌∷◌, Bool, true, None, Some, IsTrue, slice_get}
 use Rattle.plain_heap.specs.Paths.{Name}
 use Rattle.mark_core.specs.Numbers.{section_variables}
@@ -29,7 +29,7 @@ stores_once v (e ∷ es) = if leaves_variable v e.step then stores_once v es els
 abbrev pub RefersTo : Shape → List Event → ℕ → Name → ℕ → Type 0
 RefersTo sh es v name k = (variable_of (heap_after_events sh es k) 0 v ≡ None) ⊎ (variable_of (heap_after_events sh es k) 0 v ≡ Some name)
 
--- where the log of section 0's seat has at most one store in variable v, there is one object to which this variable refers in the whole run, whoever reads it,
+-- if the log of section 0's seat has at most one store in variable v, there is one object to which this variable refers in the whole run, whoever reads it,
 -- or nothing as long as that store wasn't taken
 abbrev pub OneObjectLent : Type 0
 OneObjectLent =

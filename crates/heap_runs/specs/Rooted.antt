@@ -70,6 +70,6 @@ pub record IsRooted (sh : Shape) (seats : List HeapSeat) (w : Words) (v : ℕ) (
   pub kept : (k : ℕ) → IsKept sh es v root k
   pub found : (i : ℕ) (s : HeapSeat) → slice_get seats i ≡ Some s → FindsSome v (view_of s).log
 
--- where the seat of section 0 keeps a root, whatever the other seats did of a heap that was closed is such a run
+-- if the seat of section 0 keeps a root, whatever the other seats did of a heap that was closed is such a run
 abbrev pub RootFound : Type 0
 RootFound = (sh : Shape) (seats : List HeapSeat) (w : Words) → IsEnd sh seats w → (zero : HeapSeat) → slice_get seats 0 ≡ Some zero → (v : ℕ) → v < section_variables → KeepsRoot v zero → (es : List Event) × IsRooted sh seats w v es

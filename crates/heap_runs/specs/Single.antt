@@ -67,23 +67,23 @@ abbrev pub all_won : List HeapSeat → ℕ
 all_won [] = 0
 all_won (s ∷ ss) = won_count (view_of s).log + all_won ss
 
--- where each exchange of a value is one of a number for the next, the value of the object at the end is the number of exchanges that the logs say were won
+-- if each exchange of a value is one of a number for the next, the value of the object at the end is the number of exchanges that the logs say were won
 abbrev pub CounterTold : Type 0
 CounterTold =
     (sh : Shape) (seats : List HeapSeat) (w : Words) (es : List Event) → IsRunOf sh seats w es → HasOne sh seats es → ((i : ℕ) (s : HeapSeat) → slice_get seats i ≡ Some s → IsTrue (all_steps raises (view_of s).log))
     → (name : Name) (object : WorldObject) → object_of (heap_after_events sh es (length es)) name ≡ Some object → object.value ≡ all_won seats
 
--- what an exchange that was won makes of whether its seat is inside: it is where it leaves the value 1
+-- what an exchange that was won makes of whether its seat is inside: it is if it leaves the value 1
 abbrev pub turned : Bool → Step → Bool → Bool
 turned b (ExchangeValue v m n) won = if won then n == 1 else b
 turned b step won = b
 
--- whether the seat of these events is inside after them, where it was so before or not
+-- whether the seat of these events is inside after them, given whether it was before
 abbrev pub is_inside : Bool → List Entry → Bool
 is_inside b [] = b
 is_inside b (e ∷ es) = is_inside (turned b e.step e.won) es
 
--- who is outside exchanges 0 for 1 alone, and who is inside 1 for 0
+-- who is outside exchanges only 0 for 1, and who is inside only 1 for 0
 abbrev pub takes_turn : Bool → Step → Bool
 takes_turn b (ExchangeValue v m n) = if b then (m == 1) && (n == 0) else (m == 0) && (n == 1)
 takes_turn b step = true
@@ -93,7 +93,7 @@ abbrev pub takes_turns : Bool → List Entry → Bool
 takes_turns b [] = true
 takes_turns b (e ∷ es) = takes_turn b e.step && takes_turns (turned b e.step e.won) es
 
--- where each seat that is outside tries to exchange 0 for 1, and each that came in exchanges 1 for 0, no two are inside, after whatever number of events
+-- if each seat that is outside tries to exchange 0 for 1, and each that came in exchanges 1 for 0, no two are inside, after whatever number of events
 abbrev pub LockHeld : Type 0
 LockHeld =
     (sh : Shape) (seats : List HeapSeat) (w : Words) (es : List Event) → IsRunOf sh seats w es → HasOne sh seats es → ((i : ℕ) (s : HeapSeat) → slice_get seats i ≡ Some s → IsTrue (takes_turns false (view_of s).log))

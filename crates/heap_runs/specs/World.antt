@@ -56,7 +56,7 @@ object_of world name = slice_get (section_of world name.section).objects name.nu
 abbrev pub reference_of : WorldObject → ℕ → Option Name
 reference_of object i = slice_index_or object.refs i None
 
--- what field i of an object refers to, where there is one
+-- what field i of an object refers to, if there is one
 abbrev pub followed : Option WorldObject → ℕ → Option Name
 followed None i = None
 followed (Some object) i = reference_of object i
@@ -86,7 +86,7 @@ name_in identity = record { section = identity / section_span; number = identity
 abbrev pub name_at : List ℕ → ℕ → Name
 name_at identities c = name_in (slice_index identities c)
 
--- what a word refers to: nothing where it is nil, or else the object in the cell that it names
+-- what a word refers to: nothing if it is nil, or else the object in the cell that it names
 abbrev pub referred : List ℕ → ℕ → Option Name
 referred identities zero = None
 referred identities (suc c) = Some (name_at identities c)
@@ -115,11 +115,11 @@ is_same None (Some y) = false
 is_same (Some x) None = false
 is_same (Some x) (Some y) = (x.section == y.section) && (x.number == y.number)
 
--- an object whose field i refers to `to` where it referred to `from`, and which else stays
+-- an object whose field i refers to `to` if it referred to `from`, and which else stays
 abbrev pub with_exchanged : ℕ → Option Name → Option Name → WorldObject → WorldObject
 with_exchanged i from to object = if is_same (reference_of object i) from then with_reference i to object else object
 
--- an object whose value is n where it was m, and which else stays
+-- an object whose value is n if it was m, and which else stays
 abbrev pub with_exchanged_value : ℕ → ℕ → WorldObject → WorldObject
 with_exchanged_value m n object = if object.value == m then with_value n object else object
 
@@ -139,7 +139,7 @@ with_new fields x = record x { objects = x.objects ++ record { value = x.coming;
 abbrev pub with_part : ℕ → ℕ → ℕ → WorldSection → WorldSection
 with_part fields part word x = if nat_lt part fields then x else if part == fields then record x { coming = word } else with_new fields x
 
--- what a seat's step does to the heap: what it stores, where and what it reads is told by the heap, and the words of the state before tell alone which
+-- what a seat's step does to the heap: what it stores, where and what it reads follows from the heap, and the words of the state before tell only which
 -- objects are in which cells
 abbrev pub world_by : Shape → Words → SeatState → Step → World → World
 world_by sh w s (StoreField v i x) world = with_object world (variable_of world (own_section s) v) (with_reference i (stored world (own_section s) x))

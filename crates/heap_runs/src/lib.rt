@@ -1,11 +1,8 @@
-//! What holds on whole runs of the core: laws over lists of events, each the contract of a function that does nothing.
+//! Laws of whole runs of the core: each is the contract of a function that does nothing.
 //!
-//! The laws of `mark_core` speak of one event and of a rule that every state keeps. Here they are put together, so that the statement
-//! has no rule in it: [`none_freed`] says of every interleaving that no reachable cell is freed, and
-//! [`threads_free_none`] that what threads do to a heap is such an interleaving. `docs/INTERLEAVINGS.md` walks through it.
-//!
-//! On every run the objects of all sections behave as one plain heap that forgets nothing, whoever stores in them ([`events_agree`] and the laws
-//! after it).
+//! Their statements have no rule in them. `docs/INTERLEAVINGS.md` walks through [`none_freed`] and
+//! [`threads_free_none`]. On every run the objects of all sections behave as one plain heap that forgets nothing,
+//! whoever stores in them ([`events_agree`] and the laws after it).
 #![tactic(auto)]
 
 ghost use Rattle.heap_runs.specs.Counting.{RaisesCounted, WinsTold};
@@ -18,126 +15,130 @@ ghost use Rattle.heap_runs.specs.Sharing.{ThreadsShareOneHeap};
 ghost use Rattle.heap_runs.specs.Single.{CounterTold, LockHeld};
 ghost use Rattle.heap_runs.specs.Threads.{ThreadsFreeNone};
 
-/// On each run of the core, whichever seats act and in whatever order, no event frees a cell that is reachable just before it.
+/// No event of a run of the core frees a cell that is reachable just before it.
 #[tactic(auto, using(crate::proofs::Freeing::none_freed))]
 pub fn none_freed()
     ensures { NoneFreed }
 {}
 
-/// Whatever threads did with the seats of a heap that was closed, it is one run of the core, and no event of it frees a cell that is reachable just
-/// before it.
+/// What threads did with the seats of a closed heap is one run of the core, and no event of it frees a cell that is
+/// reachable just before it.
 #[tactic(auto, using(crate::proofs::Threads::threads_free_none))]
 pub fn threads_free_none()
     ensures { ThreadsFreeNone }
 {}
 
-/// Whatever threads did with the seats of a heap that was closed, also where they shared its objects, it is one run of the core, in which each thread's steps
-/// come in their order. After each step the words agree with one plain heap that forgets nothing, and whatever a step read is what this heap had just before.
+/// What threads did with the seats of a closed heap is one run of the core, which keeps each thread's order. After
+/// each step the words agree with one plain heap that forgets nothing, and a step found what this heap had just
+/// before.
 #[tactic(auto, using(crate::proofs::Sharing::threads_share_one_heap))]
 pub fn threads_share_one_heap()
     ensures { ThreadsShareOneHeap }
 {}
 
-/// Whatever a step of a thread finds, while the heap is open and others step: a run of the core had led there, of which the seat's log is its part, the words
-/// agreed with one plain heap that forgets nothing, and what the step found is what this heap had at that moment.
+/// What a step finds in an open heap: a run of the core, of which the seat's log is a part, led to words that agree
+/// with one plain heap that forgets nothing, and the step found what this heap had.
 pub fn steps_find()
     ensures { StepsFind }
 {}
 
-/// Where the seat of section 0 stores once at most in one of its variables, this variable refers to one object in the whole run, or to nothing until that store:
-/// so whoever is lent it finds the same object.
+/// If section 0's seat stores at most once in a variable, all who read it find the same object, or nil before that
+/// store.
 pub fn one_object_lent()
     ensures { OneObjectLent }
 {}
 
-/// Where the seat of section 0 stores an object in one of its variables before it moves the season on, and nothing there any more, no seat that reads this variable
-/// finds nil, in whatever run.
+/// If section 0's seat stores an object in a variable before it moves the season on, and nothing there afterwards,
+/// no seat that reads it finds nil.
 pub fn root_found()
     ensures { RootFound }
 {}
 
-/// An object in which nobody stores but by exchanges, each of a number for the next, is a counter: its value has grown by the number of exchanges that were won,
-/// whichever threads took them and in whatever order.
+/// The value of an object in which nobody stores but by exchanges of a number for the next has grown by the number
+/// of exchanges won.
 #[tactic(auto, using(crate::proofs::Counting::raises_counted))]
 pub fn raises_counted()
     ensures { RaisesCounted }
 {}
 
-/// Whether an exchange of a value was won, as the log of the thread has it, is whether the plain heap had the expected value just before.
+/// An exchange of a value was won, as its thread's log has it, exactly if the plain heap had the expected value
+/// just before.
 pub fn wins_told()
     ensures { WinsTold }
 {}
 
-/// Where threads share one object and exchange its value for the next number alone, its value at the end is the number of exchanges that the logs of the threads
-/// say were won, whatever the schedule.
+/// If threads share one object and only exchange its value for the next number, that value ends as the number of
+/// exchanges that their logs say were won.
 pub fn counter_told()
     ensures { CounterTold }
 {}
 
-/// Where threads share one object as a lock, so that each that is outside exchanges its value 0 for 1 alone, and each that came in 1 for 0, no two are inside at any
-/// moment, whatever the schedule.
+/// If threads share one object as a lock (who is outside only exchanges its value 0 for 1, who came in only 1 for
+/// 0), no two are inside at any moment.
 pub fn lock_held()
     ensures { LockHeld }
 {}
 
-/// The state in which nothing has happened agrees with a heap in which nothing was made.
+/// The state in which nothing has happened agrees with an empty heap.
 pub fn start_agrees()
     ensures { StartAgrees }
 {}
 
-/// Each event that is allowed, whichever seat acts, leads from a state that agrees with a heap to one that agrees with the heap after the event.
+/// Each allowed event leads from a state that agrees with a heap to one that agrees with the heap after the event.
 pub fn events_agree()
     ensures { EventsAgree }
 {}
 
-/// Every run, whichever seats act and in whatever order, leads to a state that agrees with the heap that its events make.
+/// Every run leads to a state that agrees with the heap that its events make.
 #[tactic(auto, using(crate::proofs::Kept::runs_agree))]
 pub fn runs_agree()
     ensures { RunsAgree }
 {}
 
-/// Whatever a mutator reads of an object, a value, a reference or its name, is what the heap has there at that moment, whoever stored it; and the
-/// object is one to which its register or one of its variables refers in the heap.
+/// What a mutator reads of an object is what the heap has there at that moment, whoever stored it. The object is
+/// one to which its register or one of its variables refers.
 pub fn reads_tell()
     ensures { ReadsTell }
 {}
 
-/// After every run each object that variables reach has a cell in use with its words, and this cell is reachable: nothing was swept that is missed.
+/// After every run each object that roots reach has a cell in use with its words, and this cell is reachable:
+/// nothing was swept that is missed.
 pub fn reached_have_cells()
     ensures { ReachedHaveCells }
 {}
 
-/// No step forgets an object, and none changes one but a store in it, or an exchange that finds there what it expects, by a seat one of whose variables refers to it.
+/// No step forgets an object. Only a store in it, or an exchange that finds what it expects, changes one.
 #[tactic(auto, using(crate::proofs::Forgetting::none_forgotten))]
 pub fn none_forgotten()
     ensures { NoneForgotten }
 {}
 
-/// An object stays as it is over events none of which stores in it; an exchange stores where it finds what it expects.
+/// An object stays as it is over events none of which stores in it or wins an exchange there.
 #[tactic(auto, using(crate::proofs::Winning::objects_stay))]
 pub fn objects_stay()
     ensures { ObjectsStay }
 {}
 
-/// Once a seat has won an exchange of a value, every other that expects the same finds what this one stored, until somebody stores in the object. So an object
-/// whose value is 0 or 1 is a lock: between two exchanges of 0 for 1 that are won somebody stores in it.
+/// Once a seat has won an exchange of a value, every other that expects the same finds what this one stored, until
+/// somebody stores in the object.
 pub fn won_once()
     ensures { WonOnce }
 {}
 
-/// Once a seat has won an exchange of a reference, every other exchange in this field finds a word that refers to what this one stored, until somebody stores in
-/// the object: so no other that expects what the first one replaced is won in between.
+/// Once a seat has won an exchange of a reference, every other in this field finds what this one stored, until
+/// somebody stores in the object.
 pub fn field_won_once()
     ensures { FieldWonOnce }
 {}
 
-/// After every run two references to cells in use are the same word exactly where they refer to the same object: so a seat can compare them.
+/// After every run two references to cells in use are one word exactly if they refer to one object: so a seat can
+/// compare them.
 #[tactic(auto, using(crate::proofs::SameCells::same_words))]
 pub fn same_words()
     ensures { SameWords }
 {}
 
-/// Where a heap isn't shared no seat stores in another section's object.
+/// If a heap isn't shared, no seat stores in another section's object.
 pub fn unshared_stores()
     ensures { UnsharedStores }
 {}

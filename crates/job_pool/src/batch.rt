@@ -5,7 +5,7 @@ ghost use Rattle.job_pool.specs.Scripts.{AreNumbered};
 use crate::reader::Job;
 use std::marker::Model;
 
-/// The jobs of a source, at most 64. Each is a slice of the source, which is not copied.
+/// The jobs of a source, at most 64. Each is a slice of the source.
 #[derive(Drop)]
 pub struct Batch<'a> {
     pub(crate) jobs: Vec<Job<'a>>,

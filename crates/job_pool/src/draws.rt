@@ -4,7 +4,8 @@ use crossbeam_queue::protocol::{Join, Lesson, Outcome, Protocol, Split};
 use crossbeam_queue::{Pass, RuledArrayQueue};
 use std::collections::LinkedList;
 
-/// The numbers that a runner drew, the scripts of the jobs that were put in line, and its parts of the right to know the whole. No value of it is made.
+/// What a runner drew, the scripts of the jobs in line, and its parts of the right to know the whole. No value of
+/// it is made.
 pub struct Hand {
     pub parts: u8,
     pub scripts: LinkedList<LinkedList<u8>>,
@@ -63,7 +64,7 @@ impl<'a> Lesson<Job<'a>, Hand> for Put {
     ghost fact = { λ v items. length items ≡ length v.scripts };
 }
 
-/// A job is drawn. Where none is in line, who has every part knows that all were drawn.
+/// A job is drawn. If none is in line, who has every part knows that all were drawn.
 pub struct Draw;
 
 impl<'a> Outcome<Job<'a>, Hand> for Draw {

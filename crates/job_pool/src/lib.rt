@@ -1,32 +1,28 @@
 //! A pool of jobs: many jobs played by several runners, each job once.
 //!
-//! A batch is one source with many scripts ([`read_batch`]), and each of them is a [`Job`]. A runner is a thread that draws a job from a line, plays it,
-//! and draws again until none is in line. [`run_jobs`] plays a batch on so many runners: entry j of what it answers is the result of job j, whichever
-//! runner played it and in whatever order they were played. What a result may be says the [`Player`] that is handed in, by its relation `fits`; this
-//! crate knows nothing of scripts.
+//! A batch is one source with many scripts ([`read_batch`]), and each of them is a [`Job`]. A runner is a thread
+//! that draws jobs from a line and plays them. [`run_jobs`] plays a batch on so many runners: entry j of its answer
+//! is the result of job j, whichever runner played it. The [`Player`] says by its relation `fits` what a result may
+//! be.
 //!
 //! # Why each job is played once
 //!
-//! A [`Job`] has the script that it plays in it. Only `read_batch` makes jobs, one for each script (clause `reads`), and nothing copies one. `run_jobs`
-//! takes the batch by value, and a play spends the job that it plays. So no job of the batch is played twice. Nothing but a play makes a [`JobDone`],
-//! and `run_jobs` answers as many as there are jobs; so each job is played. The types say how often, and no clause: a body that plays a job twice, or
-//! makes up a result, does not compile. They don't keep a body from reading the same bytes as another batch, which has jobs of its own.
+//! Only `read_batch` makes jobs, one for each script (clause `reads`), and nothing copies one. `run_jobs` takes the
+//! batch by value, and a play spends the job that it plays. Nothing but a play makes a [`JobDone`], and `run_jobs`
+//! answers as many as there are jobs. So the types say how often, and no clause: a body that plays a job twice, or
+//! makes up a result, does not compile. They don't keep a body from reading the same bytes as another batch, which
+//! has jobs of its own.
 //!
-//! That entry j is a result of job j is a clause of `run_jobs`. The line is a queue under a rule (`specs/Draws.antt`), which holds between any two steps
-//! of any threads: the numbers of the jobs that all runners have drawn, together with those that are in line, are the numbers of all jobs, each once;
-//! and a job in line has the script of its number. The first is said by weights: however a number is weighed, the drawn ones and those in line weigh as
-//! much as all numbers below that of the jobs.
+//! That entry j is a result of job j is a clause of `run_jobs`. The line is a queue under a rule
+//! (`specs/Draws.antt`): the numbers of the jobs drawn, together with those in line, are the numbers of all jobs,
+//! each once; and a job in line has the script of its number. The first is said by weights: however a number is
+//! weighed, the drawn ones and those in line weigh as much as all.
 //!
-//! A runner knows only what it drew itself. The right to know the whole is cut into eight parts, one a runner at most, and a part comes back with
-//! what was drawn. Whoever has all eight parts and finds no job in line knows that each was drawn once; so the results, sorted by their jobs, are those
-//! of job 0, 1, 2 and so on.
+//! A runner knows only what it drew itself. The right to know the whole is cut into eight parts, one a runner at
+//! most, and a part comes back with what was drawn. Whoever has all eight parts and finds no job in line knows that
+//! each was drawn once.
 //!
-//! # Where things are
-//!
-//! `batch` and `reader` have the batch with its jobs, and its faults, in their order; what bytes are a batch is a function of them, `batch` in
-//! `specs/Batch.antt`. `draws` has the line of jobs and its rule, `line` how jobs are put in line and drawn, `run` the runners, `player` who plays a job,
-//! `done` the play and its result, and `text` the text of a result. Each runner keeps its own results on a cache line of its own (`CachePadded`), of
-//! which nothing is claimed.
+//! Each runner keeps its results on a cache line of its own (`CachePadded`), of which nothing is claimed.
 #![tactic(auto)]
 
 mod batch;

@@ -30,7 +30,7 @@ pub fn put_all<'a, R: Wait>(
     me
 }
 
-/// Draws a job that nobody has drawn. Where none is in line, who has every part knows that all were drawn.
+/// Draws a job that nobody has drawn. If none is in line, who has every part knows that all were drawn.
 pub fn draw<'a, R: Wait>(rt: &R, line: &Line<'a>, me: &mut Drawer<'a>) -> Option<Job<'a>>
     requires me { IsPassOf line.now me.old × (0 < (view me.old).parts) }
     ensures me { IsPassOf line.now me.new }

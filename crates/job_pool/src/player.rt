@@ -13,7 +13,8 @@ pub trait Player {
     /// Which status and text this player may answer for a script.
     ghost fits: { Self → List ℕ → ℕ → List ℕ → Type 0 };
 
-    /// Plays one job, and spends it: its status and its text. Each answer is one that fits the job's script. It may start threads that share the runtime.
+    /// Plays one job, and spends it: its status and its text, which fit the job's script. It may start threads that
+    /// share the runtime.
     fn play_job<R: Threads + Wait + Sync>(&self, rt: &R, alloc: Global, job: Job<'_>) -> (u8, Text)
         requires { IsSync R.row }
         ensures { Self.fits self.now job.entry.script result.0 result.1 };

@@ -20,14 +20,14 @@ const MOST: u32 = 64;
 /// Past every number that a line may say.
 const LARGE: u64 = 1 << 32;
 
-/// Where the first byte stands that is no digit.
+/// The index of the first byte that is no digit.
 fn first_other(bytes: &[u8]) -> Option<usize>
     ensures { result ≡ position (λ b. not (is_ascii_digit b)) bytes.now }
 {
     bytes.iter().position(|b| !b.is_ascii_digit())
 }
 
-/// What digits say, or `LARGE` where it is more.
+/// What digits say, or `LARGE` if it is more.
 fn value_of(digits: &[u8]) -> u64
     ensures { result ≡ min (decimal_value digits.now) LARGE }
 {
@@ -105,9 +105,10 @@ fn read_jobs<'a>(alloc: Global, all: u32, first: &'a [u8]) -> Result<Batch<'a>, 
 
 /// The batch that the bytes are, or their first fault.
 ///
-/// A batch is the line `gcbatch 1`, and for each job the line `job n` and then n bytes, which the next job line follows at once. It has at most
-/// 16,777,216 bytes, which is told first, before out of memory too, and at most 64 jobs. Of one line a wrong form is told first, then that there are too
-/// many jobs, then that fewer than n bytes are left. Only the list of jobs takes memory.
+/// A batch is the line `gcbatch 1`, and for each job the line `job n` and then n bytes, which the next job line
+/// follows at once. It has at most 16,777,216 bytes, which is told first, even before out of memory, and at most 64
+/// jobs. Of one line a wrong form is told first, then that there are too many jobs, then that fewer than n bytes
+/// are left. Only the list of jobs takes memory.
 pub fn read_batch<'a>(alloc: Global, source: &'a [u8]) -> Result<Batch<'a>, BatchError>
     ensures reads { ReadsBatch result (batch source.now) }
     ensures memory { result ≡ Err BatchError.OutOfMemory → length source.now ≤ 16777216 }

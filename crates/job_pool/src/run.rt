@@ -1,4 +1,4 @@
-//! The jobs of a batch, played by runners that draw them.
+//! Runners draw and play the jobs of a batch.
 ghost use Rattle.std.specs.Prelude.{◌≡◌, ◌<◌, ◌≤◌, [], length, IfOk, All};
 ghost use Rattle.std.specs.Thread.{IsSync};
 ghost use Rattle.crossbeam_queue.specs.Passes.{view, IsPassOf};
@@ -17,7 +17,7 @@ use std::sync::Wait;
 use std::thread;
 use std::thread::Threads;
 
-/// A runner: the line that it draws from, and what it knows of it.
+/// A runner: its line, and what it knows of it.
 #[derive(Drop)]
 struct Runner<'l, 'a> {
     line: &'l Line<'a>,
@@ -52,7 +52,7 @@ fn draw_jobs<'a, P: Player, R: Threads + Wait + Sync>(
     unreachable!()
 }
 
-/// Plays jobs on so many runners, of which this one is the first, in this thread.
+/// Plays jobs on `runners` runners, the first of them in this thread.
 #[cycle(runners)]
 fn run_on<'a, P: Player + Sync, R: Threads + Wait + Sync>(
     rt: &R,
@@ -81,7 +81,7 @@ fn run_on<'a, P: Player + Sync, R: Threads + Wait + Sync>(
     }
 }
 
-/// One runner in a thread of its own, or in this one where none can be made, and the rest of them beside it.
+/// One runner in a thread of its own, or in this one if none can be made, beside the others.
 #[cycle(runners)]
 fn beside<'a, P: Player + Sync, R: Threads + Wait + Sync>(
     rt: &R,
@@ -111,10 +111,9 @@ fn beside<'a, P: Player + Sync, R: Threads + Wait + Sync>(
     thread::join(rt, theirs, mine)
 }
 
-/// Plays each job of the batch once, on so many runners, which are 1 to 8. Entry j has job j and what its play answered.
-///
-/// Each runner but the caller has a thread of its own. One that can't be started is run by the caller, after its own. It is refused only where there is no
-/// memory.
+/// Plays each job of the batch once, on so many runners, which are 1 to 8. Entry j has job j and what its play
+/// answered. Each runner but the caller has a thread of its own; one that can't be started is run by the caller,
+/// after its own. Refused only if there is no memory.
 pub fn run_jobs<P: Player + Sync, R: Threads + Wait + Sync>(
     rt: &R,
     alloc: Global,

@@ -50,7 +50,7 @@ AreBlocks (part ∷ next ∷ parts) = ⊥
 abbrev pub HasEight : List Ref → Type 0
 HasEight variables = (v : ℕ) → 8 ≤ v → slice_index_or variables v refs.Nil ≡ refs.Nil
 
--- a heap after p lines of a block: the objects from `base` on are those that this block made, or the one before where not all variables are nil yet
+-- a heap after p lines of a block: the objects from `base` on are those that this block made, or the one before if not all variables are nil yet
 pub record IsPlayed (p : ℕ) (heap : Heap) : Type 0 where
   pub base : ℕ
   pub recent : IsRecent base heap.objects heap.variables
@@ -202,7 +202,7 @@ stepped j heap catalogue (ops.Put v n) s g = absurd s
 stepped j heap catalogue (ops.Sum v i limit) s g = absurd s
 stepped j heap catalogue ops.Collect s g = absurd s
 
--- so many lines of a warehouse
+-- this many lines of a warehouse
 pub played : (j : ℕ) (es : List Execution) (heap : Heap) (catalogue : Option Heap) → AreSteps j es → IsPlayed (j % 64) heap → IsPlayed ((j + length es) % 64) (heap_from catalogue heap (ops_of es))
 played j [] heap catalogue s g = subst (λ (m : ℕ). IsPlayed (m % 64) heap) (let same : j ≡ j + 0 = omega arith in same) g
 played j (e ∷ es) heap catalogue s g =

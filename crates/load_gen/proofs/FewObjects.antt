@@ -19,7 +19,7 @@ use Rattle.load_gen.specs.FewReachable.{HasFewReachable}
 use Rattle.load_gen.proofs.Whole.{AreFourOfBlocks, generated_script}
 use Rattle.plain_heap.specs.declared.object.Ref.TheVariants as refs
 
--- Few objects are reachable where few are held.
+-- Few objects are reachable if few are held.
 -- numbers that rise, from one on
 rises : (numbers : List ℕ) (low i : ℕ) → AllPairs (λ m n. m < n) numbers → All (λ n. low ≤ n) numbers → i < length numbers → low + i ≤ slice_index_or numbers i 0
 rises numbers low zero ordered each l = omega (arith, each 0 0 l)

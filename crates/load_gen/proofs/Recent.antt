@@ -69,7 +69,7 @@ pub record IsStored (base : ℕ) (old new : Heap) : Type 0 where
   pub sized : length new.objects ≡ length old.objects
   pub kept : new.variables ≡ old.variables
 
--- a reference is stored into a field of an object, where there is one
+-- a reference is stored into a field of an object, if there is one
 replaced_stored : (base : ℕ) (heap : Heap) (n i : ℕ) (ref : Ref) (o : Option Object) → IsRecent base heap.objects heap.variables → base ≤ n → IsFrom base ref → slice_get heap.objects n ≡ o
     → IsStored base heap (replaced_by heap n (λ object. with_field object i ref) o)
 replaced_stored base heap n i ref None r from f there = record { recent = r; sized = refl; kept = refl }

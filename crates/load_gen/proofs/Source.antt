@@ -1,4 +1,4 @@
--- The text has bytes of a script alone, and is short enough for one.
+-- The text has only bytes of a script, and is short enough for one.
 use Rattle.std.proofs.Common.{◌≡◌, ℕ, ◌+◌, ◌*◌, ◌/◌, ◌%◌, ◌^◌, ◌<◌, ◌≤◌, zero, suc, List, [], ◌∷◌, ◌++◌, length, refl, sym, ◌∙◌, subst, cond, Bool, true, false, arith, codes, decimal, length-append}
 use Rattle.std.proofs.lemmas.Bool.Decides.{nat_tests}
 use Rattle.std.proofs.lemmas.Fmt.{decimal_digit, length-decimal-le}
@@ -78,7 +78,7 @@ printed_no_end b h = grind (arith, nat_tests)
 pub line_no_end : (k state : ℕ) → list_all (λ (b : ℕ). not (b == 10)) (generated_line k state) ≡ true
 line_no_end k state = all_pass is_printed (λ (b : ℕ). not (b == 10)) printed_no_end (generated_line k state) (line_short k state).printed
 
--- bytes that a script may have, and so many at most
+-- bytes that a script may have, and this many at most
 pub record IsSource (text : List ℕ) (most : ℕ) : Type 0 where
   pub allowed : list_all is_allowed text ≡ true
   pub short : length text ≤ most

@@ -204,7 +204,7 @@ pub body_is : (version : ℕ) (all : List Statement) → first_fault version (ca
 body_is version all none few_commands few_lines =
     of_judged (first_fault version (catalogue_names all) [] all) _ _ version (catalogue_names all) (turned [] all) none refl refl few_commands few_lines
 
--- what four warehouses of so many commands are
+-- what four warehouses of this many commands are
 abbrev pub four : ℕ → List (List ℕ)
 four size = (size ∷ []) ∷ (size ∷ []) ∷ (size ∷ []) ∷ (size ∷ []) ∷ []
 
@@ -223,7 +223,7 @@ cut_line : (line more rest : List ℕ) → line ++ codes "\n" ++ more ++ rest �
 cut_line [] more rest = refl
 cut_line (b ∷ line) more rest = ap (λ (bs : List ℕ). b ∷ bs) (cut_line line more rest)
 
--- so many lines of a warehouse pass, where what follows them does
+-- this many lines of a warehouse pass, if what follows them does
 lines_pass : (more j state size w : ℕ) (lengths : List (List ℕ)) (earlier : List Statement) (rest : List ℕ) → w < 32 → IsOpen size w j lengths earlier
     → ((last : List Statement) → IsOpen size w (j + more) lengths last → Passes size last (statements rest)) → Passes size earlier (statements (lines_text more j state ++ rest))
 lines_pass zero j state size w lengths earlier rest l h f = f earlier (subst (λ (m : ℕ). IsOpen size w m lengths earlier) (let e : j ≡ j + 0 = omega arith in e) h)
@@ -240,7 +240,7 @@ lines_pass (suc more) j state size w lengths earlier rest l h f =
     (lines_pass more (j + 1) after size w lengths (Command here.spoken ∷ earlier) rest l (commanded size w j lengths earlier here.spoken h here.stands)
     (λ last o. f last (subst (λ (m : ℕ). IsOpen size w m lengths last) count o))))
 
--- a warehouse passes, where what follows it does
+-- a warehouse passes, if what follows it does
 warehouse_passes : (state size w : ℕ) (lengths : List (List ℕ)) (earlier : List Statement) (rest : List ℕ) → w < 32 → AreClosed size w lengths earlier
     → ((last : List Statement) → AreClosed size (w + 1) (lengths ++ (size ∷ []) ∷ []) last → Passes size last (statements rest)) → Passes size earlier (statements (codes "warehouse\n" ++ lines_text size 0 state ++ rest))
 warehouse_passes state size w lengths earlier rest l h f =

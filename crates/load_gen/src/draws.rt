@@ -9,7 +9,7 @@ const FACTOR: u64 = 6_364_136_223_846_793_005;
 const INCREMENT: u64 = 1_442_695_040_888_963_407;
 
 /// A linear congruential generator modulo 2^64, with the constants of D. E. Knuth's MMIX. Its low bits repeat soon,
-/// so a draw answers the high ones alone.
+/// so a draw answers only the high ones.
 #[derive(Clone, Copy)]
 pub struct Draws {
     pub state: u64,

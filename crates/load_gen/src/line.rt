@@ -1,4 +1,3 @@
-//! One line of a warehouse.
 ghost use Rattle.std.specs.Prelude.{◌≡◌, ◌<◌, ◌+◌, ◌++◌, OnOk, codes};
 ghost use Rattle.std.specs.String.{string_bytes};
 ghost use Rattle.load_gen.specs.Generated.{state_after_line, generated_line, drawn_text};
@@ -9,10 +8,8 @@ use std::alloc::AllocError;
 /// How many lines a block has.
 pub const BLOCK: u32 = 64;
 
-/// How many names a warehouse has, `a` to `h`.
 const NAMES: u32 = 8;
 
-/// The name of a number below 8.
 fn letter(n: u32) -> char
     requires { n < 8 }
     ensures { result ≡ 97 + n }
@@ -20,8 +17,8 @@ fn letter(n: u32) -> char
     char::from(b'a' + n as u8)
 }
 
-/// Appends the command that a number r says: `r mod 8` is its kind, and the quotients of r by 8, 64, 512 and 2048
-/// say its two names, its field and its value.
+/// Appends the command that r says: `r mod 8` is its kind; the quotients of r by 8, 64, 512 and 2048 say its two
+/// names, its field and its value.
 fn push_drawn(text: &mut String, r: u32) -> Result<(), AllocError>
     ensures { OnOk result (string_bytes text.new ≡ string_bytes text.old ++ drawn_text r ++ codes "\n") }
 {
@@ -37,8 +34,7 @@ fn push_drawn(text: &mut String, r: u32) -> Result<(), AllocError>
     }
 }
 
-/// Appends line `place` of a block, counted from 0: lines 0 to 7 set a name to nil, line 63 prints, and each other
-/// one is drawn. Lines 0 to 7 draw no number, and each other one draws one. Out of memory is the only refusal.
+/// Appends line `place` of a block, counted from 0. Lines 8 to 62 draw one number each, the others none.
 pub fn push_line(text: &mut String, draws: &mut Draws, place: u32) -> Result<(), AllocError>
     requires { place < BLOCK }
     ensures text { let after = state_after_line place draws.old.state in

@@ -59,9 +59,7 @@ fn text_of(alloc: Global, number: u32, size: u32) -> Result<String, AllocError>
 
 /// The text of a script of version 1: four warehouses of `size` lines each, drawn from `number` on.
 ///
-/// It has no fault, whatever the number is, and each of its lines but five is a command that is executed once. While it
-/// is played, no warehouse ever has more than 55 reachable objects. The text's memory is taken at once. `OutOfMemory`
-/// says that there was not enough.
+/// It has no fault, and no warehouse ever has more than 55 reachable objects. The text's memory is taken at once.
 pub fn generate(alloc: Global, number: u32, size: u32) -> Result<String, OutOfMemory>
     requires least { 1 ≤ size }
     requires most { size ≤ 20000 }
@@ -69,7 +67,6 @@ pub fn generate(alloc: Global, number: u32, size: u32) -> Result<String, OutOfMe
     ensures short { length (generated number size) ≤ 800051 }
     // It is a script without a fault.
     ensures script { HasFourWarehouses size (script (generated number size)) }
-    // After each of its commands few objects are reachable.
     ensures few { HasFewReachable 55 (script (generated number size)) }
 {
     text_of(alloc, number, size).map_err(|_| OutOfMemory)

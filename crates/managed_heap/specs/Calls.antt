@@ -73,7 +73,7 @@ MakesNone refusals.Full op x y = IsFull y × (x.place ≡ Inside) × (y.place �
 MakesNone refusals.Spent op x y = (object_limit_of x ≤ length (heap_of x).objects) × (x.place ≡ Inside) × (y.place ≡ Inside)
 MakesNone refusals.Nil op x y = ⊥
 
--- a call that was refused did nothing where a number is out of range or the mutator was outside, and else what R says
+-- a call that was refused did nothing if a number is out of range or the mutator was outside, and else what R says
 abbrev pub RefusedBy : (Refused → View → View → Type 0) → Refused → Mutator → Mutator → Type 0
 RefusedBy R refusals.OutOfRange x y = y.seat ≡ x.seat
 RefusedBy R refusals.Outside x y = y.seat ≡ x.seat
@@ -95,7 +95,7 @@ StaysOut refusals.Outside x y = (x.place ≡ Outside) × (y.place ≡ Outside) �
 StaysOut refusals.Full x y = IsFull y × (x.place ≡ Inside) × (y.place ≡ Outside) × IsSame x y
 StaysOut e x y = ⊥
 
--- the seat went in and to its turn; or nothing was done, where it was inside already
+-- the seat went in and to its turn; or nothing was done, if it was inside already
 abbrev pub EntersFrom : Place → HeapSeat → HeapSeat → Type 0
 EntersFrom Outside s t = Across EntersTurn s t
 EntersFrom Inside s t = t ≡ s
@@ -111,7 +111,7 @@ abbrev pub CantEnter : Refused → Mutator → Mutator → Type 0
 CantEnter refusals.Full x y = IsFull y × (x.place ≡ Outside) × (y.place ≡ Outside) × IsSame x y
 CantEnter e x y = ⊥
 
--- the seat gave up its cache and left; or nothing was done, where it was outside already
+-- the seat gave up its cache and left; or nothing was done, if it was outside already
 abbrev pub LeavesFrom : Place → HeapSeat → HeapSeat → Type 0
 LeavesFrom Outside s t = t ≡ s
 LeavesFrom Inside s t = Across LeavesTurn s t

@@ -11,7 +11,7 @@ use Rattle.managed_heap.specs.Calls.{MutatorLeft}
 use Rattle.managed_heap.specs.declared.mutator.Mutator.{Mutator}
 use Rattle.managed_heap.specs.declared.world.World.{World}
 
--- the seat is the mutator's, which left the world where it was inside
+-- the seat is the mutator's, which left the world if it was inside
 pub record HasLeft (m : Mutator) (s : HeapSeat) : Type 0 where
   pub left : Mutator
   pub leaves : MutatorLeft m left

@@ -21,7 +21,7 @@ use Rattle.world_seats.specs.declared.sizes.Sizes.{Sizes}
 abbrev pub FitsWorld : Sizes → Type 0
 FitsWorld s = Fits s × (s.slots ≡ 0)
 
--- the mutator of section k of this heap, with this name, that has done nothing, and collects in stops alone where that is asked for
+-- the mutator of section k of this heap, with this name, that has done nothing, and collects only in stops if that is asked for
 pub record IsFreshMutator (h : Heap) (name : ℕ) (in_stops : Bool) (k : ℕ) (m : Mutator) : Type 0 where
   pub heap : arc_value m.heap ≡ h
   pub name_is : m.name ≡ name

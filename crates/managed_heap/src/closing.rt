@@ -1,4 +1,4 @@
-//! A world is closed with all its mutators and tracers, and the run of its threads is handed out.
+//! A world is closed with all its mutators and tracers, and hands out the run of its threads.
 ghost use Rattle.std.specs.Prelude.{◌≡◌, All, IfErr, IfOk};
 ghost use Rattle.std.specs.Arc.{arc_value};
 ghost use Rattle.managed_heap.specs.Closing.{AreAllThere, HasLeft, IsWorldEnd};
@@ -67,9 +67,9 @@ impl Opened for World {
 }
 
 impl World {
-    /// Closes the world with all its mutators and all its tracers, each in the order of their numbers, and hands out what its words say. What the threads did is
-    /// then one run, in which nobody else took part: the law [`threads_run`](crate::threads_run) speaks of it. Where one is missing, or where there is no memory
-    /// to gather them in, all is handed back.
+    /// Closes the world with all its mutators and tracers, each in the order of their numbers, and hands out what
+    /// its words say: the end of one run, in which nobody else took part ([`threads_run`](crate::threads_run)). If
+    /// one is missing, or there is no memory for the list of seats, all is handed back.
     pub fn into_words(
         self,
         alloc: Global,

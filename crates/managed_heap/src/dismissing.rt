@@ -10,7 +10,7 @@ use seat_turns::{tell_dismissed, try_dismiss};
 use std::sync::Wait;
 
 impl World {
-    /// Tells the tracers that they are dismissed: each that runs ends, also one that sleeps, and each later turn answers so.
+    /// Dismisses the tracers: each that runs ends, also one that sleeps, and each later turn answers so.
     pub fn dismiss_tracers<R: Wait>(&mut self, rt: &R)
         ensures dismisses { Across DismissesInside self.old.zero self.new.zero }
         ensures rest { HasAllStill self.old self.new }
@@ -18,8 +18,8 @@ impl World {
         tell_dismissed(rt, &self.heap, &mut self.zero);
     }
 
-    /// Tells the tracers that they are dismissed, as [`dismiss_tracers`](World::dismiss_tracers) does, but without waiting. False where a stop is under way:
-    /// then it is to be called again. It wakes none: a tracer that sleeps finds it when it wakes by itself.
+    /// [`dismiss_tracers`](World::dismiss_tracers) without waiting. False if a stop is under way: then it is to be
+    /// called again. A tracer that sleeps isn't woken.
     pub fn try_dismiss_tracers(&mut self) -> bool
         ensures dismisses { OnTrue result (Across Dismisses self.old.zero self.new.zero) }
         ensures turns { OnFalse result (Across TurnsBack self.old.zero self.new.zero) }

@@ -21,7 +21,7 @@ use seat_turns::{NotOpened, Tracer};
 use std::alloc::Global;
 use world_seats::{Sizes, Statistics, read_statistics};
 
-/// Reads which section found the heap full.
+/// Which section found the heap full, by one read.
 fn read_named(heap: &Heap, seat: &mut HeapSeat) -> u64
     requires rests { RestsOutside heap.now seat.old }
     ensures rests { RestsOutside heap.now seat.new }
@@ -33,8 +33,8 @@ fn read_named(heap: &Heap, seat: &mut HeapSeat) -> u64
 }
 
 impl World {
-    /// A world of these sizes, in which nothing has happened. It has all its mutators and tracers. It is refused where a size is out of its range, where
-    /// slots are asked for, or where there is no memory.
+    /// A world of these sizes, in which nothing has happened. It has all its mutators and tracers. It is refused
+    /// where a size is out of its range, where slots are asked for, or where there is no memory.
     pub fn open(alloc: Global, sizes: Sizes) -> Result<World, NotOpened>
         ensures opened { IfOk result (λ w. IsOpened sizes w) }
         ensures refused { IfErr result (λ e. e ≡ OutOfRange → FitsWorld sizes → ⊥) }
@@ -45,7 +45,7 @@ impl World {
         open_fitting(alloc, sizes)
     }
 
-    /// One of the mutators that nobody has, outside the world. None where all are taken.
+    /// A mutator that nobody has, outside the world; None if all are taken.
     pub fn mutator(&mut self) -> Option<Mutator>
         ensures some { IfSome result (λ m. self.old.mutators.items ≡ self.new.mutators.items ++ m ∷ []) }
         ensures none { IfNone result (self.old.mutators.items ≡ []) }
@@ -55,7 +55,7 @@ impl World {
         self.mutators.pop()
     }
 
-    /// One of the tracers that nobody has. None where all are taken.
+    /// A tracer that nobody has; None if all are taken.
     pub fn tracer(&mut self) -> Option<Tracer>
         ensures some { IfSome result (λ t. self.old.tracers.items ≡ self.new.tracers.items ++ t ∷ []) }
         ensures none { IfNone result (self.old.tracers.items ≡ []) }
@@ -65,7 +65,6 @@ impl World {
         self.tracers.pop()
     }
 
-    /// Whether a mutator of this name may be one that is out.
     fn lacks_mutator(&self, name: u32) -> bool
         ensures lacks { OnTrue result ((name ≡ self.now.sizes.name) × (vec_len self.now.mutators < self.now.sizes.mutators)) }
         ensures none { OnFalse result (TakesNoMutator name self.now) }
@@ -73,8 +72,8 @@ impl World {
         name == self.sizes.name && self.mutators.len() < self.sizes.mutators as usize
     }
 
-    /// Takes a mutator back, which leaves first. Its variables stay, and what they refer to is kept: who takes it next finds them. It is handed back only where
-    /// it has the name of another world, or where all of this world's are back.
+    /// Takes a mutator back, which leaves first. What its variables refer to is kept, for whoever takes it next. It
+    /// is handed back only if it has another world's name, or all of this world's are back.
     pub fn take_mutator(&mut self, mutator: Mutator) -> Result<(), Mutator>
         ensures back { OnOk result (IsBack mutator self.old self.new) }
         ensures refused { IfErr result (MutatorLeft mutator) }
@@ -91,7 +90,6 @@ impl World {
         Ok(())
     }
 
-    /// Whether a tracer of this name may be one that is out.
     fn lacks_tracer(&self, name: u32) -> bool
         ensures lacks { OnTrue result ((name ≡ self.now.sizes.name) × (vec_len self.now.tracers < self.now.sizes.tracers)) }
         ensures none { OnFalse result (TakesNoTracer name self.now) }
@@ -115,7 +113,7 @@ impl World {
         Ok(())
     }
 
-    /// Numbers of the heap. Where others act on it meanwhile, each is of another moment.
+    /// Numbers of the heap. If others act on it meanwhile, each is of another moment.
     pub fn statistics(&mut self) -> Statistics
         ensures read { ReadsStatistics result (arc_value self.old.heap) (view_of self.old.zero) (view_of self.new.zero) }
         ensures rest { HasAllStill self.old self.new }
@@ -123,7 +121,7 @@ impl World {
         read_statistics(&self.heap, &mut self.zero)
     }
 
-    /// Which mutator found the heap full, counted from 1 in the order that they had when the world was opened. None where none did.
+    /// Which mutator found the heap full, counted from 1 in the order of `open`; None if none did.
     pub fn found_full(&mut self) -> Option<u64>
         ensures some { IfSome result (λ n. (0 < n) × Across (Found (ReadStat named_number) n) self.old.zero self.new.zero) }
         ensures none { IfNone result (Across (Found (ReadStat named_number) 0) self.old.zero self.new.zero) }
@@ -135,7 +133,6 @@ impl World {
         }
     }
 
-    /// Whether all mutators and tracers are back.
     fn has_all(&self) -> bool
         ensures all { OnTrue result (AreAllBack self.now) }
         ensures missing { OnFalse result (AreAllBack self.now → ⊥) }
@@ -144,7 +141,7 @@ impl World {
             && self.tracers.len() == self.sizes.tracers as usize
     }
 
-    /// Closes the world, and frees the heap. It is refused, and the world handed back, exactly where a mutator or a tracer isn't back.
+    /// Closes the world, and frees the heap. The world is handed back exactly if a mutator or a tracer isn't back.
     pub fn close(self) -> Result<(), World>
         ensures closed { OnOk result (AreAllBack self) }
         ensures refused { IfErr result (λ world. (world ≡ self) × (AreAllBack self → ⊥)) }

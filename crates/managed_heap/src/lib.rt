@@ -1,8 +1,9 @@
 //! A heap that collects its own garbage, for a runtime to stand on.
 //!
-//! A [`World`] is a heap that threads share. A thread acts on it through a [`Mutator`]: it makes objects, stores references in them, follows and forgets
-//! them. A [`Tracer`] marks beside the mutators, where a processor is free for it. Each of them owns what the collector asks of it, and keeps the facts
-//! that the crates below ask for inside its type. So each call here is total: it asks its caller for no proof, and answers what happened. Only
+//! A [`World`] is a heap that threads share. A thread acts on it through a [`Mutator`]: it makes objects, stores
+//! references in them, follows and forgets them. A [`Tracer`] marks beside the mutators, if a processor is free for
+//! it. Each of them owns what the collector asks of it, and keeps the facts that the crates below ask for inside
+//! its type. So each call here is total: it asks its caller for no proof, and answers what happened. Only
 //! [`World::into_words`], which hands out the run of all threads, asks that what is handed in is the world's.
 //!
 //!     let mut world = World::open(alloc, Sizes::of_cells(4096).fields(2).mutators(2))?;
@@ -14,33 +15,39 @@
 //!
 //! # Objects and variables
 //!
-//! An object has a value of 32 bits and as many references as the world's sizes say, 1 to 16. A mutator has 32 *variables*, 0 to 31. They are its roots:
-//! what can be reached from them is kept, and all else is garbage. No call hands out a reference, so none can be missed by the collector. Each mutator
-//! has objects of its own, which no other mutator reads or changes.
+//! An object has a value of 32 bits and as many references as the world's sizes say, 1 to 16. A mutator has 32
+//! *variables*, 0 to 31. They are its roots: what can be reached from them is kept, and all else is garbage. No
+//! call hands out a reference, so none can be missed by the collector. Each mutator has objects of its own, which
+//! no other mutator reads or changes.
 //!
 //! # What a mutator is told
 //!
-//! What a call does is told over a *plain heap*, which forgets nothing: its objects by their numbers, and what each variable refers to
-//! ([`heap_of`](specs/Standing.antt)). `set` is one operation of it, as are `make`, `get`, `put`, `copy` and `forget`; a safe point, a collection, entering and
-//! leaving change nothing of it. So a program is proved against a heap without a collector.
+//! What a call does is told over a *plain heap*, which forgets nothing: its objects by their numbers, and what each
+//! variable refers to ([`heap_of`](specs/Standing.antt)). `set` is one operation of it, as are `make`, `get`,
+//! `put`, `copy` and `forget`; a safe point, a collection, entering and leaving change nothing of it. So a program
+//! is proved against a heap without a collector.
 //!
 //! # Inside and outside
 //!
-//! A mutator is *inside* the world or *outside* it. Objects are made, read and changed inside. A collection stops the world, for which it waits until each
-//! mutator that is inside comes to a safe point or leaves. So a loop that runs long has a safe point (`make` is one), and a thread that waits for anything, as
-//! input or another thread, leaves first. What it refers to is kept while it is outside.
+//! A mutator is *inside* the world or *outside* it. Objects are made, read and changed inside. A collection stops
+//! the world, for which it waits until each mutator that is inside comes to a safe point or leaves. So a loop that
+//! runs long has a safe point (`make` is one), and a thread that waits for anything, as input or another thread,
+//! leaves first. What it refers to is kept while it is outside.
 //!
 //! # What is final
 //!
-//! Where a precise collection leaves no cell free the heap is *full*, for good: each mutator is told by [`Refused::Full`], and is outside then. A mutator
-//! that has made 4,294,967,295 objects is *spent* ([`Refused::Spent`]): it can do all but make another.
+//! If a precise collection leaves no cell free, the heap is *full*, for good: each mutator is told by
+//! [`Refused::Full`], and is outside then. A mutator that has made 4,294,967,295 objects is *spent*
+//! ([`Refused::Spent`]): it can do all but make another.
 //!
 //! # Where things are
 //!
-//! `world` has the heap with those of its mutators and tracers that nobody has, `lending` how they are
-//! taken and given back, and `closing` how a world hands out the run of its threads; `mutator` has the type, `calls` what a mutator does, and `reading` what it
-//! reads. Below them `opening` makes a heap, and `dealing` deals its seats out. What a mutator does with its seat is in `seat_turns`, and so is why a call did
-//! nothing. The sizes, and what either kind of world does with its seats, are in `world_seats`. A mutator that doesn't wait is in `seat_steps`, a tracer in `seat_turns`; `handing` turns a mutator into such a one and back, and `dismissing` ends the tracers.
+//! `world` has the heap with those of its mutators and tracers that nobody has, `lending` how they are taken and
+//! given back, and `closing` how a world hands out the run of its threads; `mutator` has the type, `calls` what a
+//! mutator does, and `reading` what it reads. Below them `opening` makes a heap, and `dealing` deals its seats out.
+//! What a mutator does with its seat is in `seat_turns`, and so is why a call did nothing. The sizes, and what
+//! either kind of world does with its seats, are in `world_seats`. A mutator that doesn't wait is in `seat_steps`,
+//! a tracer in `seat_turns`; `handing` turns a mutator into such a one and back, and `dismissing` ends the tracers.
 #![tactic(auto)]
 
 ghost use Rattle.managed_heap.specs.Threads.{ThreadsRun};
@@ -65,8 +72,8 @@ pub use seat_turns::{NotOpened, Refused, Tracer, TryTurn, Turn};
 pub use world::World;
 pub use world_seats::{NotClosed, Sizes, Statistics, Unclosed};
 
-/// Whatever the threads of a closed world did, it is one run of the core, in which each thread's steps come in their order and nobody else takes part. No event of
-/// it frees a cell that is reachable just before it.
+/// Whatever the threads of a closed world did is one run of the core, in which each thread's steps come in their
+/// order and nobody else takes part. No event of it frees a cell that is reachable just before.
 pub fn threads_run()
     ensures { ThreadsRun }
 {}

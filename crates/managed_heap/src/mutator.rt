@@ -17,19 +17,16 @@ pub enum Place {
     Inside,
 }
 
-/// What one thread does objects with: 32 variables, 0 to 31, which are its roots, and the objects that can be reached from them. It begins outside the
-/// world. Before it is let go it is to leave, or to be given back: a stop waits for each mutator that is inside.
+/// What one thread does objects with: 32 variables, 0 to 31, which are its roots. It begins outside the world. It
+/// has to leave, or to be given back, before it is dropped: a stop waits for each that is inside.
 #[derive(Drop)]
 pub struct Mutator {
-    /// The world's heap.
     pub(crate) heap: Arc<Heap, Global>,
     /// The seat of its section, which has its variables and objects.
     pub(crate) seat: HeapSeat,
-    /// Whether it is in the world.
     pub(crate) place: Place,
-    /// The name of the world that lends it.
     pub(crate) name: u32,
-    /// It collects in stops alone.
+    /// Whether it collects only in stops.
     pub(crate) in_stops: bool,
     ghost owned: { IsFalse (arc_value heap).shape.sharing },
     ghost outside: { place ≡ places.Outside → IsMutatorOutside (arc_value heap) seat },

@@ -21,7 +21,7 @@ use std::alloc::Global;
 use stop_world::{Raised, leave, raise, resume};
 use world_seats::Sizes;
 
-/// The sizes of the heap: a section for each mutator besides section 0, which is the catalogue's and has nothing to do.
+/// A section for each mutator besides section 0, which is the catalogue's and has nothing to do.
 fn shape_of(sizes: &Sizes) -> Shape
     requires fits { Fits sizes.now }
     ensures shape { IsShape result }
@@ -40,7 +40,7 @@ fn shape_of(sizes: &Sizes) -> Shape
     }
 }
 
-/// The heap, with a seat for each section and each tracer. Nothing takes memory for objects later: they lie in its cells.
+/// The heap, with a seat for each section and each tracer. All memory is taken now.
 pub fn open(alloc: Global, sizes: &Sizes) -> Result<(Heap, Vec<HeapSeat>), NotOpened>
     requires fits { Fits sizes.now }
     ensures shape { IfOk result (λ r. r.0.shape ≡ shape_for sizes.now) }
@@ -55,7 +55,6 @@ pub fn open(alloc: Global, sizes: &Sizes) -> Result<(Heap, Vec<HeapSeat>), NotOp
     }
 }
 
-/// Raises the flag that stops the world: true where it is the seat's own.
 fn raises(heap: &Heap, seat: &mut HeapSeat) -> bool
     requires { At heap.now resting 0 seat.old }
     ensures raised { OnTrue result (At heap.now flagged 0 seat.new × IsFalse (has_moved (view_of seat.new).log)) }
@@ -68,7 +67,7 @@ fn raises(heap: &Heap, seat: &mut HeapSeat) -> bool
     }
 }
 
-/// Whether the world has stopped with no cycle under way, as it is found at once.
+/// Whether the world has stopped with no cycle under way, by one look.
 fn stops_now(heap: &Heap, seat: &mut HeapSeat) -> bool
     requires { At heap.now flagged 0 seat.old × IsFalse (has_moved (view_of seat.old).log) }
     ensures stopped { OnTrue result (At heap.now stopped 0 seat.new × Alone Idle (view_of seat.new)) }
@@ -82,7 +81,6 @@ fn stops_now(heap: &Heap, seat: &mut HeapSeat) -> bool
     }
 }
 
-/// Section 0 ends its turn.
 fn turn(heap: &Heap, seat: &mut HeapSeat)
     requires { Opens heap.now stopped seat.old × (0 < heap.now.shape.sections) × Alone Idle (view_of seat.old) }
     ensures alone { At heap.now stopped 0 seat.new × Alone Idle (view_of seat.new) }
@@ -92,7 +90,6 @@ fn turn(heap: &Heap, seat: &mut HeapSeat)
     heap.next_season(seat);
 }
 
-/// The world goes on, and the seat is outside.
 fn goes_on(heap: &Heap, seat: &mut HeapSeat)
     requires { At heap.now stopped 0 seat.old × Alone Idle (view_of seat.old) }
     ensures rests { At heap.now resting 0 seat.new }
@@ -103,8 +100,8 @@ fn goes_on(heap: &Heap, seat: &mut HeapSeat)
     leave(heap, seat);
 }
 
-/// Opens the mutators' turn with the seat of section 0, which has nothing to do in its own. False where another seat stops the world or a cycle is under
-/// way, which is not so in a new heap.
+/// Opens the mutators' turn with the seat of section 0. False if another seat is at work, which is not so in a new
+/// heap.
 pub fn open_turn(heap: &Heap, seat: &mut HeapSeat) -> bool
     requires { Opens heap.now resting seat.old × (0 < heap.now.shape.sections) }
     ensures rests { OnTrue result (At heap.now resting 0 seat.new) }

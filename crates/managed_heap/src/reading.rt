@@ -18,7 +18,7 @@ use mark_core::VARIABLES;
 use seat_turns::{Refused, read_value, refer_to_one, refers_to_nothing};
 
 impl Mutator {
-    /// The value of variable v's object. Nil where it refers to nothing.
+    /// The value of variable v's object. Refused as Nil if it refers to nothing.
     pub fn value(&mut self, v: u8) -> Result<u32, Refused>
         ensures value { IfOk result (λ value. (value_in (heap_of self.old) v ≡ Some value) × (v < section_variables) × HasPassed self.old self.new) }
         ensures refused { IfErr result (λ e. ReadsNone e v self.old × IsSame self.old self.new) }
@@ -40,7 +40,7 @@ impl Mutator {
         }
     }
 
-    /// Whether variable v refers to nothing. Refused where v is out of range, or the mutator is outside.
+    /// Whether variable v refers to nothing. Refused if v is out of range, or the mutator is outside.
     pub fn is_nil(&self, v: u8) -> Result<bool, Refused>
         ensures nil { IfOk result (λ nil. IsTrue nil → variable (heap_of self.now) v ≡ Nil) }
         ensures some { IfOk result (λ nil. IsFalse nil → variable (heap_of self.now) v ≡ Nil → ⊥) }

@@ -1,4 +1,4 @@
-//! A heap that threads share, with those of its mutators and tracers that nobody has.
+//! A heap that threads share.
 ghost use Rattle.std.specs.Arc.{arc_value};
 ghost use Rattle.std.specs.Prelude.{◌≤◌, IsTrue, is_some, vec_capacity};
 ghost use Rattle.gc_table.specs.Seats.{state_of};
@@ -12,16 +12,14 @@ use std::alloc::Global;
 use std::sync::Arc;
 use world_seats::Sizes;
 
-/// A heap that threads share. It has those of its mutators and tracers that nobody has taken. The heap is freed when the world is closed.
+/// A heap that threads share, with those of its mutators and tracers that nobody has taken.
 #[derive(Drop)]
 pub struct World {
-    /// The heap, which its mutators and tracers share.
     pub(crate) heap: Arc<Heap, Global>,
     /// The seat of section 0, which has nothing to do with objects: it reads and tells.
     pub(crate) zero: HeapSeat,
     /// The mutators that nobody has taken, with room for all.
     pub(crate) mutators: Vec<Mutator>,
-    /// The tracers that nobody has taken, with room for all.
     pub(crate) tracers: Vec<Tracer>,
     /// The sizes that it was opened with.
     pub(crate) sizes: Sizes,

@@ -1,4 +1,4 @@
--- What the mutator behind a handle came to, where there is one.
+-- What the mutator behind a handle came to, if there is one.
 use Rattle.std.proofs.Common.{ℕ, ◌≡◌, refl, sym, subst, Option, Some, None, inl, inr}
 use Rattle.std.specs.Prelude.{IsTrue}
 use Rattle.seat_steps.specs.declared.came.Came.{Came}

@@ -67,7 +67,7 @@ number-by cames.Nil v b p q r s x y i e = subst (λ k. NumbersTo k p q r s cames
 number-by cames.OutOfRange v b p q r s x y i e = ((λ l. e.0.0 (byte-in v b i l), e.0.1), e.1, e.2)
 number-by came v b p q r s x y i e = e
 
--- the number of a slot in 16 bits, and the byte of the variable beside it, which is none where the slot's number has more
+-- the number of a slot in 16 bits, and the byte of the variable beside it, which is none if the slot's number has more
 pub record IsBeside (v k b h : ℕ) : Type 0 where
   pub byte : k < 65536 → IsByteOf v b
   pub none : 65536 ≤ k → b ≡ 255

@@ -38,7 +38,7 @@ no_events : (es : List Entry) → steps_of es ≡ [] → es ≡ []
 no_events [] e = refl
 no_events (x ∷ xs) e = absurd (cc)
 
--- a store through a variable that refers to nothing changes nothing of the plain heap, and takes no step where objects are shared
+-- a store through a variable that refers to nothing changes nothing of the plain heap, and takes no step if objects are shared
 pub record Spares (v : ℕ) (op : Op) (x y : Stepper) : Type 0 where
   pub own : variable (heap_of_stepper x) v ≡ Nil → heap_after (heap_of_stepper x) None op ≡ heap_of_stepper x
   pub shared : word_in (state_of x.seat) v ≡ 0 → DoesShared op (view_of x.seat) (view_of y.seat) → steps_of (did x.seat y.seat) ≡ []

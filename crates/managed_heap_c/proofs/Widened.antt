@@ -14,7 +14,7 @@ use Rattle.managed_heap_c.specs.Asking.{IsNil, AreOne, TestsTo}
 use Rattle.managed_heap_c.specs.Bytes.{IsByteOf}
 use Rattle.managed_heap_c.specs.Storing.{Stores, StoresNothing}
 
--- the operation by bytes and the one by the numbers of C are one, where one of them is in range
+-- the operation by bytes and the one by the numbers of C are one, if one of them is in range
 abbrev pub AreSame : Stepper → Op → Op → Type 0
 AreSame x by op = (IsInRange (fields_in x) by → by ≡ op) × (IsInRange (fields_in x) op → by ≡ op)
 

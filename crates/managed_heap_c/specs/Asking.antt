@@ -27,7 +27,7 @@ abbrev pub WritesAnswer : Came → Result Bool Came → ℕ → ℕ → Type 0
 WritesAnswer came (Ok told) before after = (came ≡ cames.Done) × (after ≡ number_of_answer told)
 WritesAnswer came (Err why) before after = (came ≡ why) × (after ≡ before)
 
--- 1 where it is so, and 0 where it isn't
+-- 1 if it is so, and 0 if it isn't
 abbrev pub SaysWhether : Type 0 → ℕ → Type 0
 SaysWhether P n = ((n ≡ 1) × P) ⊎ ((n ≡ 0) × (P → ⊥))
 

@@ -9,7 +9,7 @@ use Rattle.managed_heap_c.specs.contracts.hands.Hand as hand
 use Rattle.managed_heap_c.specs.contracts.hands.TracerHand as tracing
 use Rattle.managed_heap_c.specs.contracts.hands.Whole as whole
 
--- a mutator's handle owns what lies at its address, where it has an address
+-- a mutator's handle owns what lies at its address, if it has an address
 abbrev pub hand_filled : Ptr → Option hand.the_row.Denot → Fml
 hand_filled p None = ftrue
 hand_filled p (Some x) = hand_owned p x
@@ -18,7 +18,7 @@ hand_filled p (Some x) = hand_owned p x
 abbrev pub hands_coded : Coded (Option hand.the_row.Denot)
 hands_coded = coded_option hand.the_row.coded
 
--- a tracer's handle owns what lies at its address, where it has an address
+-- a tracer's handle owns what lies at its address, if it has an address
 abbrev pub tracer_filled : Ptr → Option tracing.the_row.Denot → Fml
 tracer_filled p None = ftrue
 tracer_filled p (Some x) = tracer_owned p x
@@ -27,7 +27,7 @@ tracer_filled p (Some x) = tracer_owned p x
 abbrev pub tracers_coded : Coded (Option tracing.the_row.Denot)
 tracers_coded = coded_option tracing.the_row.coded
 
--- a world's handle owns what lies at its address, where it has an address
+-- a world's handle owns what lies at its address, if it has an address
 abbrev pub whole_filled : Ptr → Option whole.the_row.Denot → Fml
 whole_filled p None = ftrue
 whole_filled p (Some x) = whole_owned p x

@@ -45,7 +45,7 @@ LacksMutator w x = (w.mutators.items ≡ []) × (x.mutators.items ≡ []) × Kee
 abbrev pub GoesBack : Mutator → World → World → Type 0
 GoesBack m w x = IsBack m w x × KeepsAllButMutators w x
 
--- the world doesn't take the mutator, which is in steps again, by no step where it was outside, and has all that it had
+-- the world doesn't take the mutator, which is in steps again, by no step if it was outside, and has all that it had
 abbrev pub StaysOut : Mutator → Stepper → World → World → Type 0
 StaysOut m t w x = (heap_of_stepper t ≡ heap_of m) × (arc_value t.heap ≡ arc_value m.heap) × (t.name ≡ m.name) × (x.mutators.items ≡ w.mutators.items) × KeepsAllButMutators w x × (m.place ≡ places.Outside → t.seat ≡ m.seat)
 

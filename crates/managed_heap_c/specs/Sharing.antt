@@ -37,7 +37,7 @@ LacksMutator w x = (w.mutators.items ≡ []) × (x.mutators.items ≡ []) × Kee
 abbrev pub GoesBack : SharedMutator → SharedWorld → SharedWorld → Type 0
 GoesBack m w x = IsBack m w x × KeepsAllButMutators w x
 
--- the world doesn't take the mutator, which is in steps again, by no step where it was outside, and has all that it had
+-- the world doesn't take the mutator, which is in steps again, by no step if it was outside, and has all that it had
 abbrev pub StaysOut : SharedMutator → Stepper → SharedWorld → SharedWorld → Type 0
 StaysOut m t w x = Across LeavesHeap m.seat t.seat × (arc_value t.heap ≡ arc_value m.heap) × (x.mutators.items ≡ w.mutators.items) × KeepsAllButMutators w x × (m.place ≡ Outside → t.seat ≡ m.seat)
 

@@ -6,7 +6,7 @@ use Rattle.world_seats.specs.Sizing.{usual_entries}
 use Rattle.world_seats.specs.declared.sizes.Sizes.{Sizes}
 use Rattle.managed_heap_c.specs.declared.sizes.CSizes.{CSizes}
 
--- those of a world whose mutators have objects of their own; of packets there are as many as where nothing is said of them
+-- those of a world whose mutators have objects of their own; there are as many packets as when nothing is said of them
 abbrev pub sizes_of : CSizes → Sizes
 sizes_of c = record { cells = c.cells; fields = c.fields; mutators = c.mutators; tracers = c.tracers; slots = 0; packets = 64; entries = usual_entries c.cells; name = c.name; in_stops = false }
 

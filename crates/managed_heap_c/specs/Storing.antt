@@ -11,7 +11,7 @@ use Rattle.seat_steps.specs.declared.stepper.Stage.TheVariants.{Inside}
 use Rattle.seat_steps.specs.declared.stepper.Stepper.{Stepper}
 use Rattle.managed_heap_c.specs.Asking.{IsNil}
 
--- the variable refers to nothing, so nothing was stored: objects and variables are as they were, inside the world; where objects are shared no step was taken
+-- the variable refers to nothing, so nothing was stored: objects and variables are as they were, inside the world; if objects are shared, no step was taken
 pub record StoresNothing (v : ℕ) (op : Op) (x y : Stepper) : Type 0 where
   pub nil : IsNil v x
   pub range : IsInRange (fields_in x) op

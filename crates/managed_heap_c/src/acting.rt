@@ -26,7 +26,7 @@ pub extern "C" fn mhl_root(h: &mut MutatorHandle, v: u32) -> u32
     answer
 }
 
-/// Where field i of the object of v is what variable `expected` is, it becomes what variable `next` is, and 1 is written, else 0.
+/// If field i of the object of v is variable `expected`, it becomes variable `next`, and 1 is written; otherwise 0.
 #[unsafe(no_mangle)]
 pub extern "C" fn mhl_exchange(
     h: &mut MutatorHandle,
@@ -48,7 +48,7 @@ pub extern "C" fn mhl_exchange(
     answer
 }
 
-/// Where the value of the object of v is `expected` it becomes `next`, and 1 is written, else 0.
+/// If the value of the object of v is `expected` it becomes `next`, and 1 is written; otherwise 0.
 #[unsafe(no_mangle)]
 pub extern "C" fn mhl_exchange_value(
     h: &mut MutatorHandle,
@@ -97,7 +97,7 @@ pub extern "C" fn mhl_fill(h: &mut MutatorHandle, v: u32, k: u32) -> u32
     answer
 }
 
-/// The slots from the first number on and below the second become nil.
+/// The slots from `from` on and below `to` become nil.
 #[unsafe(no_mangle)]
 pub extern "C" fn mhl_forget_slots(h: &mut MutatorHandle, from: u32, to: u32) -> u32
     ensures answers { AnswersOnce (ForgetsSlots from to) result h.old.hand h.new.hand }

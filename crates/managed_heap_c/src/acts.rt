@@ -1,4 +1,5 @@
-//! What a call for a shared world does with the mutator behind a handle.
+//! What a call for a shared world does with the mutator behind a handle: it answers the call's status, or
+//! `GIVEN_BACK` if the handle is empty.
 ghost use Rattle.seat_steps.specs.Acting.{TakesRoot};
 ghost use Rattle.managed_heap_c.specs.Acting.{ExchangesTo, ExchangesValueTo, Fills, ForgetsSlots, NumbersTo, PlacesTo, Spills, WritesNumber, WritesPlace};
 ghost use Rattle.managed_heap_c.specs.Answering.{Answers, SparesGone};
@@ -9,7 +10,7 @@ use crate::hands::Hand;
 use crate::statuses::{GIVEN_BACK, status};
 use seat_steps::Came;
 
-/// Variable v becomes the root: the status of the mutator's call. `GIVEN_BACK` where the handle is empty.
+/// Variable v becomes the root.
 pub fn root_by(hand: &mut Hand, v: u32) -> u32
     ensures answers { Answers (λ came. TakesRoot came v) result hand.old.stepper hand.new.stepper }
 {
@@ -22,7 +23,7 @@ pub fn root_by(hand: &mut Hand, v: u32) -> u32
     }
 }
 
-/// Where field i of variable v's object is what variable `expected` is it becomes what variable `next` is. Whether it was is written.
+/// If field i of variable v's object is variable `expected` it becomes variable `next`. Whether it was is written.
 pub fn exchange_by(hand: &mut Hand, v: u32, i: u32, expected: u32, next: u32, won: &mut u32) -> u32
     ensures answers { Answers (ExchangesTo v i expected next won.old won.new) result hand.old.stepper hand.new.stepper }
     ensures quiet { SparesGone hand.old.stepper won.old won.new }
@@ -39,7 +40,7 @@ pub fn exchange_by(hand: &mut Hand, v: u32, i: u32, expected: u32, next: u32, wo
     }
 }
 
-/// Where the value of variable v's object is `expected` it becomes `next`. Whether it was is written.
+/// If the value of variable v's object is `expected` it becomes `next`. Whether it was is written.
 pub fn exchange_value_by(hand: &mut Hand, v: u32, expected: u32, next: u32, won: &mut u32) -> u32
     ensures answers { Answers (ExchangesValueTo v expected next won.old won.new) result hand.old.stepper hand.new.stepper }
     ensures quiet { SparesGone hand.old.stepper won.old won.new }
@@ -53,7 +54,7 @@ pub fn exchange_value_by(hand: &mut Hand, v: u32, expected: u32, next: u32, won:
     }
 }
 
-/// Slot k becomes what variable v is: the status of the mutator's call. `GIVEN_BACK` where the handle is empty.
+/// Slot k becomes what variable v is.
 pub fn spill_by(hand: &mut Hand, v: u32, k: u32) -> u32
     ensures answers { Answers (Spills v k) result hand.old.stepper hand.new.stepper }
 {
@@ -67,7 +68,7 @@ pub fn spill_by(hand: &mut Hand, v: u32, k: u32) -> u32
     }
 }
 
-/// Variable v becomes what slot k is: the status of the mutator's call. `GIVEN_BACK` where the handle is empty.
+/// Variable v becomes what slot k is.
 pub fn fill_by(hand: &mut Hand, v: u32, k: u32) -> u32
     ensures answers { Answers (Fills v k) result hand.old.stepper hand.new.stepper }
 {
@@ -81,7 +82,7 @@ pub fn fill_by(hand: &mut Hand, v: u32, k: u32) -> u32
     }
 }
 
-/// The slots from number `from` on and below `to` become nil: the status of the mutator's call. `GIVEN_BACK` where the handle is empty.
+/// The slots from `from` on and below `to` become nil.
 pub fn forget_slots_by(hand: &mut Hand, from: u32, to: u32) -> u32
     ensures answers { Answers (ForgetsSlots from to) result hand.old.stepper hand.new.stepper }
 {
@@ -91,7 +92,6 @@ pub fn forget_slots_by(hand: &mut Hand, from: u32, to: u32) -> u32
     }
 }
 
-/// Writes a place, and nothing where there is none.
 fn write_place(answer: Result<u32, Came>, out: &mut u32) -> Came
     ensures writes { WritesPlace result answer out.old out.new }
 {
@@ -118,7 +118,6 @@ pub fn place_by(hand: &mut Hand, v: u32, place: &mut u32) -> u32
     }
 }
 
-/// Writes both parts of a number, and nothing where there is none.
 fn write_number(answer: Result<u64, Came>, section: &mut u32, number: &mut u32) -> Came
     ensures writes { WritesNumber result answer section.old number.old section.new number.new }
 {
@@ -132,7 +131,7 @@ fn write_number(answer: Result<u64, Came>, section: &mut u32, number: &mut u32) 
     }
 }
 
-/// Writes the number of variable v's object: which mutator made it, and how many that one had made before.
+/// Writes which mutator made variable v's object, and how many that one had made before.
 pub fn number_by(hand: &mut Hand, v: u32, section: &mut u32, number: &mut u32) -> u32
     ensures answers { Answers (NumbersTo v section.old number.old section.new number.new) result hand.old.stepper hand.new.stepper }
     ensures quiet { SparesGone hand.old.stepper section.old section.new }

@@ -1,4 +1,4 @@
-//! What the mutator behind a handle is asked of its variables.
+//! What the mutator behind a handle is asked.
 ghost use Rattle.std.specs.Prelude.{◌≡◌};
 ghost use Rattle.plain_heap.specs.declared.operation.Op.TheVariants as ops;
 ghost use Rattle.managed_heap_c.specs.Answering.{Answers, SparesGone};
@@ -16,7 +16,7 @@ pub fn number_of(told: bool) -> u32
     if told { 1 } else { 0 }
 }
 
-/// Writes 1 where the answer is yes and 0 where it is no, and nothing where there is none.
+/// Writes 1 for yes and 0 for no, and nothing if there is no answer.
 pub fn write_answer(answer: Result<bool, Came>, out: &mut u32) -> Came
     ensures writes { WritesAnswer result answer out.old out.new }
 {
@@ -58,7 +58,7 @@ pub fn same_by(hand: &mut Hand, v: u32, w: u32, out: &mut u32) -> u32
     }
 }
 
-/// Writes whether the mutator has asked for a stop and others may be inside still.
+/// Writes whether the mutator waits for a stop that it asked for.
 pub fn stopping_by(hand: &mut Hand, out: &mut u32) -> u32
     ensures answers { Answers (TellsStopping out.new) result hand.old.stepper hand.new.stepper }
     ensures quiet { SparesGone hand.old.stepper out.old out.new }

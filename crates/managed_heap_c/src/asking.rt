@@ -1,4 +1,4 @@
-//! Questions about variables, and about a stop, for programs in C.
+//! Questions, for programs in C.
 ghost use Rattle.plain_heap.specs.declared.operation.Op.TheVariants as ops;
 ghost use Rattle.managed_heap_c.specs.Answering.{AnswersOnce, SparesUnused};
 ghost use Rattle.managed_heap_c.specs.Asking.{IsNil, AreOne, TellsStopping, TestsTo};
@@ -9,7 +9,7 @@ use crate::lending::lend_hand;
 use crate::statuses::IN_USE;
 use crate::using::{begins, ends};
 
-/// Writes 1 where variable v refers to nothing, else 0.
+/// Writes 1 if variable v refers to nothing, otherwise 0.
 #[unsafe(no_mangle)]
 pub extern "C" fn mhl_is_nil(h: &mut MutatorHandle, v: u32, out: &mut u32) -> u32
     ensures answers { AnswersOnce (TestsTo (IsNil v) (ops.Say v) out.old out.new) result h.old.hand h.new.hand }
@@ -24,7 +24,7 @@ pub extern "C" fn mhl_is_nil(h: &mut MutatorHandle, v: u32, out: &mut u32) -> u3
     answer
 }
 
-/// Writes 1 where variables v and w refer to one object, or both to nothing, else 0.
+/// Writes 1 if variables v and w refer to one object, or both to nothing, otherwise 0.
 #[unsafe(no_mangle)]
 pub extern "C" fn mhl_same(h: &mut MutatorHandle, v: u32, w: u32, out: &mut u32) -> u32
     ensures answers { AnswersOnce (TestsTo (AreOne v w) (ops.Let v w) out.old out.new) result h.old.hand h.new.hand }
@@ -39,7 +39,7 @@ pub extern "C" fn mhl_same(h: &mut MutatorHandle, v: u32, w: u32, out: &mut u32)
     answer
 }
 
-/// Writes 1 where the mutator has asked for a stop, to collect, and others may be inside still, else 0.
+/// Writes 1 if the mutator waits for a stop that it asked for, otherwise 0.
 #[unsafe(no_mangle)]
 pub extern "C" fn mhl_is_stopping(h: &mut MutatorHandle, out: &mut u32) -> u32
     ensures answers { AnswersOnce (TellsStopping out.new) result h.old.hand h.new.hand }

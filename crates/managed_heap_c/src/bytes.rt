@@ -2,7 +2,7 @@
 ghost use Rattle.std.specs.Prelude.{◌≡◌, ◌<◌, ◌≤◌};
 ghost use Rattle.managed_heap_c.specs.Bytes.{IsByteOf};
 
-/// The number as a byte; where it is larger, 255, which is no variable's number and no field's.
+/// The number as a byte; if it is larger, 255, which no variable and no field has.
 pub fn byte_of(n: u32) -> u8
     ensures byte { IsByteOf n result }
 {
@@ -16,7 +16,7 @@ pub fn half_of(k: u32) -> u16
     if k < 65_536 { k as u16 } else { 0 }
 }
 
-/// The number of a variable that is named beside slot k, as a byte: 255, which is no variable's, where no slot has the number k.
+/// The number of a variable that is named beside slot k, as a byte: 255 if no slot has the number k.
 pub fn byte_beside(v: u32, k: u32) -> u8
     ensures byte { k < 65536 → IsByteOf v result }
     ensures none { 65536 ≤ k → result ≡ 255 }

@@ -1,4 +1,5 @@
-//! What a call does with the mutator behind a handle.
+//! What a call does with the mutator behind a handle: it answers the call's status, or `GIVEN_BACK` if the handle
+//! is empty.
 ghost use Rattle.plain_heap.specs.declared.operation.Op.TheVariants as ops;
 ghost use Rattle.seat_steps.specs.Bounds.{CollectsAtMost};
 ghost use Rattle.seat_steps.specs.Refilling.{MakesCached, StepperRefills};
@@ -13,7 +14,7 @@ use crate::making::make_with_in;
 use crate::statuses::{GIVEN_BACK, status};
 use crate::storing::{put_in, set_in};
 
-/// One try to enter the world: the status of the mutator's call, as done, or a stop under way. `GIVEN_BACK` where the handle is empty.
+/// One try to enter the world.
 pub fn enter_by(hand: &mut Hand) -> u32
     ensures answers { Answers Entered result hand.old.stepper hand.new.stepper }
 {
@@ -23,7 +24,7 @@ pub fn enter_by(hand: &mut Hand) -> u32
     }
 }
 
-/// Leaves the world: the status of the mutator's call. `GIVEN_BACK` where the handle is empty.
+/// Leaves the world.
 pub fn leave_by(hand: &mut Hand) -> u32
     ensures answers { Answers Left result hand.old.stepper hand.new.stepper }
 {
@@ -33,7 +34,7 @@ pub fn leave_by(hand: &mut Hand) -> u32
     }
 }
 
-/// A safe point that waits for nobody: the status of the mutator's call. `GIVEN_BACK` where the handle is empty.
+/// A safe point that waits for nobody.
 pub fn pass_by(hand: &mut Hand) -> u32
     ensures answers { Answers Passed result hand.old.stepper hand.new.stepper }
 {
@@ -43,8 +44,7 @@ pub fn pass_by(hand: &mut Hand) -> u32
     }
 }
 
-/// One step of a collection, which does at most `most` roots, objects, cards or blocks: the status of the mutator's call, as not yet done.
-/// `GIVEN_BACK` where the handle is empty.
+/// One step of a collection, which does at most `most` roots, objects, cards or blocks.
 pub fn collect_by(hand: &mut Hand, most: u32) -> u32
     ensures answers { Answers (CollectsAtMost most) result hand.old.stepper hand.new.stepper }
 {
@@ -54,7 +54,7 @@ pub fn collect_by(hand: &mut Hand, most: u32) -> u32
     }
 }
 
-/// Makes an object of this value in variable v, if a cell is free: the status of the mutator's call. `GIVEN_BACK` where the handle is empty.
+/// Makes an object of this value in variable v, if a cell is free.
 pub fn make_by(hand: &mut Hand, v: u32, value: u32) -> u32
     ensures answers { Answers (λ came. StepperMakes came (ops.New v value)) result hand.old.stepper hand.new.stepper }
 {
@@ -67,7 +67,7 @@ pub fn make_by(hand: &mut Hand, v: u32, value: u32) -> u32
     }
 }
 
-/// Makes an object of this value in variable v, if a cell of the mutator's cache is free: the status of the mutator's call. `GIVEN_BACK` where the handle is empty.
+/// Makes an object of this value in variable v, if a cell of the mutator's cache is free.
 pub fn make_cached_by(hand: &mut Hand, v: u32, value: u32) -> u32
     ensures answers { Answers (λ came. MakesCached came (ops.New v value)) result hand.old.stepper hand.new.stepper }
 {
@@ -80,7 +80,7 @@ pub fn make_cached_by(hand: &mut Hand, v: u32, value: u32) -> u32
     }
 }
 
-/// One step of a refill, which looks at no more than `most` blocks: the status of the mutator's call, as not yet done. `GIVEN_BACK` where the handle is empty.
+/// One step of a refill, which looks at no more than `most` blocks.
 pub fn refill_by(hand: &mut Hand, most: u32) -> u32
     ensures answers { Answers (StepperRefills most) result hand.old.stepper hand.new.stepper }
 {
@@ -90,7 +90,7 @@ pub fn refill_by(hand: &mut Hand, most: u32) -> u32
     }
 }
 
-/// Makes an object of this value in variable v with these references, if a cell is free: the status of the call. `GIVEN_BACK` where the handle is empty.
+/// Makes an object of this value in variable v with these references, if a cell is free.
 pub fn make_with_by(hand: &mut Hand, v: u32, value: u32, fields: &[u32]) -> u32
     ensures answers { Answers (MakesWith v value fields.now) result hand.old.stepper hand.new.stepper }
 {
@@ -100,7 +100,7 @@ pub fn make_with_by(hand: &mut Hand, v: u32, value: u32, fields: &[u32]) -> u32
     }
 }
 
-/// Field i of variable v's object becomes what variable w is: the status of the mutator's call. `GIVEN_BACK` where the handle is empty.
+/// Field i of variable v's object becomes what variable w is.
 pub fn set_by(hand: &mut Hand, v: u32, i: u32, w: u32) -> u32
     ensures answers { Answers (Stores v (ops.Set v i w)) result hand.old.stepper hand.new.stepper }
 {
@@ -115,7 +115,7 @@ pub fn set_by(hand: &mut Hand, v: u32, i: u32, w: u32) -> u32
     }
 }
 
-/// Variable w becomes what field i of variable v's object is: the status of the mutator's call. `GIVEN_BACK` where the handle is empty.
+/// Variable w becomes what field i of variable v's object is.
 pub fn get_by(hand: &mut Hand, w: u32, v: u32, i: u32) -> u32
     ensures answers { Answers (λ came. Operates came (ops.Get w v i)) result hand.old.stepper hand.new.stepper }
 {
@@ -130,7 +130,7 @@ pub fn get_by(hand: &mut Hand, w: u32, v: u32, i: u32) -> u32
     }
 }
 
-/// Variable w becomes what variable v is: the status of the mutator's call. `GIVEN_BACK` where the handle is empty.
+/// Variable w becomes what variable v is.
 pub fn copy_by(hand: &mut Hand, w: u32, v: u32) -> u32
     ensures answers { Answers (λ came. Operates came (ops.Let w v)) result hand.old.stepper hand.new.stepper }
 {
@@ -144,7 +144,7 @@ pub fn copy_by(hand: &mut Hand, w: u32, v: u32) -> u32
     }
 }
 
-/// Variable v becomes nil: the status of the mutator's call. `GIVEN_BACK` where the handle is empty.
+/// Variable v becomes nil.
 pub fn forget_by(hand: &mut Hand, v: u32) -> u32
     ensures answers { Answers (λ came. Operates came (ops.Nil v)) result hand.old.stepper hand.new.stepper }
 {
@@ -157,7 +157,7 @@ pub fn forget_by(hand: &mut Hand, v: u32) -> u32
     }
 }
 
-/// The value of variable v's object becomes this one: the status of the mutator's call. `GIVEN_BACK` where the handle is empty.
+/// The value of variable v's object becomes this one.
 pub fn put_by(hand: &mut Hand, v: u32, value: u32) -> u32
     ensures answers { Answers (Stores v (ops.Put v value)) result hand.old.stepper hand.new.stepper }
 {
@@ -170,7 +170,7 @@ pub fn put_by(hand: &mut Hand, v: u32, value: u32) -> u32
     }
 }
 
-/// Writes the value of variable v's object, where the status of the mutator's call is done, and else nothing. `GIVEN_BACK` where the handle is empty.
+/// Writes the value of variable v's object if the mutator's call is done.
 pub fn value_by(hand: &mut Hand, v: u32, out: &mut u32) -> u32
     ensures answers { Answers (ReadsTo v out.old out.new) result hand.old.stepper hand.new.stepper }
     ensures quiet { SparesGone hand.old.stepper out.old out.new }

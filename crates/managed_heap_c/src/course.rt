@@ -1,4 +1,4 @@
-//! How far the collection of a mutator is, and how much a tracer has traced, as C reads it.
+//! How far a mutator's collection is, and how much a tracer has traced.
 ghost use Rattle.std.specs.Prelude.{◌≡◌, None};
 ghost use Rattle.managed_heap_c.specs.Answering.{Answers, AnswersOnce};
 ghost use Rattle.managed_heap_c.specs.Telling.{SparesCourse, TellsCourse, TellsTraced, TellsTracedOnce, course_of, number_of_stage};
@@ -17,9 +17,9 @@ use seat_steps::{Stage, Stepper};
 pub struct CCourse {
     /// Where it stands.
     pub stage: u32,
-    /// 1 where it is to mark once more, else 0.
+    /// 1 if it is to mark once more, otherwise 0.
     pub again: u32,
-    /// 1 where it read last that a cycle is marking, else 0.
+    /// 1 if it read last that a cycle is marking, otherwise 0.
     pub marking: u32,
     /// How many cells its sweep has freed.
     pub freed: u32,
@@ -27,7 +27,6 @@ pub struct CCourse {
     pub kept: u32,
 }
 
-/// The number of a stage, as the header has it.
 fn number_at(stage: Stage) -> u32
     ensures number { result ≡ number_of_stage stage }
 {
@@ -46,7 +45,6 @@ fn number_at(stage: Stage) -> u32
     }
 }
 
-/// How far its collection is.
 fn course_now(stepper: &Stepper) -> CCourse
     ensures course { result ≡ course_of stepper.now }
 {
@@ -60,7 +58,6 @@ fn course_now(stepper: &Stepper) -> CCourse
     }
 }
 
-/// Writes how far the collection of the mutator is: done, or `GIVEN_BACK` where the handle is empty.
 fn course_by(hand: &mut Hand, out: &mut CCourse) -> u32
     ensures answers { Answers (TellsCourse out.new) result hand.old.stepper hand.new.stepper }
     ensures quiet { hand.old.stepper ≡ None → out.new ≡ out.old }
@@ -74,7 +71,6 @@ fn course_by(hand: &mut Hand, out: &mut CCourse) -> u32
     }
 }
 
-/// Writes how many objects the tracer has traced: done, or `GIVEN_BACK` where the handle is empty.
 fn traced_by(hand: &mut TracerHand, out: &mut u64) -> u32
     ensures tells { TellsTraced result hand.old.tracer hand.new.tracer out.old out.new }
 {
@@ -87,7 +83,7 @@ fn traced_by(hand: &mut TracerHand, out: &mut u64) -> u32
     }
 }
 
-/// Writes how far the collection of the mutator is.
+/// Writes how far the mutator's collection is.
 #[unsafe(no_mangle)]
 pub extern "C" fn mhl_course(h: &mut MutatorHandle, out: &mut CCourse) -> u32
     ensures answers { AnswersOnce (TellsCourse out.new) result h.old.hand h.new.hand }

@@ -5,7 +5,7 @@ use seat_steps::Stepper;
 use seat_turns::Tracer;
 use shared_heap::SharedWorld;
 
-/// A mutator, or none where it was given back.
+/// A mutator, or none if it was given back.
 #[derive(Drop)]
 pub struct Hand {
     /// The mutator, which takes no handle of the runtime.
@@ -14,7 +14,7 @@ pub struct Hand {
     pub busy: bool,
 }
 
-/// A tracer, or none where it was given back.
+/// A tracer, or none if it was given back.
 #[derive(Drop)]
 pub struct TracerHand {
     /// The tracer.
@@ -32,7 +32,7 @@ pub enum AnyWorld {
     Shared(SharedWorld),
 }
 
-/// A world, or none where it was closed.
+/// A world, or none if it was closed.
 #[derive(Drop)]
 pub struct Whole {
     pub world: Option<AnyWorld>,

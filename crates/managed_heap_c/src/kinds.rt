@@ -1,4 +1,4 @@
-//! A world of either kind is opened, lends its mutators and tracers, takes them back, tells, and is closed.
+//! A world of either kind is opened, lends and takes back, tells, and is closed.
 ghost use Rattle.std.specs.Prelude.{◌≡◌, IfErr, IfNone, IfOk, IfSome, OnOk};
 ghost use Rattle.std.specs.Bool.{OnFalse, OnTrue};
 ghost use Rattle.seat_turns.specs.declared.refused.NotOpened.TheVariants.{OutOfRange};
@@ -15,7 +15,6 @@ use seat_turns::Tracer;
 use shared_heap::SharedWorld;
 use std::alloc::Global;
 
-/// Opens a world whose mutators have objects of their own.
 fn open_own(alloc: Global, sizes: &CSizes) -> Result<AnyWorld, NotOpened>
     requires own { AsksOwn sizes.now }
     ensures opened { IfOk result (IsOpenedAs sizes.now) }
@@ -27,7 +26,6 @@ fn open_own(alloc: Global, sizes: &CSizes) -> Result<AnyWorld, NotOpened>
     }
 }
 
-/// Opens a world whose mutators share all objects.
 fn open_shared(alloc: Global, sizes: &CSizes) -> Result<AnyWorld, NotOpened>
     requires shared { sizes.now.shared ≡ 1 }
     ensures opened { IfOk result (IsOpenedAs sizes.now) }
@@ -98,7 +96,7 @@ impl AnyWorld {
         }
     }
 
-    /// One try to tell the tracers that they are dismissed. False where a stop is under way.
+    /// One try to dismiss the tracers. False if a stop is under way.
     pub fn dismisses(&mut self) -> bool
         ensures told { OnTrue result (TellsTracers self.old self.new) }
         ensures stop { OnFalse result (FindsStop self.old self.new) }
@@ -119,7 +117,7 @@ impl AnyWorld {
         }
     }
 
-    /// Frees the world, where all mutators and tracers are back.
+    /// Frees the world, if all mutators and tracers are back.
     pub fn close(self) -> Result<(), AnyWorld>
         ensures closed { OnOk result (HasAll self) }
         ensures refused { IfErr result (λ w. (w ≡ self) × (HasAll self → ⊥)) }

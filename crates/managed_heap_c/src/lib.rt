@@ -1,8 +1,8 @@
-//! The heap for programs in C: handles of worlds, mutators and tracers, whose calls answer a status (`c/include/managed_heap.h`).
+//! The heap for programs in C: handles of worlds, mutators and tracers, whose calls answer a status
+//! (`c/include/managed_heap.h`).
 //!
-//! A handle is a struct of C that has the address of what lies behind it. C gives each handle to one call at a time. A call marks what is behind its handle, and
-//! one that finds the mark is refused, as long as the handle isn't given back meanwhile. Each export's contract says what its answer tells: `Answers` over the
-//! mutator before and after, by the clauses of `seat_steps`.
+//! A handle is a struct of C with the address of what lies behind it. C gives it to one call at a time: a call marks
+//! what is behind it, and one that finds the mark is refused, unless the handle is given back meanwhile.
 #![tactic(auto)]
 
 mod acting;
@@ -52,7 +52,7 @@ use std::alloc::Global;
 use using::{begins, ends};
 use worlds::{close_by, give_by, open_at, read_by, take_at};
 
-/// Enters the world, where no stop is under way.
+/// Enters the world, if no stop is under way.
 #[unsafe(no_mangle)]
 pub extern "C" fn mhl_enter_step(h: &mut MutatorHandle) -> u32
     ensures answers { AnswersOnce Entered result h.old.hand h.new.hand }
@@ -80,7 +80,7 @@ pub extern "C" fn mhl_leave(h: &mut MutatorHandle) -> u32
     answer
 }
 
-/// A safe point: where a stop is under way the mutator leaves.
+/// A safe point: if a stop is under way the mutator leaves.
 #[unsafe(no_mangle)]
 pub extern "C" fn mhl_pass(h: &mut MutatorHandle) -> u32
     ensures answers { AnswersOnce Passed result h.old.hand h.new.hand }
@@ -108,7 +108,7 @@ pub extern "C" fn mhl_make(h: &mut MutatorHandle, v: u32, value: u32) -> u32
     answer
 }
 
-/// Makes an object in variable v, where a cell of the mutator's cache is free.
+/// Makes an object in variable v, if a cell of the mutator's cache is free.
 #[unsafe(no_mangle)]
 pub extern "C" fn mhl_make_cached(h: &mut MutatorHandle, v: u32, value: u32) -> u32
     ensures answers { AnswersOnce (λ came. MakesCached came (ops.New v value)) result h.old.hand h.new.hand }
@@ -122,7 +122,7 @@ pub extern "C" fn mhl_make_cached(h: &mut MutatorHandle, v: u32, value: u32) -> 
     answer
 }
 
-/// The next step on the way to a cache with a free cell, of at most so many blocks.
+/// The next step on the way to a cache with a free cell, of at most `most` blocks.
 #[unsafe(no_mangle)]
 pub extern "C" fn mhl_refill_step(h: &mut MutatorHandle, most: u32) -> u32
     ensures answers { AnswersOnce (StepperRefills most) result h.old.hand h.new.hand }
@@ -136,7 +136,7 @@ pub extern "C" fn mhl_refill_step(h: &mut MutatorHandle, most: u32) -> u32
     answer
 }
 
-/// Makes an object in variable v whose first fields become what the variables of these numbers are; for the number 4,294,967,295 a field stays nil.
+/// Makes an object in variable v whose first fields become these variables; for 4,294,967,295 a field stays nil.
 #[unsafe(no_mangle)]
 pub extern "C" fn mhl_make_with(h: &mut MutatorHandle, v: u32, value: u32, fields: &[u32]) -> u32
     ensures answers { AnswersOnce (MakesWith v value fields.now) result h.old.hand h.new.hand }
@@ -150,7 +150,7 @@ pub extern "C" fn mhl_make_with(h: &mut MutatorHandle, v: u32, value: u32, field
     answer
 }
 
-/// Field i of the object of v becomes w, where v refers to one.
+/// Field i of the object of v becomes w, if v refers to one.
 #[unsafe(no_mangle)]
 pub extern "C" fn mhl_set(h: &mut MutatorHandle, v: u32, i: u32, w: u32) -> u32
     ensures answers { AnswersOnce (Stores v (ops.Set v i w)) result h.old.hand h.new.hand }
@@ -206,7 +206,7 @@ pub extern "C" fn mhl_forget(h: &mut MutatorHandle, v: u32) -> u32
     answer
 }
 
-/// The value of the object of v becomes this one, where v refers to one.
+/// The value of the object of v becomes this one, if v refers to one.
 #[unsafe(no_mangle)]
 pub extern "C" fn mhl_put(h: &mut MutatorHandle, v: u32, value: u32) -> u32
     ensures answers { AnswersOnce (Stores v (ops.Put v value)) result h.old.hand h.new.hand }
@@ -235,7 +235,7 @@ pub extern "C" fn mhl_value(h: &mut MutatorHandle, v: u32, out: &mut u32) -> u32
     answer
 }
 
-/// The next step of a collection of the mutator's own, of at most so many roots, objects, cards or blocks (or those of one stretch).
+/// The next step of the mutator's collection, of at most `most` roots, objects, cards or blocks (or one stretch).
 #[unsafe(no_mangle)]
 pub extern "C" fn mhl_collect_step(h: &mut MutatorHandle, most: u32) -> u32
     ensures answers { AnswersOnce (CollectsAtMost most) result h.old.hand h.new.hand }

@@ -1,6 +1,6 @@
 //! An object is made with its references.
 //!
-//! A new cell's fields are stored as nil before its identity is, and no kind of step stores anything else there. So the references are stored afterwards, each as
+//! No kind of step stores anything but nil in a new cell's fields. So the references are stored afterwards, as by
 //! any other store, before the call ends: until then only the mutator's variable refers to the object.
 ghost use Rattle.std.specs.Prelude.{◌≡◌, ◌<◌, length};
 ghost use Rattle.std.specs.Bool.{OnFalse, OnTrue};
@@ -15,7 +15,6 @@ use seat_steps::{Came, Stepper};
 /// The number that stands for no variable.
 const NO_VARIABLE: u32 = 4_294_967_295;
 
-/// Whether this is the number of a variable, or stands for none.
 fn is_given(n: u32) -> bool
     ensures given { OnTrue result (IsGiven n) }
     ensures other { OnFalse result (IsGiven n → ⊥) }
@@ -23,7 +22,6 @@ fn is_given(n: u32) -> bool
     n < u32::from(VARIABLES) || n == NO_VARIABLE
 }
 
-/// Whether each of these is the number of a variable, or stands for none.
 fn are_given(fields: &[u32]) -> bool
     ensures given { OnTrue result (AreGiven fields.now) }
     ensures other { OnFalse result (AreGiven fields.now → ⊥) }
@@ -36,7 +34,6 @@ fn are_given(fields: &[u32]) -> bool
     true
 }
 
-/// Whether an object may be made in variable v with these references.
 fn can_make_with(stepper: &Stepper, v: u32, fields: &[u32]) -> bool
     ensures can { OnTrue result (CanMakeWith v fields.now stepper.now) }
     ensures not { OnFalse result (CanMakeWith v fields.now stepper.now → ⊥) }
@@ -50,7 +47,7 @@ fn can_make_with(stepper: &Stepper, v: u32, fields: &[u32]) -> bool
     are_given(fields)
 }
 
-/// Field i of variable v's object becomes what the variable of this number is, or stays nil.
+/// Field i becomes what this variable is, or stays nil.
 fn set_given(stepper: &mut Stepper, v: u8, i: u8, n: u32)
     requires inside { stepper.old.stage ≡ stages.Inside }
     requires range { (v < section_variables) × (i < fields_in stepper.old) × IsGiven n }
@@ -63,7 +60,7 @@ fn set_given(stepper: &mut Stepper, v: u8, i: u8, n: u32)
     }
 }
 
-/// The fields of variable v's object become what these variables are, one after the other.
+/// The fields become what these variables are, one after the other.
 fn set_all(stepper: &mut Stepper, v: u8, fields: &[u32])
     requires inside { stepper.old.stage ≡ stages.Inside }
     requires can { CanMakeWith v fields.now stepper.old }
@@ -74,7 +71,7 @@ fn set_all(stepper: &mut Stepper, v: u8, fields: &[u32])
     }
 }
 
-/// Makes an object of this value in variable v, whose first fields become what the variables of these numbers are. The numbers are looked at before anything is
+/// Makes an object whose first fields become what these variables are. The numbers are looked at before anything is
 /// done.
 pub fn make_with_in(stepper: &mut Stepper, v: u32, value: u32, fields: &[u32]) -> Came
     ensures makes { MakesWith v value fields.now result stepper.old stepper.new }

@@ -1,4 +1,4 @@
-//! A world whose mutators share all objects, as handles have to do with it.
+//! A world whose mutators share all objects.
 ghost use Rattle.std.specs.Prelude.{IfErr, IfNone, IfSome, OnOk};
 ghost use Rattle.managed_heap_c.specs.Sharing.{Counts, GoesBack, LacksMutator, LendsSteps, Refuses, StaysOut, TakesBack};
 
@@ -17,7 +17,6 @@ pub fn lend_shared(world: &mut SharedWorld) -> Option<Stepper>
     }
 }
 
-/// Takes a mutator back, or hands it back in steps.
 fn give_shared(world: &mut SharedWorld, mutator: SharedMutator) -> Result<(), Stepper>
     ensures back { OnOk result (GoesBack mutator world.old world.new) }
     ensures refused { IfErr result (λ t. StaysOut mutator t world.old world.new) }
@@ -28,7 +27,7 @@ fn give_shared(world: &mut SharedWorld, mutator: SharedMutator) -> Result<(), St
     }
 }
 
-/// Takes a mutator back. It is handed back where the world doesn't take it, or where it is of a world that shares no objects.
+/// Takes a mutator back, or hands it back: the world doesn't take it, or it is of a world that shares no objects.
 pub fn take_shared(world: &mut SharedWorld, stepper: Stepper) -> Result<(), Stepper>
     ensures back { OnOk result (TakesBack stepper world.old world.new) }
     ensures refused { IfErr result (λ t. Refuses stepper t world.old world.new) }

@@ -1,4 +1,4 @@
-//! The sizes of a world as C gives them, and the numbers of one as C reads them.
+//! Sizes that C gives, and numbers that C reads.
 ghost use Rattle.std.specs.Prelude.{◌≡◌};
 ghost use Rattle.managed_heap_c.specs.Sizing.{shared_sizes_of, sizes_of};
 
@@ -13,7 +13,7 @@ pub struct CSizes {
     pub mutators: u32,
     pub name: u32,
     pub tracers: u32,
-    /// 1 where all mutators share their objects, 0 where each has its own.
+    /// 1 if all mutators share their objects, 0 if each has its own.
     pub shared: u32,
     pub slots: u32,
 }

@@ -1,4 +1,4 @@
-//! What C hands in to be filled: an empty handle, which owns nothing. Once it is filled it is a handle, with what lies at its address.
+//! What C hands in to be filled: an empty handle, which owns nothing.
 ghost use Rattle.std.specs.Prelude.{◌≡◌, Option, Some};
 ghost use Rattle.managed_heap_c.specs.declared.hands.Hand.{Hand};
 ghost use Rattle.managed_heap_c.specs.declared.hands.TracerHand.{TracerHand};
@@ -46,7 +46,6 @@ impl Model for WorldSlot {
     ghost also_owns = { λ s. whole_filled s.at s.whole };
 }
 
-/// A mutator's handle with what lies at the address.
 fn hand_sealed(loose: Loose<Hand, Global>) -> MutatorSlot
     ensures filled { result.hand ≡ Some loose.value }
 {
@@ -54,7 +53,6 @@ fn hand_sealed(loose: Loose<Hand, Global>) -> MutatorSlot
     MutatorSlot { at: at as *mut u8 }
 }
 
-/// A tracer's handle with what lies at the address.
 fn tracer_sealed(loose: Loose<TracerHand, Global>) -> TracerSlot
     ensures filled { result.hand ≡ Some loose.value }
 {
@@ -62,7 +60,6 @@ fn tracer_sealed(loose: Loose<TracerHand, Global>) -> TracerSlot
     TracerSlot { at: at as *mut u8 }
 }
 
-/// A world's handle with what lies at the address.
 fn whole_sealed(loose: Loose<Whole, Global>) -> WorldSlot
     ensures filled { result.whole ≡ Some loose.value }
 {

@@ -1,10 +1,10 @@
-//! Stores into an object, which are told where there is none.
+//! Stores into an object, which say if there is none.
 ghost use Rattle.plain_heap.specs.declared.operation.Op.TheVariants as ops;
 ghost use Rattle.managed_heap_c.specs.Storing.{Stores, TellsNil};
 
 use seat_steps::{Came, Stepper};
 
-/// What a store came to: `Came::Nil` where it was done and the variable refers to nothing, so that nothing was stored.
+/// What a store came to: `Came::Nil` if it was done and the variable refers to nothing, so that nothing was stored.
 fn unless_nil(came: Came, nil: Result<bool, Came>) -> Came
     ensures tells { TellsNil result came nil }
 {

@@ -8,7 +8,6 @@ use crate::statuses::{GIVEN_BACK, NONE_LEFT, OK, OUT_OF_MEMORY, REFUSED, STOPPED
 use seat_turns::Tracer;
 use std::alloc::{AllocError, Global};
 
-/// An empty hand in a box, which no call uses.
 fn boxed_hand(alloc: Global) -> Result<Box<TracerHand, Global>, AllocError>
     ensures rests { IfOk result (λ hand. IsFalse hand.value.busy) }
 {
@@ -21,7 +20,6 @@ fn boxed_hand(alloc: Global) -> Result<Box<TracerHand, Global>, AllocError>
     )?)
 }
 
-/// One of the tracers that nobody has.
 fn tracer_of(whole: &mut Whole) -> Result<Tracer, u32>
     ensures lent { IfOk result (λ t. IsLent t whole.old.world whole.new.world) }
     ensures none { IfErr result (λ n. LendsNone n whole.old.world whole.new.world) }
@@ -35,7 +33,6 @@ fn tracer_of(whole: &mut Whole) -> Result<Tracer, u32>
     }
 }
 
-/// A handle of this tracer.
 fn slot_of(hand: Box<TracerHand, Global>, lent: Tracer) -> TracerSlot
     requires rests { IsFalse hand.value.busy }
     ensures holds { HoldsTracer lent result }
@@ -45,8 +42,8 @@ fn slot_of(hand: Box<TracerHand, Global>, lent: Tracer) -> TracerSlot
     tracer_slot(hand)
 }
 
-/// Takes a tracer. The box is made first, so that none is lost where there is no memory. Done, `NONE_LEFT`, `OUT_OF_MEMORY`, or `GIVEN_BACK` where the world
-/// was closed.
+/// Takes a tracer: done, `NONE_LEFT`, `OUT_OF_MEMORY`, or `GIVEN_BACK` if the world was closed. The box is made
+/// first, so that none is lost without memory.
 pub fn take_tracer_at(alloc: Global, whole: &mut Whole, out: &mut TracerSlot) -> u32
     ensures takes { TakesTracer result whole.old.world whole.new.world out.old out.new }
 {
@@ -62,7 +59,6 @@ pub fn take_tracer_at(alloc: Global, whole: &mut Whole, out: &mut TracerSlot) ->
     }
 }
 
-/// The tracer of a hand goes back, where the world takes it.
 fn empty_into(world: &mut AnyWorld, hand: &mut TracerHand) -> u32
     ensures gives { GivesTracerBack result world.old world.new hand.old.tracer hand.new.tracer }
 {
@@ -78,8 +74,8 @@ fn empty_into(world: &mut AnyWorld, hand: &mut TracerHand) -> u32
     }
 }
 
-/// Gives a tracer back to its world: done, `REFUSED` where the world doesn't take it, and then the handle keeps it, or `GIVEN_BACK` where the handle or the
-/// world is empty.
+/// Gives a tracer back: done, `REFUSED`, and then the handle keeps it, or `GIVEN_BACK` if the handle or the world
+/// is empty.
 pub fn give_tracer_by(whole: &mut Whole, hand: &mut TracerHand) -> u32
     ensures gives { GivesTracer result whole.old.world whole.new.world hand.old.tracer hand.new.tracer }
 {
@@ -89,7 +85,7 @@ pub fn give_tracer_by(whole: &mut Whole, hand: &mut TracerHand) -> u32
     }
 }
 
-/// One turn of a tracer, which waits for nobody: the number of what it came to. `GIVEN_BACK` where the handle is empty.
+/// One turn of a tracer, which waits for nobody: how it ended. `GIVEN_BACK` if the handle is empty.
 pub fn turn_by(hand: &mut TracerHand) -> u32
     ensures answers { AnswersTurn result hand.old.tracer hand.new.tracer }
 {
@@ -99,7 +95,7 @@ pub fn turn_by(hand: &mut TracerHand) -> u32
     }
 }
 
-/// One try to tell the tracers that they are dismissed: done, `STOPPED` where a stop is under way, or `GIVEN_BACK` where the world was closed.
+/// One try to dismiss the tracers: done, `STOPPED` if a stop is under way, or `GIVEN_BACK` if the world was closed.
 pub fn dismiss_by(whole: &mut Whole) -> u32
     ensures dismisses { Dismissing result whole.old.world whole.new.world }
 {

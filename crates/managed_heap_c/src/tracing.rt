@@ -1,4 +1,4 @@
-//! Tracers for programs in C: each is marked with by one thread, beside the mutators.
+//! Tracers for programs in C: one thread marks with each, beside the mutators.
 ghost use Rattle.managed_heap_c.specs.Tracers.{AnswersTurnOnce, Dismissing, GivesTracerOnce, TakesTracer};
 
 use crate::handles::{TracerHandle, WorldHandle};
@@ -49,7 +49,7 @@ pub extern "C" fn mhl_give_back_tracer(world: &mut WorldHandle, h: &mut TracerHa
     answer
 }
 
-/// Tells the world's tracers that they are dismissed, where no stop is under way.
+/// Dismisses the world's tracers, if no stop is under way.
 #[unsafe(no_mangle)]
 pub extern "C" fn mhl_dismiss_step(world: &mut WorldHandle) -> u32
     ensures dismisses { Dismissing result world.old.whole.world world.new.whole.world }

@@ -1,13 +1,12 @@
-//! Whether a call uses a handle: a second one is refused.
-//!
-//! What is behind the handle belongs to one call at a time, so a plain store is enough, which takes a twentieth of an exchange's time. Two threads that begin at
-//! the same moment against that rule may both find it free.
+//! Whether a call uses a handle: a second one is refused. A handle belongs to one call at a time, so a plain store
+//! is enough, which takes a twentieth of an exchange's time. Two threads that break that rule and begin at the same
+//! moment may both find it free.
 ghost use Rattle.std.specs.Prelude.{◌≡◌, true, false, IsFalse, IsTrue};
 ghost use Rattle.std.specs.Bool.{OnFalse, OnTrue};
 
 use crate::hands::{Hand, TracerHand};
 
-/// Begins a call: false where another is under way, and then nothing changed.
+/// Begins a call. False if another is under way; then nothing changed.
 pub fn begins(hand: &mut Hand) -> bool
     ensures begun { OnTrue result (IsFalse hand.old.busy × (hand.new ≡ record hand.old { busy = true })) }
     ensures in_use { OnFalse result (IsTrue hand.old.busy × (hand.new ≡ hand.old)) }
@@ -26,7 +25,7 @@ pub fn ends(hand: &mut Hand)
     hand.busy = false;
 }
 
-/// Begins a tracer's call: false where another is under way, and then nothing changed.
+/// Begins a tracer's call. False if another is under way; then nothing changed.
 pub fn begins_turn(hand: &mut TracerHand) -> bool
     ensures begun { OnTrue result (IsFalse hand.old.busy × (hand.new ≡ record hand.old { busy = true })) }
     ensures in_use { OnFalse result (IsTrue hand.old.busy × (hand.new ≡ hand.old)) }

@@ -1,4 +1,4 @@
-//! How much a mutator has traced and cleaned, as C reads it.
+//! What a mutator has traced and cleaned.
 ghost use Rattle.std.specs.Prelude.{◌≡◌, None};
 ghost use Rattle.managed_heap_c.specs.Answering.{Answers, AnswersOnce};
 ghost use Rattle.managed_heap_c.specs.Telling.{SparesWork, TellsWork, work_of};
@@ -22,7 +22,6 @@ pub struct CWork {
     pub cleaned: u32,
 }
 
-/// How much it has traced and cleaned.
 fn work_now(stepper: &Stepper) -> CWork
     ensures work { result ≡ work_of stepper.now }
 {
@@ -33,7 +32,6 @@ fn work_now(stepper: &Stepper) -> CWork
     }
 }
 
-/// Writes how much the mutator has traced and cleaned: done, or `GIVEN_BACK` where the handle is empty.
 fn work_by(hand: &mut Hand, out: &mut CWork) -> u32
     ensures answers { Answers (TellsWork out.new) result hand.old.stepper hand.new.stepper }
     ensures quiet { hand.old.stepper ≡ None → out.new ≡ out.old }

@@ -13,14 +13,12 @@ use managed_heap::NotOpened;
 use seat_steps::Stepper;
 use std::alloc::{AllocError, Global};
 
-/// A world in a box.
 fn boxed_world(alloc: Global, world: AnyWorld) -> Result<Box<Whole, Global>, AllocError>
     ensures has { IfOk result (λ whole. whole.value.world ≡ Some world) }
 {
     Ok(Box::new(alloc, Whole { world: Some(world) })?)
 }
 
-/// An empty hand in a box, which no call uses.
 fn boxed_hand(alloc: Global) -> Result<Box<Hand, Global>, AllocError>
     ensures rests { IfOk result (λ hand. IsFalse hand.value.busy) }
 {
@@ -33,7 +31,7 @@ fn boxed_hand(alloc: Global) -> Result<Box<Hand, Global>, AllocError>
     )?)
 }
 
-/// Opens a world of these sizes: done, and the handle is filled; else `OUT_OF_RANGE` or `OUT_OF_MEMORY`, and nothing is written.
+/// Opens a world of these sizes: done, and the handle is filled; otherwise `OUT_OF_RANGE` or `OUT_OF_MEMORY`.
 pub fn open_at(alloc: Global, sizes: &CSizes, out: &mut WorldSlot) -> u32
     ensures opens { OpensWorld result sizes.now out.old out.new }
 {
@@ -50,7 +48,6 @@ pub fn open_at(alloc: Global, sizes: &CSizes, out: &mut WorldSlot) -> u32
     }
 }
 
-/// One of the mutators that nobody has.
 fn mutator_of(whole: &mut Whole) -> Result<Stepper, u32>
     ensures lent { IfOk result (λ s. Lends s whole.old.world whole.new.world) }
     ensures none { IfErr result (λ n. HasNone n whole.old.world whole.new.world) }
@@ -64,7 +61,6 @@ fn mutator_of(whole: &mut Whole) -> Result<Stepper, u32>
     }
 }
 
-/// A handle of this mutator.
 fn slot_of(hand: Box<Hand, Global>, stepper: Stepper) -> MutatorSlot
     requires rests { IsFalse hand.value.busy }
     ensures holds { HoldsSteps stepper result }
@@ -74,8 +70,8 @@ fn slot_of(hand: Box<Hand, Global>, stepper: Stepper) -> MutatorSlot
     hand_slot(hand)
 }
 
-/// Takes a mutator. The box is made first, so that none is lost where there is no memory. Done, `NONE_LEFT`, `OUT_OF_MEMORY`, or `GIVEN_BACK` where the world
-/// was closed.
+/// Takes a mutator: done, `NONE_LEFT`, `OUT_OF_MEMORY`, or `GIVEN_BACK` if the world was closed. The box is made
+/// first, so that none is lost without memory.
 pub fn take_at(alloc: Global, whole: &mut Whole, out: &mut MutatorSlot) -> u32
     ensures takes { TakesMutator result whole.old.world whole.new.world out.old out.new }
 {
@@ -91,7 +87,6 @@ pub fn take_at(alloc: Global, whole: &mut Whole, out: &mut MutatorSlot) -> u32
     }
 }
 
-/// The mutator of a hand goes back, where it isn't between two steps of a collection.
 fn empty_into(world: &mut AnyWorld, hand: &mut Hand) -> u32
     ensures gives { GivesBack result world.old world.new hand.old.stepper hand.new.stepper }
 {
@@ -113,7 +108,8 @@ fn empty_into(world: &mut AnyWorld, hand: &mut Hand) -> u32
     }
 }
 
-/// Gives a mutator back to its world: done, `COLLECTING` or `REFUSED`, and then the handle keeps it, or `GIVEN_BACK` where the handle or the world is empty.
+/// Gives a mutator back: done, `COLLECTING` or `REFUSED`, and then the handle keeps it, or `GIVEN_BACK` if the
+/// handle or the world is empty.
 pub fn give_by(whole: &mut Whole, hand: &mut Hand) -> u32
     ensures gives { Gives result whole.old.world whole.new.world hand.old.stepper hand.new.stepper }
 {
@@ -123,7 +119,8 @@ pub fn give_by(whole: &mut Whole, hand: &mut Hand) -> u32
     }
 }
 
-/// Closes a world: done where all mutators and tracers are back, else `STILL_LENT`, or `GIVEN_BACK` where it was closed before.
+/// Closes a world: done if all mutators and tracers are back, otherwise `STILL_LENT`, or `GIVEN_BACK` if it was
+/// closed before.
 pub fn close_by(whole: &mut Whole) -> u32
     ensures closes { ClosesWorld result whole.old.world whole.new.world }
 {
@@ -139,7 +136,7 @@ pub fn close_by(whole: &mut Whole) -> u32
     }
 }
 
-/// Writes how many cells the world has, how many are free and how many the last cycle marked: done, or `GIVEN_BACK` where it was closed.
+/// Writes the world's numbers: done, or `GIVEN_BACK` if it was closed.
 pub fn read_by(whole: &mut Whole, out: &mut CNumbers) -> u32
     ensures reads { CountsWorld result whole.old.world whole.new.world out.old out.new }
 {

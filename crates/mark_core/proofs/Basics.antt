@@ -28,7 +28,7 @@ pub some-positive : (o : Option ℕ) → not (eqb (unwrap_or o 0) 0) ≡ true �
 some-positive None e = absurd (false≢true e)
 some-positive (Some n) e = refl
 
--- one of three holds where the second does
+-- one of three holds if the second does
 pub or-second : (a k d : Bool) → k ≡ true → (a || k || d) ≡ true
 or-second true k d e = refl
 or-second false true d e = refl

@@ -127,7 +127,7 @@ done c e s t at old word others r is ha ho hw ht hs =
     let found : old ≡ get_or c.words at 0 = get_or_read c.words at old inside ho 0 in
     rw (hs, ht, hw, found, ha) refl
 
--- a number that a step stores fits a word where what is stored does
+-- a number that a step stores fits a word if what is stored does
 pub numbers-fit : (sh : Shape) (s : SeatState) (step : Step) (old word : ℕ) → word ≡ written sh s step old → word < 18446744073709551616 → HasValue step → NumbersFit step
 numbers-fit sh s (StorePosition done) old word e h v = subst (λ (n : ℕ). n < 18446744073709551616) e h
 numbers-fit sh s (StoreValue v n) old word e h b = b

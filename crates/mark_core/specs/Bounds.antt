@@ -15,7 +15,7 @@ use Rattle.mark_core.specs.Numbers.{most_seats}
 abbrev pub IsReference : Shape → ℕ → Type 0
 IsReference sh r = r ≤ sh.cells
 
--- a packet in hand has no more entries than it has room for, where its length is known
+-- a packet in hand has no more entries than it has room for, if its length is known
 abbrev pub SlotFits : ℕ → Slot → Type 0
 SlotFits entries x = IfSome x (λ h. unwrap_or h.1 0 ≤ entries)
 

@@ -1,4 +1,4 @@
--- Blocks and cards: how many cells each has, the card of a cell, the block of a card, and the bits of its cells. The sizes of both stand here alone.
+-- Blocks and cards: how many cells each has, the card of a cell, the block of a card, and the bits of its cells. The sizes of both stand only here.
 use Rattle.std.specs.Prelude.{ℕ, ◌-◌, ◌*◌, ◌/◌, ◌%◌, ◌^◌}
 
 -- how many cells a block has: one for each bit of a word

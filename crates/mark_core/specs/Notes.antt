@@ -9,7 +9,7 @@ use Rattle.mark_core.specs.declared.kinds.Step.{Step}
 use Rattle.mark_core.specs.declared.kinds.Step.TheVariants.{Reset}
 use Rattle.mark_core.specs.declared.seat.SeatState.{SeatState}
 
--- the word at a place, and 0 where there is no such place
+-- the word at a place, and 0 if there is no such place
 abbrev pub word_at : Shape → List ℕ → ℕ × ℕ → ℕ
 word_at sh ws at = slice_index (region_words (region_sizes sh) at.0 ws) at.1
 
@@ -33,7 +33,7 @@ keeps_single s at word =
     else if same_place at the_season then s.knows || s.active
     else false
 
--- no other seat changes the word at this place, where the seat found `word` there
+-- no other seat changes the word at this place, if the seat found `word` there
 abbrev pub steady : SeatState → ℕ × ℕ → ℕ → Bool
 steady s at word = not (is_gate at) && (s.alone || keeps_single s at word)
 

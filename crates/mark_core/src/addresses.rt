@@ -23,7 +23,7 @@ use crate::steps::packets;
 use crate::steps::sweep::own_block;
 use crate::{bits, layout};
 
-/// The address of the one word that the step of this seat reads or writes.
+/// The address of the word of the seat's step.
 #[inline(always)]
 pub fn address(shape: &Shape, s: &SeatState, step: &Step) -> usize
     requires { IsShape shape.now }
@@ -32,7 +32,7 @@ pub fn address(shape: &Shape, s: &SeatState, step: &Step) -> usize
     address_by(&Bases::of(shape), s, step)
 }
 
-/// The address of that word in the heap whose regions begin at these bases.
+/// The same, by the bases of the heap's regions.
 #[inline(always)]
 pub fn address_by(bases: &Bases, s: &SeatState, step: &Step) -> usize
     ensures { result ≡ address_of bases.now.shape (place bases.now.shape s.now step.now) }
@@ -127,7 +127,6 @@ fn of_mutator(bases: &Bases, s: &SeatState, step: &Step) -> usize
     }
 }
 
-/// Where a word of a new cell goes.
 fn part_at(bases: &Bases, c: Cell, part: u8) -> usize
     ensures { result ≡ address_of bases.now.shape (part_place bases.now.shape c part) }
 {

@@ -1,4 +1,4 @@
-//! The address of each word in the list of all words, with where the regions begin worked out once.
+//! Addresses of words. Where the regions begin is worked out once.
 ghost use Rattle.std.specs.Prelude.{◌≡◌, ◌<◌, ◌+◌, ◌*◌};
 ghost use Rattle.mark_core.specs.Layout.{pool_words as pool_words_of, region_sizes, region_base, address};
 ghost use Rattle.mark_core.specs.Places.{position_at as position_place, root_at as root_place, slot_at as slot_place, owner_at as owner_place, alloc_at as alloc_place, mark_at as mark_place, card_at as card_place, head_at as head_place, entry_at as entry_place, identity_at as identity_place, value_at as value_place, field_at as field_place, pool_at as pool_place, counter_at as counter_place};
@@ -9,7 +9,7 @@ use crate::kinds::Shape;
 use crate::layout::{self, NAMED, NEXT_CARD};
 use crate::numbers::{FIRST_POSITION, LAST, NAMED_SECTION, VARIABLES};
 
-/// Where the regions of a heap's words begin. It holds for the sizes from which it was made, so that no address has to be worked out from the sizes.
+/// Where the regions of a heap's words begin. Its calls answer addresses.
 #[derive(Drop)]
 pub struct Bases {
     pub(crate) shape: Shape,
@@ -73,7 +73,7 @@ impl Bases {
         }
     }
 
-    /// The address of the word that says how many commands this section has done.
+    /// The section's position: how many commands it has done.
     #[inline(always)]
     pub fn position_at(&self, section: u32) -> usize
         ensures { result ≡ address self.now.shape (position_place section) }
@@ -81,7 +81,7 @@ impl Bases {
         self.positions + section as usize
     }
 
-    /// The address of variable v of this section.
+    /// Variable v of this section.
     #[inline(always)]
     pub fn root_at(&self, section: u32, v: u8) -> usize
         ensures { result ≡ address self.now.shape (root_place section v) }
@@ -89,7 +89,7 @@ impl Bases {
         self.roots + (section as usize * VARIABLES as usize + v as usize)
     }
 
-    /// The address of slot k of this section.
+    /// Slot k of this section.
     #[inline(always)]
     pub fn slot_at(&self, section: u32, k: u16) -> usize
         ensures { result ≡ address self.now.shape (slot_place self.now.shape section k) }
@@ -97,7 +97,7 @@ impl Bases {
         self.slots + (section as usize * self.shape.slots as usize + k as usize)
     }
 
-    /// The address of the word that says who makes cells in block b.
+    /// The owner of block b: who makes cells in it.
     #[inline(always)]
     pub fn owner_at(&self, b: u32) -> usize
         ensures { result ≡ address self.now.shape (owner_place b) }
@@ -105,7 +105,7 @@ impl Bases {
         self.owners + b as usize
     }
 
-    /// The address of the allocation bits of block b.
+    /// The allocation bits of block b.
     #[inline(always)]
     pub fn alloc_at(&self, b: u32) -> usize
         ensures { result ≡ address self.now.shape (alloc_place b) }
@@ -113,7 +113,7 @@ impl Bases {
         self.allocs + b as usize
     }
 
-    /// The address of the mark bits of block b.
+    /// The mark bits of block b.
     #[inline(always)]
     pub fn mark_at(&self, b: u32) -> usize
         ensures { result ≡ address self.now.shape (mark_place b) }
@@ -121,7 +121,7 @@ impl Bases {
         self.marks + b as usize
     }
 
-    /// The address of the word of this card: 1 where it is dirty.
+    /// This card: 1 if it is dirty.
     #[inline(always)]
     pub fn card_at(&self, card: u32) -> usize
         ensures { result ≡ address self.now.shape (card_place card) }
@@ -129,7 +129,7 @@ impl Bases {
         self.cards + card as usize
     }
 
-    /// The address of the head of packet p, which holds its length.
+    /// The head of packet p, which holds its length.
     #[inline(always)]
     pub fn head_at(&self, p: u32) -> usize
         ensures { result ≡ address self.now.shape (head_place p) }
@@ -137,7 +137,7 @@ impl Bases {
         self.heads + p as usize
     }
 
-    /// The address of entry k of packet p.
+    /// Entry k of packet p.
     #[inline(always)]
     pub fn entry_at(&self, p: u32, k: u32) -> usize
         ensures { result ≡ address self.now.shape (entry_place self.now.shape p k) }
@@ -145,7 +145,7 @@ impl Bases {
         self.entries + (p as usize * self.shape.entries as usize + k as usize)
     }
 
-    /// The address of the identity of cell c.
+    /// The identity of cell c.
     #[inline(always)]
     pub fn identity_at(&self, c: u32) -> usize
         ensures { result ≡ address self.now.shape (identity_place c) }
@@ -153,7 +153,7 @@ impl Bases {
         self.identities + c as usize
     }
 
-    /// The address of the value of cell c.
+    /// The value of cell c.
     #[inline(always)]
     pub fn value_at(&self, c: u32) -> usize
         ensures { result ≡ address self.now.shape (value_place c) }
@@ -161,7 +161,7 @@ impl Bases {
         self.values + c as usize
     }
 
-    /// The address of field i of cell c.
+    /// Field i of cell c.
     #[inline(always)]
     pub fn field_at(&self, c: u32, i: u8) -> usize
         ensures { result ≡ address self.now.shape (field_place self.now.shape c i) }
@@ -169,7 +169,7 @@ impl Bases {
         self.fields + (c as usize * self.shape.fields as usize + i as usize)
     }
 
-    /// The address of word g of pool q, which has a bit for each of [`WORD_BITS`](crate::WORD_BITS) packets.
+    /// Word g of pool q, which has a bit for each of [`WORD_BITS`](crate::WORD_BITS) packets.
     #[inline(always)]
     pub fn pool_at(&self, q: usize, g: u32) -> usize
         requires { q < 256 }
@@ -178,7 +178,7 @@ impl Bases {
         self.pools + (q * self.pool_words + g as usize)
     }
 
-    /// The counters, then the statistics, whose words stand behind that of the named section, then the named section and the positions.
+    /// What `ReadStat` reads by this number.
     #[inline(always)]
     pub fn counter_at(&self, which: u8) -> usize
         ensures { result ≡ address self.now.shape (counter_place which) }

@@ -7,7 +7,7 @@ use crate::cell::Cell;
 /// The flag above a count of seats.
 pub const FLAG: u64 = 4_294_967_296;
 
-/// Whether the flag stands beside the count in this word: the stop flag in the world, or in the word of help that it is open.
+/// Whether the flag is up: the stop flag, or in the word of help that help is open.
 pub fn has_flag(word: u64) -> bool
     ensures { result ≡ has_flag_of word }
 {
@@ -38,21 +38,21 @@ pub fn without_bit(word: u64, i: u32) -> u64
     word & !(1 << i)
 }
 
-/// The cell that a word names which isn't nil: a word of a field, a root or a packet has the cell's number and 1. Of nil it says cell 0.
+/// The cell that a word other than nil names: a field, a root or an entry has the cell's number plus 1.
 pub fn cell_of(word: u64) -> Cell
     ensures { result ≡ cell_of_word word }
 {
     Cell::make((word.saturating_sub(1) % FLAG) as u32)
 }
 
-/// The cell that the word names, or nothing where it is nil.
+/// The cell that the word names; None for nil.
 pub fn cell_named(word: u64) -> Option<Cell>
     ensures { result ≡ cell_named_of word }
 {
     if word == 0 { None } else { Some(cell_of(word)) }
 }
 
-/// The word as a reference: nil is 0, and a cell its number and 1. Only the lower half of the word counts.
+/// The word as a reference: 0 for nil, else the cell's number plus 1. Only the lower half counts.
 pub fn reference_in(word: u64) -> u32
     ensures { result ≡ reference_in_word word }
 {

@@ -1,10 +1,10 @@
-//! Blocks and cards: how many cells each has, the card of a cell, the block of a card, and the bits of its cells. The sizes of both stand here alone.
+//! Blocks and cards. Only this file sets their sizes.
 ghost use Rattle.std.specs.Prelude.{◌≡◌};
 ghost use Rattle.mark_core.specs.Cards.{card_of as card_of_cell, block_of_card as block_of, first_bit as first_bit_of, card_bits as card_bits_of};
 
 use crate::cell::Cell;
 
-/// How many cells a block has: one for each bit of a word.
+/// How many cells a block has: a bit of a word for each.
 pub const BLOCK_CELLS: u32 = 64;
 
 /// How many cells a card has.

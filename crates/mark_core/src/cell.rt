@@ -3,7 +3,7 @@ ghost use Rattle.std.specs.Prelude.{◌≡◌, ℕ};
 
 use std::marker::Model;
 
-/// One cell of the heap, by its number. A reference to it is the number and 1, and nil is 0.
+/// One cell of the heap, by its number. A reference to it is the number plus 1, and nil is 0.
 #[derive(Clone, Copy, Debug, PartialEq, Eq, Drop)]
 pub struct Cell(u32);
 
@@ -31,7 +31,7 @@ impl Cell {
     }
 }
 
-/// Whose object it is, and which: the section whose seat made it, and how many that seat had made before.
+/// Which object it is: the section whose seat made it, and how many that seat had made before.
 #[derive(Clone, Copy, Debug, PartialEq, Eq)]
 pub struct Identity {
     /// The section, 0 for the catalogue.

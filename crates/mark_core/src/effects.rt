@@ -1,4 +1,4 @@
-//! The effect of each step on its word and on the record of its seat, pass by pass.
+//! The effect of each step on its word and on its seat's record, pass by pass.
 ghost use Rattle.std.specs.Prelude.{◌≡◌};
 ghost use Rattle.mark_core.specs.Effects.{written, seat_after};
 ghost use Rattle.mark_core.specs.Passes.{pass_of as pass_of_step};
@@ -10,7 +10,7 @@ use crate::passes::{Pass, pass_of};
 use crate::seat::SeatState;
 use crate::steps::{colour, help, making, mutator, packets, phase, season, sweep, world};
 
-/// Changes the seat's record, and answers what its word becomes, where the word was `old`.
+/// Changes the seat's record, and answers what its word becomes after `old`.
 #[inline(always)]
 pub fn act(shape: &Shape, s: &mut SeatState, step: &Step, old: u64) -> u64
     requires room { HasRoom s.old step.now }

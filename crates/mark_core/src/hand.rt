@@ -1,4 +1,4 @@
-//! What a seat has in hand: cells on their way between white, grey and black, a card, a cache, a block.
+//! What a seat has in hand.
 ghost use Rattle.std.specs.Prelude.{◌≡◌};
 ghost use Rattle.mark_core.specs.Seats.{is_the as is_the_cell_number, scan_left as scan_left_of, cleaning_left as cleaning_left_of, work_in_hand as work_in_hand_of, empty_handed as empty_handed_of, in_set as in_set_of, may_scan as may_scan_of, is_unpublished as is_unpublished_of, scans as scans_of, free_in as free_in_of, used_in as used_in_of, has_used as has_used_of, is_unread as is_unread_of, has_making as has_making_of, makes as makes_of, may_store as may_store_of, is_swept as is_swept_of};
 
@@ -27,7 +27,6 @@ pub fn scan_left(fields: u32, scan: Option<(Cell, u8)>) -> bool
     }
 }
 
-/// A cleaning that is still to be done.
 fn cleaning_left(cleaning: Option<Cleaning>) -> bool
     ensures { result ≡ cleaning_left_of cleaning }
 {
@@ -105,7 +104,7 @@ pub fn has_used(cache: Option<CacheState>) -> bool
     }
 }
 
-/// Whether there is a cache whose free cells weren't read yet.
+/// Whether there is a cache whose free cells weren't read.
 pub fn is_unread(cache: Option<CacheState>) -> bool
     ensures { result ≡ is_unread_of cache }
 {
@@ -125,7 +124,7 @@ pub fn makes(cache: Option<CacheState>, c: Cell, part: u8) -> bool
     }
 }
 
-/// Whether both words of the block in hand were read, and none was stored.
+/// Whether both words of the block in hand were read, and none stored.
 pub fn may_store(block: Option<BlockState>) -> bool
     ensures { result ≡ may_store_of block }
 {
@@ -146,8 +145,8 @@ pub fn is_swept(block: Option<BlockState>) -> bool
 }
 
 impl SeatState {
-    /// Whether a grey cell, or something that may lead to one, is in the seat's record only; `fields` is how many fields an object has. Then it must not give back
-    /// its last packet, nor leave.
+    /// Whether a grey cell, or something that may lead to one, is in the seat's record only; `fields` is how many
+    /// fields an object has. Then it must not give back its last packet, nor leave.
     pub fn work_in_hand(&self, fields: u32) -> bool
         ensures { result ≡ work_in_hand_of fields self.now }
     {
@@ -158,7 +157,8 @@ impl SeatState {
             || cleaning_left(self.cleaning)
     }
 
-    /// Whether the seat has neither a packet, nor a reservation of an empty one, nor a credit for one that it gave back.
+    /// Whether the seat has neither a packet, nor a reservation of an empty one, nor a credit for one that it gave
+    /// back.
     pub fn empty_handed(&self) -> bool
         ensures { result ≡ empty_handed_of self.now }
     {

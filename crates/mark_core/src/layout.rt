@@ -13,24 +13,23 @@ use crate::numbers::{POOLS, VARIABLES, WORD_BITS};
 /// How many single words there are. They come first.
 pub const SINGLE_WORDS: usize = 11;
 
-/// How many seats run, and above that number the stop flag. Entering raises it by 1 and leaving lowers it; the flag is raised and dropped by the seat that
-/// stops the world.
+/// How many seats run, and above that number the stop flag. Entering raises the number by 1, leaving lowers it.
 pub const WORLD: usize = 0;
 
 /// The phase of the cycle, by its number.
 pub const PHASE: usize = 1;
 
-/// The count of empty packets, and [`EMPTY_OFFSET`](crate::EMPTY_OFFSET): `Reserve` lowers it by 1, `Credit` raises it by 1, and it is never above the packets
-/// of the empty pool.
+/// The count of empty packets, plus [`EMPTY_OFFSET`](crate::EMPTY_OFFSET): never above the packets of the empty
+/// pool. `Reserve` lowers it by 1, `Credit` raises it by 1.
 pub const EMPTY: usize = 2;
 
-/// The counter of the card pass (`CARD_COUNTER`). Those of the sweep and the statistics follow, with the named section in between.
+/// The counter of the card pass (`CARD_COUNTER`). That of the sweep, the named section and the statistics follow.
 pub const NEXT_CARD: usize = 3;
 
 /// The counter of the sweep (`BLOCK_COUNTER`).
 pub const NEXT_BLOCK: usize = 4;
 
-/// The section that found the heap full, which it stores itself just before.
+/// The section that found the heap full. It stores this just before.
 pub const NAMED: usize = 5;
 
 /// How many blocks of 64 cells there are.
@@ -48,8 +47,8 @@ pub fn stretch_end(shape: &Shape, b: u32) -> u32
     end.min(u64::from(block_count(shape))) as u32
 }
 
-/// How many blocks a sweeper takes at a time in a heap of so many cells, unless it is told otherwise: a 16th of all, but at least one and at most 128. So a heap
-/// of fewer than 32 blocks hands them out one by one.
+/// How many blocks a sweeper takes at a time, unless it is told otherwise: a 16th of all, at least one and at most
+/// 128.
 pub fn usual_stretch(cells: u32) -> u32
     ensures { result ≡ usual_stretch_of cells }
 {
@@ -70,7 +69,7 @@ pub fn pool_words(shape: &Shape) -> usize
     (shape.packets as usize + 63) / WORD_BITS as usize
 }
 
-/// Where the positions begin, one for each section.
+/// Where the positions begin.
 pub fn positions(shape: &Shape) -> usize
     ensures { result ≡ region_base (region_sizes shape.now) 1 }
 {
@@ -84,14 +83,14 @@ pub fn roots(shape: &Shape) -> usize
     positions(shape) + shape.sections as usize
 }
 
-/// Where the slots begin, as many for each section as the shape says.
+/// Where the slots begin, for each section as many as the shape says.
 pub fn slots(shape: &Shape) -> usize
     ensures { result ≡ region_base (region_sizes shape.now) 2 + shape.now.sections * section_variables }
 {
     roots(shape) + shape.sections as usize * VARIABLES as usize
 }
 
-/// Where the owners begin, one for each block.
+/// Where the owners begin.
 pub fn owners(shape: &Shape) -> usize
     requires { IsShape shape.now }
     ensures { result ≡ region_base (region_sizes shape.now) 3 }
@@ -99,7 +98,7 @@ pub fn owners(shape: &Shape) -> usize
     slots(shape) + shape.sections as usize * shape.slots as usize
 }
 
-/// Where the allocation bits begin, a word for each block.
+/// Where the allocation bits begin.
 pub fn allocs(shape: &Shape) -> usize
     requires { IsShape shape.now }
     ensures { result ≡ region_base (region_sizes shape.now) 4 }
@@ -107,7 +106,7 @@ pub fn allocs(shape: &Shape) -> usize
     owners(shape) + block_count(shape) as usize
 }
 
-/// Where the mark bits begin, a word for each block.
+/// Where the mark bits begin.
 pub fn marks(shape: &Shape) -> usize
     requires { IsShape shape.now }
     ensures { result ≡ region_base (region_sizes shape.now) 5 }
@@ -115,7 +114,7 @@ pub fn marks(shape: &Shape) -> usize
     allocs(shape) + block_count(shape) as usize
 }
 
-/// Where the cards begin, a word for each.
+/// Where the cards begin.
 pub fn cards(shape: &Shape) -> usize
     requires { IsShape shape.now }
     ensures { result ≡ region_base (region_sizes shape.now) 6 }
@@ -123,7 +122,7 @@ pub fn cards(shape: &Shape) -> usize
     marks(shape) + block_count(shape) as usize
 }
 
-/// Where the heads of packets begin, a word for each packet.
+/// Where the heads of packets begin.
 pub fn heads(shape: &Shape) -> usize
     requires { IsShape shape.now }
     ensures { result ≡ region_base (region_sizes shape.now) 7 }
@@ -139,7 +138,7 @@ pub fn entries(shape: &Shape) -> usize
     heads(shape) + shape.packets as usize
 }
 
-/// Where the identities begin, a word for each cell.
+/// Where the identities begin.
 pub fn identities(shape: &Shape) -> usize
     requires { IsShape shape.now }
     ensures { result ≡ region_base (region_sizes shape.now) 9 }
@@ -147,7 +146,7 @@ pub fn identities(shape: &Shape) -> usize
     entries(shape) + shape.packets as usize * shape.entries as usize
 }
 
-/// Where the values begin, a word for each cell.
+/// Where the values begin.
 pub fn values(shape: &Shape) -> usize
     requires { IsShape shape.now }
     ensures { result ≡ region_base (region_sizes shape.now) 10 }
@@ -195,7 +194,7 @@ pub fn identity_at(shape: &Shape, c: u32) -> usize
     identities(shape) + c as usize
 }
 
-/// The words of the roots: the 32 variables of each section, section by section, and the slots of each section behind.
+/// The roots: the 32 variables of each section, and then the slots of each section.
 pub fn roots_of<'a>(shape: &Shape, words: &'a [u64]) -> &'a [u64]
     requires shaped { IsShape shape.now }
     requires whole { length words.now ≡ total_words_of (region_sizes shape.now) }
@@ -204,7 +203,7 @@ pub fn roots_of<'a>(shape: &Shape, words: &'a [u64]) -> &'a [u64]
     &words[roots(shape)..owners(shape)]
 }
 
-/// The words of the allocation bits: one a block, with a bit for each of its 64 cells.
+/// The allocation bits: a word for each block.
 pub fn allocs_of<'a>(shape: &Shape, words: &'a [u64]) -> &'a [u64]
     requires shaped { IsShape shape.now }
     requires whole { length words.now ≡ total_words_of (region_sizes shape.now) }
@@ -213,7 +212,7 @@ pub fn allocs_of<'a>(shape: &Shape, words: &'a [u64]) -> &'a [u64]
     &words[allocs(shape)..marks(shape)]
 }
 
-/// The words of the mark bits: one a block, with a bit for each of its 64 cells.
+/// The mark bits: a word for each block.
 pub fn marks_of<'a>(shape: &Shape, words: &'a [u64]) -> &'a [u64]
     requires shaped { IsShape shape.now }
     requires whole { length words.now ≡ total_words_of (region_sizes shape.now) }
@@ -222,7 +221,7 @@ pub fn marks_of<'a>(shape: &Shape, words: &'a [u64]) -> &'a [u64]
     &words[marks(shape)..cards(shape)]
 }
 
-/// The words of the cards: 1 where a card is dirty, else 0.
+/// The cards: 1 if a card is dirty, else 0.
 pub fn cards_of<'a>(shape: &Shape, words: &'a [u64]) -> &'a [u64]
     requires shaped { IsShape shape.now }
     requires whole { length words.now ≡ total_words_of (region_sizes shape.now) }

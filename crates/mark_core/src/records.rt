@@ -1,4 +1,4 @@
-//! The records of seats, by their number, and what a step does to those of other seats.
+//! The records of seats, and what a step does to those of other seats.
 ghost use Rattle.std.specs.Prelude.{◌≡◌, ◌≤◌, ◌<◌, ◌++◌, ◌∷◌, [], length, slice_get, slice_set, vec_len, vec_capacity};
 ghost use Rattle.std.specs.Option.{option_copied};
 ghost use Rattle.mark_core.specs.Start.{start_seat as start_seat_of, spent_seat as spent_seat_of};
@@ -10,7 +10,7 @@ use crate::seat::SeatState;
 use crate::start::{spent_seat, start_seat};
 use std::slice;
 
-/// The record of the seat with this number, or nothing where there is no such seat.
+/// The record of the seat with this number, if there is one.
 pub fn seat_at(seats: &[SeatState], i: u32) -> Option<&SeatState>
     ensures { option_copied result ≡ slice_get seats.now i }
 {

@@ -4,13 +4,12 @@ ghost use Rattle.mark_core.specs.Held.{slot_of, length_in_slot, stored_in_slot, 
 
 use crate::seat::SeatState;
 
-/// Nothing, or a packet, its length if that is known, and whether its head holds this length.
+/// A packet, its length, if known, and whether its head holds it; or nothing.
 pub type Slot = Option<(u32, Option<u32>, bool)>;
 
 /// The four slots of a seat.
 pub type Slots = [Slot; 4];
 
-/// The slot holds packet p.
 fn is_of(slot: Slot, p: u32) -> bool
     ensures { result ≡ slot_of slot p }
 {
@@ -20,7 +19,7 @@ fn is_of(slot: Slot, p: u32) -> bool
     }
 }
 
-/// What is known of the length of packet p, where this slot holds it.
+/// What is known of the length of packet p, if this slot holds it.
 fn length_in(slot: &Slot, p: u32) -> Option<Option<u32>>
     ensures { (rest : Option ℕ) → length_in_slot slot.now p rest ≡ unwrap_or result rest }
 {
@@ -30,7 +29,6 @@ fn length_in(slot: &Slot, p: u32) -> Option<Option<u32>>
     }
 }
 
-/// The slot holds packet p, and its head holds its length.
 fn is_stored_in(slot: Slot, p: u32) -> bool
     ensures { result ≡ stored_in_slot slot p }
 {
@@ -40,7 +38,7 @@ fn is_stored_in(slot: Slot, p: u32) -> bool
     }
 }
 
-/// The length of packet p, where it is held and its length is known.
+/// The length of packet p, if it is held and its length is known.
 pub fn known_length(held: &Slots, p: u32) -> Option<u32>
     ensures { result ≡ known_length_of held.now p }
 {
@@ -60,7 +58,7 @@ pub fn known_length(held: &Slots, p: u32) -> Option<u32>
     None
 }
 
-/// The length of packet p where it is known, and 0 else.
+/// The length of packet p, or 0 if it isn't known.
 pub fn length_in_hand(held: &Slots, p: u32) -> u32
     ensures { result ≡ length_in_hand_of held.now p }
 {
@@ -81,7 +79,7 @@ pub fn holds_any(held: Slots) -> bool
     held[0].is_some() || held[1].is_some() || held[2].is_some() || held[3].is_some()
 }
 
-/// The packet goes into the first free slot, with no length known.
+/// Puts the packet into the first free slot, with no length known.
 pub fn put_packet(held: &mut Slots, p: u32)
     ensures { held.new ≡ put_of held.old p }
 {
@@ -97,7 +95,7 @@ pub fn put_packet(held: &mut Slots, p: u32)
     }
 }
 
-/// The slot is free, where it held packet p.
+/// Frees the slot, if it held packet p.
 fn empty_slot(slot: &mut Slot, p: u32)
     ensures { slot.new ≡ slot_without p slot.old }
 {
@@ -116,7 +114,6 @@ pub fn drop_packet(held: &mut Slots, p: u32)
     empty_slot(&mut held[3], p);
 }
 
-/// The slot of packet p says this length, and whether the head holds it.
 fn set_slot(slot: &mut Slot, p: u32, length: u32, stored: bool)
     ensures { slot.new ≡ slot_with p (Some length) stored slot.old }
 {
@@ -127,7 +124,7 @@ fn set_slot(slot: &mut Slot, p: u32, length: u32, stored: bool)
     }
 }
 
-/// What is known of the packet becomes this length, which its head holds or not.
+/// Sets what is known of the packet: this length, and whether its head holds it.
 #[inline(always)]
 pub fn set_length(held: &mut Slots, p: u32, length: u32, stored: bool)
     ensures { held.new ≡ set_length_of held.old p length stored }

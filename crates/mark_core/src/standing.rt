@@ -1,4 +1,4 @@
-//! What a seat may do, by how it stands to the world, to its help and to the phase.
+//! What a seat may do, by how it stands to the world and to the phase.
 ghost use Rattle.std.specs.Prelude.{◌≡◌, ◌&&◌};
 ghost use Rattle.mark_core.specs.Seats.{phase_number as phase_number_of, phase_of as phase_of_word, is_phase as is_phase_of, saw as saw_phase, is_the as is_the_number, may_trace as may_trace_in, may_sweep as may_sweep_in, may_clear as may_clear_in, takes_part as takes_part_of, is_bare as is_bare_seat, has_turn as has_turn_of, may_mutate as may_mutate_of};
 ghost use Rattle.mark_core.specs.declared.kinds.Phase.TheVariants.{Marking};
@@ -20,7 +20,7 @@ pub fn phase_number(phase: Phase) -> u64
     }
 }
 
-/// The phase that its word says. Full stands for 5 and all above, which no heap has.
+/// The phase that its word says. All numbers from 5 on say Full; none above 5 occurs.
 pub fn phase_of(word: u64) -> Phase
     ensures { result ≡ phase_of_word word }
 {
@@ -61,7 +61,7 @@ pub fn is_the(held: Option<u32>, number: u32) -> bool
     }
 }
 
-/// Whether the seat is a tracer: it marks as a mutator, or alone in the stop, or as a helper.
+/// Whether the seat may trace: as a mutator, alone in its stop, or as a helper.
 pub fn may_trace(phase: u64, s: &SeatState) -> bool
     ensures { result ≡ may_trace_in phase s.now }
 {
@@ -70,7 +70,7 @@ pub fn may_trace(phase: u64, s: &SeatState) -> bool
         || s.admitted && saw(s.phase_seen, Phase::Drain)
 }
 
-/// Whether the seat is a sweeper: the one that stopped the world, or a helper.
+/// Whether the seat may sweep: it stopped the world, or helps.
 pub fn may_sweep(phase: u64, s: &SeatState) -> bool
     ensures { result ≡ may_sweep_in phase s.now }
 {
@@ -84,7 +84,7 @@ pub fn may_clear(phase: u64, s: &SeatState) -> bool
     s.knows && is_phase(phase, Phase::Clear)
 }
 
-/// The season is the section's turn: even for the catalogue, odd for a warehouse.
+/// Whether the season is the section's turn: even for the catalogue, odd for a warehouse.
 fn has_turn(section: Option<u32>, season: Option<u64>) -> bool
     ensures { result ≡ has_turn_of section season }
 {
@@ -95,15 +95,16 @@ fn has_turn(section: Option<u32>, season: Option<u64>) -> bool
 }
 
 impl SeatState {
-    /// Whether the seat runs, or stopped the world, or helps. Only such a seat reads allocation bits, dirties cards and adds to statistics.
+    /// Whether the seat runs, or stopped the world, or helps. Only such a seat reads allocation bits, dirties cards
+    /// and adds to statistics.
     pub fn takes_part(&self) -> bool
         ensures { result ≡ takes_part_of self.now }
     {
         self.active || self.knows || self.admitted
     }
 
-    /// Whether the seat is outside: not in the world's number, without a stop of its own, and not among the helpers. Only such a seat enters, raises the stop
-    /// flag or joins the helpers.
+    /// Whether the seat is outside: not in the world's number, without a stop of its own, and not among the
+    /// helpers. Only such a seat enters, raises the stop flag or joins the helpers.
     pub fn is_bare(&self) -> bool
         ensures { result ≡ is_bare_seat self.now }
     {

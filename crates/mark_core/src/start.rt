@@ -10,7 +10,7 @@ use crate::numbers::{EMPTY_OFFSET, WORD_BITS};
 use crate::seat::SeatState;
 use std::alloc::{AllocError, Global};
 
-/// A seat that has nothing but its number, and its section by its place.
+/// A seat that has only its number, and its section by its place.
 pub fn start_seat(shape: &Shape, number: u32) -> SeatState
     ensures { result ≡ start_seat_of shape.now number }
 {
@@ -68,7 +68,7 @@ fn new_seats(alloc: Global, shape: &Shape, count: u32) -> Result<Vec<SeatState>,
     (0..count).map(|k| start_seat(shape, k)).collect(alloc)
 }
 
-/// So many seats that have done nothing, with room for [`SEATS`](crate::SEATS). Out of memory is the only refusal.
+/// So many seats that have done nothing. It is refused only if memory runs out.
 pub fn start_seats(alloc: Global, shape: &Shape, count: u32) -> Result<Vec<SeatState>, AllocError>
     ensures seats { IfOk result (λ v. v.items ≡ start_seats_of shape.now count) }
     ensures room { IfOk result (λ v. most_seats ≤ vec_capacity v) }
@@ -78,7 +78,6 @@ pub fn start_seats(alloc: Global, shape: &Shape, count: u32) -> Result<Vec<SeatS
     Ok(seats)
 }
 
-/// The bits of the first `count` packets in word `g` of a pool.
 fn packet_bits(count: u32, g: u32) -> u64
     requires { g < 65536 }
     ensures { result ≡ packet_bits_of count g }
@@ -91,7 +90,6 @@ fn packet_bits(count: u32, g: u32) -> u64
     }
 }
 
-/// The words of the empty pool, which holds all packets.
 fn full_pool(alloc: Global, shape: &Shape) -> Result<Vec<u64>, AllocError>
     requires { IsShape shape.now }
     ensures { IfOk result (λ v. v.items ≡ full_pool_of shape.now) }
@@ -101,7 +99,8 @@ fn full_pool(alloc: Global, shape: &Shape) -> Result<Vec<u64>, AllocError>
         .collect(alloc)
 }
 
-/// The words of a new heap: no seat runs, the phase is Idle, all packets are empty and in their pool, and no cell is made. Out of memory is the only refusal.
+/// The words of a new heap, in Idle: all packets are empty and in their pool, and no cell is made. It is refused
+/// only if memory runs out.
 pub fn start_words(alloc: Global, shape: &Shape) -> Result<Vec<u64>, AllocError>
     requires { IsShape shape.now }
     ensures { IfOk result (λ v. v.items ≡ start_words_of shape.now) }

@@ -18,8 +18,8 @@ use plain_heap::OutOfMemory;
 use std::alloc::Global;
 use std::marker::Model;
 
-/// A state: the sizes of the heap, its words, and a record for each seat. Every state that can be reached came from
-/// [`CoreState::start`] by events that were allowed. It has room for [`SEATS`](crate::SEATS) seats, so no call but `start` takes memory.
+/// The sizes of a heap, its words, and a record for each seat. It came from [`CoreState::start`] by allowed events.
+/// There is room for [`SEATS`](crate::SEATS) seats, so only `start` takes memory.
 #[derive(Drop)]
 pub struct CoreState {
     pub(crate) shape: Shape,
@@ -43,9 +43,9 @@ impl Model for CoreState {
 }
 
 impl CoreState {
-    /// The state in which `seats` seats, 1 to [`SEATS`](crate::SEATS), have done nothing yet: every cell is free and white, every packet
-    /// is in the empty pool, and the phase is Idle. Seat w has section w, and seats past the sections have none. The
-    /// shape must be within its limits. It is refused only where memory ran out.
+    /// The state in which `seats` seats, 1 to [`SEATS`](crate::SEATS), have done nothing. Seat w has section w, and
+    /// seats past the sections have none. The shape must be within its limits. It is refused only if memory runs
+    /// out.
     pub fn start(alloc: Global, shape: Shape, seats: u32) -> Result<CoreState, OutOfMemory>
         requires shaped { IsShape shape }
         requires some { 1 ≤ seats }
@@ -86,7 +86,6 @@ impl CoreState {
         )
     }
 
-    /// The one write of the event, and the changes of the seats' records.
     fn act(&mut self, event: &Event)
         requires { failing_part self.old event.now ≡ None }
         ensures { self.new ≡ after_event self.old event.now }
@@ -102,9 +101,8 @@ impl CoreState {
         change_others(&self.shape, &mut self.seats, &event.step);
     }
 
-    /// Takes one step of one seat. An event is refused exactly where a part of its step's condition fails, with the
-    /// step's kind and the least such part, and the state then stays as it was; a seat that doesn't exist or was
-    /// joined into another fails part 0.
+    /// Takes one step of one seat. An event is refused exactly if a part of its step's condition fails, with the
+    /// step's kind and the least such part, and the state then stays as it was.
     pub fn apply(&mut self, event: Event) -> Result<(), NotAllowed>
         ensures allowed { OnOk result (failing_part self.old event ≡ None) }
         ensures after { self.new ≡ (if is_ok result then after_event self.old event else self.old) }
@@ -125,8 +123,8 @@ impl CoreState {
         }
     }
 
-    /// Takes the events in order, up to the first that is refused, and answers its index and what it broke. The state
-    /// is then that after the events before it.
+    /// Takes the events in order, up to the first that is refused, and answers its index and what it broke. The
+    /// state is that after the events before it.
     pub fn run(&mut self, events: &[Event]) -> Result<(), (usize, Rule)>
         ensures state { self.new ≡ run_of events.now self.old }
         ensures all { OnOk result (first_refused 0 events.now self.old ≡ None) }
@@ -142,7 +140,7 @@ impl CoreState {
         Ok(())
     }
 
-    /// The sizes of the heap. Whatever events led to the state, and in whichever order the seats acted, it is sound.
+    /// The sizes of the heap. Whatever events led to it, the state is sound.
     pub fn shape(&self) -> &Shape
         ensures shape { result.now ≡ self.now.shape }
         ensures sound { IsCore self.now }
@@ -150,14 +148,14 @@ impl CoreState {
         &self.shape
     }
 
-    /// What the seat with this number knows and has in hand; nothing where there is no such seat.
+    /// What the seat with this number knows and has in hand, if there is such a seat.
     pub fn seat(&self, seat: u32) -> Option<&SeatState>
         ensures { option_copied result ≡ slice_get self.now.seats seat }
     {
         seat_at(self.seats.as_slice(), seat)
     }
 
-    /// The word at this index, in the order of the crate's overview; nothing past the last word.
+    /// The word at this index, in the order of the crate's overview; None past the last word.
     pub fn word(&self, index: u32) -> Option<u64>
         ensures { result ≡ slice_get self.now.words index }
     {

@@ -1,4 +1,4 @@
-//! What a state comes to: whether marking is done, and how many cells are marked and in use.
+//! Whether marking is done, and how many cells are marked and in use.
 ghost use Rattle.std.specs.Prelude.{◌≡◌, ◌&&◌, length, []};
 ghost use Rattle.std.specs.List.{list_any};
 ghost use Rattle.mark_core.specs.Shapes.{IsShape};
@@ -40,7 +40,6 @@ fn is_in_use(allocs: &[u64], seats: &[SeatState], c: u32) -> bool
     cell_bit(allocs, c) || is_made(seats, c)
 }
 
-/// The seat knows that the world is stopped, all packets are empty in their pool, and it has no work in hand.
 fn sees_quiet(shape: &Shape, words: &[u64], s: &SeatState) -> bool
     ensures { result ≡ sees_quiet_of shape.now (words_of shape.now words.now) s.now }
 {
@@ -53,7 +52,6 @@ fn some_sees_quiet(shape: &Shape, words: &[u64], seats: &[SeatState]) -> bool
     seats.iter().any(|s| sees_quiet(shape, words, s))
 }
 
-/// No card is dirty, and each root is nil or names a marked cell.
 fn is_marked_from_roots(shape: &Shape, words: &[u64]) -> bool
     requires shaped { IsShape shape.now }
     requires whole { length words.now ≡ total_words_of (region_sizes shape.now) }
@@ -95,9 +93,9 @@ fn used_cells(shape: &Shape, words: &[u64], seats: &[SeatState]) -> u32
 }
 
 impl CoreState {
-    /// Whether marking is done, as some seat may tell: it knows that the world is stopped in Drain, every packet is
-    /// in the empty pool, it has no work in hand, no card is dirty, and each root is nil or names a marked cell.
-    /// Every reachable cell is then marked ([`crate::closed_marks_all`]).
+    /// Whether marking is done, as some seat that has stopped the world in Drain may tell: every packet is in the
+    /// empty pool, it has no work in hand, no card is dirty, and no root names a white cell. Every reachable cell
+    /// is then marked ([`crate::closed_marks_all`]).
     pub fn is_closed(&self) -> bool
         ensures { result ≡ is_closed_of self.now }
     {

@@ -6,14 +6,14 @@ ghost use Rattle.mark_core.specs.Shapes.{IsShape};
 use crate::kinds::Shape;
 use crate::layout;
 
-/// The word at this address, or nothing past the last one.
+/// The word at this address; None past the last one.
 pub fn word_at(words: &[u64], at: usize) -> Option<u64>
     ensures { result ≡ slice_get words.now at }
 {
     words.get(at).copied()
 }
 
-/// The word at this address, and 0 past the last one.
+/// The word at this address; 0 past the last one.
 pub fn read(words: &[u64], at: usize) -> u64
     ensures { result ≡ slice_index words.now at }
 {

@@ -74,7 +74,7 @@ creating-long fields s u n cell =
     let all = length-append (making_steps fields cell n (next_word s)) (StoreRoot u (cell + 1) ∷ []) in
     omega (arith, nils, made, all)
 
--- where objects are shared nobody is asked first
+-- if objects are shared, nobody is asked first
 pub setting-long : (s : SeatState) (u i w : ℕ) → length (setting_steps s u i w) ≤ 2
 setting-long s u i w = either_long {X = Step} (word_in s u == 0) [] (barrier_steps s u i (Some w)) 2 (omega arith) (barrier-long s u i (Some w))
 

@@ -27,7 +27,7 @@ named-holding zero n (refs.Cat k) own names e = absurd names
 named-holding (suc w) n (refs.Cat k) true names e = absurd (omega (arith, names.0, eqb-true (suc w) (n / section_span) e))
 named-holding (suc w) n (refs.Cat k) false names e = refl
 
--- nothing changed where the identity was read
+-- nothing changed when the identity was read
 pub looked : (c n : ℕ) (v w : View) → Found (ReadIdent c) n v w → Looks v w
 looked c n v w f = record { ran = ran-found v w (ReadIdent c) n refl f; only = only-after reads_ident v w (ReadIdent c) n refl f.0; state = ap (λ (x : View). x.state) f.0; own = ap (λ (x : View). x.own) f.0 }
 

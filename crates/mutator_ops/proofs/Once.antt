@@ -36,7 +36,7 @@ spared (x ∷ xs) e =
     let rest = spared xs h.1 in
     omega (arith, one, rest)
 
--- a call that sees to the plain heap's steps alone by its last
+-- a call that sees to the plain heap's steps only by its last
 pub once-last : (u v w : View) → Ran u v → Ran v w → Only spares_plain u v → IsOneStep v w → IsOneStep u w
 once-last u v w a b o one =
     let first = spared (events u v) o in

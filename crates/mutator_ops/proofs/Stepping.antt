@@ -55,7 +55,7 @@ reads-none p v = record { ran = ran-refl v; only = only-none p v; spares = only-
 abbrev beside : SectionState → SectionState → SectionState
 beside x y = record x { meaning = y.meaning; history = y.history; settled = y.settled }
 
--- the whole command, where `same` is what the store is called
+-- the whole command; `same` is what the store is called
 pub root-does :
     (op same : Op) (u r : ℕ) (v x w : View)
     → IsFalse v.shape.sharing

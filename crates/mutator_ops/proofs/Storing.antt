@@ -85,7 +85,7 @@ ident-spares : (step : Step) → reads_ident step ≡ true → spares_plain step
 ident-spares (ReadIdent c) e = refl
 ident-spares step e = absurd (false≢true e)
 
--- the whole command, where it looked first whose object it is
+-- the whole command, if it looked first whose object it is
 pub looks-does : (op : Op) (dropped : ℕ) (v w : View) → ((step : Step) → reads_ident step ≡ true → belongs op step ≡ true) → Looks v w → IsStepped op dropped v w → Does op dropped v w
 looks-does op dropped v w more k heap =
     record {
@@ -98,7 +98,7 @@ looks-does op dropped v w more k heap =
       own = k.own ∙ ap (λ (y : SectionState). record v.own { meaning = y.meaning; history = y.history; settled = y.settled }) (sym k.own);
     }
 
--- the whole command, where it looked first whose object it is, and stored
+-- the whole command, if it looked first whose object it is, and stored
 pub stores-does : (op : Op) (v x w : View) → ((step : Step) → reads_ident step ≡ true → belongs op step ≡ true) → Looks v x → Ran x w → Only (belongs op) x w → w.state ≡ x.state
     → w.own ≡ record x.own { meaning = w.own.meaning; history = w.own.history; settled = w.own.settled } → IsOneStep x w → IsStepped op 0 v w → w.own.meaning.heap.dropped ≡ x.own.meaning.heap.dropped → Does op 0 v w
 stores-does op v x w more k ran only state own once heap undropped =

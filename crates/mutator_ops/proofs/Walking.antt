@@ -58,7 +58,7 @@ walk-more heap catalogue i n refs.Nil some = absurd (some refl)
 walk-more heap catalogue i n (refs.Own k) some = refl
 walk-more heap catalogue i n (refs.Cat k) some = refl
 
--- so many visits, with this sum, and those to come
+-- this many visits, with this sum, and those to come
 abbrev pub plus : ℕ → ℕ → ℕ × ℕ → ℕ × ℕ
 plus count total w = (count + w.0, total + w.1)
 

@@ -61,11 +61,11 @@ plain_steps (x ∷ xs) = (if stores_plainly x then 1 else 0) + plain_steps xs
 abbrev pub IsOneStep : View → View → Type 0
 IsOneStep v w = plain_steps (steps_of (events v w)) ≤ 1
 
--- the plain heap after a command which dropped so many stores, whatever was dropped before
+-- the plain heap after a command which dropped this many stores, whatever was dropped before
 abbrev pub IsStepped : Op → ℕ → View → View → Type 0
 IsStepped op dropped v w = (d : ℕ) → with_dropped (d + dropped) w.own.meaning.heap ≡ heap_after (with_dropped d v.own.meaning.heap) (seen v) op
 
--- a command that makes no object was done, which dropped so many stores: of the record it changes the variables alone, and of the section the plain heap
+-- a command that makes no object was done, which dropped this many stores: in the record it changes only the variables, and in the section only the plain heap
 pub record Does (op : Op) (dropped : ℕ) (v w : View) : Type 0 where
   pub ran : Ran v w
   pub only : Only (belongs op) v w

@@ -5,11 +5,11 @@ use Rattle.plain_heap.specs.declared.operation.Op.TheVariants as ops
 use Rattle.gc_table.specs.declared.view.View.{View}
 use Rattle.gc_table.specs.Log.{events}
 
--- the call took so many steps at most
+-- the call took this many steps at most
 abbrev pub AtMost : ℕ → View → View → Type 0
 AtMost k v w = length (events v w) ≤ k
 
--- the steps that a command takes at most, in a heap whose objects have so many fields
+-- the steps that a command takes at most, in a heap whose objects have this many fields
 abbrev pub most_steps : ℕ → Op → ℕ
 most_steps fields (ops.New v n) = fields + 3
 most_steps fields (ops.Let v w) = 1

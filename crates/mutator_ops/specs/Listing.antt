@@ -12,7 +12,7 @@ use Rattle.mutator_ops.specs.Sharing.{next_word}
 use Rattle.mutator_ops.specs.declared.objects.Holds.{Holds}
 use Rattle.mutator_ops.specs.declared.objects.Holds.TheVariants.{LentObject, Nothing, OwnObject}
 
--- variable u becomes field i of variable w's object, as it was found; where w is nil, nothing is read
+-- variable u becomes field i of variable w's object, as it was found; if w is nil, nothing is read
 abbrev pub following_events : SeatState → ℕ → ℕ → ℕ → ℕ → List Entry
 following_events s u w i found =
     if word_in s w == 0 then event (StoreRoot u 0) 0 ∷ []
@@ -22,11 +22,11 @@ following_events s u w i found =
 abbrev pub lending_events : ℕ → ℕ → ℕ → List Entry
 lending_events u c found = event (ReadCat c) found ∷ event (StoreRoot u (reference_in found)) (reference_in found) ∷ []
 
--- the value of variable u's object is read, where there is one
+-- the value of variable u's object is read, if there is one
 abbrev pub saying_steps : SeatState → ℕ → List Step
 saying_steps s u = if word_in s u == 0 then [] else ReadValue (word_in s u - 1) ∷ []
 
--- the object in this cell is asked whose it is, and these steps are taken where it is of the own section
+-- the object in this cell is asked whose it is, and these steps are taken if it is of the own section
 abbrev pub storing_steps : Holds → ℕ → List Step → List Step
 storing_steps Nothing cell steps = []
 storing_steps OwnObject cell steps = ReadIdent cell ∷ steps

@@ -31,7 +31,7 @@ pub record TakesSteps (steps : List Step) (v w : View) : Type 0 where
   pub steps_are : steps_of (events v w) ≡ steps
   pub state : w.state ≡ v.state
 
--- the steps of a store in variable u's object: none where the variable is nil
+-- the steps of a store in variable u's object: none if the variable is nil
 abbrev pub setting_steps : SeatState → ℕ → ℕ → ℕ → List Step
 setting_steps s u i w = if word_in s u == 0 then [] else barrier_steps s u i (Some w)
 
@@ -42,7 +42,7 @@ pub record FollowsFound (u w i : ℕ) (v x : View) : Type 0 where
   pub events_are : events v x ≡ event (ReadOwn (word_in v.state w - 1) i) found ∷ event (StoreRoot u (reference_in found)) (reference_in found) ∷ []
   pub state : x.state ≡ record v.state { env = slice_set v.state.env u (reference_in found) }
 
--- the step of a store of a value in variable u's object: none where the variable is nil
+-- the step of a store of a value in variable u's object: none if the variable is nil
 abbrev pub putting_steps : SeatState → ℕ → ℕ → List Step
 putting_steps s u n = if word_in s u == 0 then [] else StoreValue u n ∷ []
 

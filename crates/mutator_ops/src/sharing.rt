@@ -1,4 +1,5 @@
-//! Calls of a mutator whose heap shares its objects: each is told by the steps that it takes, and each takes effect at one of them.
+//! Calls of a mutator whose heap shares its objects: each takes effect at one of the steps that it lists. The
+//! objects may be anybody's.
 ghost use Rattle.std.specs.Prelude.{◌≡◌, ◌≢◌, ◌<◌, ◌-◌, ◌∷◌, [], IfNone, IfSome, IsTrue, Some};
 ghost use Rattle.std.specs.Int.Count.{ones};
 ghost use Rattle.mark_core.specs.Numbers.{section_variables};
@@ -18,7 +19,7 @@ use card_clean::{exchange_ref, exchange_value, share_ref, share_value};
 use gc_table::{Heap, HeapSeat};
 use mark_core::Cell;
 
-/// Field i of variable v's object, whoever made it, becomes what variable w is, by the barrier. Nothing happens where v is nil.
+/// Field i of variable v's object becomes what variable w is, by the barrier. Nothing happens if v is nil.
 pub fn share_set(heap: &Heap, seat: &mut HeapSeat, v: u8, i: u8, w: u8)
     requires seat { Sits heap.now seat.old × SharesReady (view_of seat.old) }
     requires range { (v < section_variables) × (i < heap.now.shape.fields) × (w < section_variables) }
@@ -31,7 +32,7 @@ pub fn share_set(heap: &Heap, seat: &mut HeapSeat, v: u8, i: u8, w: u8)
     share_ref(heap, seat, v, i, Some(w));
 }
 
-/// Variable v becomes field i of variable w's object, which isn't nil, whoever made it.
+/// Variable v becomes field i of variable w's object, which isn't nil.
 pub fn share_follow(heap: &Heap, seat: &mut HeapSeat, v: u8, w: u8, i: u8)
     requires seat { Sits heap.now seat.old × SharesReady (view_of seat.old) }
     requires range { (v < section_variables) × (w < section_variables) × (i < heap.now.shape.fields) }
@@ -45,8 +46,8 @@ pub fn share_follow(heap: &Heap, seat: &mut HeapSeat, v: u8, w: u8, i: u8)
     heap.store_root(seat, v, u64::from(field));
 }
 
-/// Where field i of variable v's object, which isn't nil, is what variable `expected` is, or nil, it becomes what variable `new` is, or nil, by the barrier: true
-/// where it was. Of several mutators that expect the same one alone gets true.
+/// If field i of variable v's object, which isn't nil, is what variable `expected` is, or nil, it becomes what
+/// variable `new` is, or nil, by the barrier: true if it was. Of several that expect the same one wins.
 pub fn share_exchange(
     heap: &Heap,
     seat: &mut HeapSeat,
@@ -66,7 +67,8 @@ pub fn share_exchange(
     exchange_ref(heap, seat, v, i, expected, new)
 }
 
-/// Where the value of variable v's object, which isn't nil, is the expected one it becomes the new one: true where it was. So threads count, and take and free locks.
+/// If the value of variable v's object, which isn't nil, is the expected one it becomes the new one: true if it
+/// was.
 pub fn share_count(heap: &Heap, seat: &mut HeapSeat, v: u8, expected: u32, new: u32) -> bool
     requires seat { Sits heap.now seat.old × SharesReady (view_of seat.old) }
     requires range { v < section_variables }
@@ -78,8 +80,8 @@ pub fn share_count(heap: &Heap, seat: &mut HeapSeat, v: u8, expected: u32, new: 
     exchange_value(heap, seat, v, expected, new)
 }
 
-/// The value of variable v's object, whoever made it, by one read. None where v is nil, and then no step is taken. Nothing here says that a value has 32 bits,
-/// which only `share_put` and `share_create` store: so the answer has 64.
+/// The value of variable v's object, by one read; None if v is nil, without a step. It has 64 bits: no clause says
+/// that a value has 32, which only `share_put` and `share_create` store.
 pub fn share_value_of(heap: &Heap, seat: &mut HeapSeat, v: u8) -> Option<u64>
     requires seat { Sits heap.now seat.old × SharesReady (view_of seat.old) }
     requires range { v < section_variables }
@@ -94,7 +96,7 @@ pub fn share_value_of(heap: &Heap, seat: &mut HeapSeat, v: u8) -> Option<u64>
     Some(heap.read_value(seat, Cell::make(word - 1)))
 }
 
-/// The value of variable v's object, whoever made it, becomes n. Nothing happens where v is nil.
+/// The value of variable v's object becomes n. Nothing happens if v is nil.
 pub fn share_put(heap: &Heap, seat: &mut HeapSeat, v: u8, n: u32)
     requires seat { Sits heap.now seat.old × SharesReady (view_of seat.old) }
     requires range { v < section_variables }
@@ -128,7 +130,7 @@ pub fn share_forget(heap: &Heap, seat: &mut HeapSeat, v: u8)
     heap.store_root(seat, v, 0);
 }
 
-/// Variable v becomes what variable c of section 0 is found to be, by one read. The seat is of another section.
+/// Variable v becomes what one read of variable c of section 0 finds. The seat is of another section.
 pub fn share_lend(heap: &Heap, seat: &mut HeapSeat, v: u8, c: u8)
     requires seat { Sits heap.now seat.old × SharesReady (view_of seat.old) }
     requires range { (v < section_variables) × (c < section_variables) }
@@ -141,8 +143,8 @@ pub fn share_lend(heap: &Heap, seat: &mut HeapSeat, v: u8, c: u8)
     heap.store_root(seat, v, u64::from(word));
 }
 
-/// Makes an object with value n and nil fields in a cell of the cache, and variable v refers to it: it is there for others from the last step on. None comes
-/// exactly where the cache has no free cell, and nothing changes then.
+/// Makes an object with value n and nil fields in a cell of the cache; variable v refers to it, by the last step.
+/// The answer is None exactly if the cache has no free cell, and nothing changes.
 pub fn share_create(
     heap: &Heap,
     seat: &mut HeapSeat,

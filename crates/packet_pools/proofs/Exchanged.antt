@@ -64,7 +64,7 @@ put-frees (Some x ∷ hs) p f = put-frees hs p f
 pub with-frees : (hs : Slots) (p n : ℕ) → has_free_slot hs ≡ true → free_slots (with_packet hs p n) + 1 ≡ free_slots hs
 with-frees hs p n f = ap (λ m. m + 1) (set-frees (put_packet hs p) p n true) ∙ put-frees hs p f
 
--- a slot is free where one is counted
+-- a slot is free if one is counted
 pub some-free : (hs : Slots) → 0 < free_slots hs → has_free_slot hs ≡ true
 some-free [] l = absurd (omega (arith, l))
 some-free (None ∷ hs) l = refl

@@ -62,7 +62,7 @@ word-there sh g l = omega (arith, l)
 pub tries-later : (sh : Shape) (b : Bool) (words lo p q more : ℕ) (es : List Entry) → p ≤ q → TriesPackets sh b words lo p more es → TriesPackets sh b words lo q more es
 tries-later sh b words lo p q more es l t = let w = t.within in record { tried = t.tried; within = omega (arith, w, l); there = t.there; few = t.few }
 
--- one more packet, where it is there
+-- one more packet, if it is there
 pub tries-next : (sh : Shape) (b : Bool) (words lo p more : ℕ) (u v w : View) → Ran u v → Ran v w → TriesPackets sh b words lo p 0 (events u v) → (p < sh.packets → length (events v w) ≤ try_steps b + more) → (sh.packets ≤ p → length (events v w) ≤ 0) → TriesPackets sh b words lo (p + 1) more (events u w)
 tries-next sh b words lo p more u v w ran later t one none =
     let within = t.within in

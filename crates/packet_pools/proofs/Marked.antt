@@ -16,7 +16,7 @@ use Rattle.gc_table.proofs.Running.{run-keeps}
 use Rattle.packet_pools.specs.OnlyTraced.{IsNotedMarked, traces_cells}
 use Rattle.packet_pools.proofs.TracedSteps.{mark-keeps}
 
--- tracing doesn't end that the seat is alone
+-- a seat that is alone stays so while it traces
 pub tracing-alone : (step : Step) → traces_cells step ≡ true → ends_alone step ≡ false
 tracing-alone OpenStep p = absurd (false≢true p)
 tracing-alone DropStep p = absurd (false≢true p)

@@ -48,7 +48,7 @@ takes-first q qs room h v w r g =
       moves = first-pool q qs (events v w) g.moves;
     }
 
--- a packet of a later pool, where a whole search of the first found none
+-- a packet of a later pool, if a whole search of the first found none
 pub takes-next : (sh : Shape) (q : ℕ) (qs : List ℕ) (h : Held) (v u w : View) → v.shape ≡ sh → OnlyTraced v u → OnlyTraced u w → u.state ≡ v.state → MissesPackets sh q false 0 (word_bits * pool_words sh) (events v u) → Takes qs h u w → Takes (q ∷ qs) h v w
 takes-next sh q qs h v u w shape a b e m t =
     let es = events-join v u w a.log b.log in

@@ -118,7 +118,7 @@ moves-steps qs (e ∷ es) = ap (λ (b : Bool). moves_packet qs e.step && b) (mov
 pub ungot : (sh : Shape) (q : ℕ) (not_full : Bool) (lo hi p : ℕ) (es : List Entry) → MissesPackets sh q not_full lo hi es → hi ≤ p → was_got p es ≡ false
 ungot sh q not_full lo hi p es m h = false_from_ne_true (was_got p es) (λ e. absurd (let l = (m.got p e).1 in omega (arith, l, h)))
 
--- where full packets don't go back, nothing is got in vain
+-- if full packets don't go back, nothing is got in vain
 pub none-got : (sh : Shape) (q lo hi p : ℕ) (es : List Entry) → MissesPackets sh q false lo hi es → was_got p es ≡ false
 none-got sh q lo hi p es m = false_from_ne_true (was_got p es) (λ e. false≢true (m.got p e).0)
 

@@ -39,13 +39,13 @@ keep-one v step n e = ap (all_keep v) (events-after v (after step n v) step n re
 pub keep-join : (u v w : View) → events u w ≡ events u v ++ events v w → Ran u v → all_keep u (events u v) ≡ true → all_keep v (events v w) ≡ true → all_keep u (events u w) ≡ true
 keep-join u v w all a x y = ap (all_keep u) all ∙ keep-append (events u v) (events v w) u x (ap (λ z. all_keep z (events v w)) (sym a.steps) ∙ y)
 
--- what was noted of another place stays, where it may be kept
+-- what was noted of another place stays, if it may be kept
 note-stays : (keeps : ℕ × ℕ → ℕ → Bool) (to at : ℕ × ℕ) (word n : ℕ) (xs : Notes) → same_place to at ≡ false → keeps at n ≡ true → look at xs ≡ Some n → look at (noting keeps to word xs) ≡ Some n
 note-stays keeps to at word n xs apart k h =
     look-map keeps at ((to, Some word) ∷ xs)
     ∙ (ap (λ (b : Bool). if_kept keeps at (cond b (Some word) (look at xs))) apart ∙ (ap (if_kept keeps at) h ∙ ap (λ (b : Bool). cond b (Some n) None) k))
 
--- what was noted of this place stays, where the word is left
+-- what was noted of this place stays, if the word is left
 note-again : (keeps : ℕ × ℕ → ℕ → Bool) (to at : ℕ × ℕ) (word n : ℕ) (xs : Notes) → same_place to at ≡ true → word ≡ n → keeps at n ≡ true → look at (noting keeps to word xs) ≡ Some n
 note-again keeps to at word n xs here is k =
     look-map keeps at ((to, Some word) ∷ xs)
@@ -142,7 +142,7 @@ by-step b v step n t e same seen sort keeps =
 pub traced-step : (v : View) (step : Step) (n : ℕ) → is_traced (place v.shape v.state step) ≡ true → rest_of (seat_after v.shape v.state step n) ≡ rest_of v.state → section_after v.shape v.plan v.state step v.own ≡ v.own → IsSeen step n v → traces_cells step ≡ true → keeps_cells v.state step ≡ true → OnlyTraced v (after step n v)
 traced-step v step n t e same seen sort keeps = by-step true v step n t e same seen sort (λ _. keeps)
 
--- so where a cell in hand may be lost
+-- so if a cell in hand may be lost
 pub cleaned-step : (v : View) (step : Step) (n : ℕ) → is_traced (place v.shape v.state step) ≡ true → rest_of (seat_after v.shape v.state step n) ≡ rest_of v.state → section_after v.shape v.plan v.state step v.own ≡ v.own → IsSeen step n v → traces_cells step ≡ true → OnlyCleaned v (after step n v)
 cleaned-step v step n t e same seen sort = by-step false v step n t e same seen sort (λ h. absurd (false≢true h))
 
@@ -208,7 +208,7 @@ marks-noted v x n alone =
     let word : ℕ = with_bit n (x % block_cells) in
     (word, note-again (steady s) at at word word v.known (place-again at) refl (mark-steady s (x / block_cells) word alone), with_same n (x % block_cells))
 
--- the seat only traced up to the view after the call, where it is that after the step
+-- the seat only traced up to the view after the call, if it is that after the step
 pub traced-to : (v w : View) (step : Step) (n : ℕ) → w ≡ after step n v → OnlyTraced v (after step n v) → OnlyTraced v w
 traced-to v w step n e k = subst (OnlyTraced v) (sym e) k
 

@@ -51,7 +51,7 @@ searches_in_vain sh es = no_output sh es && only_moves output_pools es
 abbrev pub dirties_after_search : Shape → List Entry → Bool
 dirties_after_search sh es = each_after (some_end (searches_in_vain sh)) dirties [] es
 
--- so many white cells were marked; so many went into packets, and so many found no packet with room, each after a search of its own
+-- this many white cells were marked; this many went into packets, and this many found no packet with room, each after a search of its own
 pub record CountsMarked (sh : Shape) (white kept lost : ℕ) (es : List Entry) : Type 0 where
   pub marked : count_of marks_white es ≡ white
   pub pushed : count_of pushes es ≡ kept

@@ -16,7 +16,7 @@ abbrev pub cells_named : Step → ℕ → List ℕ
 cells_named (ReadField c i) found = if found == 0 then [] else cell_of found ∷ []
 cells_named step found = []
 
--- a cell that the step marks, where it was white
+-- a cell that the step marks, if it was white
 abbrev pub cells_asked : Step → ℕ → List ℕ
 cells_asked (SetMark c) found = c ∷ []
 cells_asked step found = []

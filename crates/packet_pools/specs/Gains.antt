@@ -33,7 +33,7 @@ pub record Seeks (q : ℕ) (v : View) : Type 0 where
   pub uncredited : IsFalse v.state.credit
   pub free : IsTrue (has_free_slot v.state.held)
 
--- the seat took this packet out of pool q; where room was asked for, the packet has room
+-- the seat took this packet out of pool q; if room was asked for, the packet has room
 pub record Gains (q : ℕ) (not_full : Bool) (h : Held) (v w : View) : Type 0 where
   pub unheld : IsFalse (holds v.state.held h.packet)
   pub held : HoldsPacket h w
@@ -43,18 +43,18 @@ pub record Gains (q : ℕ) (not_full : Bool) (h : Held) (v w : View) : Type 0 wh
   pub got : IsTrue (was_got_from q h.packet (events v w))
   pub moves : IsTrue (only_moves (q ∷ []) (events v w))
 
--- packet p couldn't be taken out of pool q, or had no room where it should
+-- packet p couldn't be taken out of pool q, or had no room though it should
 abbrev pub missed : ℕ → ℕ → Bool → ℕ → List Entry → Bool
 missed entries q not_full p es = was_missed q p es || (not_full && was_full entries p es)
 
--- each packet from lo on and below hi could not be taken out of pool q, or had no room where it should;
--- a packet was got only where room was asked for, and lies below hi
+-- each packet from lo on and below hi could not be taken out of pool q, or had no room though it should;
+-- a packet was got only if room was asked for, and lies below hi
 pub record MissesPackets (sh : Shape) (q : ℕ) (not_full : Bool) (lo hi : ℕ) (es : List Entry) : Type 0 where
   pub all : (p : ℕ) → lo ≤ p → p < hi → p < sh.packets → IsTrue (missed sh.entries q not_full p es)
   pub got : (p : ℕ) → IsTrue (was_got p es) → IsTrue not_full × (p < hi)
   pub moves : IsTrue (only_moves (q ∷ []) es)
 
--- each packet from lo on and below hi was missed, or had no room where it should, and the seat's record is as it was
+-- each packet from lo on and below hi was missed, or had no room though it should, and the seat's record is as it was
 abbrev pub FindsNone : Shape → ℕ → Bool → ℕ → ℕ → View → View → Type 0
 FindsNone sh q not_full lo hi v w = (w.state ≡ v.state) × MissesPackets sh q not_full lo hi (events v w)
 

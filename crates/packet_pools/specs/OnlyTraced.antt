@@ -77,7 +77,7 @@ traces_cells (StoreLength p) = true
 traces_cells (ReadLength p) = true
 traces_cells step = false
 
--- the seat traced, and did nothing else; where this is asked for, it lost no cell in hand
+-- the seat traced, and did nothing else; if this is asked for, it lost no cell in hand
 pub record OnlyTracedBy (strict : Bool) (v w : View) : Type 0 where
   pub shape : w.shape ≡ v.shape
   pub opened : w.opened ≡ v.opened

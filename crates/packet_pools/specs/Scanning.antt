@@ -31,7 +31,7 @@ abbrev pub owes_redirty : Option Cleaning → Bool
 owes_redirty None = false
 owes_redirty (Some x) = x.redirty
 
--- the cleaning y is x, where no debt came up and one may have been paid
+-- the cleaning y is x, if no debt came up and one may have been paid
 pub record Settles (x y : Option Cleaning) : Type 0 where
   pub same : without_redirty y ≡ without_redirty x
   pub debt : IsTrue (owes_redirty y) → IsTrue (owes_redirty x)

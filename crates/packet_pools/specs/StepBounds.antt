@@ -5,7 +5,7 @@ use Rattle.mark_core.specs.declared.kinds.Shape.{Shape}
 use Rattle.gc_table.specs.declared.view.Entry.{Entry}
 use Rattle.packet_pools.specs.declared.held.Held.{Held}
 
--- a packet that isn't had: its take is lost; or, where it must not be full, it is taken, read as full, and given back
+-- a packet that isn't had: its take is lost; or, if it must not be full, it is taken, read as full, and given back
 abbrev pub try_steps : Bool → ℕ
 try_steps false = 1
 try_steps true = 4
@@ -15,7 +15,7 @@ abbrev pub had_steps : Option Held → ℕ
 had_steps None = 0
 had_steps (Some h) = 1
 
--- so many words were read, and packets from lo on and below hi were tried, those that there are, each once
+-- this many words were read, and packets from lo on and below hi were tried, those that there are, each once
 pub record TriesPackets (sh : Shape) (not_full : Bool) (words lo hi more : ℕ) (es : List Entry) : Type 0 where
   pub tried : ℕ
   pub within : lo + tried ≤ hi
@@ -38,7 +38,7 @@ input_steps sh = 2 * pool_steps false sh + 1
 abbrev pub output_steps : Shape → ℕ
 output_steps sh = 2 * pool_steps false sh + pool_steps true sh + 3
 
--- a packet goes back: its length is stored, it is given, and counted where it is empty
+-- a packet goes back: its length is stored, it is given, and counted if it is empty
 abbrev pub give_steps : ℕ
 give_steps = 3
 

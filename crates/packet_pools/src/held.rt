@@ -1,7 +1,7 @@
 //! A packet in a seat's hand.
 ghost use Rattle.std.specs.Prelude.{◌≡◌};
 
-/// A packet that the seat took, and how many cells are in it. It can't be let go: `give` spends it.
+/// A packet in the seat's hand, and how many cells are in it. It can't be dropped: `give` spends it.
 pub struct Held {
     pub(crate) packet: u32,
     pub(crate) length: u32,
@@ -15,7 +15,7 @@ impl Held {
         self.packet
     }
 
-    /// How many cells are in the packet: at most as many as the shape has entries.
+    /// How many cells are in the packet, at most the shape's entries.
     pub fn length(&self) -> u32
         ensures { result ≡ self.now.length }
     {

@@ -17,7 +17,7 @@ use crate::scanned::Scanned;
 use gc_table::{Heap, HeapSeat};
 use mark_core::{Cell, card_of};
 
-/// Pushes the cell that the seat marked. Where no packet has room it dirties the cell's card, and says true.
+/// Pushes the cell that the seat marked. If no packet has room it dirties the cell's card, and answers true.
 #[inline(always)]
 fn push_marked(heap: &Heap, seat: &mut HeapSeat, out: &mut Held, cell: Cell) -> bool
     requires seat { IsTracer heap.now seat.old }
@@ -40,8 +40,8 @@ fn push_marked(heap: &Heap, seat: &mut HeapSeat, out: &mut Held, cell: Cell) -> 
     }
 }
 
-/// Marks the cell that the seat loaded, and pushes it where it was white. The seat holds at most three packets, and
-/// the packet may be changed as [`scan_cell`](crate::scan_cell) says.
+/// Marks the cell that the seat loaded, and pushes it if it was white, as [`scan_cell`](crate::scan_cell) does. The
+/// seat holds at most three packets.
 #[inline(always)]
 pub fn mark_cell(heap: &Heap, seat: &mut HeapSeat, out: &mut Held, cell: Cell) -> Scanned
     requires seat { IsTracer heap.now seat.old }

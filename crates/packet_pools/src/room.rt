@@ -15,7 +15,6 @@ use crate::taking::take_output;
 use gc_table::{Heap, HeapSeat};
 use std::mem;
 
-/// Returns the packet for another one, which the seat holds as well.
 fn change(heap: &Heap, seat: &mut HeapSeat, out: &mut Held, other: Held)
     requires seat { IsTracer heap.now seat.old }
     requires out { HoldsPacket out.old (view_of seat.old) }
@@ -31,7 +30,7 @@ fn change(heap: &Heap, seat: &mut HeapSeat, out: &mut Held, other: Held)
     give(heap, seat, full, false);
 }
 
-/// Takes another packet with room before it returns this one, which is full. Where there is none it keeps this one.
+/// Takes another packet with room, and then returns this one, which is full; or keeps it if there is none.
 #[inline(never)]
 fn change_full(heap: &Heap, seat: &mut HeapSeat, out: &mut Held)
     requires seat { IsTracer heap.now seat.old }
@@ -49,7 +48,7 @@ fn change_full(heap: &Heap, seat: &mut HeapSeat, out: &mut Held)
     }
 }
 
-/// Sees to it that the packet in hand has room. Where it is full still, no packet had room.
+/// Sees to it that the packet in hand has room. If it is still full, no packet had room.
 #[inline(always)]
 pub(crate) fn make_room(heap: &Heap, seat: &mut HeapSeat, out: &mut Held)
     requires seat { IsTracer heap.now seat.old }

@@ -1,4 +1,4 @@
-//! Objects are scanned: what they refer to is marked, and goes into packets.
+//! Objects are scanned: what they refer to is marked and pushed.
 ghost use Rattle.std.specs.Prelude.{◌≡◌, ◌<◌, ◌≤◌, ◌+◌, ◌-◌, [], ◌∷◌, length, Some, None, IsTrue, IsFalse};
 ghost use Rattle.mark_core.specs.Steps.ColourSteps.{may_read_field, without_cell};
 ghost use Rattle.mark_core.specs.Held.{has_free_slot};
@@ -18,7 +18,7 @@ use crate::scanned::Scanned;
 use gc_table::{Heap, HeapSeat};
 use mark_core::{Cell, cell_of};
 
-/// Reads field i of the cell in scan, or the first field of a cell left in cleaning, and marks what it refers to.
+/// Reads a field of the cell in scan, or the first one of a cell left in cleaning, and marks what it refers to.
 #[inline(always)]
 fn scan_field(heap: &Heap, seat: &mut HeapSeat, out: &mut Held, cell: Cell, i: u8) -> Scanned
     requires seat { IsTracer heap.now seat.old }
@@ -40,7 +40,6 @@ fn scan_field(heap: &Heap, seat: &mut HeapSeat, out: &mut Held, cell: Cell, i: u
     mark_cell(heap, seat, out, cell_of(word))
 }
 
-/// Reads the fields of the cell in scan from this one on, and marks what they refer to.
 #[inline(always)]
 fn scan_fields(heap: &Heap, seat: &mut HeapSeat, out: &mut Held, cell: Cell, next: u8) -> Scanned
     requires seat { IsTracer heap.now seat.old }
@@ -64,11 +63,10 @@ fn scan_fields(heap: &Heap, seat: &mut HeapSeat, out: &mut Held, cell: Cell, nex
     scanned
 }
 
-/// Scans what is left of the seat's object in scan: reads each field, marks what it refers to, and pushes what was
-/// white.
+/// Scans what is left of the object in scan: reads each field, marks what it refers to, and pushes what was white.
+/// If no packet has room it dirties the marked cell's card.
 ///
-/// The seat holds at most three packets. A full one goes back once another was taken, which then is the one in hand.
-/// Where no packet has room the marked cell's card is dirtied.
+/// The seat holds at most three packets. A full one is exchanged for another, which is then in `out`.
 #[inline(always)]
 pub fn scan_cell(heap: &Heap, seat: &mut HeapSeat, out: &mut Held) -> Scanned
     requires seat { IsTracer heap.now seat.old }
@@ -89,8 +87,7 @@ pub fn scan_cell(heap: &Heap, seat: &mut HeapSeat, out: &mut Held) -> Scanned
     }
 }
 
-/// Scans the object in scan, which is `cell`, from its first field on: reads each field, marks what it refers to, and pushes what was white, or dirties the
-/// card of a cell that finds no packet with room.
+/// Scans the object in scan, `cell`, from its first field on, as [`scan_cell`] does.
 #[inline(always)]
 pub fn scan_whole(heap: &Heap, seat: &mut HeapSeat, out: &mut Held, cell: Cell) -> Scanned
     requires seat { IsTracer heap.now seat.old }
@@ -109,8 +106,7 @@ pub fn scan_whole(heap: &Heap, seat: &mut HeapSeat, out: &mut Held, cell: Cell) 
     scan_fields(heap, seat, out, cell, 0)
 }
 
-/// Scans a cell that is left in the seat's cleaning: reads each field, marks what it refers to, and pushes what was white, or dirties the card of a cell that
-/// finds no packet with room.
+/// Scans a cell that is left in the seat's cleaning, as [`scan_cell`] does.
 pub fn scan_again(heap: &Heap, seat: &mut HeapSeat, out: &mut Held, cell: Cell) -> Scanned
     requires seat { IsTracer heap.now seat.old }
     requires out { HoldsPacket out.old (view_of seat.old) × IsTrue (has_free_slot (state_of seat.old).held) }

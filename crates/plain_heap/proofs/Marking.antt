@@ -18,7 +18,7 @@ marked_within [] n h = absurd (no h)
 marked_within (b ∷ marks) zero h = omega arith
 marked_within (b ∷ marks) (suc n) h = omega (arith, marked_within marks n h)
 
--- what is marked stays the same where another condition holds of the same numbers
+-- what is marked stays the same if another condition holds of the same numbers
 pub marks_same : (P Q : ℕ → Type 0) (old new : List Bool) (waited waiting : List ℕ) → ((n : ℕ) → Q n → P n) → ((n : ℕ) → P n → Q n) → Marks P old new waited waiting → Marks Q old new waited waiting
 marks_same P Q old new waited waiting to from m = record {
   sized = m.sized;

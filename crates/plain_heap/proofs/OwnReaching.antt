@@ -1,4 +1,4 @@
--- What is reachable of a warehouse where other sections stand beside it: what its own references reach.
+-- What is reachable of a warehouse if other sections stand beside it: what its own references reach.
 use Rattle.std.proofs.Common.{◌≡◌, ℕ, zero, suc, ◌<◌, sym, ◌∙◌, subst, arith, List, [], ◌∷◌}
 use Rattle.std.specs.Prelude.{Some, slice_get, Contains}
 use Rattle.plain_heap.specs.declared.object.Ref.{Ref}
@@ -11,7 +11,7 @@ use Rattle.plain_heap.proofs.Reaching.{of_reachable, reach_on, contains_one, one
 object-among : (few all : List Heap) → ((h : Heap) → Contains few h → Contains all h) → (name : Name) (object : Object) → HasObject few name object → HasObject all name object
 object-among few all within name object (h, c, e, g) = (h, within h c, e, g)
 
--- what is reachable in some heaps is reachable where others stand beside them
+-- what is reachable in some heaps is reachable if others stand beside them
 pub reached-among : (few all : List Heap) → ((h : Heap) → Contains few h → Contains all h) → (name : Name) → IsReachable few name → IsReachable all name
 reached-among few all within = of_reachable few (IsReachable all) held next
   where

@@ -1,4 +1,4 @@
--- Parts one after the other: where each ends, and the first so many of what they hold.
+-- Parts one after the other: where each ends, and the first this many of what they hold.
 use Rattle.std.proofs.Common.{◌≡◌, ◌⊎◌, inl, inr, ℕ, zero, suc, ◌+◌, ◌-◌, ◌<◌, ◌≤◌, refl, ap, sym, ◌∙◌, arith, List, [], ◌∷◌, ◌++◌, length, take, get_or, add-one, length-append}
 use Rattle.std.specs.Prelude.{Some, slice_get}
 use Rattle.std.proofs.lemmas.Bool.{cases_lt}
@@ -11,7 +11,7 @@ use Rattle.plain_heap.specs.Sections.{joined, first_of}
 abbrev pub end_in : {X : Type 0} → List (List X) → ℕ → ℕ
 end_in parts z = length (joined (take z parts))
 
--- the part with so many before it; a missing one is empty
+-- the part with this many before it; a missing one is empty
 abbrev pub part_in : {X : Type 0} → List (List X) → ℕ → List X
 part_in parts z = get_or parts z []
 
@@ -47,13 +47,13 @@ take-append {X} (suc n) [] ys = ap (λ (m : ℕ). take m ys) (let e : suc n ≡ 
 take-append {X} zero (x ∷ xs) ys = ap (λ (m : ℕ). take m ys) (let e : 0 ≡ 0 - suc (length xs) = omega arith in e)
 take-append {X} (suc n) (x ∷ xs) ys = ap (λ (zs : List X). x ∷ zs) (take-append n xs ys ∙ ap (λ (m : ℕ). take n xs ++ take m ys) (let e : n - length xs ≡ suc n - suc (length xs) = omega arith in e))
 
--- the first so many of what parts hold
+-- the first this many of what parts hold
 pub joined-first : {X : Type 0} (k : ℕ) (parts : List (List X)) → joined (first_of k parts) ≡ take k (joined parts)
 joined-first zero [] = refl
 joined-first (suc k) [] = refl
 joined-first {X} k (part ∷ parts) = ap (λ (zs : List X). take k part ++ zs) (joined-first (k - length part) parts) ∙ sym (take-append k part (joined parts))
 
--- the first of them where the first part ends later, and where it doesn't
+-- the first of them if the first part ends later, and if it doesn't
 pub first-within : {X : Type 0} (k : ℕ) (part : List X) (parts : List (List X)) → k ≤ length part → first_of k (part ∷ parts) ≡ take k part ∷ first_of 0 parts
 first-within {X} k part parts below = ap (λ (m : ℕ). take k part ∷ first_of m parts) (let e : k - length part ≡ 0 = omega arith in e)
 

@@ -154,7 +154,7 @@ pub reaches_on : (heap : Heap) (n : ℕ) (old new : List Bool) (all rest waiting
     → Marks (λ m. Contains (refs_at heap n) (refs.Own m)) old new rest waiting → Reaches heap new waiting
 reaches_on heap n old new all rest waiting r e m = reaches_more heap n old new rest waiting (subst (λ (l : List ℕ). Reaches heap old l) e r) m
 
--- where none waits, exactly the reachable objects are marked
+-- if none waits, exactly the reachable objects are marked
 pub reaches_all : (heap : Heap) (marks : List Bool) → Reaches heap marks [] → (n : ℕ) → IsReachable (heap ∷ []) (own heap n) → IsMarked marks n
 reaches_all heap marks r n reachable = (of_reachable (heap ∷ []) P first next (own heap n) reachable).1
   where

@@ -51,6 +51,6 @@ abbrev grown : List Heap → ℕ → List Witness → List Witness
 grown heaps zero ws = ws
 grown heaps (suc rounds) ws = grown heaps rounds (all_added (flat_map (nexts heaps) ws) ws)
 
--- what so many rounds find
+-- what this many rounds find
 abbrev pub searched : List Heap → ℕ → List Witness
 searched heaps rounds = grown heaps rounds (all_added (held heaps) [])

@@ -1,4 +1,4 @@
--- How many objects a section has after the first so many of its commands, and that it keeps its number.
+-- How many objects a section has after the first this many of its commands, and that it keeps its number.
 use Rattle.std.proofs.Common.{◌≡◌, ℕ, ◌+◌, ◌<◌, ◌≤◌, refl, ap, ◌∙◌, arith, List, [], ◌∷◌, ◌++◌, length, take, cond}
 use Rattle.std.specs.Prelude.{Some, slice_get}
 use Rattle.std.proofs.lemmas.List.Sums.{sum_by-append, sum_by-take-le}

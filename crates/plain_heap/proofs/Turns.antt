@@ -11,7 +11,7 @@ use Rattle.plain_heap.specs.PlainRun.{Printed, heap_from, ops_of, seen_catalogue
 use Rattle.plain_heap.proofs.Parts.{end_in, part_in, first-within, first-past, end-more, end-grows, take-next}
 use Rattle.std.proofs.lemmas.Option.{slice_get_within, same_Some}
 
--- Parts of a section that are played: the heap and the lines after the first so many commands.
+-- Parts of a section that are played: the heap and the lines after the first this many commands.
 -- first these operations and then those
 pub heap-then : (catalogue : Option Heap) (h : Heap) (os more : List Op) → heap_from catalogue h (os ++ more) ≡ heap_from catalogue (heap_from catalogue h os) more
 heap-then catalogue h [] more = refl
@@ -46,7 +46,7 @@ printed-none s w z h [] = refl
 printed-none s w z h (part ∷ parts) =
     ap (λ (m : ℕ). printed_in_parts s w (z + 1) h (first_of m parts)) (let e : 0 - length part ≡ 0 = omega arith in e) ∙ printed-none s w (z + 1) h parts
 
--- the heap in a part, after so many of its commands
+-- the heap in a part, after this many of its commands
 pub heap-in-part : (s : Sections) (w z : ℕ) (h : Heap) (parts : List (List Execution)) (j place k : ℕ) → k ≡ end_in parts j + place → place ≤ length (part_in parts j)
     → heap_after_parts s w z h (first_of k parts) ≡ heap_from (seen_catalogue s w (z + j)) (heap_after_parts s w z h (take j parts)) (ops_of (take place (part_in parts j)))
 heap-in-part s w z h [] zero zero k is below = refl
@@ -100,7 +100,7 @@ catalogue-parts s z h (part ∷ parts) = catalogue-parts s (z + 1) (heap_from No
 abbrev pub part_printed : Sections → ℕ → ℕ → List Printed
 part_printed s w z = printed_in_parts s w 1 (empty_heap s.fields w) (take z (parts_of s w))
 
--- the heap of a section in part z, after so many of its commands
+-- the heap of a section in part z, after this many of its commands
 pub in-part : (s : Sections) (w k z place : ℕ) → 0 < z → k ≡ end_of s w (z - 1) + place → place ≤ length (part_of s w z)
     → plain s w k ≡ heap_from (seen_catalogue s w z) (part_end s w (z - 1)) (ops_of (take place (part_of s w z)))
 in-part s w k z place season is below =

@@ -25,7 +25,7 @@ pub record Marks (P : ℕ → Type 0) (old new : List Bool) (waited waiting : Li
   pub marked : (n : ℕ) → Contains waiting n → Contains waited n ⊎ IsMarked new n
   pub left : left new waiting ≡ left old waited
 
--- the references in an object, where there is one
+-- the references in an object, if there is one
 abbrev pub refs_in : Option Object → List Ref
 refs_in None = []
 refs_in (Some object) = object.refs

@@ -1,4 +1,4 @@
--- Where objects may lie, and when a heap of so many cells is full.
+-- Where objects may lie, and when a heap of this many cells is full.
 use Rattle.std.specs.Prelude.{ℕ, ◌≡◌, ◌<◌, ◌≤◌, ◌-◌, zero, suc, List, [], length, map, slice_get, slice_index_or, Some}
 use Rattle.plain_heap.specs.declared.operation.Op.{Op}
 use Rattle.plain_heap.specs.declared.operation.Op.TheVariants as ops

@@ -58,7 +58,7 @@ pub record Printed : Type 0 where
   pub label : List ℕ
   pub line : Line
 
--- a line, where there is one, before those that follow
+-- a line, if there is one, before those that follow
 abbrev pub with_label : List ℕ → Option Line → List Printed → List Printed
 with_label label None printed = printed
 with_label label (Some line) printed = record { label = label; line = line } ∷ printed

@@ -74,7 +74,7 @@ abbrev pub value_of : Option Object → ℕ
 value_of None = 0
 value_of (Some object) = object.value
 
--- at most so many objects from a reference on along a field, each visit counted: how many, and the sum of their values
+-- at most this many objects from a reference on along a field, each visit counted: how many, and the sum of their values
 abbrev pub walk : Heap → Option Heap → ℕ → ℕ → Ref → ℕ × ℕ
 walk heap catalogue i zero ref = (0, 0)
 walk heap catalogue i (suc limit) refs.Nil = (0, 0)

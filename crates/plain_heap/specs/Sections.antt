@@ -9,7 +9,7 @@ pub record Execution : Type 0 where
   pub label : List ℕ
   pub op : Op
 
--- how many fields an object has, and the parts of the catalogue, where there is one, and of each warehouse; each `repeat` is unrolled
+-- how many fields an object has, and the parts of the catalogue, if there is one, and of each warehouse; each `repeat` is unrolled
 pub record Sections : Type 0 where
   pub fields : ℕ
   pub catalogue : Option (List (List Execution))
@@ -36,7 +36,7 @@ executed_of s w = joined (parts_of s w)
 abbrev pub end_of : Sections → ℕ → ℕ → ℕ
 end_of s w z = length (joined (take z (parts_of s w)))
 
--- the numbers from n on, so many
+-- the numbers from n on, this many
 abbrev pub counted : ℕ → ℕ → List ℕ
 counted n zero = []
 counted n (suc more) = n ∷ counted (n + 1) more

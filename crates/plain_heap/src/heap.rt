@@ -15,11 +15,8 @@ mod mark;
 mod reachable;
 mod store;
 
-/// The heap of one section: every object that it ever made, 32 variables, and a count of dropped
-/// stores.
-///
-/// An object's number is its place in the order in which the section made its objects, counted
-/// from 0. So a number names one object for good.
+/// The heap of one section: every object that it ever made, 32 variables, and a count of dropped stores. An
+/// object's number is its place in the order in which they were made, from 0 on, for good.
 #[derive(Drop)]
 pub struct PlainHeap {
     section: u32,
@@ -51,9 +48,8 @@ impl Model for PlainHeap {
 impl PlainHeap {
     /// An empty heap: no objects, 32 nil variables, nothing dropped.
     ///
-    /// `section` is 0 for the catalogue and otherwise the warehouse's number. `fields`, from 1 to 16,
-    /// is how many fields of an object the operations may name. The heap keeps `alloc` for its
-    /// objects; before the first one it takes no memory, so this is never refused.
+    /// `section` is 0 for the catalogue, otherwise the warehouse's number. Operations may name `fields` fields of
+    /// an object, 1 to 16. It takes no memory yet, so it is never refused.
     pub fn new(alloc: Global, section: u32, fields: u32) -> Result<PlainHeap, OutOfMemory>
         requires least { 1 ≤ fields }
         requires most { fields ≤ 16 }
@@ -70,11 +66,9 @@ impl PlainHeap {
 
     /// Does one operation, and answers what it prints: a line for `Say` and `Sum`, otherwise `None`.
     ///
-    /// `cat` is the catalogue's heap as a warehouse sees it, and `None` for the catalogue itself.
-    /// Variables are below 32, fields below the heap's number of fields, and the limit of a `Sum` is
-    /// at most 65,536; the heap has room for another object and another dropped store.
-    /// `OutOfMemory` says that there was no memory for another object, and the heap is unchanged.
-    /// Only `New` is ever refused.
+    /// `cat` is the catalogue's heap, and `None` for the catalogue itself. Numbers are in range as [`Op`] says; the
+    /// heap has room for another object and another dropped store. Only `New` is ever refused, if memory runs out,
+    /// and the heap is unchanged.
     pub fn step(&mut self, cat: Option<&PlainHeap>, op: Op) -> Result<Option<Line>, OutOfMemory>
         requires range { IsInRange self.old.fields op }
         requires room { length self.old.objects < 2000000 }
@@ -102,7 +96,7 @@ impl PlainHeap {
         Ok(None)
     }
 
-    /// The section that the heap belongs to: 0 for the catalogue, otherwise the warehouse's number.
+    /// The heap's section: 0 for the catalogue, otherwise the warehouse's number.
     pub fn section(&self) -> u32
         ensures { result ≡ self.now.section }
     {
@@ -118,7 +112,7 @@ impl PlainHeap {
         self.fields
     }
 
-    /// How many stores went to objects of the catalogue and were dropped, at most 2,000,000.
+    /// How many stores to objects of the catalogue were dropped, at most 2,000,000.
     pub fn dropped(&self) -> u32
         ensures same { result ≡ self.now.dropped }
         ensures few { result ≤ 2000000 }

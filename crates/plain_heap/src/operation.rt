@@ -2,8 +2,8 @@
 
 /// One executed command of a section, without its label.
 ///
-/// Variables `v`, `w` and `c` are numbers below 32, and a field `i` is below the heap's number of fields. Where `v` or
-/// `w` is both read and assigned, the reading comes first.
+/// Variables `v`, `w` and `c` are below 32, a field `i` below the heap's number of fields. If `v` or `w` is both
+/// read and assigned, the reading comes first.
 #[derive(Clone, Copy, Debug, PartialEq, Eq)]
 pub enum Op {
     /// Makes an object with value `n` and nil fields, which gets the section's next number; `v` refers to it.
@@ -15,25 +15,25 @@ pub enum Op {
     /// `v` becomes nil.
     Nil { v: u8 },
 
-    /// Field `i` of the object of `v` becomes what `w` is. Nothing happens where `v` is nil, and the store is dropped
-    /// where the object is the catalogue's.
+    /// Field `i` of the object of `v` becomes what `w` is. Nothing happens if `v` is nil; a store in the
+    /// catalogue's object is dropped.
     Set { v: u8, i: u8, w: u8 },
 
-    /// `v` becomes field `i` of the object of `w`, or nil where `w` is nil.
+    /// `v` becomes field `i` of the object of `w`, or nil if `w` is nil.
     Get { v: u8, w: u8, i: u8 },
 
     /// `v` becomes what variable `c` of the catalogue is. Only a warehouse does this.
     Cat { v: u8, c: u8 },
 
-    /// The value of the object of `v` becomes `n`. Nothing happens where `v` is nil, and the store is dropped where the
-    /// object is the catalogue's.
+    /// The value of the object of `v` becomes `n`. Nothing happens if `v` is nil; a store in the catalogue's object
+    /// is dropped.
     Put { v: u8, n: u32 },
 
     /// Prints the value of the object of `v`. Only a warehouse does this.
     Say { v: u8 },
 
-    /// Walks from `v` along field `i` over at most `limit` objects, up to 65,536, each visit counted. Prints how many
-    /// visits there were, and the sum of the values met. Only a warehouse does this.
+    /// Walks from `v` along field `i` over at most `limit` objects, up to 65,536, each visit counted. Prints how
+    /// many visits there were, and the sum of the values met. Only a warehouse does this.
     Sum { v: u8, i: u8, limit: u32 },
 
     /// Asks for a collection, of which a heap that forgets nothing sees nothing. Only a warehouse does this.

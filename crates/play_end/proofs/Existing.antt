@@ -91,7 +91,7 @@ module _ (heaps : List Heap) where
       of (inl h) = (next.1.0, [], h)
       of (inr s) = reach_on heaps s.0 x (f.sound s.0 s.1) s.2 next.1.0
 
-  -- where nothing comes next, all was found
+  -- if nothing comes next, all was found
   whole : (rest found : List Name) → IsFound found → ((n : Name) → IsObject heaps n → Contains rest n ⊎ Contains found n) → ((x : Name) × Contains rest x × IsNext found x → ⊥) → IsWhole found
   whole rest found f cover none = record { is = f; all = of_reachable heaps (λ n. Contains found n) first later }
     where

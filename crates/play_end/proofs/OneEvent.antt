@@ -50,7 +50,7 @@ pub record Rests (xs ys : List SectionState) : Type 0 where
 abbrev pub HasNewCell : TableState → ℕ → Type 0
 HasNewCell x w = (c : ℕ) × IsUsed x.core c × (name_at (the_words x).identities c ≡ record { section = w; number = length (section_at x.sections w).meaning.heap.objects })
 
--- one section has made one plain step, and where it made an object, there was a cell with its identity
+-- one section has made one plain step, and if it made an object, there was a cell with its identity
 pub record Steps (x : TableState) (ys : List SectionState) : Type 0 where
   pub section : ℕ
   pub within : section < length x.sections
@@ -62,7 +62,7 @@ pub record Steps (x : TableState) (ys : List SectionState) : Type 0 where
   pub season : season_in ys ≡ season_in x.sections
   pub makes : length step.heap.objects ≡ length (section_at x.sections section).meaning.heap.objects + 1 → HasNewCell x section
 
--- what holds between a section and itself, and between it and what a step makes of it, holds of all sections where one changes
+-- what holds between a section and itself, and between it and what a step makes of it, holds of all sections when one changes
 pub kept-at : (R : SectionState → SectionState → Type 0) → ((y : SectionState) → R y y) → (o : Option ℕ) (f : SectionState → SectionState) (xs : List SectionState) → ((y : SectionState) → R y (f y)) → (w : ℕ) → R (section_at xs w) (section_at (with_section o f xs) w)
 kept-at R same None f xs step w = same (section_at xs w)
 kept-at R same (Some k) f [] step w = same (section_at [] w)
@@ -101,7 +101,7 @@ module _ (x : TableState) (i : ℕ) (s : SeatState) (whole : IsState x) (alone :
   abbrev m : Meaning
   m = (section_at x.sections i).meaning
 
-  -- the cell that the seat made last has the identity of its section's next object, where that one isn't there yet
+  -- the cell that the seat made last has the identity of its section's next object, if that one isn't there yet
   new-cell : (step : Step) (r : ℕ) → (t : Taken x.core i s step) → (a : Mutates x.core i s ms) → names_last s.cache r ≡ true → length (section_at x.sections i).meaning.heap.objects + 1 ≡ s.made → HasNewCell x i
   new-cell step r t a last room = (r - 1, used, λ y. record { section = section y; number = number y })
     where
@@ -154,7 +154,7 @@ module _ (x : TableState) (i : ℕ) (s : SeatState) (whole : IsState x) (alone :
         makes = makes a;
       })
 
-  -- a root is stored: where that makes an object, a cell was made for it
+  -- a root is stored: if that makes an object, a cell was made for it
   rooted-makes : (step : Step) (t : Taken x.core i s step) (a : Mutates x.core i s ms) (v r : ℕ) (b : Bool) → (names_last s.cache r && eqb (length m.heap.objects + 1) s.made) ≡ b
       → length (cond b (with_new m.heap v m.value) (assigned m.heap v (named_by s m r))).objects ≡ length m.heap.objects + 1 → HasNewCell x i
   rooted-makes step t a v r true is more = let p = and_parts (names_last s.cache r) (eqb (length m.heap.objects + 1) s.made) is in new-cell step r t a p.0 (eqb-true (length m.heap.objects + 1) s.made p.1)

@@ -16,7 +16,7 @@ pub record Fits (s : Sections) (places : List (List ℕ)) (done : List ℕ) (w :
   pub turn : (z : ℕ) (e : Execution) → IsNext s w (position done w) z e → AreOfTurn s done w z
   pub free : TakesFreeCell s places done w
 
--- an order whose commands all do, which has so many of each section
+-- an order whose commands all do, which has this many of each section
 pub record Order (s : Sections) (places : List (List ℕ)) (c : ℕ → ℕ) : Type 0 where
   pub order : List ℕ
   pub fits : (k w : ℕ) → slice_get order k ≡ Some w → Fits s places (done_in s (take k order)) w
@@ -61,11 +61,11 @@ module _ (s : Sections) (places : List (List ℕ)) where
   pub recounted : (c d : ℕ → ℕ) → ((u : ℕ) → u < n → d u ≡ c u) → Order s places c → Order s places d
   recounted c d same o = record { order = o.order; fits = o.fits; counts = λ u low. o.counts u low ∙ sym (same u low) }
 
-  -- what is asked of each command between the two counts: it fits where each other section stands at one of them
+  -- what is asked of each command between the two counts: it fits if each other section stands at one of them
   abbrev pub Between : (ℕ → ℕ) → (ℕ → ℕ) → Type 0
   Between c d = (done : List ℕ) (w : ℕ) → length done ≡ n → w < n → c w ≤ position done w → position done w < d w → ((u : ℕ) → u < n → u ≢ w → (position done u ≡ c u) ⊎ (position done u ≡ d u)) → Fits s places done w
 
-  -- an order of other counts, in which section m has so many, and each other section as many as before
+  -- an order of other counts, in which section m has this many, and each other section as many as before
   record Raised (g : ℕ → ℕ) (m to : ℕ) : Type 0 where
     pub counts : ℕ → ℕ
     pub raised : Order s places counts
@@ -116,7 +116,7 @@ module _ (s : Sections) (places : List (List ℕ)) where
         after = λ u low more. r.others u low (λ e. omega (arith, e, more)) ∙ p.after u low (omega (arith, more));
       }
 
-  -- an order of greater counts, where each command between may come next
+  -- an order of greater counts, if each command between may come next
   pub raise : (c d : ℕ → ℕ) → Between c d → ((u : ℕ) → u < n → c u ≤ d u) → Order s places c → Order s places d
   raise c d may up o =
       let p : Part c d n = raise-part c d may up n (omega arith) o in

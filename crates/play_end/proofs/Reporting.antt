@@ -44,7 +44,7 @@ placed_of p = p.places.items
 abbrev dropped_of : Part → ℕ
 dropped_of p = p.dropped
 
--- the parts of a report, where each is how its section ends
+-- the parts of a report, if each is how its section ends
 outcomes-are : (s : Sections) (places : List (List ℕ)) (n : ℕ) (parts : List Part)
     → ((i : ℕ) → i < length parts → get_or (map said_of parts) i [] ≡ transcript s (n + i))
     → ((i : ℕ) → i < length parts → get_or (map dropped_of parts) i 0 ≡ (last_heap s (n + i)).dropped)
@@ -166,7 +166,7 @@ small-words (x ∷ xs) small =
     ap (λ (n : ℕ). n ∷ map reference_in xs) (let e : x % reference_bound ≡ x = omega (arith, All-head (λ (y : ℕ). y ≤ 2000000) x xs small) in e)
     ∙ ap (λ (l : List ℕ). x ∷ l) (small-words xs (All-tail (λ (y : ℕ). y ≤ 2000000) x xs small))
 
--- where a play stopped, its positions are filled
+-- if a play stopped, its positions are filled
 pub stops : (s : Sections) (cells : ℕ) (sh : Shape) (seats : List HeapSeat) (w : Words) (done : List ℕ) → IsShort s → IsClosed s cells sh seats w → (z : ℕ) × SeatsStopped s z seats
     → (i : ℕ) × (seat : HeapSeat) × (slice_get seats i ≡ Some seat) × KnowsFull (view_of seat) → done ≡ map reference_in w.positions.items → IsFilled s cells w.named done
 stops s cells sh seats w done short k (z, stopped) (i, seat, at, knows) is =

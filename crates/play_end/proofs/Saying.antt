@@ -44,6 +44,6 @@ said-next s w k z e said said' dropped dropped' cells cells' x y h t next more c
   cells_are = places;
 }
 
--- what the player has where nothing happened
+-- what the player has if nothing happened
 pub said-still : (s : Sections) (w k : ℕ) (said : List Printed) (dropped : ℕ) (cells : List ℕ) (x y : SectionState) → HasSaid s w k said dropped cells x → IsStill x y → HasSaid s w k said dropped cells y
 said-still s w k said dropped cells x y t i = record { said_is = t.said_is; dropped_is = t.dropped_is; cells_are = t.cells_are ∙ ap (λ (ps : List Place). map (λ (p : Place). p.cell) ps) (sym i.places) }

@@ -33,7 +33,7 @@ not-new s w a b q z e quiet from to next new =
     let after = alike-objects (plain s w (q + 1)) (plain s w a) (quiet (q + 1) (omega (arith, from)) (omega (arith, to))) in
     omega (arith, new-more s w q z e next new, ap (λ l. length l) before, ap (λ l. length l) after)
 
--- the commands that are left of the turns that are over change nothing, where the next plain step comes no earlier
+-- the commands that are left of the turns that are over change nothing, if the next plain step comes no earlier
 pub quiet-until : (s : Sections) (w k a season : ℕ) (ts : List PlainStep) → length (executed_of s w) ≤ k → Follow s w k a ts → All (λ (t : PlainStep). season ≤ t.season) ts → IsQuiet s w a (come s w a season)
 quiet-until s w k a season [] all follow late q from to = follow.1 q from (omega (arith, to, follow.0, all, end-most s w (ended w season)))
 quiet-until s w k a season (t ∷ ts) all follow late q from to =

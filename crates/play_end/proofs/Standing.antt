@@ -101,7 +101,7 @@ module _ (s : Sections) (f : TableState) (places : List (List ℕ)) (g : IsPlaye
       subst (λ (k : Name). k.number < length m.heap.objects) found.1.1 (slice_get_within m.heap.objects _ found.1.2.2.object found.1.2.2.there) in
       omega (arith, inside, ap (λ (k : Meaning). length k.heap.objects) own, ap (λ (k : Name). k.number) is)
 
-  -- the heaps of the plain run are like those of a state, where each section stands at a position that comes to the same
+  -- the heaps of the plain run are like those of a state, if each section stands at a position that comes to the same
   pub heaps-among : (es : List Event) (y : TableState) (ks : List ℕ) → Leads es y f → ((u : ℕ) → u < n → AreAlike (section_at y.sections u).meaning.heap (plain s u (position ks u))) → AreAmong (heaps_done s ks) (heaps_of (meanings_of y.sections))
   heaps-among es y ks l alike heap there =
       let u = of-section (λ w. plain s w (position ks w)) s heap there in

@@ -23,7 +23,7 @@ pub record IsReport (s : Sections) (cells : ℕ) (r : Report) : Type 0 where
   pub placed : IsPlaced s cells (places_of r)
   pub few : placed_count (map outcome_of r.parts.items) ≤ 2000000
 
--- a report, or positions at which the reachable objects fill all cells; nothing is said where memory ran out
+-- a report, or positions at which the reachable objects fill all cells; nothing is said if memory ran out
 abbrev pub PlayAnswers : Result Report PlayError → Sections → ℕ → Type 0
 PlayAnswers (Ok r) s cells = IsReport s cells r
 PlayAnswers (Err (ends.Full p)) s cells = IsFilled s cells p.section p.done.items

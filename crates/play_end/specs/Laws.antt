@@ -56,16 +56,16 @@ pub record DoneGoesOn : Type 0 where
   pub said : (s : Sections) (w k z : ℕ) (e : Execution) (said said' : List Printed) (dropped dropped' : ℕ) (cells cells' : List ℕ) (x y : SectionState) → HasDone s w k x → HasSaid s w k said dropped cells x → IsNext s w k z e
       → said' ≡ said ++ with_label e.label (line_of x.meaning.heap (seen_catalogue s w z) e.op) [] → dropped' ≡ dropped + (if drops x.meaning.heap e.op then 1 else 0) → cells' ≡ map (λ (p : Place). p.cell) y.places
       → HasSaid s w (k + 1) said' dropped' cells' y
-  -- a part ends where its last command is done, and it stops where the heap is full
+  -- a part ends when its last command is done, and it stops when the heap is full
   pub ends : (s : Sections) (w z : ℕ) (x y : SectionState) → HasDone s w (end_of s w z) x → IsFalse x.full → IsStill x y → y.position ≡ end_of s w z → HasPlayed s w z y
   pub stops : (s : Sections) (w z k : ℕ) (x y : SectionState) → HasDone s w k x → 0 < z → end_of s w (z - 1) ≤ k → k ≤ end_of s w z → IsKept x y → y.position ≡ k
       → (IsTrue y.full → (e : Execution) × IsNext s w k z e × IsNew e.op) → HasStoppedInPart s w z k y
-  -- where a turn is cut short, a section that played its part stopped at its end, and one that didn't begin it where it began
+  -- if a turn is cut short, a section that played its part stopped at its end, and one that didn't begin it where it began
   pub played : (s : Sections) (w z : ℕ) (x : SectionState) → 0 < z → HasPlayed s w z x → HasStoppedInPart s w z (end_of s w z) x
   pub waiting : (s : Sections) (w z : ℕ) (x : SectionState) → 0 < z → HasPlayed s w (z - 1) x → HasStoppedInPart s w z (end_of s w (z - 1)) x
   -- a part that is missing is played at once
   pub missing : (s : Sections) (w z : ℕ) (x : SectionState) → part_of s w (z + 1) ≡ [] → HasPlayed s w z x → HasPlayed s w (z + 1) x
-  -- where the catalogue played its part, its plain heap is exactly what the plan says, as the next season asks
+  -- if the catalogue played its part, its plain heap is exactly what the plan says, as the next season asks
   pub planned_end : (s : Sections) (sh : Shape) (z : ℕ) (x : SectionState) → sh.fields ≡ s.fields → 0 < z → x.seasons ≡ 2 * z - 2 → HasPlayed s 0 z x → x.meaning.heap ≡ planned sh (plan_of s) (x.seasons + 1)
 
 -- a part is played from its first command to its last
@@ -76,7 +76,7 @@ pub record PartsGoOn : Type 0 where
   pub next : (section : Parts) (z : ℕ) (e : Execution) (rest : List Execution) (old x y : Player) → 0 < z → x.view.state.season_seen ≡ Some (turn_word section.number z) → HasLeft section z (e ∷ rest) old x → DoesCommand e x y → HasLeft section z rest old y
   -- with none left the part is played, once the position is stored
   pub done : (section : Parts) (z : ℕ) (old x y : Player) → 0 < z → HasLeft section z [] old x → IsStill x.view.own y.view.own → SaysSame x y → y.view.own.position ≡ x.count → PlaysPart plays.Done section z old y
-  -- it stops where the phase was seen as full
+  -- it stops if the phase was seen as full
   pub full : (section : Parts) (z : ℕ) (rest : List Execution) (old x y : Player) → 0 < z → HasLeft section z rest old x → IsKept x.view.own y.view.own → y.view.own.position ≡ x.count
       → (IsTrue y.view.own.full → (e : Execution) × (more : List Execution) × (rest ≡ e ∷ more) × IsNew e.op) → KnowsFull y.view → PlaysPart plays.Full section z old y
 
@@ -124,20 +124,20 @@ abbrev pub StartIsState : Type 0
 StartIsState =
     (s : Sections) (sh : Shape) (n : ℕ) → IsShape sh → IsFalse sh.sharing → 1 ≤ n → n ≤ most_seats → sh.fields ≡ s.fields → sh.sections ≡ length (section_numbers s) → IsStateOf s sh.cells [] (start_state sh (plan_of s) n)
 
--- where each cell in use is published and reachable, the objects in allocated cells are exactly the reachable ones, with their values
+-- if each cell in use is published and reachable, the objects in allocated cells are exactly the reachable ones, with their values
 abbrev pub ListedSurvive : Type 0
 ListedSurvive =
     (s : Sections) (cells : ℕ) (done : List ℕ) (x : TableState) (listed : List Survivor) → AreCommandsInRange s → IsStateOf s cells done x → HasOnlyReachable x.core
     → AreListed cells (words_of x.core.shape x.core.words).identities (words_of x.core.shape x.core.words).values (words_of x.core.shape x.core.words).allocs listed
     → AreSurvivors (heaps_done s done) listed
 
--- where each section did all its parts, by events that led to this state and on whose way each state met the rule, each object of each section has a legal place
+-- if each section did all its parts, by events that led to this state and on whose way each state met the rule, each object of each section has a legal place
 abbrev pub PlacesAreLegal : Type 0
 PlacesAreLegal =
     (s : Sections) (cells : ℕ) (done : List ℕ) (x : TableState) (places : List (List ℕ)) (es : List Event) → IsStateOf s cells done x → DidAll s done → AreCellsOfPlaces s x places
     → Leads es (start_state x.core.shape x.plan 1) x → IsPlaced s cells places
 
--- where the heap was found full, and each section stopped or ended its part of one turn, its positions are filled for the section that is named
+-- if the heap was found full, and each section stopped or ended its part of one turn, its positions are filled for the section that is named
 abbrev pub StoppedIsFilled : Type 0
 StoppedIsFilled =
     (s : Sections) (cells z named : ℕ) (done : List ℕ) (x : TableState) → IsHeapOf s cells x → HaveStopped s z x.sections → ArePositions s x done → (words_of x.core.shape x.core.words).phase ≡ 5

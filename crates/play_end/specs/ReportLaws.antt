@@ -14,7 +14,7 @@ use Rattle.play_end.specs.Answers.{IsReport}
 abbrev pub said_of : Outcome → List Printed × ℕ
 said_of o = (o.said, o.dropped)
 
--- two reports differ in the places of objects alone
+-- two reports differ only in the places of objects
 pub record AgreeButForPlaces (a b : Report) : Type 0 where
   pub said : map said_of (map outcome_of a.parts.items) ≡ map said_of (map outcome_of b.parts.items)
   pub survivors : map survivor_of a.survivors.items ≡ map survivor_of b.survivors.items
@@ -27,7 +27,7 @@ OneReport = (s : Sections) (m n : ℕ) (a b : Report) → IsReport s m a → IsR
 abbrev pub SurvivorsExist : Type 0
 SurvivorsExist = (s : Sections) → (survivors : List Survivor) × AreSurvivors (last_heaps s) survivors
 
--- a script has one text of a report, where no places are written
+-- a script has one text of a report, if no places are written
 abbrev pub OneText : Type 0
 OneText = (s : Sections) (m n : ℕ) (a b : List ℕ) → IsReportText s m false a → IsReportText s n false b → a ≡ b
 

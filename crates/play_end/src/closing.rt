@@ -1,4 +1,3 @@
-//! The end of a play: its heap is closed, and the words give the report, or the positions in a heap that was full.
 ghost use Rattle.std.specs.Prelude.{◌≡◌, ℕ, ◌<◌, IfOk, Some, slice_get, vec_len, map};
 ghost use Rattle.mark_core.specs.Bits.{reference_in};
 ghost use Rattle.gc_table.specs.declared.seat.HeapSeat.{HeapSeat};
@@ -20,11 +19,10 @@ use plain_heap::OutOfMemory;
 use play_report::{Part, Positions, Report};
 use std::alloc::{AllocError, Global};
 
-/// Closes the heap of a play in which each section played all its parts, and in which the catalogue's seat then moved the
-/// season on and ended an exact cycle. The report has each section's part as its player left it, and exactly the objects that
-/// are reachable at the end; each object's place is legal. Beside it stand the words of the heap.
+/// Closes the heap of a play in which each section played all its parts and the catalogue's seat then moved the
+/// season on and ended an exact cycle. Answers the report, and the words of the heap.
 ///
-/// Where memory ran out all that was handed in is gone.
+/// If memory runs out, all that was handed in is gone.
 pub fn close_played<'a>(
     alloc: Global,
     script: &Script<'a>,
@@ -64,10 +62,10 @@ fn as_positions(alloc: Global, positions: &[u64]) -> Result<Vec<u32>, AllocError
         .collect(alloc)
 }
 
-/// Closes the heap of a play in which some seat saw that the heap is full, and each section stopped or ended its part of one
-/// turn. At the positions the reachable objects fill all cells, and the next command of the section that is named is a `new`.
+/// Closes the heap of a play that some seat found full, and in which each section stopped or ended its part. At the
+/// positions answered the reachable objects fill all cells, and the next command of the named section is a `new`.
 ///
-/// Where memory ran out all that was handed in is gone.
+/// If memory runs out, all that was handed in is gone.
 pub fn close_full(
     alloc: Global,
     script: &Script<'_>,

@@ -10,7 +10,7 @@ use Rattle.plain_heap.specs.Placement.{IsNew, cells_of, LiesIn, position, AreOfT
 abbrev pub done_in : Sections → List ℕ → List ℕ
 done_in s order = map (λ w. count_by (λ v. v == w) order) (section_numbers s)
 
--- the plain heap of each section after so many of its commands
+-- the plain heap of each section after this many of its commands
 abbrev pub heaps_done : Sections → List ℕ → List Heap
 heaps_done s done = map (λ w. plain s w (position done w)) (section_numbers s)
 
@@ -19,13 +19,13 @@ pub record IsOrder (s : Sections) (order : List ℕ) : Type 0 where
   pub whole : (w : ℕ) → w < length (section_numbers s) → position (done_in s order) w ≡ length (executed_of s w)
   pub turns : (k w z : ℕ) (e : Execution) → slice_get order k ≡ Some w → IsNext s w (position (done_in s (take k order)) w) z e → AreOfTurn s (done_in s (take k order)) w z
 
--- the next command is one of section w, after so many of each section's: if it is a `new`, no object that any section can reach lies in the cell that it takes
+-- the next command is one of section w, after this many of each section's: if it is a `new`, no object that any section can reach lies in the cell that it takes
 abbrev pub TakesFreeCell : Sections → List (List ℕ) → List ℕ → ℕ → Type 0
 TakesFreeCell s places done w = (z : ℕ) (e : Execution) → IsNext s w (position done w) z e → IsNew e.op
     → (name : Name) (cell : ℕ) → IsReachable (heaps_done s done) name → LiesIn places name cell
     → LiesIn places (record { section = w; number = length (plain s w (position done w)).objects }) cell → ⊥
 
--- one cell for each object of each section, all among so many; in some one order of all commands each `new` takes a free cell; and no two survivors in one cell
+-- one cell for each object of each section, all among this many; in some one order of all commands each `new` takes a free cell; and no two survivors in one cell
 pub record IsPlaced (s : Sections) (cells : ℕ) (places : List (List ℕ)) : Type 0 where
   pub sections : length places ≡ length (section_numbers s)
   pub each : (w : ℕ) → w < length places → length (cells_of places w) ≡ length (last_heap s w).objects

@@ -90,7 +90,7 @@ outcome s places w = record { said = transcript s w; dropped = (last_heap s w).d
 abbrev pub outcomes : Sections → List (List ℕ) → List Outcome
 outcomes s places = map (outcome s places) (section_numbers s)
 
--- what may be written of a play in so many cells: each transcript, then exactly the objects that are reachable at the end,
+-- what may be written of a play in this many cells: each transcript, then exactly the objects that are reachable at the end,
 -- and with places, a legal place of each object
 pub record IsReportText (s : Sections) (cells : ℕ) (place : Bool) (text : List ℕ) : Type 0 where
   pub survivors : List Survivor
@@ -107,7 +107,7 @@ positions_text positions = numbered_texts (pair_text (codes "position ")) 0 posi
 abbrev pub full_text : ℕ → List ℕ → List ℕ
 full_text section positions = named_text (codes "full section ") section ++ positions_text positions
 
--- what may be written of a play that so many cells were too few for
+-- what may be written of a play that this many cells were too few for
 pub record IsFullText (s : Sections) (cells : ℕ) (text : List ℕ) : Type 0 where
   pub section : ℕ
   pub positions : List ℕ

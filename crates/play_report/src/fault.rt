@@ -1,4 +1,4 @@
-//! The texts of a faulty script and of words that are no command.
+//! The texts of faults.
 ghost use Rattle.std.specs.Prelude.{◌≢◌};
 ghost use Rattle.play_report.specs.Causes.{WritesTo};
 ghost use Rattle.play_report.specs.Text.{error_text, usage_text};
@@ -7,19 +7,15 @@ use crate::line::write_named;
 use crate::outside::{Failed, Sink, write_all};
 use gc_script::ScriptError;
 
-/// Writes the text of status 1: how the program is called. Failed only where the sink's count of
-/// faults rose in this call, and a prefix of the text was then written. The line is one piece, and
-/// the rest of a piece that was taken in part is handed again. It takes no memory.
+/// Writes the text of status 1: how the program is called.
 pub fn write_usage<K: Sink>(sink: &mut K) -> Result<(), Failed>
     ensures { WritesTo K.written K.faults result sink.old sink.new usage_text }
 {
     write_all(sink, b"usage: gcplay command [options]\n")
 }
 
-/// Writes the text of status 2: the number and the name of the fault, and its place. Out of
-/// memory is no fault of a script and has no text. Failed only where the sink's count of faults
-/// rose in this call, and a prefix of the text was then written. The line is one piece, and the
-/// rest of a piece that was taken in part is handed again. It takes no memory.
+/// Writes the text of status 2: the number and the name of the fault, and its place. Out of memory is no fault of a
+/// script and has no text.
 pub fn write_fault<K: Sink>(fault: &ScriptError, sink: &mut K) -> Result<(), Failed>
     requires { fault.now ≢ ScriptError.OutOfMemory }
     ensures { WritesTo K.written K.faults result sink.old sink.new (error_text fault.now) }

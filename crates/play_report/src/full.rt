@@ -1,4 +1,4 @@
-//! How far a play came that its cells were too few for.
+//! How far a play came that had too few cells.
 ghost use Rattle.play_report.specs.Causes.{WritesTo};
 ghost use Rattle.play_report.specs.Text.{positions_text, full_text};
 
@@ -18,10 +18,8 @@ fn write_positions<K: Sink>(done: &[u32], sink: &mut K) -> Result<(), Failed>
     Ok(())
 }
 
-/// Writes the text of status 3, a full run: the section that found no cell, then for each section
-/// how many of its commands were done. Failed only where the sink's count of faults rose in this
-/// call, and a prefix of the text was then written. Each line is one piece, and the rest of a
-/// piece that was taken in part is handed again. It takes no memory.
+/// Writes the text of status 3, a full run: the section that found no cell, then for each section how many of its
+/// commands were done.
 pub fn write_full<K: Sink>(positions: &Positions, sink: &mut K) -> Result<(), Failed>
     ensures { WritesTo K.written K.faults result sink.old sink.new (full_text positions.now.section positions.now.done.items) }
 {

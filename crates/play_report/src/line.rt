@@ -1,4 +1,4 @@
-//! One line of text on the stack, which is handed to a sink as one piece.
+//! One line of text, on the stack.
 ghost use Rattle.std.specs.Prelude.{◌≡◌, ◌≤◌, ◌+◌, ◌++◌, [], length, decimal};
 ghost use Rattle.play_report.specs.Causes.{WritesTo};
 ghost use Rattle.play_report.specs.Text.{named_text, pair_text, triple_text};
@@ -59,7 +59,7 @@ impl TextLine {
         self.push(buffer.format(n));
     }
 
-    /// Hands the line to the sink as one piece. Failed only where the sink's count of faults rose in this call, and a prefix of the text was then written.
+    /// Hands the line to the sink as one piece.
     pub fn write<K: Sink>(&self, sink: &mut K) -> Result<(), Failed>
         ensures { WritesTo K.written K.faults result sink.old sink.new self.now }
     {
@@ -67,8 +67,7 @@ impl TextLine {
     }
 }
 
-/// The line of a word, its space included, and a number. Failed only where the sink's count of faults rose in this call, and a prefix of the text was then
-/// written.
+/// The line of a word, its space included, and a number.
 #[tactic(auto, unfolding(crate::specs::Text::named_text))]
 pub fn write_named<K: Sink>(word: &str, n: u64, sink: &mut K) -> Result<(), Failed>
     requires { length word.now ≤ 32 }
@@ -81,8 +80,7 @@ pub fn write_named<K: Sink>(word: &str, n: u64, sink: &mut K) -> Result<(), Fail
     line.write(sink)
 }
 
-/// The line of a word, its space included, and two numbers. Failed only where the sink's count of faults rose in this call, and a prefix of the text was then
-/// written.
+/// The line of a word, its space included, and two numbers.
 #[tactic(auto, unfolding(crate::specs::Text::pair_text))]
 pub fn write_pair<K: Sink>(word: &str, a: u64, b: u64, sink: &mut K) -> Result<(), Failed>
     requires { length word.now ≤ 32 }
@@ -97,7 +95,7 @@ pub fn write_pair<K: Sink>(word: &str, a: u64, b: u64, sink: &mut K) -> Result<(
     line.write(sink)
 }
 
-/// The line of three numbers. Failed only where the sink's count of faults rose in this call, and a prefix of the text was then written.
+/// The line of three numbers.
 #[tactic(auto, unfolding(crate::specs::Text::triple_text))]
 pub fn write_triple<K: Sink>(a: u64, b: u64, c: u64, sink: &mut K) -> Result<(), Failed>
     ensures { WritesTo K.written K.faults result sink.old sink.new (triple_text a b c) }

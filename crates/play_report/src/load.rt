@@ -61,11 +61,8 @@ fn write_counts<K: Sink>(report: &Report<'_>, sink: &mut K) -> Result<(), Failed
     }
 }
 
-/// Writes a play that is done in five lines: how many commands were executed, which the caller
-/// says, how many objects were made and lines printed, how many objects survive, and the sum of
-/// their values. Failed only where the sink's count of faults rose in this call, and a prefix of
-/// the text was then written. Each line is one piece, and the rest of a piece that was taken in
-/// part is handed again. It takes no memory.
+/// Writes a play that is done in five lines: how many commands were executed, which the caller says, how many
+/// objects were made and lines printed, how many objects survive, and the sum of their values.
 pub fn write_load<K: Sink>(report: &Report<'_>, commands: u64, sink: &mut K) -> Result<(), Failed>
     requires objects { placed_count (map outcome_of report.now.parts.items) < 2 ^ 32 }
     requires lines { printed_count (map outcome_of report.now.parts.items) < 2 ^ 64 }

@@ -17,8 +17,7 @@ fn is_refused(failing: &[u32], call: u64, room: usize, piece: &[u8]) -> bool
     is_listed(failing, call) || (room == 0 && !piece.is_empty())
 }
 
-/// Keeps what is written in memory, for trying out a writer: it has room for so many bytes, a call
-/// takes at most `per_call`, and the calls that are listed fail.
+/// Keeps what is written in memory: a call takes at most `per_call` bytes, and the listed calls fail.
 #[derive(Drop)]
 pub struct MemorySink {
     bytes: Vec<u8>,
@@ -48,8 +47,8 @@ impl Model for MemorySink {
 }
 
 impl MemorySink {
-    /// An empty sink with room for `room` bytes, for which it takes the memory now. `failing` lists
-    /// the calls that fail, counted from 1.
+    /// An empty sink with room for `room` bytes, for which it takes the memory now. `failing` lists the calls that
+    /// fail, counted from 1.
     pub fn make(
         alloc: Global,
         room: usize,
@@ -87,8 +86,8 @@ impl Sink for MemorySink {
 
     ghost faults = { λ s. s.faults };
 
-    /// Fails exactly at the listed calls, and where no room is left for any byte of the piece. Any
-    /// other call takes as many bytes as have room and may pass in one call.
+    /// Fails exactly at the listed calls, and without room for a byte of the piece. Any other call takes as many
+    /// bytes as it may.
     fn write(&mut self, piece: &[u8]) -> Result<usize, Failed>
         ensures bound { WritesAtMost result piece.now }
         ensures progress { IfOk result (λ n. 0 < length piece.now → 0 < n) }
@@ -117,7 +116,7 @@ impl Sink for MemorySink {
     }
 }
 
-/// Takes all that is written and keeps only the number of bytes, for measuring.
+/// Takes all that is written and keeps only the number of bytes.
 #[derive(Drop)]
 pub struct CountSink {
     count: u64,
@@ -152,7 +151,6 @@ impl Sink for CountSink {
 
     ghost faults = { λ s. 0 };
 
-    /// Never fails, and takes the whole piece.
     fn write(&mut self, piece: &[u8]) -> Result<usize, Failed>
         ensures bound { WritesAtMost result piece.now }
         ensures progress { IfOk result (λ n. 0 < length piece.now → 0 < n) }

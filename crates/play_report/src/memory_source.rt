@@ -10,7 +10,7 @@ use plain_heap::OutOfMemory;
 use std::alloc::Global;
 use std::marker::Model;
 
-/// A copy of a list of plain values. Out of memory is the only refusal.
+/// A copy of a list of plain values. Refused only if there is no memory.
 pub fn copy_of<T: Copy>(alloc: Global, items: &[T]) -> Result<Vec<T>, OutOfMemory>
     ensures { IfOk result (λ v. v.items ≡ items.now) }
 {
@@ -20,7 +20,7 @@ pub fn copy_of<T: Copy>(alloc: Global, items: &[T]) -> Result<Vec<T>, OutOfMemor
     }
 }
 
-/// Whether the call of this number is one of those that are to fail.
+/// Whether the call of this number is to fail.
 pub fn is_listed(failing: &[u32], call: u64) -> bool
     ensures { IsTrue result ↔ Contains failing.now call }
 {
@@ -40,8 +40,7 @@ fn take_next(bytes: &[u8], at: usize, buf: &mut [u8], most: usize) -> usize
     n
 }
 
-/// Some bytes in memory, for trying out a reader: a call gives at most `per_call` of them, and the
-/// calls that are listed fail.
+/// Some bytes in memory: a call gives at most `per_call` of them, and the listed calls fail.
 #[derive(Drop)]
 pub struct MemorySource {
     bytes: Vec<u8>,
@@ -97,8 +96,7 @@ impl Source for MemorySource {
 
     ghost faults = { λ s. s.faults };
 
-    /// Fails exactly at the listed calls. Any other call gives as many of the next bytes as are
-    /// left, have room and may pass in one call.
+    /// Fails exactly at the listed calls. Any other call gives as many of the next bytes as it may.
     fn read(&mut self, buf: &mut [u8]) -> Result<usize, Failed>
         ensures bound { ReadsAtMost result buf.new }
         ensures bytes { ReadConsumes (Some self.old.left) (Some self.new.left) result buf.new }
@@ -139,7 +137,7 @@ impl Model for SureSource {
 }
 
 impl SureSource {
-    /// A source of these bytes. Out of memory is the only refusal.
+    /// A source of these bytes. Refused only if there is no memory.
     pub fn make(alloc: Global, bytes: &[u8]) -> Result<SureSource, OutOfMemory>
         ensures { IfOk result (λ s. s ≡ bytes.now) }
     {
@@ -155,7 +153,7 @@ impl Source for SureSource {
 
     ghost faults = { λ s. 0 };
 
-    /// Never fails, and gives as many of the next bytes as are left and have room.
+    /// Never fails, and gives as many of the next bytes as have room.
     fn read(&mut self, buf: &mut [u8]) -> Result<usize, Failed>
         ensures bound { ReadsAtMost result buf.new }
         ensures bytes { ReadConsumes (Some self.old) (Some self.new) result buf.new }

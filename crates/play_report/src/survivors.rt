@@ -32,8 +32,7 @@ fn write_survivor_lines<K: Sink>(survivors: &[Survivor], sink: &mut K) -> Result
     Ok(())
 }
 
-/// How many survivors there are, and a line for each, in the order given. Failed only where the sink's count of faults rose in this call, and a prefix of the
-/// text was then written.
+/// How many survivors there are, and a line for each, in the order given.
 pub fn write_survivors<K: Sink>(survivors: &[Survivor], sink: &mut K) -> Result<(), Failed>
     ensures { WritesTo K.written K.faults result sink.old sink.new (survivors_text (map survivor_of survivors.now)) }
 {

@@ -20,7 +20,7 @@ pub record Takes (enough : ℕ) (bytes taken rest : List ℕ) : Type 0 where
   pub whole : bytes ≡ taken ++ rest
   pub enough_taken : (rest ≡ []) ⊎ (enough ≤ length taken)
 
--- where nothing is left, all was taken
+-- if nothing is left, all was taken
 pub all_taken : (bytes taken rest : List ℕ) → bytes ≡ taken ++ rest → rest ≡ [] → bytes ≡ taken
 all_taken bytes taken rest whole none = whole ∙ ap (λ (l : List ℕ). taken ++ l) none ∙ append-nil taken
 
@@ -48,7 +48,7 @@ run_of_whole o bytes taken rest t status text a =
     subst (λ (r : Result Script Fault). RunAnswersTo o r status text) (same_meaning script 1048577 (Err TooLong) long_script bytes taken rest t) a
 
 module _ (enough : ℕ) where
-  -- what was taken, where the source tells its bytes
+  -- what was taken, if the source tells its bytes
   takes : (bytes taken : List ℕ) (left : Option (List ℕ)) → Consumes (Some bytes) left taken → IsAtEnd left ⊎ (enough ≤ length taken) → (rest : List ℕ) × (left ≡ Some rest) × Takes enough bytes taken rest
   takes bytes taken None consumed decided = absurd consumed
   takes bytes taken (Some rest) consumed decided = (rest, refl, record { whole = consumed; enough_taken = decided })

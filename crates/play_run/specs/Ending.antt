@@ -26,7 +26,7 @@ abbrev pub status_after_write : {T E : Type 0} → Status → Result T E → Sta
 status_after_write status (Ok u) = status
 status_after_write status (Err e) = ends.WriteFault
 
--- how a command ends that has all its input, where `Answers` says which texts a status may have: such a text was written,
+-- how a command that has all its input ends; `Answers` says which texts a status may have: such a text was written,
 -- or a prefix of one and the sink failed, or memory ran out and nothing was written
 abbrev pub TextEnds : (ℕ → List ℕ → Type 0) → Status → Option (List ℕ) → Option (List ℕ) → ℕ → ℕ → Type 0
 TextEnds Answers ends.Done old new before now = WritesSome old new (Answers 0) × (now ≡ before)
@@ -38,7 +38,7 @@ TextEnds Answers ends.WriteFault old new before now = WritesFront old new (λ te
 TextEnds Answers ends.Memory old new before now = Keeps old new × (now ≡ before)
 TextEnds Answers ends.Refused old new before now = WritesSome old new (Answers 7) × (now ≡ before)
 
--- the text of a fault, where there is one
+-- the text of a fault, if there is one
 abbrev pub IsFaultAnswer : Option Fault → ℕ → List ℕ → Type 0
 IsFaultAnswer None status text = ⊥
 IsFaultAnswer (Some fault) status text = (status ≡ 2) × (text ≡ fault_text fault)

@@ -13,11 +13,11 @@ wanted words = command words
 abbrev pub WritesSome : Option (List ℕ) → Option (List ℕ) → (List ℕ → Type 0) → Type 0
 WritesSome old new P = (text : List ℕ) × P text × Appends old new text
 
--- a text is of some bytes, which are those that the source tells where it tells them
+-- a text is of some bytes, which are those that the source tells if it tells them
 abbrev pub FromSource : (List ℕ → List ℕ → Type 0) → Option (List ℕ) → List ℕ → Type 0
 FromSource IsText left text = (bytes : List ℕ) × IfSome left (λ told. told ≡ bytes) × IsText bytes text
 
--- a text may be written with a status, of some bytes, which are those that the source tells where it tells them
+-- a text may be written with a status, of some bytes, which are those that the source tells if it tells them
 abbrev pub OfSource : (List ℕ → ℕ → List ℕ → Type 0) → Option (List ℕ) → ℕ → List ℕ → Type 0
 OfSource Answers left status text = FromSource (λ bytes. Answers bytes status) left text
 
@@ -29,7 +29,7 @@ HasItsText status = (status ≤ 3) ⊎ (status ≡ 7)
 abbrev pub WritesFront : Option (List ℕ) → Option (List ℕ) → (List ℕ → Type 0) → Type 0
 WritesFront old new P = (text : List ℕ) × P text × AppendsPrefix old new text
 
--- what was written, where `Answers` says which texts a status may have: such a text whole, or with status 5 a prefix of one
+-- what was written; `Answers` says which texts a status may have: such a text whole, or with status 5 a prefix of one
 pub record Wrote (Answers : ℕ → List ℕ → Type 0) (status : ℕ) (old new : Option (List ℕ)) : Type 0 where
   pub whole : HasItsText status → WritesSome old new (Answers status)
   pub front : status ≡ 5 → WritesFront old new (λ text. (s : ℕ) × Answers s text)

@@ -5,7 +5,7 @@ use Rattle.play_report.specs.Causes.{Rose}
 use Rattle.play_run.specs.declared.source.Unread.{Unread}
 use Rattle.play_run.specs.declared.source.Unread.TheVariants as unread
 
--- at most so many bytes were taken
+-- at most this many bytes were taken
 abbrev pub TakesAtMost : ℕ → Option (List ℕ) → Option (List ℕ) → Type 0
 TakesAtMost most old new = (taken : List ℕ) × Consumes old new taken × (length taken ≤ most)
 
@@ -15,7 +15,7 @@ ReadsEnough enough (Ok bytes) old new before now = Consumes old new bytes.items 
 ReadsEnough enough (Err unread.Failed) old new before now = Rose before now
 ReadsEnough enough (Err unread.Memory) old new before now = now ≡ before
 
--- where the bytes are fewer than decide nothing is left of them, and else just as many as decide were taken
+-- if the bytes are fewer than decide, nothing is left of them, and else just as many as decide were taken
 pub record IsSpent (enough : ℕ) (bytes : List ℕ) (left : Option (List ℕ)) : Type 0 where
   pub short : length bytes < enough → left ≡ Some []
   pub long : enough ≤ length bytes → (taken : List ℕ) × (rest : List ℕ) × (bytes ≡ taken ++ rest) × (length taken ≡ enough) × (left ≡ Some rest)

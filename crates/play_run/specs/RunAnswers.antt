@@ -9,7 +9,7 @@ use Rattle.command_words.specs.declared.asked.Asked.{Asked}
 use Rattle.command_words.specs.declared.asked.Asked.TheVariants as asks
 use Rattle.play_run.specs.Promise.{OfSource}
 
--- a script is played: it is done, or so many cells were too few
+-- a script is played: it is done, or this many cells were too few
 abbrev pub PlaysTo : Options → Script → ℕ → List ℕ → Type 0
 PlaysTo o s status text = ((status ≡ 0) × IsReportText s.sections o.cells o.place text) ⊎ ((status ≡ 3) × IsFullText s.sections o.cells text)
 
@@ -26,12 +26,12 @@ IsRunAnswer o bytes status text = RunAnswersTo o (script bytes) status text
 abbrev pub IsUsageAnswer : ℕ → List ℕ → Type 0
 IsUsageAnswer status text = (status ≡ 1) × (text ≡ usage_text)
 
--- the options of `run`, where that is asked for
+-- the options of `run`, if that is asked for
 abbrev pub run_of : Option Asked → Option PlayOptions
 run_of (Some (asks.Run options)) = Some options
 run_of other = None
 
--- what may be written by a program that has `run` alone, for what the words ask for and for the bytes that the source has left
+-- what may be written by a program that has only `run`, for what the words ask for and for the bytes that the source has left
 abbrev pub IsRunOrUsage : Option Command → Option (List ℕ) → ℕ → List ℕ → Type 0
 IsRunOrUsage (Some (Run options)) left status text = OfSource (IsRunAnswer options) left status text
 IsRunOrUsage other left status text = IsUsageAnswer status text

@@ -1,4 +1,3 @@
-//! What a script with a fault is answered.
 ghost use Rattle.std.specs.Prelude.{◌≢◌};
 ghost use Rattle.gc_script.specs.Shown.{fault_of};
 ghost use Rattle.play_run.specs.Ending.{IsFaultAnswer, TextEnds};

@@ -1,4 +1,4 @@
-//! The command `run`: plays the script of the source.
+//! The command `run`.
 ghost use Rattle.std.specs.Prelude.{IfSome};
 ghost use Rattle.play_run.specs.RunAnswers.{IsRunAnswer, PlaysTo};
 ghost use Rattle.command_words.specs.Commands.{options_of};
@@ -20,7 +20,6 @@ use std::alloc::Global;
 use std::sync::Wait;
 use std::thread::Threads;
 
-/// Plays a script, and writes what it says or how far it came.
 fn play_script<R: Threads + Wait + Sync, K: Sink, G: Gate + Sync>(
     rt: &R,
     alloc: Global,

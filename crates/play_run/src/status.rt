@@ -43,7 +43,7 @@ impl Status {
         }
     }
 
-    /// The status after its text was handed to the sink: itself, unless the sink failed.
+    /// The status after its text was handed to the sink.
     pub fn after(self, written: Result<(), Failed>) -> Status
         ensures { result ≡ status_after_write self written }
     {

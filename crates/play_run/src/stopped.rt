@@ -1,4 +1,3 @@
-//! What a play without a report is answered.
 ghost use Rattle.play_run.specs.Ending.{IsStopAnswer, TextEnds};
 ghost use Rattle.play_report.specs.Causes.{AcrossSink};
 
@@ -6,7 +5,7 @@ use crate::status::Status;
 use play_end::PlayError;
 use play_report::{Sink, write_full};
 
-/// Writes how far a play came that found too few cells. Where memory ran out, it writes nothing.
+/// Writes how far a play came that found too few cells; nothing if memory ran out.
 pub fn tell_stop<K: Sink>(error: PlayError, sink: &mut K) -> Status
     ensures { AcrossSink K.written K.faults (TextEnds (IsStopAnswer error) result) sink.old sink.new }
 {

@@ -1,4 +1,3 @@
-//! The words of the command line, and the command `run` where they ask for it.
 ghost use Rattle.std.specs.Prelude.{◌≡◌, IfSome, map};
 ghost use Rattle.std.specs.String.{string_bytes};
 ghost use Rattle.command_words.specs.Commands.{IsCommandInRange};
@@ -23,7 +22,7 @@ use std::io;
 use std::sync::Wait;
 use std::thread::Threads;
 
-/// The words behind the program's name, or none where memory ran out. Where one isn't UTF-8 there are no words.
+/// The words behind the program's name; none if memory ran out or one isn't UTF-8.
 pub fn given_words(alloc: Global, given: io::Result<Args>) -> Option<Vec<String>>
     ensures { IfSome result (λ words. map string_bytes words.items ≡ words_behind given) }
 {
@@ -43,7 +42,6 @@ pub fn given_words(alloc: Global, given: io::Result<Args>) -> Option<Vec<String>
     Some(words)
 }
 
-/// The options of `run`, where that is asked for.
 fn run_options(asked: Option<Asked>) -> Option<Options>
     requires { IfSome asked IsCommandInRange }
     ensures is { result ≡ run_of asked }
@@ -55,8 +53,7 @@ fn run_options(asked: Option<Asked>) -> Option<Options>
     }
 }
 
-/// Plays the script of the source where the words ask for `run`, and answers them as the whole program does. Words that ask for another command ask for
-/// nothing here.
+/// Plays the script of the source if the words ask for `run`; other words get the usage.
 pub fn run_words<R: Threads + Wait + Sync, S: Source, K: Sink, G: Gate + Sync>(
     rt: &R,
     alloc: Global,

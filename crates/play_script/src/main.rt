@@ -1,4 +1,4 @@
-//! The program `play_script`: `gcplay` with the command `run` alone, so that few crates are compiled where a script is to be played and nothing is built.
+//! The program `play_script`: `gcplay` with `run` only, so that few crates are compiled if nothing is built.
 //! `./play` runs it by `rt try`.
 #![tactic(auto)]
 

@@ -19,7 +19,7 @@ use Rattle.play_run.specs.declared.status.Status.{Status}
 use Rattle.play_run.specs.declared.status.Status.TheVariants as ends
 use Rattle.play_words.proofs.Roomy.{run_few}
 
--- a job is full only where its cells are few
+-- a job is full only if its cells are few
 job_few : (o : Options) (bytes : List ℕ) (status : ℕ) (text : List ℕ) → FitsJob o bytes status text → status ≡ 3 → (s : Sections) → IsOf bytes s → AreFew s o.cells
 job_few o bytes status text (inl run) three s is =
     run_few o s text (script bytes) is.0 is.1 is.2 (subst (λ (n : ℕ). IsRunAnswer o bytes n text) three run)

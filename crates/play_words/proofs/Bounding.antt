@@ -1,4 +1,4 @@
--- Where few objects of each section are reachable, the cells are never all taken.
+-- If few objects of each section are reachable, the cells are never all taken.
 use Rattle.std.proofs.Common.{◌≡◌, ℕ, zero, suc, ◌+◌, ◌<◌, ◌≤◌, refl, ap, sym, ◌∙◌, subst, arith, List, length, map, get_or}
 use Rattle.std.specs.Prelude.{Contains, All, sum_by}
 use Rattle.std.proofs.lemmas.List.{length-map, get_or-map}
@@ -77,7 +77,7 @@ abbrev bound : ℕ → (ℕ → ℕ) → ℕ → ℕ
 bound made most zero = made
 bound made most (suc w) = most (suc w)
 
--- at any positions at most so many objects are reachable
+-- at any positions at most this many objects are reachable
 pub few-reachable : (s : Sections) (done : List ℕ) (names : List Name) (most : ℕ → ℕ) → ((w : ℕ) → 0 < w → w < length (section_numbers s) → KeepsFew s w (most w))
     → AreReachable (map (λ w. plain s w (position done w)) (section_numbers s)) names → length names ≤ made_by (executed_of s 0) + sum_by most (warehouse_numbers s)
 few-reachable s done names most keeps r = omega (arith, all, sum_by-cons (bound made most) 0 (warehouse_numbers s), warehouses)
@@ -102,7 +102,7 @@ few-reachable s done names most keeps r = omega (arith, all, sum_by-cons (bound 
         same zero from to = absurd (omega arith)
         same (suc w) from to = omega arith
 
--- so many cells are never all taken
+-- this many cells are never all taken
 pub few-never-fill : (s : Sections) (cells section : ℕ) (done : List ℕ) (most : ℕ → ℕ) → ((w : ℕ) → 0 < w → w < length (section_numbers s) → KeepsFew s w (most w))
     → made_by (executed_of s 0) + sum_by most (warehouse_numbers s) < cells → IsFilled s cells section done → ⊥
 few-never-fill s cells section done most keeps room filled = omega (arith, room, filled.full, few-reachable s done filled.names most keeps filled.reachable)

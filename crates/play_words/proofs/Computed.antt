@@ -29,7 +29,7 @@ fault_in (Err fault) = fault
 abbrev pub script_in : Result Script Fault → Script
 script_in r = record { version = version_in r; sections = sections_in r }
 
--- what a search of so many rounds finds at the end of a script
+-- what a search of this many rounds finds at the end of a script
 abbrev pub witnesses : ℕ → List ℕ → List Witness
 witnesses rounds bytes = searched (last_heaps (sections_in (script bytes))) rounds
 

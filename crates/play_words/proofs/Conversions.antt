@@ -15,7 +15,7 @@ use Rattle.play_words.specs.Laws.{ConversionsAnswer, ConversionsRunAlike}
 use Rattle.play_words.proofs.Unlined.{lines-off, lines-on}
 use Rattle.play_words.proofs.AlikeTexts.{report-alike, full-alike}
 
--- the two scripts, whose sections differ by lines alone
+-- the two scripts, whose sections differ only by lines
 abbrev AreApartByLines : List ℕ → List ℕ → Type 0
 AreApartByLines bytes text = (s t : Script) × (script bytes ≡ Ok s) × (script text ≡ Ok t) × (without_lines t.sections ≡ without_lines s.sections)
 

@@ -50,7 +50,7 @@ lines_of s places = fold-map (λ n (o : Outcome). n + length o.said) (outcome s 
 pub cells_counted : (s : Sections) (places : List (List ℕ)) → placed_count (outcomes s places) ≡ sum_by (λ w. length (cells_of places w)) (section_numbers s)
 cells_counted s places = fold-map (λ n (o : Outcome). n + length o.places) (outcome s places) 0 (section_numbers s)
 
--- the lines of a report fit where its commands do
+-- the lines of a report fit if its commands do
 pub lines_fit : (s : Sections) (cells limit commands : ℕ) (r : Report) → IsReport s cells r → commands ≡ executed_total s → commands < limit → printed_count (map outcome_of r.parts.items) < limit
 lines_fit s cells limit commands r report count few =
     let fewer : sum_by (λ w. length (transcript s w)) (section_numbers s) ≤ executed_total s =

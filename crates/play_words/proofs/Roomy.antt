@@ -1,4 +1,4 @@
--- Where more cells than reachable objects are there, no command finds its cells too few.
+-- If there are more cells than reachable objects, no command finds its cells too few.
 use Rattle.std.proofs.Common.{◌≡◌, ◌≤◌, ◌<◌, ◌+◌, ℕ, List, [], map, length, refl, sym, ap, ◌∙◌, subst, arith, ⊎_elim, sum_by}
 use Rattle.std.proofs.lemmas.Bool.{cases_lt}
 use Rattle.std.proofs.lemmas.List.{length-map}
@@ -59,7 +59,7 @@ dump_few o s text read whole e f dumps = dump_full o s text whole f (subst (λ (
 load_few : (o : Options) (s : Sections) (text : List ℕ) (read : Result Script Fault) (whole : Script) → read ≡ Ok whole → whole.sections ≡ s → LoadsTo o read 3 text → AreFew s o.cells
 load_few o s text read whole e f loads = load_full o s text whole f (subst (λ (r : Result Script Fault). LoadsTo o r 3 text) e loads)
 
--- the status 3 comes only where the cells are few
+-- the status 3 comes only if the cells are few
 pub full-few : (asked : Option Command) (left : Option (List ℕ)) (text : List ℕ) → IsAnswer asked left 3 text → (s : Sections) (cells : ℕ) → PlaysIn asked left s cells → AreFew s cells
 full-few (Some (Run o)) (Some bytes) text answer s cells plays =
     let at : script bytes ≡ script answer.0 = ap script answer.1 in

@@ -78,6 +78,6 @@ module _ (reads reads_now : ℕ) (old new : Option (List ℕ)) (before now : ℕ
       complete_at ends.Memory h = inl refl
       complete_at ends.Refused h = inr (inr refl)
 
-      -- where nothing failed
+      -- if nothing failed
       pub complete : (status : Status) (n : ℕ) → n ≡ number_of_status status → CommandEnds (IsAnswer asked left) status reads reads_now old new before now → (n ≡ 6) ⊎ HasItsText n
       complete status n is h = subst (λ (k : ℕ). (k ≡ 6) ⊎ HasItsText k) (sym is) (complete_at status h)

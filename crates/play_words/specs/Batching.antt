@@ -24,7 +24,7 @@ job_line_text job status bytes = codes "job " ++ decimal job ++ codes " status "
 abbrev pub job_text : JobDone → List ℕ
 job_text d = job_line_text d.job d.status (length d.text) ++ d.text
 
--- the results of these jobs in order: entry j is an answer to job j, and tells a full heap only where the cells are few
+-- the results of these jobs in order: entry j is an answer to job j, and tells a full heap only if the cells are few
 pub record IsBatchText (o : Options) (jobs : List (List ℕ)) (text : List ℕ) : Type 0 where
   pub done : List JobDone
   pub played : ArePlayed (FitsJob o) jobs done
@@ -39,7 +39,7 @@ batch_fault_text (faults.CutJob job) = named_text (codes "42 CutJob job ") job
 batch_fault_text (faults.TooManyJobs offset) = named_text (codes "43 TooManyJobs offset ") offset
 batch_fault_text faults.BatchTooLong = codes "44 BatchTooLong\n"
 
--- the text of a fault, where there is one
+-- the text of a fault, if there is one
 abbrev pub IsBatchFault : Option FaultOfBatch → ℕ → List ℕ → Type 0
 IsBatchFault None status text = ⊥
 IsBatchFault (Some fault) status text = (status ≡ 2) × (text ≡ batch_fault_text fault)

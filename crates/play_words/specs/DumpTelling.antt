@@ -15,13 +15,13 @@ IsSurvivor r k x = slice_get r.survivors.items k ≡ Some x
 abbrev pub cell_of_survivor : Report → Survivor → ℕ
 cell_of_survivor r x = slice_index (cells_of (places_of r) x.section) x.number
 
--- the survivor has a place among so many cells
+-- the survivor has a place among this many cells
 pub record HasPlace (r : Report) (cells : ℕ) (x : Survivor) : Type 0 where
   pub section : x.section < length r.parts.items
   pub number : x.number < length (cells_of (places_of r) x.section)
   pub cell : cell_of_survivor r x < cells
 
--- each survivor has a place of its own among so many cells
+-- each survivor has a place of its own among this many cells
 pub record ArePlaced (r : Report) (cells : ℕ) : Type 0 where
   pub few : length r.survivors.items ≤ 65536
   pub each : (k : ℕ) (x : Survivor) → IsSurvivor r k x → HasPlace r cells x
@@ -37,11 +37,11 @@ abbrev pub dumped_word : List ℕ → ℕ → ℕ
 dumped_word numbers zero = 0
 dumped_word numbers (suc c) = slice_index numbers c
 
--- the word of field i of cell c, where a cell has so many fields
+-- the word of field i of cell c, if a cell has this many fields
 abbrev pub field_word : Words → ℕ → ℕ → ℕ → ℕ
 field_word w fields c i = slice_index w.fields.items (c * fields + i)
 
--- cell c has so many fields, each nil or the number of a cell and 1
+-- cell c has this many fields, each nil or the number of a cell and 1
 pub record HasFields (w : Words) (fields cells c : ℕ) : Type 0 where
   pub few : fields ≤ 16
   pub room : c * fields + fields ≤ length w.fields.items

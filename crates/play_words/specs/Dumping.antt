@@ -20,7 +20,7 @@ pub record IsDumpText (s : Sections) (text : List ℕ) : Type 0 where
 abbrev pub IsEndAnswer : Script → ℕ → List ℕ → Type 0
 IsEndAnswer s status text = (status ≡ 0) × IsDumpText s.sections text
 
--- a script is played: it is done, or so many cells were too few
+-- a script is played: it is done, or this many cells were too few
 abbrev pub EndsDoneOrFull : Options → Script → ℕ → List ℕ → Type 0
 EndsDoneOrFull o s status text = IsEndAnswer s status text ⊎ ((status ≡ 3) × IsFullText s.sections o.cells text)
 

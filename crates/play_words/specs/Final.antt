@@ -1,4 +1,4 @@
--- The heap at the end of a play, by the plain runs of its sections alone.
+-- The heap at the end of a play, by the plain runs of its sections only.
 use Rattle.std.specs.Prelude.{ℕ, ◌≡◌, ◌+◌, ◌-◌, ◌*◌, ◌<◌, ◌≤◌, ◌⊎◌, length, map, Some, slice_get, slice_index_or, get_or}
 use Rattle.plain_heap.specs.declared.object.Ref.{Ref}
 use Rattle.plain_heap.specs.declared.object.Ref.TheVariants as refs
@@ -17,7 +17,7 @@ name_in o = record { section = o.section; number = o.number }
 abbrev pub survivor_in : Object → Survivor
 survivor_in o = record { section = o.section; number = o.number; value = o.value }
 
--- what a reference of a section is in a dump: 0 where it is nil, else one more than the place of its object's record
+-- what a reference of a section is in a dump: 0 if it is nil, else one more than the place of its object's record
 abbrev pub IsNumberOf : DumpedHeap → ℕ → Ref → ℕ → Type 0
 IsNumberOf h section ref n = ((ref ≡ refs.Nil) × (n ≡ 0)) ⊎ ((0 < n) × (n ≤ length h.records) × Names section ref (name_in (object h (n - 1))))
 

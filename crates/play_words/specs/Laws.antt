@@ -22,7 +22,7 @@ use Rattle.play_words.specs.Counting.{IsCensusAnswer}
 use Rattle.play_words.specs.Dumping.{IsDumpAnswer}
 use Rattle.play_words.specs.Undumping.{IsUndumpAnswer}
 
--- `run` writes one text of a script where no places are asked for, with any two sets of cells, workers, tracers, packets and entries, whenever both are done
+-- `run` writes one text of a script if no places are asked for, with any two sets of cells, workers, tracers, packets and entries, whenever both are done
 abbrev pub RunsAlike : Type 0
 RunsAlike = (o p : Options) (bytes a b : List ℕ) → o.place ≡ false → p.place ≡ false → IsRunText o bytes a → IsRunText p bytes b → a ≡ b
 
@@ -56,7 +56,7 @@ abbrev pub ConversionsAnswer : Type 0
 ConversionsAnswer = (o : Options) (bytes converted : List ℕ) (status : ℕ) (text : List ℕ) → IsConvertAnswer bytes 0 converted
     → IsRunAnswer o bytes status text ↔ IsRunAnswer o converted status text
 
--- `run` writes the same text of a conversion and of its source, where no places are asked for, whenever both are done
+-- `run` writes the same text of a conversion and of its source, if no places are asked for, whenever both are done
 abbrev pub ConversionsRunAlike : Type 0
 ConversionsRunAlike = (o p : Options) (bytes converted a b : List ℕ) → o.place ≡ false → p.place ≡ false → IsConvertAnswer bytes 0 converted
     → IsRunAnswer o bytes 0 a → IsRunAnswer p converted 0 b → a ≡ b

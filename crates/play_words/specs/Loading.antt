@@ -6,7 +6,7 @@ use Rattle.load_gen.specs.Generated.{generated}
 use Rattle.play_report.specs.Text.{IsFullText, IsLoadText}
 use Rattle.command_words.specs.Words.{Options}
 
--- a script is played, and told in five lines, or so many cells were too few
+-- a script is played, and told in five lines, or this many cells were too few
 abbrev pub LoadsTo : Options → Result Script Fault → ℕ → List ℕ → Type 0
 LoadsTo o (Err fault) status text = ⊥
 LoadsTo o (Ok s) status text = ((status ≡ 0) × IsLoadText s.sections text) ⊎ ((status ≡ 3) × IsFullText s.sections o.cells text)

@@ -1,4 +1,4 @@
--- When so many cells may be too few for a command.
+-- When this many cells may be too few for a command.
 use Rattle.std.specs.Prelude.{ℕ, ◌≡◌, ◌+◌, ◌<◌, ◌≤◌, List, length, sum_by, Option, Some, Ok}
 use Rattle.plain_heap.specs.Sections.{Sections, executed_of, made_by, section_numbers, warehouse_numbers}
 use Rattle.gc_script.specs.Script.{Script, script}
@@ -10,7 +10,7 @@ use Rattle.play_words.specs.Bounded.{KeepsFew}
 abbrev pub IsOf : List ℕ → Sections → Type 0
 IsOf bytes s = (whole : Script) × (script bytes ≡ Ok whole) × (whole.sections ≡ s)
 
--- the command plays these sections, in so many cells
+-- the command plays these sections, in this many cells
 abbrev pub PlaysIn : Option Command → Option (List ℕ) → Sections → ℕ → Type 0
 PlaysIn (Some (Run options)) (Some bytes) s cells = IsOf bytes s × (options.cells ≡ cells)
 PlaysIn (Some (Dump options)) (Some bytes) s cells = IsOf bytes s × (options.cells ≡ cells)

@@ -1,4 +1,4 @@
--- With which statuses a command is done, where nothing fails and there is memory.
+-- With which statuses a command is done, if nothing fails and there is memory.
 use Rattle.std.specs.Prelude.{ℕ, ◌≡◌, ◌⊎◌, List, Option, Some, None, IfSome, Result, Ok, Err}
 use Rattle.gc_script.specs.Faults.{Fault}
 use Rattle.gc_script.specs.Script.{Script, script}
@@ -29,7 +29,7 @@ abbrev pub BatchesWith : Result (List (List ℕ)) BatchFault → ℕ → Type 0
 BatchesWith (Ok jobs) status = status ≡ 0
 BatchesWith (Err fault) status = status ≡ 2
 
--- the status where nothing fails and there is memory
+-- the status if nothing fails and there is memory
 abbrev pub EndsWith : Option Command → Option (List ℕ) → ℕ → Type 0
 EndsWith None left status = status ≡ 1
 EndsWith (Some (Run options)) left status = IfSome left (λ bytes. RunsWith (script bytes) status)

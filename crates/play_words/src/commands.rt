@@ -1,14 +1,8 @@
-//! The commands, each in a file of its own, but for `run`, which stands in the crate `play_run` with what it shares with them.
+//! The commands but for `run`, which stands in `play_run` with what it shares with them.
 //!
-//! - `load` makes a script and plays it, and writes five lines of it.
-//! - `generate` is the command `gen`: it makes that script and writes it.
-//! - `convert` writes the script of the source in the second version of the language.
-//! - `schedule` checks the schedule of the source. `dump` plays the script of the source and writes the heap at its end;
-//!   `undump` writes the records of such a dump, and `census` counts them.
-//! - `batch` plays the scripts of the source's batch on several runners, each as `run` does.
-//!
-//! A command takes its input whole before it writes, so a source that fails or a script with a fault leaves nothing written but
-//! the fault's text. How each ends is `CommandEnds` in `specs/Ending.antt` of `play_run`, for the texts that `specs/Answers.antt` allows it.
+//! A command takes its input whole before it writes, so a source that fails or a script with a fault leaves nothing
+//! written but the fault's text. How each ends is `CommandEnds` in `specs/Ending.antt` of `play_run`, for the texts
+//! that `specs/Answers.antt` allows it.
 ghost use Rattle.std.specs.Prelude.{◌≡◌, IfSome, Some, true, false};
 ghost use Rattle.command_words.specs.Commands.{IsCommandInRange, command_of};
 ghost use Rattle.play_run.specs.Ending.{CommandEnds, number_of_status};

@@ -2,7 +2,7 @@
 ghost use Rattle.play_words.specs.Following.{AnswersFollow, StatusesFollow};
 ghost use Rattle.play_words.specs.Laws.{ConversionsAnswer, ConversionsRunAlike, DumpsAlike, DumpsAreReached, DumpsTellSurvivors, FinalHeapsAreReached, LoadsAlike, OneFinalHeap, RunsAlike};
 
-/// Two runs of one script that are done, without `--place`, write the same bytes, whatever their cells, workers, tracers, packets and entries.
+/// Two runs of one script with status 0, without `--place`, write the same bytes, whatever their other options.
 pub fn runs_alike()
     ensures { RunsAlike }
 {}
@@ -12,7 +12,7 @@ pub fn conversions_answer()
     ensures { ConversionsAnswer }
 {}
 
-/// A run of a conversion and one of its source that are done, without `--place`, write the same bytes.
+/// A run of a conversion and one of its source with status 0, without `--place`, write the same bytes.
 pub fn conversions_run_alike()
     ensures { ConversionsRunAlike }
 {}
@@ -22,7 +22,7 @@ pub fn one_final_heap()
     ensures { OneFinalHeap }
 {}
 
-/// Two dumps of one script are the same bytes.
+/// Two dumps of one script are the same.
 pub fn dumps_alike()
     ensures { DumpsAlike }
 {}
@@ -32,27 +32,27 @@ pub fn loads_alike()
     ensures { LoadsAlike }
 {}
 
-/// In the heap at the end of a play each record is reached from a variable.
+/// Each record of the heap at the end of a play is reached from a variable.
 pub fn final_heaps_are_reached()
     ensures { FinalHeapsAreReached }
 {}
 
-/// In what `dump` writes of a play that is done, `census` counts no record that isn't reached.
+/// In what `dump` writes with status 0, `census` counts no record as unreached.
 pub fn dumps_are_reached()
     ensures { DumpsAreReached }
 {}
 
-/// Of what `dump` writes of a play that is done, `undump` lists the survivors that `run` prints, and `census` counts them by section and by value.
+/// Of what `dump` writes with status 0, `undump` lists the survivors that `run` prints, and `census` counts them.
 pub fn dumps_tell_survivors()
     ensures { DumpsTellSurvivors }
 {}
 
-/// What is written answers what the words ask for, by one relation for all commands: it follows from their clauses.
+/// What is written answers the words, by one relation for all commands.
 pub fn answers_follow()
     ensures { AnswersFollow }
 {}
 
-/// A whole text has one of the statuses that its command may have where nothing fails.
+/// A whole text has one of the statuses that its command may have if nothing fails.
 pub fn statuses_follow()
     ensures { StatusesFollow }
 {}

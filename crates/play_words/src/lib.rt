@@ -1,15 +1,9 @@
-//! What the program does: plays scripts of mutations over a heap, and writes what each warehouse printed and the objects
-//! that survive. It makes and converts scripts, too.
+//! What the program does: plays scripts of mutations over a heap, and writes what each warehouse printed and the
+//! objects that survive. It makes, converts and checks texts, too.
 //!
-//! - `program`: `play_words`, all of it; its contract is what the program promises.
-//! - `commands`: what each command does with its input, its options and the sink. The command `run` is in the crate `play_run`, with the reading of a source,
-//!   the status, and the end of a run whose lines are gathered.
-//! - `laws`: what follows from that contract for any two runs of one script.
-//! - `lines`: writes a text line by line.
-//!
-//! The words are read by the crate `command_words`. A script is played by `play` of the crate `gc_play`, of which the commands
-//! know no more than `PlayAnswers` of `play_end`, and for a dump by `play_final`, of which they know `FinalAnswers` besides. The program itself, `gcplay`,
-//! hands in its words, its standard input and its standard output.
+//! The contract of `play_words` is what the program promises; `laws` has what follows for any two runs. A script is
+//! played by `play` of `gc_play`, of which the commands know only `PlayAnswers` of `play_end`, and for a dump by
+//! `play_final`, of which they know `FinalAnswers` besides.
 #![tactic(auto)]
 
 mod commands;

@@ -1,18 +1,16 @@
-//! Writes a text line by line.
 ghost use Rattle.std.specs.Prelude.{◌≡◌, ◌==◌, ◌<◌, ◌≤◌, length, position};
 ghost use Rattle.play_report.specs.Causes.{WritesTo};
 ghost use Rattle.play_words.specs.Lines.{first_line};
 
 use play_report::{Failed, Sink, write_all};
 
-/// Where the first line feed stands.
 fn line_feed(text: &[u8]) -> Option<usize>
     ensures { result ≡ position (λ b. b == 10) text.now }
 {
     text.iter().position(|b| *b == b'\n')
 }
 
-/// How many bytes the first line of a text has, with its line feed; a text without one is one line.
+/// The bytes of a text's first line, with its line feed; a text without one is one line.
 fn first_line(text: &[u8]) -> usize
     ensures is { result ≡ first_line text.now }
     ensures within { result ≤ length text.now }
@@ -24,7 +22,8 @@ fn first_line(text: &[u8]) -> usize
     }
 }
 
-/// Hands a text to the sink, each line as one piece. Failed only where the sink's count of faults rose in this call, and a prefix of the text was then written.
+/// Hands a text to the sink, each line as one piece. If it fails, the sink's count of faults rose and a prefix was
+/// written.
 pub fn write_lines<K: Sink>(sink: &mut K, text: &[u8]) -> Result<(), Failed>
     ensures { WritesTo K.written K.faults result sink.old sink.new text.now }
 {

@@ -1,7 +1,5 @@
-//! All that the program does: the words, the command that they ask for, the status.
-//!
-//! What each command writes is a clause of its own, by a definition of its own: `specs/Running.antt` for `run`, and so on; what all share is in
-//! `specs/Promise.antt`. `docs/HEADLINE.md` walks through the clause of `run`.
+//! What each command writes is a clause of its own, by a definition of its own: `specs/Running.antt` for `run`, and
+//! so on; what all share is in `specs/Promise.antt`. `docs/HEADLINE.md` walks through the clause of `run`.
 ghost use Rattle.std.specs.Prelude.{ℕ, ◌≡◌, ◌≢◌, ◌<◌, ◌≤◌, ◌-◌, ◌^◌, ◌⊎◌, ◌∷◌, [], map, Contains, IfSome, Some, None, true, false};
 ghost use Rattle.std.specs.String.{string_bytes};
 ghost use Rattle.std.specs.Io.KnownBytes.{Keeps};
@@ -56,25 +54,24 @@ fn do_words<R: Threads + Wait + Sync, S: Source, K: Sink, G: Gate + Sync>(
     }
 }
 
-/// All that the program does: takes the words, reads the source where their command reads one, and writes to the sink.
+/// All that the program does: takes the words, reads the source if their command reads one, and writes to the sink.
 /// It answers the program's status.
 ///
 /// | Status | Meaning | Written |
 /// |---|---|---|
-/// | 0 | done | of `run`: each warehouse's transcript, then the objects that are reachable at the end, and with `--place` the cell of each object that was made |
-/// | | | of `gen`: the generated script |
-/// | | | of `load`: how many commands were executed, objects made and lines printed, how many objects survive, and the sum of their values |
-/// | | | of `convert`: the script in the second version of the language |
-/// | | | of `schedule`: that it is accepted, and its end |
-/// | | | of `dump`: the heap at the end of the play; of `undump`: its records; of `census`: how many there are of each kind |
-/// | | | of `batch`: for each job a line with its status and length, and the text that `run` writes of its script |
+/// | 0 | done | `run`: transcripts, the objects reachable at the end, with `--place` the cell of each made |
+/// | | | `gen`: the generated script; `convert`: the script in the second version of the language |
+/// | | | `load`: how many commands, objects, printed lines and survivors, and the sum of their values |
+/// | | | `schedule`: that it is accepted, and its end |
+/// | | | `dump`: the heap at the end; `undump`: its records; `census`: how many there are of each kind |
+/// | | | `batch`: for each job its status and length, and the text that `run` writes of its script |
 /// | 1 | the words ask for nothing | `usage: gcplay command [options]` |
-/// | 2 | of the commands that read: the input has a fault | the fault's number, name and place |
-/// | 3 | of `run`, `load` and `dump`: the reachable objects filled all cells | the section that found no cell, and how many commands each section did |
-/// | 4 | of the commands that read: the source failed | nothing |
+/// | 2 | the input has a fault | the fault's number, name and place |
+/// | 3 | `run`, `load` and `dump`: the heap was full | the section that found no cell, and how many commands each did |
+/// | 4 | the source failed | nothing |
 /// | 5 | the sink failed | a prefix of what was to be written |
 /// | 6 | memory ran out | nothing |
-/// | 7 | of `schedule`: the schedule is refused | the line, the rule and its part |
+/// | 7 | the schedule is refused | the line, the rule and its part |
 pub fn play_words<R: Threads + Wait + Sync, S: Source, K: Sink, G: Gate + Sync>(
     rt: &R,
     alloc: Global,
@@ -88,19 +85,18 @@ pub fn play_words<R: Threads + Wait + Sync, S: Source, K: Sink, G: Gate + Sync>(
 
     ensures statuses { Contains (0 ∷ 1 ∷ 2 ∷ 3 ∷ 4 ∷ 5 ∷ 6 ∷ 7 ∷ []) result }
 
-    // `run`, done: of what the script means, each transcript, then exactly the objects that are reachable at the end,
-    // and where it is asked for, a legal cell of each object.
+    // `run`, done: each transcript, exactly the objects that are reachable at the end, and if asked for, a legal
+    // cell of each object.
     ensures run { (o : Options) → wanted (map string_bytes words.now) ≡ Some (Run o) → result ≡ 0
         → WritesSome (K.written sink.old) (K.written sink.new) (FromSource (IsRunText o) (S.left source.old)) }
     // `run`, full: a section that wants a new object, and positions at which the reachable objects fill all cells.
     ensures run_full { (o : Options) → wanted (map string_bytes words.now) ≡ Some (Run o) → result ≡ 3
         → WritesSome (K.written sink.old) (K.written sink.new) (FromSource (IsRunFull o) (S.left source.old)) }
-    // `run`, with any status: what was played is a script without a fault, and the first fault of any other text is written.
+    // `run`, with any status: a script without a fault was played, or the first fault of the text is written.
     ensures run_or_fault { (o : Options) → wanted (map string_bytes words.now) ≡ Some (Run o)
         → Wrote (OfSource (IsRunAnswer o) (S.left source.old)) result (K.written sink.old) (K.written sink.new) }
 
-    // The other commands: `load` in five lines, the script of `gen`, the conversion of `convert`, the verdict of `schedule`, the heap at the end
-    // of `dump`, its records of `undump`, their counts of `census`, and of `batch` the results of each job in order.
+    // The other commands, each by the definition of its text.
     ensures load { (o : Options) (number size : ℕ) → wanted (map string_bytes words.now) ≡ Some (Load o number size)
         → Wrote (IsLoadAnswer o number size) result (K.written sink.old) (K.written sink.new) }
     ensures generate { (number size : ℕ) → wanted (map string_bytes words.now) ≡ Some (Gen number size)
@@ -118,36 +114,37 @@ pub fn play_words<R: Threads + Wait + Sync, S: Source, K: Sink, G: Gate + Sync>(
     ensures batch { (o : Options) (runners : ℕ) → wanted (map string_bytes words.now) ≡ Some (Batch o runners)
         → Wrote (OfSource (IsBatchAnswer o) (S.left source.old)) result (K.written sink.old) (K.written sink.new) }
 
-    // The words are refused exactly where they ask for nothing, and are told the usage.
+    // The usage is written exactly if the words ask for nothing.
     ensures usage { wanted (map string_bytes words.now) ≡ None → Wrote IsUsageAnswer result (K.written sink.old) (K.written sink.new) }
     ensures refused { wanted (map string_bytes words.now) ≡ None → (result ≡ 1) ⊎ (result ≡ 5) ⊎ (result ≡ 6) }
     ensures asked { result ≡ 1 → wanted (map string_bytes words.now) ≡ None }
 
-    // Where no count of faults rises, one of these texts is written whole, unless memory runs out.
+    // If no count of faults rises, one of these texts is written whole, unless memory runs out.
     ensures complete { S.faults source.new ≡ S.faults source.old → K.faults sink.new ≡ K.faults sink.old → (result ≡ 6) ⊎ HasItsText result }
 
-    // Nothing is left in the source, or it was too long and just one byte more was taken than the command's input may have.
+    // Nothing is left in the source, or it was too long and one byte more was taken than the input may have.
     ensures spent { reads_source (wanted (map string_bytes words.now)) ≡ true → HasItsText result
         → IfSome (S.left source.old) (λ bytes. IsSpent (enough_for (wanted (map string_bytes words.now))) bytes (S.left source.new)) }
-    // Never more than one byte past the longest input of the command is taken, whatever the status.
+    // Never more than one byte past the longest input of the command is taken.
     ensures most { TakesAtMost (enough_for (wanted (map string_bytes words.now))) (S.left source.old) (S.left source.new) }
     // `gen`, `load` and words that ask for nothing leave the source as it was.
     ensures untouched { reads_source (wanted (map string_bytes words.now)) ≡ false → source.new ≡ source.old }
 
-    // A fault of reading comes only where the source's count rose, and then nothing else comes but out of memory; nothing is written.
+    // A read fault comes only if the source's count rose; then only out of memory may come instead, and nothing is
+    // written.
     ensures read_fault { result ≡ 4 → S.faults source.old < S.faults source.new }
     ensures read_rose { S.faults source.old < S.faults source.new → (result ≡ 4) ⊎ (result ≡ 6) }
     ensures silent { (result ≡ 4) ⊎ (result ≡ 6) → Keeps (K.written sink.old) (K.written sink.new) }
 
-    // A fault of writing comes exactly where the sink's count rose.
+    // A write fault comes exactly if the sink's count rose.
     ensures write_fault { result ≡ 5 → K.faults sink.old < K.faults sink.new }
     ensures write_rose { K.faults sink.old < K.faults sink.new → result ≡ 5 }
 
-    // 3 doesn't come where the cells are more than what may be reachable at once.
+    // 3 doesn't come if the cells are more than what may be reachable at once.
     ensures roomy { result ≡ 3 → (s : Sections) (cells : ℕ) → PlaysIn (wanted (map string_bytes words.now)) (S.left source.old) s cells → AreFew s cells }
     // So it never comes to `load` with 256 cells or more.
     ensures load_fits { (o : Options) (number size : ℕ) → wanted (map string_bytes words.now) ≡ Some (Load o number size) → 256 ≤ o.cells → result ≢ 3 }
-    // 7 comes only to `schedule`, of a source that is a refused schedule.
+    // 7 comes only to `schedule`, of a refused schedule.
     ensures refuses { result ≡ 7 → (wanted (map string_bytes words.now) ≡ Some Schedule) × IfSome (S.left source.old) (λ bytes. status_of bytes ≡ 7) }
 {
     do_words(rt, alloc, words, source, sink, gate).code()

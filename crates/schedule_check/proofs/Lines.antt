@@ -144,7 +144,7 @@ fewer_left rest left line most some e h =
 pub few_at_first : (text : List ℕ) → length text < 8388608 → 2 + length (lines text) ≤ 8388611
 few_at_first text short = omega (arith, few_lines text)
 
--- the first line is the header, also where there is none
+-- the first line is the header, also if there is none
 pub by_first : (text : List ℕ) (b : Bool) → b ≡ is_header (words (first_line text)) → of_schedule_lines (worded text) ≡ cond b (schedule_body 2 (worded (rest_after text))) (Err BadHeader)
 by_first [] b e = ap (λ (t : Bool). cond t (schedule_body 2 (worded [])) (Err BadHeader)) (sym e)
 by_first (x ∷ xs) b e =

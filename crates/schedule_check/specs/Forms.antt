@@ -1,4 +1,4 @@
--- The forms of parameters: what a word says, where it has the form.
+-- The forms of parameters: what a word says, if it has the form.
 use Rattle.std.specs.Prelude.{ℕ, List, Bool, true, false, ◌==◌, nat_lt, if◌then◌else◌, Option, Some, None, codes}
 use Rattle.std.specs.Str.{bytes_eq}
 use Rattle.script_lines.specs.ScriptText.{number_of}
@@ -51,7 +51,7 @@ phase_of_number (Some n) =
 abbrev pub phase : List ℕ → Option Phase
 phase word = phase_of_number (number_of word)
 
--- a variable of this number, where there is a number
+-- a variable of this number, if there is a number
 abbrev pub present : Option ℕ → Option (Option ℕ)
 present None = None
 present (Some n) = Some (Some n)

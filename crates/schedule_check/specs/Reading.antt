@@ -24,7 +24,7 @@ after_words (Some s) line ws = with_more s line (event_line ws)
 abbrev pub after_schedule_line : Option Schedule → ℕ → List (List ℕ) → Result (Option Schedule) FaultOfSchedule
 after_schedule_line state line ws = if is_skipped ws then Ok state else after_words state line ws
 
--- the schedule at the end of input, where a shape line began one
+-- the schedule at the end of input, if a shape line began one
 abbrev pub ended : Option Schedule → Result Schedule FaultOfSchedule
 ended None = Err BadShape
 ended (Some s) = Ok s

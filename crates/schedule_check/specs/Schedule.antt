@@ -40,7 +40,7 @@ is_in_limits s seats =
 abbrev pub without_events : Shape → ℕ → Schedule
 without_events shape seats = record { shape = shape; seats = seats; events = [] }
 
--- a schedule of these sizes without events, where they are within their limits
+-- a schedule of these sizes without events, if they are within their limits
 abbrev pub if_in_limits : Shape → ℕ → Option Schedule
 if_in_limits shape seats = if is_in_limits shape seats then Some (without_events shape seats) else None
 
@@ -59,7 +59,7 @@ shape_line (word ∷ c ∷ p ∷ e ∷ words) =
     if bytes_eq word (codes "shape") then sized (all_three (number_word c) (number_word p) (number_word e)) (triple number_word number_word number_word words) else None
 shape_line words = None
 
--- the event of a seat and a step, where there are both
+-- the event of a seat and a step, if there are both
 abbrev pub event_by : Option ℕ → Option Step → Option Event
 event_by (Some seat) (Some step) = Some (record { seat = seat; step = step })
 event_by seat step = None
@@ -69,12 +69,12 @@ abbrev pub event_line : List (List ℕ) → Option Event
 event_line (seat ∷ name ∷ words) = event_by (number_word seat) (step_of name words)
 event_line words = None
 
--- the events from this one on, where those after it are these
+-- the events from this one on, if those after it are these
 abbrev pub put_first : Line → Result (List Line) FaultOfSchedule → Result (List Line) FaultOfSchedule
 put_first l (Ok rest) = Ok (l ∷ rest)
 put_first l (Err fault) = Err fault
 
--- the events from this line on: its event, where it has one and fewer than 100,000 came before, and those after it
+-- the events from this line on: its event, if it has one and fewer than 100,000 came before, and those after it
 abbrev pub with_event : ℕ → ℕ → Option Event → Result (List Line) FaultOfSchedule → Result (List Line) FaultOfSchedule
 with_event line n None rest = Err (BadEvent line)
 with_event line n (Some e) rest = if nat_lt n 100000 then put_first (record { line = line; event = e }) rest else Err (TooManyEvents line)
@@ -105,7 +105,7 @@ abbrev pub of_schedule_lines : List (List (List ℕ)) → Result Schedule FaultO
 of_schedule_lines [] = Err BadHeader
 of_schedule_lines (first ∷ others) = if is_header first then schedule_body 2 others else Err BadHeader
 
--- the schedule of these bytes, where each is ASCII
+-- the schedule of these bytes, if each is ASCII
 abbrev pub of_schedule_text : Option ℕ → List ℕ → Result Schedule FaultOfSchedule
 of_schedule_text (Some offset) bytes = Err (NotAscii offset)
 of_schedule_text None bytes = of_schedule_lines (map words (lines bytes))

@@ -22,7 +22,7 @@ abbrev pub is_schedule_refused : {A : Type 0} → Option FaultOfSchedule → Res
 is_schedule_refused None r = Unit {0}
 is_schedule_refused (Some fault) r = r ≡ Err fault
 
--- an answer of the reader, where the source is this schedule or has this fault
+-- an answer of the reader, if the source is this schedule or has this fault
 abbrev pub ScheduleReadAnswers : {A B : Type 0} → (A → B) → Result A ScheduleFault → Result B FaultOfSchedule → Type 0
 ScheduleReadAnswers shown (Ok s) r = r ≡ Ok (shown s)
 ScheduleReadAnswers shown (Err e) r = is_schedule_refused (schedule_fault_of e) r

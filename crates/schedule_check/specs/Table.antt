@@ -5,27 +5,27 @@ use Rattle.schedule_check.specs.Forms.{byte, number_word, long, cell, flag_word,
 use Rattle.mark_core.specs.declared.kinds.Step.{Step}
 use Rattle.mark_core.specs.declared.kinds.Step.TheVariants.{Reserve, Take, Give, Credit, Push, Pop, Look, ReadCount, ReadAlloc, ReadField, ReadRoot, SetMark, DirtyCard, ClearCard, ReadMarks, ReadCard, ReadPhase, ReadOwn, ReadValue, ReadIdent, ReadCat, StoreField, StoreValue, StoreRoot, ClaimBlock, ReleaseBlock, ReadFree, StoreNew, PublishCells, EnterStep, LeaveStep, RaiseStep, Observe, DropStep, StorePhase, Split, Join, NextBlock, NextOfCards, ReadBlockMarks, StoreAlloc, ClearMarks, WipeCard, StorePosition, StoreNamed, Reset, AddStat, ReadStat, StoreLength, ReadLength, OpenStep, JoinHelpStep, LeaveHelpStep, CloseStep, SeeHelp, ReadSeason, NextSeason}
 
--- the parameters, where there are so many and each has its form
+-- the parameters, if there are this many and each has its form
 abbrev pub both : {A B : Type 0} → Option A → Option B → Option (A × B)
 both (Some x) (Some y) = Some (x, y)
 both x y = None
 
--- three parameters, where each has its form
+-- three parameters, if each has its form
 abbrev pub all_three : {A B C : Type 0} → Option A → Option B → Option C → Option (A × B × C)
 all_three (Some x) (Some y) (Some z) = Some (x, y, z)
 all_three x y z = None
 
--- the one parameter, where there is one of this form
+-- the one parameter, if there is one of this form
 abbrev pub single : {A : Type 0} → (List ℕ → Option A) → List (List ℕ) → Option A
 single a (u ∷ []) = a u
 single a words = None
 
--- the two parameters, where there are two of these forms
+-- the two parameters, if there are two of these forms
 abbrev pub pair : {A B : Type 0} → (List ℕ → Option A) → (List ℕ → Option B) → List (List ℕ) → Option (A × B)
 pair a b (u ∷ v ∷ []) = both (a u) (b v)
 pair a b words = None
 
--- the three parameters, where there are three of these forms
+-- the three parameters, if there are three of these forms
 abbrev pub triple : {A B C : Type 0} → (List ℕ → Option A) → (List ℕ → Option B) → (List ℕ → Option C) → List (List ℕ) → Option (A × B × C)
 triple a b c (u ∷ v ∷ w ∷ []) = all_three (a u) (b v) (c w)
 triple a b c words = None

@@ -28,7 +28,7 @@ abbrev pub text_as : Result Schedule FaultOfSchedule → List ℕ
 text_as (Ok s) = verdict_text (verdict s)
 text_as (Err fault) = schedule_fault_text fault
 
--- the status of these bytes: 0 for a schedule that is accepted, 7 for one that is refused, and 2 where they are none
+-- the status of these bytes: 0 for a schedule that is accepted, 7 for one that is refused, and 2 if they are none
 abbrev pub status_of : List ℕ → ℕ
 status_of bytes = status_as (schedule bytes)
 
@@ -37,7 +37,7 @@ abbrev pub IsMeant : Result Schedule FaultOfSchedule → Type 0
 IsMeant (Ok s) = Says s (verdict s)
 IsMeant (Err fault) = Unit {0}
 
--- what may be written, by the status, where the bytes are this
+-- what may be written, by the status, if the bytes are this
 pub record IsToldAs (r : Result Schedule FaultOfSchedule) (status : ℕ) (text : List ℕ) : Type 0 where
   pub status_is : status ≡ status_as r
   pub text_is : text ≡ text_as r

@@ -16,18 +16,18 @@ use Rattle.schedule_check.specs.declared.verdict.Verdict.TheVariants.{Accepted, 
 abbrev pub start_of : Schedule → Core
 start_of s = start_core s.shape s.seats
 
--- what is told of this state, where it is the end of so many events
+-- what is told of this state, if it is the end of this many events
 abbrev pub at_end : ℕ → Core → Verdict
 at_end n c =
     let w = words_of c.shape c.words in
     Accepted n (phase_of w.phase) w.empty (marked_cells c) (used_cells c) (is_closed c)
 
--- the verdict where this line's event has this failing part, or what those after it come to
+-- the verdict if this line's event has this failing part, or what those after it come to
 abbrev pub by_part : Line → Option ℕ → Verdict → Verdict
 by_part l None rest = rest
 by_part l (Some part) rest = Refused l.line (record { kind = kind_of l.event.step; part = part })
 
--- the verdict on these lines from this state on, where there are n events in all
+-- the verdict on these lines from this state on, if there are n events in all
 abbrev pub verdict_from : ℕ → List Line → Core → Verdict
 verdict_from n [] c = at_end n c
 verdict_from n (l ∷ ls) c = by_part l (failing_part c l.event) (verdict_from n ls (after_event c l.event))
@@ -41,7 +41,7 @@ abbrev pub IsRunOfLines : List Line → Core → Core → Type 0
 IsRunOfLines [] c d = c ≡ d
 IsRunOfLines (l ∷ ls) c d = (failing_part c l.event ≡ None) × IsRunOfLines ls (after_event c l.event) d
 
--- all events are a run, and this is its end: it is sound, and where some seat makes it closed every reachable cell is marked
+-- all events are a run, and this is its end: it is sound, and if some seat makes it closed, every reachable cell is marked
 pub record IsAccepted (s : Schedule) (end : Core) : Type 0 where
   pub run : IsRunOfLines s.events (start_of s) end
   pub sound : IsCore end

@@ -15,7 +15,6 @@ fn word(state: &CoreState, index: u32) -> u64
     state.word(index).unwrap_or(0)
 }
 
-/// What is told of the state at the end.
 fn at_end(events: u32, state: &CoreState) -> Verdict
     ensures { result ≡ at_end_of events state.now }
 {
@@ -29,10 +28,10 @@ fn at_end(events: u32, state: &CoreState) -> Verdict
     }
 }
 
-/// Plays the schedule from the state in which nothing has happened, and tells what it comes to. Each schedule has one
-/// verdict (`exact`), and it says what is so (`meaning`): where it is accepted, its events are a run, the state at the end
-/// is sound, and where that state is closed every reachable cell is marked; where it is refused, the events before the
-/// line are a run and the event on it isn't allowed then. It fails only where memory ran out.
+/// Plays the schedule from the state in which nothing has happened, and answers its one verdict (`exact`), which
+/// says what is so (`meaning`). If accepted, its events are a run, the end is sound, and if it is closed every
+/// reachable cell is marked; if refused, the events before the line are a run and the event on it isn't allowed
+/// then. It fails only if memory ran out.
 pub fn check(alloc: Global, schedule: &Schedule) -> Result<Verdict, OutOfMemory>
     ensures exact { IfOk result (λ v. v ≡ verdict schedule.now) }
     ensures meaning { IfOk result (λ v. Says schedule.now v) }

@@ -7,14 +7,14 @@ use mark_core::{CoreState, Rule, closed_marks_all};
 use plain_heap::OutOfMemory;
 use std::alloc::Global;
 
-/// What a schedule that was played comes to: the state at its end, or the line of the first event that isn't allowed and what it broke.
+/// The state at a schedule's end, or the line of the first event that isn't allowed and what it broke.
 #[derive(Drop)]
 pub enum Played {
     Ran(CoreState),
     Refused { line: u32, rule: Rule },
 }
 
-/// Takes the events in order, up to the first that isn't allowed. Out of memory is the only refusal.
+/// Takes the events in order, up to the first that isn't allowed. Refused only if there is no memory.
 pub fn play(alloc: Global, schedule: &Schedule) -> Result<Played, OutOfMemory>
     ensures { IfOk result (λ p. PlayTells schedule.now p) }
 {

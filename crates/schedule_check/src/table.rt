@@ -1,4 +1,4 @@
-//! The table of steps: the name of each, and the forms of its parameters in order.
+//! The table of steps.
 ghost use Rattle.std.specs.Prelude.{◌≡◌, map};
 ghost use Rattle.schedule_check.specs.Table.{by_rows, step_of as step_said, packet_rows, colour_rows, mutator_rows, making_rows, world_rows, sweep_rows, counter_rows, help_rows};
 
@@ -163,7 +163,7 @@ fn of_help(name: &str, words: &[&str], rest: Option<Step>) -> Option<Step>
     }
 }
 
-/// The step of a name with its parameters. None where no step has this name, or the parameters are not of its forms.
+/// The step of a name with its parameters; None if there is no such step.
 pub fn step_of(name: &str, words: &[&str]) -> Option<Step>
     ensures { result ≡ step_said name.now (map (λ w. w.now) words.now) }
 {

@@ -1,4 +1,4 @@
-//! All that is done with a source: it is read, played, and its verdict or its fault written.
+//! Reads a source, plays it, and writes its verdict or its fault.
 ghost use Rattle.std.specs.Prelude.{◌≡◌, Ok};
 ghost use Rattle.schedule_check.specs.Telling.{verdict_status, number_of_told, finished_as, TellsAs, TellsSchedule};
 ghost use Rattle.play_report.specs.Causes.{AcrossSink};
@@ -32,7 +32,6 @@ pub enum Untold {
     Failed,
 }
 
-/// What is answered after the text was handed to the sink.
 fn finished(told: Told, written: Result<(), Failed>) -> Result<Told, Untold>
     ensures { result ≡ finished_as told written }
 {
@@ -60,9 +59,8 @@ fn tell_verdict<K: Sink>(alloc: Global, schedule: &Schedule, sink: &mut K) -> Re
     }
 }
 
-/// Reads the source as a schedule, plays it, and writes the text of its verdict, or of its fault where it is none. The
-/// text and the status (0 accepted, 2 faulty, 7 refused) are functions of the bytes, and the verdict says what is so: see
-/// [`crate::check`].
+/// Reads the source as a schedule, plays it, and writes the text of its verdict, or of its fault. The text and the
+/// status (0 accepted, 2 faulty, 7 refused) are functions of the bytes.
 pub fn tell_schedule<K: Sink>(alloc: Global, source: &[u8], sink: &mut K) -> Result<Told, Untold>
     ensures { AcrossSink K.written K.faults (TellsSchedule source.now result) sink.old sink.new }
 {

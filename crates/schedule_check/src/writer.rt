@@ -36,7 +36,6 @@ fn write_marking<K: Sink>(marked: u32, used: u32, closed: bool, sink: &mut K) ->
     }
 }
 
-/// The phase by its number, and the word that counts empty packets.
 fn write_words<K: Sink>(phase: Phase, empty: u64, sink: &mut K) -> Result<(), Failed>
     ensures { WritesTo K.written K.faults result sink.old sink.new (words_text phase empty) }
 {
@@ -79,7 +78,6 @@ fn write_accepted<K: Sink>(
     }
 }
 
-/// The line of an event that isn't allowed.
 #[tactic(auto, unfolding(crate::specs::Text::refused_text))]
 fn write_refused<K: Sink>(at: u32, rule: &Rule, sink: &mut K) -> Result<(), Failed>
     ensures { WritesTo K.written K.faults result sink.old sink.new (refused_text at rule.now.kind rule.now.part) }
@@ -95,10 +93,10 @@ fn write_refused<K: Sink>(at: u32, rule: &Rule, sink: &mut K) -> Result<(), Fail
     line.write(sink)
 }
 
-/// Writes the text of a verdict: for an accepted schedule the lines `accepted`, `phase`, `empty`, `marked` and `used`,
-/// each with a number, and `closed yes` or `closed no`; for a refused one the line `refused line L rule K part P`. Failed
-/// only where the sink's count of faults rose in this call, and a prefix of the text was then written. Each line is one
-/// piece, and the rest of a piece that was taken in part is handed again. It takes no memory.
+/// Writes the text of a verdict: for an accepted schedule the lines `accepted`, `phase`, `empty`, `marked` and
+/// `used`, each with a number, and `closed yes` or `closed no`; for a refused one the line `refused line L rule K
+/// part P`. It fails only if the sink's count of faults rose in this call; then a prefix of the text was written.
+/// Each line is one piece. It takes no memory.
 pub fn write_verdict<K: Sink>(verdict: &Verdict, sink: &mut K) -> Result<(), Failed>
     ensures { WritesTo K.written K.faults result sink.old sink.new (verdict_text verdict.now) }
 {
@@ -115,9 +113,8 @@ pub fn write_verdict<K: Sink>(verdict: &Verdict, sink: &mut K) -> Result<(), Fai
     }
 }
 
-/// Writes the text of a fault: its number and name, and its place. Out of memory is no fault of a schedule and has no
-/// text. Failed only where the sink's count of faults rose in this call, and a prefix of the text was then written. The
-/// line is one piece, and the rest of a piece that was taken in part is handed again. It takes no memory.
+/// Writes the text of a fault: its number and name, and its place. Out of memory is no fault of a schedule and has
+/// no text. It fails as [`write_verdict`] does.
 pub fn write_schedule_fault<K: Sink>(fault: &ScheduleFault, sink: &mut K) -> Result<(), Failed>
     requires { fault.now ≢ ScheduleFault.OutOfMemory }
     ensures { WritesTo K.written K.faults result sink.old sink.new (schedule_error_text fault.now) }

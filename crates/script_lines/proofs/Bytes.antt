@@ -24,7 +24,7 @@ ascii bs e =
 pub is_text : (bs : List ℕ) → first_foreign bs ≡ None → IsUtf8 bs
 is_text bs e = IsUtf8-from_ascii bs (ascii bs e)
 
--- no byte fails the test where all pass
+-- no byte fails the test if all pass
 all_pass : (bs : List ℕ) → list_all is_allowed bs ≡ true → position_or_len (λ (b : ℕ). not (is_allowed b)) bs ≡ length bs
 all_pass [] e = refl
 all_pass (b ∷ bs) e = by_head (is_allowed b) e (all_pass bs)
@@ -37,7 +37,7 @@ all_pass (b ∷ bs) e = by_head (is_allowed b) e (all_pass bs)
 none_below : (n : ℕ) → cond (nat_lt n n) (Some n) None ≡ None
 none_below n = grind (arith, nat_tests)
 
--- where all bytes are allowed, none is foreign
+-- if all bytes are allowed, none is foreign
 pub none_foreign : (bs : List ℕ) → list_all is_allowed bs ≡ true → first_foreign bs ≡ None
 none_foreign bs e = ap (λ (k : ℕ). cond (nat_lt k (length bs)) (Some k) None) (all_pass bs e) ∙ none_below (length bs)
 

@@ -26,7 +26,7 @@ ends_first p q (x ∷ xs) = by_head (p x) (q x) _ _ (ends_first p q xs)
     by_head false true e f h = omega arith
     by_head false false e f h = omega arith
 
--- where the first of either is not of one kind, it is the first of the other
+-- if the first of either is not of one kind, it is the first of the other
 pub ends_at : (p q : ℕ → Bool) (t : List ℕ) → position_or_len (both p q) t < length t → p (get_or t (position_or_len (both p q) t) 0) ≡ false
     → position_or_len q t ≡ position_or_len (both p q) t
 ends_at p q [] h k = absurd (omega arith)
@@ -38,7 +38,7 @@ ends_at p q (x ∷ xs) h k = by_head (p x) (q x) refl (position_or_len (both p q
     by_head false true u e f ih h k = refl
     by_head false false u e f ih h k = ap (λ (n : ℕ). 1 + n) (ih (omega arith) (subst (λ (n : ℕ). p (get_or (x ∷ xs) n 0) ≡ false) (one_more e) k))
 
--- where the first of either is of one kind, the first of the other is looked for behind it
+-- if the first of either is of one kind, the first of the other is looked for behind it
 pub goes_on : (p q : ℕ → Bool) (t : List ℕ) → ((b : ℕ) → p b ≡ true → q b ≡ false) → position_or_len (both p q) t < length t → p (get_or t (position_or_len (both p q) t) 0) ≡ true
     → position_or_len q t ≡ position_or_len (both p q) t + 1 + position_or_len q (drop (position_or_len (both p q) t + 1) t)
 goes_on p q [] apart h k = absurd (omega arith)

@@ -15,6 +15,6 @@ within p (x ∷ xs) = by_head (p x) _ _ (within p xs)
     by_head true k n h = omega arith
     by_head false k n h = omega arith
 
--- where the first element passes, by the position if there is one
+-- if the first element passes, by the position if there is one
 pub end_by_position : {X : Type 0} (p : X → Bool) (xs : List X) (r : Option ℕ) (k : ℕ) → r ≡ position p xs → k ≡ unwrap_or r (length xs) → k ≡ position_or_len p xs
 end_by_position p xs r k e f = f ∙ ap (λ (o : Option ℕ). unwrap_or o (length xs)) e ∙ or_end _ (length xs) (within p xs)

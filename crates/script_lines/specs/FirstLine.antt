@@ -15,7 +15,7 @@ first_line text = before_first (λ b. b == 10) text
 abbrev pub after_line : List ℕ → List ℕ
 after_line text = after_first (λ b. b == 10) text
 
--- the words of the first line that are left, where it goes on
+-- the words of the first line that are left, if it goes on
 abbrev pub words_left : Bool → List ℕ → List (List ℕ)
 words_left true rest = words (first_line rest)
 words_left false rest = []

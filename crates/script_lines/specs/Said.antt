@@ -7,7 +7,7 @@ use Rattle.script_lines.specs.declared.statement.Spoken.TheVariants as spoken
 use Rattle.script_lines.specs.declared.statement.Statement as statement_code
 use Rattle.script_lines.specs.declared.statement.Statement.TheVariants as says
 
--- a number, or a number past every greatest value where it is larger
+-- a number, or a number past every greatest value if it is larger
 abbrev pub capped_number : ℕ → ℕ
 capped_number n = min n 4294967296
 

@@ -7,11 +7,11 @@ use Rattle.std.specs.Char.{is_ascii_digit, is_ascii_lowercase}
 abbrev pub is_allowed : ℕ → Bool
 is_allowed b = (b == 10) || (nat_le 32 b && nat_le b 126)
 
--- where the first byte stands that a script may not have
+-- where the first byte that a script may not have stands
 abbrev pub first_foreign : List ℕ → Option ℕ
 first_foreign bytes = position (λ b. not (is_allowed b)) bytes
 
--- the pieces, without the last one where that is empty
+-- the pieces, without the last one if that is empty
 abbrev pub without_empty_last : List (List ℕ) → List (List ℕ)
 without_empty_last pieces = if length (slice_index_or pieces (length pieces - 1) []) == 0 then take (length pieces - 1) pieces else pieces
 

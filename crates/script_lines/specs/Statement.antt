@@ -1,4 +1,4 @@
--- What a line of a script says by its words alone.
+-- What a line of a script says by its words only.
 use Rattle.std.specs.Prelude.{ℕ, List, [], ◌∷◌, if◌then◌else◌, Option, Some, None, codes}
 use Rattle.std.specs.Str.{bytes_eq}
 use Rattle.script_lines.specs.ScriptText.{is_name, is_label, is_note, number_of}
@@ -136,7 +136,7 @@ version_of word =
     else (if bytes_eq word (codes "3") then Some 3
     else None))
 
--- the version that the first line names, where it is a header
+-- the version that the first line names, if it is a header
 abbrev pub header : List (List ℕ) → Option ℕ
 header (first ∷ version ∷ []) = if bytes_eq first (codes "gcscript") then version_of version else None
 header words = None

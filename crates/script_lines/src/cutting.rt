@@ -1,4 +1,3 @@
-//! The words of a text's first line.
 ghost use Rattle.std.specs.Prelude.{◌≡◌, ◌<◌, ◌≤◌, ◌+◌, ◌++◌, map, length, take, drop, IfOk, slice_index};
 ghost use Rattle.std.specs.List.{position, position_or_len};
 ghost use Rattle.script_lines.specs.ScriptText.{words};
@@ -18,7 +17,6 @@ fn first_end(text: &[u8]) -> Option<usize>
     text.iter().position(|b| ends_piece(*b))
 }
 
-/// Where the first piece of a line ends, at a space, a line feed or with the text.
 fn piece_end(text: &[u8]) -> usize
     ensures end { result ≡ position_or_len ends_piece text.now }
     ensures within { result ≤ length text.now }
@@ -26,7 +24,6 @@ fn piece_end(text: &[u8]) -> usize
     first_end(text).unwrap_or(text.len())
 }
 
-/// What stands before an ASCII byte of a text, and what after it.
 fn cut_at<'a>(text: &'a str, end: usize) -> (&'a str, &'a str)
     requires within { end < length text.now }
     requires ascii { slice_index text.now end < 128 }
@@ -52,7 +49,7 @@ fn cut<'a>(text: &'a str) -> (&'a str, bool, &'a str)
     (text, false, "")
 }
 
-/// Takes the first word off a text's first line, if there is one before its first space. It says whether the line goes on, and gives the rest.
+/// Takes the first word off a text's first line, if any; says whether the line goes on, and gives the rest.
 fn take_word<'a>(found: &mut Vec<&'a str>, text: &'a str) -> Result<(bool, &'a str), AllocError>
     requires { 0 < length text.now }
     ensures found { IfOk result (λ r. map (λ w. w.now) found.new.items ++ words_left r.0 r.1.now ≡ map (λ w. w.now) found.old.items ++ words (first_line text.now)) }
@@ -69,7 +66,7 @@ fn take_word<'a>(found: &mut Vec<&'a str>, text: &'a str) -> Result<(bool, &'a s
     }
 }
 
-/// Finds the words of a text's first line, in place of those that were found, and gives what follows the line. Out of memory is the only refusal.
+/// Finds the words of a text's first line, in place of those found before, and gives what follows the line.
 pub fn take_words<'a>(found: &mut Vec<&'a str>, text: &'a str) -> Result<&'a str, AllocError>
     ensures found { IfOk result (λ rest. map (λ w. w.now) found.new.items ≡ words (first_line text.now)) }
     ensures after { IfOk result (λ rest. rest.now ≡ after_line text.now) }

@@ -16,7 +16,7 @@ fn version_of(word: &str) -> Option<u32>
     }
 }
 
-/// The version that the words of the first line name, where they are a header.
+/// The version that the words of the first line name, if they are a header.
 pub fn version(words: &[&str]) -> Option<u32>
     ensures { result ≡ header (map (λ w. w.now) words.now) }
 {

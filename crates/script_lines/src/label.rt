@@ -1,4 +1,3 @@
-//! The label of a printing command.
 ghost use Rattle.std.specs.Prelude.{◌≤◌, length};
 
 /// A word of at most 32 bytes.

@@ -1,15 +1,11 @@
-//! The lines of a script by their words alone: what a line says, apart from what was said before it.
+//! The lines of a script by their words only: what a line says, apart from what was said before it. Whether it may
+//! stand where it does is told by `gc_script`.
 //!
-//! - `source`: the bytes of a source, and the text that they are
-//! - `cutting`: the words of a text's first line
-//! - `text`: names, labels and numbers
-//! - `header`: the first line. `statement`: every other line
-//! - `label`: the label of a command that prints
+//! `schedule_check` and `command_words` call `source`, `cutting` and `text` too, for other texts of lines and
+//! words.
 //!
-//! What reads another language of lines and words (`schedule_check`) and the words of options (`command_words`) calls the first three.
-//!
-//! `specs/ScriptText.antt` says what lines, words, names and numbers are, as functions of bytes, and `specs/Statement.antt` what a line says. Whether a line may
-//! stand where it does, and what it does there, is told by `gc_script`.
+//! `specs/ScriptText.antt` says what lines, words, names and numbers are, as functions of bytes, and
+//! `specs/Statement.antt` what a line says.
 #![tactic(auto)]
 
 mod cutting;

@@ -1,4 +1,3 @@
-//! The bytes of a source: which it may have, and the text that they are.
 ghost use Rattle.std.specs.Prelude.{◌≡◌, ◌<◌, None, length, IfSome};
 ghost use Rattle.std.specs.List.{list_all};
 ghost use Rattle.script_lines.specs.ScriptText.{is_allowed, first_foreign};
@@ -9,7 +8,8 @@ fn is_allowed(byte: u8) -> bool
     byte == b'\n' || (32 <= byte && byte <= 126)
 }
 
-/// Whether a script may have each of these bytes. The loop goes on to the end, so that it can look at many bytes together.
+/// Whether a script may have each of these bytes. The loop goes on to the end, so that it looks at many bytes
+/// together.
 fn are_allowed(source: &[u8]) -> bool
     ensures { result ≡ list_all is_allowed source.now }
 {
@@ -20,7 +20,7 @@ fn are_allowed(source: &[u8]) -> bool
     allowed
 }
 
-/// Where the first byte stands that is neither a line feed nor from 32 to 126, counted from 0; None where there is none.
+/// The offset of the first byte that is neither a line feed nor from 32 to 126, if any.
 pub fn first_foreign(source: &[u8]) -> Option<usize>
     ensures first { result ≡ first_foreign source.now }
     ensures within { IfSome result (λ offset. offset < length source.now) }
@@ -31,7 +31,7 @@ pub fn first_foreign(source: &[u8]) -> Option<usize>
     source.iter().position(|b| !is_allowed(*b))
 }
 
-/// The bytes of a source without a foreign byte, as a text. It copies nothing.
+/// The bytes of a source without a foreign byte, as a text, not copied.
 pub fn text_of<'a>(source: &'a [u8]) -> &'a str
     requires { first_foreign source.now ≡ None }
     ensures { result.now ≡ source.now }

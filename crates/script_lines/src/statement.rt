@@ -1,4 +1,3 @@
-//! What a line says by its words alone.
 ghost use Rattle.std.specs.Prelude.{◌≡◌, map};
 ghost use Rattle.script_lines.specs.ScriptText.{number_of};
 ghost use Rattle.script_lines.specs.Statement.{SumOf, Command, Statement as Said, statement, with_number, alone, new_line, let_line, nil_line, set_line, get_line, cat_line, put_line, say_line, sum_line, repeat_line, fields_line, by_keyword};

@@ -4,7 +4,6 @@ ghost use Rattle.script_lines.specs.ScriptText.{is_name, is_name_byte, is_label,
 ghost use Rattle.std.specs.List.{list_all};
 ghost use Rattle.std.specs.Str.{bytes_eq};
 
-/// Whether two texts have one length, and the same bytes at both ends.
 #[inline(always)]
 fn may_be_same(a: &[u8], b: &[u8]) -> bool
     ensures differ { IsFalse result → bytes_eq a.now b.now ≡ false }
@@ -23,7 +22,7 @@ fn may_be_same(a: &[u8], b: &[u8]) -> bool
     a[long - 1] == b[long - 1]
 }
 
-/// Whether two texts have the same bytes. Most that differ do so in length or at an end, so that is looked at first; two bytes have nothing between.
+/// Whether two texts are the same. Most that differ do so in length or at an end, so that is looked at first.
 #[inline(always)]
 pub fn is_same(a: &str, b: &str) -> bool
     ensures { result ≡ bytes_eq a.now b.now }
@@ -46,7 +45,7 @@ fn are_name_bytes(bytes: &[u8]) -> bool
     bytes.iter().all(|b| is_name_byte(*b))
 }
 
-/// Whether a word is a name: 1 to 16 bytes of `a` to `z`, `0` to `9` and `_`, the first of which is a letter.
+/// Whether a word is a name: 1 to 16 of `a` to `z`, `0` to `9` and `_`, a letter first.
 pub fn is_name(word: &str) -> bool
     ensures { result ≡ is_name word.now }
 {
@@ -64,14 +63,14 @@ fn is_name_bytes(word: &[u8]) -> bool
     }
 }
 
-/// Whether a word may be a label: it has at most 32 bytes.
+/// Whether a word may be a label: at most 32 bytes.
 pub fn is_label(word: &str) -> bool
     ensures { result ≡ is_label word.now }
 {
     word.len() <= 32
 }
 
-/// Whether a word begins a note, as its first byte is `#`.
+/// Whether a word begins a note, with `#`.
 pub fn is_note(word: &str) -> bool
     ensures { result ≡ is_note word.now }
 {
@@ -81,10 +80,10 @@ pub fn is_note(word: &str) -> bool
     }
 }
 
-/// Past every number of 32 bits, and so past every number that a script may have.
+/// Past every number that a script may have.
 pub const LARGE: u64 = 1 << 32;
 
-/// The number that digits say, or `LARGE` where it is larger; None where some byte is no digit. Leading zeros are allowed.
+/// The number that digits say, at most `LARGE`; None if some byte is no digit. Leading zeros are allowed.
 pub fn number_of(word: &str) -> Option<u64>
     ensures { result ≡ option_map (λ n. min n LARGE) (number_of word.now) }
 {

@@ -34,7 +34,7 @@ use Rattle.seat_turns.specs.Coming.{GivesCache, StepsOut, WithOwn}
 use Rattle.seat_steps.specs.Filling.{PopsNone}
 use Rattle.seat_steps.specs.Amounts.{DrawsNone, DoesFew, DoesNeither}
 
--- one, where it is so
+-- one, if it is so
 abbrev bit : Bool → ℕ
 bit b = if b then 1 else 0
 

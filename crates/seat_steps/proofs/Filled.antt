@@ -47,7 +47,7 @@ tries-last before later more o u v w r few t =
       last_few = at-most-join later more t.got v w t.last r t.last_few few;
     }
 
--- all steps of a call whose try took so many
+-- all steps of a call whose try took this many
 in_all : (before k later : ℕ) (o : Option Refill) (v w : View) → (t : TriesOnce before later o v w) → AtMost k t.asked t.got → AtMost (before + (k + later)) v w
 in_all before k later o v w t few = at-most-join before (k + later) v t.asked w t.first (ran-join t.asked t.got w t.ran t.last) t.first_few (at-most-join k later t.asked t.got w t.ran t.last few t.last_few)
 

@@ -38,7 +38,7 @@ use Rattle.seat_steps.specs.Arriving.{LacksCell, LeavesWorld}
 use Rattle.seat_steps.specs.declared.came.Came.{Came}
 use Rattle.seat_steps.specs.declared.came.Came.TheVariants as cames
 
--- where the first event like f is like g, one is like h
+-- if the first event like f is like g, one is like h
 either : (b p q r s : Bool) → (p ≡ true → q ≡ true) → (r ≡ true → s ≡ true) → (if b then p else r) ≡ true → (q || s) ≡ true
 either true p q r s x y e = or_left q s (x e)
 either false p q r s x y e = or_right q s (y e)
@@ -82,7 +82,7 @@ full-left u v w a b e = ap saw_full (ran-events u v w a b) ∙ some-left (reads_
 pub full-right : (u v w : View) → Ran u v → Ran v w → saw_full (events v w) ≡ true → saw_full (events u w) ≡ true
 full-right u v w a b e = ap saw_full (ran-events u v w a b) ∙ some-right (reads_phase Full) (events u v) (events v w) e
 
--- the two looks of a safe point, and one at the season where it isn't known
+-- the two looks of a safe point, and one at the season if it isn't known
 looks_few : (v w : View) → LooksAtSeason v w → AtMost 1 v w
 looks_few v w looks =
     ⊎_elim (λ (same : w ≡ v). subst (λ (x : View). AtMost 1 v x) (sym same) (at-most-none 1 v)) (λ (read : (n : ℕ) × Found ReadSeason n v w). at-most-after v w ReadSeason read.0 read.1.0) looks
@@ -175,7 +175,7 @@ leaves-lacks c h s l = absurd l
 pub comes-free : (v w : View) → is_some v.state.season_seen ≡ true → GoesFreely v w → ComesFreely v w
 comes-free v w k g = record { free = g.free; few = λ _. g.known k; besides = inl (g.known k) }
 
--- where the cache of the record has a free cell, so does the one in hand
+-- if the cache of the record has a free cell, so does the one in hand
 pub lacking_none : (o kept : Option Cache) (v : View) → IfSome o (λ h. IsCached h v) → IfNone o (v.state.cache ≡ None) → kept ≡ o → LacksFree kept → HasFree v.state.cache → ⊥
 lacking_none None kept v some bare e l f = subst HasFree bare f
 lacking_none (Some h) kept v some bare e l f = not-lacking kept h e (subst HasFree some f) l

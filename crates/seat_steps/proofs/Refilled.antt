@@ -33,7 +33,7 @@ use Rattle.seat_steps.specs.Steps.{shape_of}
 use Rattle.seat_steps.specs.declared.stepper.Stage.TheVariants as stages
 use Rattle.seat_steps.specs.declared.stepper.Stepper.{Stepper}
 
--- all steps of a step whose piece took so many
+-- all steps of a step whose piece took this many
 in_all : (before later from most k : ℕ) (Later : View → View → Type 0) (p : Piece) (v w : View) → (t : SeeksOnce before Later from most p v w) → AtMost later t.got w → length (events t.asked t.got) ≤ k → AtMost (before + (k + later)) v w
 in_all before later from most k Later p v w t last few = at-most-join before (k + later) v t.asked w t.first (ran-join t.asked t.got w t.ran t.last) t.first_few (at-most-join k later t.asked t.got w t.ran t.last few last)
 
@@ -105,7 +105,7 @@ refills-on most cames.NotYet x y s l e f k = (l, s, e, f, k)
 refills-on most cames.NoCell x y s l e f k = (inl (l, s), e, f, k)
 refills-on most c x y s l e f k = absurd s
 
--- the piece was to look at so many blocks, and the stepper noted what it saw
+-- the piece was to look at this many blocks, and the stepper noted what it saw
 module _ (most n : ℕ) (x m y : Stepper) (reaches : n ≡ reach most x) (shape : (view_of x.seat).shape ≡ shape_of x) (seen : m.seen ≡ x.seen) (blocks : blocks_of m ≡ blocks_of x) (was : x.stage ≡ stages.Inside) (inside : m.stage ≡ stages.Inside) (k : KeepsAll x m) where
   sought : (p : Piece) → y.seat ≡ m.seat → SeeksOnce 3 GoesFreely x.block n p (view_of x.seat) (view_of m.seat) → SeeksOnce 3 GoesFreely x.block (reach most x) p (view_of x.seat) (view_of y.seat)
   sought p e t = subst (λ (i : ℕ). SeeksOnce 3 GoesFreely x.block i p (view_of x.seat) (view_of y.seat)) reaches (subst (λ (s : HeapSeat). SeeksOnce 3 GoesFreely x.block n p (view_of x.seat) (view_of s)) (sym e) t)

@@ -19,7 +19,7 @@ step-on most x y s t e f p k = (subst (λ (a : Stage). StepsOn a y.stage most x 
 pub bounded-on : (most : ℕ) (x y : Stepper) (s t : Stage) → x.stage ≡ s → y.stage ≡ t → IsBounded s t most x y → IsBoundedStep most x y
 bounded-on most x y s t e f p = subst (λ (a : Stage). IsBounded a y.stage most x y) (sym e) (subst (λ (b : Stage). IsBounded s b most x y) (sym f) p)
 
--- the last step, where the stepper left
+-- the last step, if the stepper left
 pub ends-out : (most : ℕ) (came : Came) (h : Heap) (x y : Stepper) → (came ≡ cames.Done → ⊥) → Arrives came h y.seat → x.stage ≡ stages.Ending → Across (EndsBy (counts_of x) came) x.seat y.seat → y.stage ≡ stages.Outside → KeepsAll x y → StepsCollection most came x y
 ends-out most cames.Done h x y other a e p f k = absurd (other refl)
 ends-out most cames.Stopped h x y other a e p f k = (inr (e, p), f, k)

@@ -1,4 +1,4 @@
--- Where a seat draws no block: where it knows a phase in which none is handed out, and where it doesn't know that the world is stopped.
+-- When a seat draws no block: if it knows a phase in which none is handed out, and if it doesn't know that the world is stopped.
 use Rattle.std.proofs.Common.{ℕ, ◌≡◌, ◌==◌, ◌⊎◌, List, [], ◌∷◌, ◌++◌, inl, inr, refl, sym, ap, ◌∙◌, subst, Bool, true, false, ◌&&◌, ◌||◌, Option, Some, None, cond, true≢false, ⊎_elim, arith}
 use Rattle.std.proofs.lemmas.Bool.{and_from, and_parts, false≢true, or_from}
 use Rattle.mark_core.specs.Effects.{seat_after}

@@ -33,7 +33,7 @@ IsSlot x v k = IsVariable v × (k < slots_in x)
 abbrev pub HasSlots : Stepper → ℕ → ℕ → Type 0
 HasSlots x from to = (from ≤ to) × (to ≤ slots_in x)
 
--- the call went so, from what the seat knew before to what it knows after, in so many steps at most: objects are shared, its numbers were in range, and the
+-- the call went so, from what the seat knew before to what it knows after, in this many steps at most: objects are shared, its numbers were in range, and the
 -- stepper was inside and is
 pub record StepperActs (range : Type 0) (k : ℕ) (P : View → View → Type 0) (x y : Stepper) : Type 0 where
   pub shared : IsTrue (shares x)

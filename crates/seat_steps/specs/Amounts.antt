@@ -15,10 +15,10 @@ DrawsNone v w = (blocks : ℕ) → count_of (draws_block blocks) (events v w) �
 abbrev pub DoesNeither : View → View → Type 0
 DoesNeither v w = PopsNone v w × DrawsNone v w
 
--- neither was done, and so many steps were taken at most
+-- neither was done, and this many steps were taken at most
 abbrev pub DoesFew : ℕ → View → View → Type 0
 DoesFew most v w = DoesNeither v w × AtMost most v w
 
--- no cell was popped, and so many steps were taken at most
+-- no cell was popped, and this many steps were taken at most
 abbrev pub PassesFew : ℕ → View → View → Type 0
 PassesFew most v w = PopsNone v w × AtMost most v w

@@ -1,4 +1,4 @@
--- Where a seat is that tried to enter, to come to its turn, or to make an object.
+-- Where a seat is after it tried to enter, to come to its turn, or to make an object.
 use Rattle.std.specs.Prelude.{◌≡◌, ◌<◌, Option, None}
 use Rattle.std.specs.Int.Count.{ones}
 use Rattle.plain_heap.specs.declared.operation.Op.{Op}
@@ -19,7 +19,7 @@ use Rattle.seat_steps.specs.Doing.{Does}
 use Rattle.seat_steps.specs.declared.came.Came.{Came}
 use Rattle.seat_steps.specs.declared.came.Came.TheVariants as cames
 
--- where a seat is that tried to enter
+-- where a seat is after it tried to enter
 abbrev pub Tries : Pass → Heap → HeapSeat → Type 0
 Tries passes.Going h s = Halts h s
 Tries passes.Full h s = Halts h s × KnowsFull (view_of s)
@@ -31,32 +31,32 @@ Passes passes.Going h s kept = Works h s × HasCache kept (view_of s) × HasSeen
 Passes passes.Full h s kept = Halts h s × KnowsFull (view_of s) × (kept ≡ None)
 Passes passes.Out h s kept = IsMutatorOutside h s × (kept ≡ None)
 
--- where it is that asked for a cache
+-- where it is after it asked for a cache
 abbrev pub Refills : Refill → Heap → HeapSeat → Type 0
 Refills (refills.Cache free paid) h s = Works h s × IsCached free (view_of s) × (0 < ones free.cells)
 Refills refills.Full h s = Halts h s × KnowsFull (view_of s)
 
--- where it is that left instead of what it was to do
+-- where it is after it left instead of what it was to do
 abbrev pub LeavesWorld : Came → Heap → HeapSeat → Type 0
 LeavesWorld cames.Stopped h s = IsMutatorOutside h s
 LeavesWorld cames.Full h s = IsMutatorOutside h s × KnowsFull (view_of s)
 LeavesWorld c h s = ⊥
 
--- where it is that tried to come to its turn
+-- where it is after it tried to come to its turn
 abbrev pub Arrives : Came → Heap → HeapSeat → Type 0
 Arrives cames.Done h s = IsAtTurn h s
 Arrives cames.Stopped h s = IsMutatorOutside h s
 Arrives cames.Full h s = IsMutatorOutside h s × KnowsFull (view_of s)
 Arrives c h s = ⊥
 
--- where it is that has come to no cell
+-- where it is after it came to no cell
 abbrev pub LacksCell : Came → Heap → HeapSeat → Type 0
 LacksCell cames.NoCell h s = IsAtTurn h s
 LacksCell cames.Stopped h s = IsMutatorOutside h s
 LacksCell cames.Full h s = IsMutatorOutside h s × KnowsFull (view_of s)
 LacksCell c h s = ⊥
 
--- what making an object came to, where the section may make one
+-- what making an object came to, if the section may make one
 abbrev pub MakesOne : Came → Op → Heap → HeapSeat → HeapSeat → Type 0
 MakesOne cames.Done op h x y = IsAtTurn h y × Does op h x y
 MakesOne c op h x y = LacksCell c h y × (plain_of y ≡ plain_of x)

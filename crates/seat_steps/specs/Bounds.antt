@@ -1,6 +1,6 @@
 -- How much a step of a collection does at most, by the stage that it was in and the one that it is in: how many atomic steps it takes, and how many roots it sees
--- to, how many cells it pops, how many cards it cleans, or how many stretches of blocks it clears or sweeps. Cells are popped while it traces alone, and stretches
--- are drawn while it clears or sweeps alone. A bound depends on how many packets the heap has, how many references an object, and how many blocks a stretch, and
+-- to, how many cells it pops, how many cards it cleans, or how many stretches of blocks it clears or sweeps. Cells are popped only while it traces, and stretches
+-- are drawn only while it clears or sweeps. A bound depends on how many packets the heap has, how many references an object, and how many blocks a stretch, and
 -- not on the number of cells, cards or roots.
 use Rattle.std.specs.Prelude.{ℕ, ◌≡◌, ◌≤◌, ◌+◌, ◌*◌}
 use Rattle.gc_table.specs.Running.{Ran}
@@ -19,19 +19,19 @@ use Rattle.seat_steps.specs.declared.stepper.Stage.{Stage}
 use Rattle.seat_steps.specs.declared.stepper.Stage.TheVariants as stages
 use Rattle.seat_steps.specs.declared.stepper.Stepper.{Stepper}
 
--- how many steps it takes at most to see to so many roots, with a packet that is looked for, or to move the deferred packets where none is found
+-- how many steps it takes at most to see to this many roots, with a packet that is looked for, or to move the deferred packets if none is found
 abbrev pub rooting_steps : ℕ → Stepper → ℕ
 rooting_steps most x = see_to_steps most (shape_of x) + recycle_steps (shape_of x)
 
--- to move the deferred packets, and to trace so many objects
+-- to move the deferred packets, and to trace this many objects
 abbrev pub tracing_steps : ℕ → Stepper → ℕ
 tracing_steps most x = recycle_steps (shape_of x) + trace_steps most (shape_of x)
 
--- to clean so many cards and scan all their objects again, with a packet that is looked for, or to move the deferred packets where none is found
+-- to clean this many cards and scan all their objects again, with a packet that is looked for, or to move the deferred packets if none is found
 abbrev pub cleaning_steps : ℕ → Stepper → ℕ
 cleaning_steps most x = clean_some_steps most (card_cells * most) (shape_of x) + recycle_steps (shape_of x)
 
--- to clear the marks of so many stretches: two for each, and one for each block
+-- to clear the marks of this many stretches: two for each, and one for each block
 abbrev pub clearing_steps : ℕ → Stepper → ℕ
 clearing_steps draws x = draws * (2 + (shape_of x).stretch)
 
@@ -39,8 +39,8 @@ clearing_steps draws x = draws * (2 + (shape_of x).stretch)
 abbrev pub sweeping_steps : ℕ → Stepper → ℕ
 sweeping_steps draws x = draws * (2 + 4 * (shape_of x).stretch)
 
--- the numbers for the next cycle were set and the world went on, by so many steps at most, which pop no cell and draw no block; and then it came to its turn or
--- left, by so many
+-- the numbers for the next cycle were set and the world went on, by this many steps at most, which pop no cell and draw no block; and then it came to its turn or
+-- left, by this many
 pub record EndsInFew (v w : View) : Type 0 where
   pub ended : View
   pub ran : Ran v ended

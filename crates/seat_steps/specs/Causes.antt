@@ -39,7 +39,7 @@ pub record SawOther (v w : View) : Type 0 where
 abbrev pub FoundStop : View → View → Type 0
 FoundStop v w = IsTrue (some_event finds_flag (events v w)) ⊎ SawOther v w
 
--- a mutator left so, and took so many steps at most
+-- a mutator left so, and took this many steps at most
 abbrev pub FoundStopIn : ℕ → View → View → Type 0
 FoundStopIn most v w = FoundStop v w × AtMost most v w
 
@@ -47,11 +47,11 @@ FoundStopIn most v w = FoundStop v w × AtMost most v w
 abbrev pub FoundFull : View → View → Type 0
 FoundFull v w = IsTrue (saw_full (events v w)) × KnowsFull w
 
--- and so many steps were taken at most
+-- and this many steps were taken at most
 abbrev pub FoundFullIn : ℕ → View → View → Type 0
 FoundFullIn most v w = FoundFull v w × AtMost most v w
 
--- a try to get a cell found none, or marking done: 5 steps before it at most, and 3 after it, and so many in all
+-- a try to get a cell found none, or marking done: 5 steps before it at most, and 3 after it, and this many in all
 abbrev pub FoundNoCell : View → View → Type 0
 FoundNoCell v w = TriesOnce 5 3 None v w × AtMost (search_steps v.shape + 8) v w
 
@@ -65,7 +65,7 @@ LooksBy passes.Going handed kept v w = (kept ≡ handed) × LooksFreely v w
 LooksBy passes.Out handed kept v w = IsTrue (some_event finds_flag (events v w))
 LooksBy passes.Full handed kept v w = IsTrue (saw_full (events v w))
 
--- a look at the world found no stop; one step more was taken at most, and a second where the season wasn't known
+-- a look at the world found no stop; one step more was taken at most, and a second if the season wasn't known
 pub record GoesFreely (v w : View) : Type 0 where
   pub ran : Ran v w
   pub free : IsTrue (some_event sees_no_flag (events v w))
@@ -90,14 +90,14 @@ abbrev pub HasFree : Option CacheState → Type 0
 HasFree None = ⊥
 HasFree (Some c) = 0 < ones c.free
 
--- a look at the world found no stop; where the seat had a cache with a free cell, one step more was taken at most; else a try to get one was made besides
+-- a look at the world found no stop; if the seat had a cache with a free cell, one step more was taken at most; else a try to get one was made besides
 pub record ComesFreely (v w : View) : Type 0 where
   pub free : IsTrue (some_event sees_no_flag (events v w))
   pub few : HasFree v.state.cache → AtMost 2 v w
   pub besides : FewBesides 2 5 3 v w
 
--- a look at the world found no stop; where the seat had a cache with a free cell, an object was made by so many steps; else by so many, and a try to get a cell;
--- and by so many in all
+-- a look at the world found no stop; if the seat had a cache with a free cell, an object was made by this many steps; else by this many, and a try to get a cell;
+-- and by this many in all
 pub record MakesFreely (v w : View) : Type 0 where
   pub free : IsTrue (some_event sees_no_flag (events v w))
   pub few : HasFree v.state.cache → AtMost (v.shape.fields + 5) v w

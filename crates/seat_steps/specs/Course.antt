@@ -22,13 +22,13 @@ pub record CollectsSinceAsked (w : View) : Type 0 where
   pub asked : HasAsked start w
   pub collects : IsTrue (collects_exactly w.shape (begins start) (events start w))
 
--- the seat gave up its cache, if it had one, stored its position, left, and asked for the flag: it is the seat's own where it was down
+-- the seat gave up its cache, if it had one, stored its position, left, and asked for the flag: it is the seat's own if it was down
 pub record AsksForStop (yours : Bool) (v w : View) : Type 0 where
   pub retired : View
   pub gives : WithOwn GivesCache v retired
   pub asks : AsksOnce retired.state.made yours retired w
 
--- the world was found stopped and the phase read; then the drain began. It is to mark once more where a cycle was marking
+-- the world was found stopped and the phase read; then the drain began. It is to mark once more if a cycle was marking
 pub record BeginsMarking (again : Bool) (v w : View) : Type 0 where
   pub stopped : View
   pub finds : FindsStopped v stopped

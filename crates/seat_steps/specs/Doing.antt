@@ -26,12 +26,12 @@ DoesShared (ops.Put u n) v w = TakesSteps (putting_steps v.state u n) v w
 DoesShared (ops.Cat u c) v w = LendsFound u c v w
 DoesShared op v w = ⊥
 
--- one operation was done: where objects aren't shared, that one of the section's plain heap; where they are, by these steps
+-- one operation was done: if objects aren't shared, that one of the section's plain heap; if they are, by these steps
 pub record Does (op : Op) (h : Heap) (x y : HeapSeat) : Type 0 where
   pub own : IsFalse h.shape.sharing → Steps op (plain_of x) (plain_of y)
   pub shared : IsTrue h.shape.sharing → Across (DoesShared op) x y
 
--- an object was made in a cell that the seat had: where objects aren't shared, in the section's plain heap; where they are, by the steps that make one
+-- an object was made in a cell that the seat had: if objects aren't shared, in the section's plain heap; if they are, by the steps that make one
 pub record MakesNow (u n : ℕ) (h : Heap) (x y : HeapSeat) : Type 0 where
   pub own : IsFalse h.shape.sharing → Steps (ops.New u n) (plain_of x) (plain_of y)
   pub shared : IsTrue h.shape.sharing → Across (MakesShared u n) x y
@@ -40,18 +40,18 @@ pub record MakesNow (u n : ℕ) (h : Heap) (x y : HeapSeat) : Type 0 where
 abbrev pub FindsValue : ℕ → ℕ → View → View → Type 0
 FindsValue u n v w = (0 < word_in v.state u) × Found (ReadValue (word_in v.state u - 1)) n v w
 
--- the value of variable u's object is n: where objects aren't shared, that in the plain heap, which is as before; where they are, what one read found, of which
+-- the value of variable u's object is n: if objects aren't shared, that in the plain heap, which is as before; if they are, what one read found, of which
 -- the answer has 32 bits
 pub record FindsSome (u n : ℕ) (h : Heap) (x y : HeapSeat) : Type 0 where
   pub own : IsFalse h.shape.sharing → (value_in (plain_of x) u ≡ Some n) × (plain_of y ≡ plain_of x)
   pub shared : IsTrue h.shape.sharing → (found : ℕ) × (n ≡ found % 4294967296) × Across (FindsValue u found) x y
 
--- the variable has no object: where objects are shared, no step was taken
+-- the variable has no object: if objects are shared, no step was taken
 pub record FindsNone (u : ℕ) (h : Heap) (x y : HeapSeat) : Type 0 where
   pub own : IsFalse h.shape.sharing → (value_in (plain_of x) u ≡ None) × (plain_of y ≡ plain_of x)
   pub shared : IsTrue h.shape.sharing → (word_in (state_of x) u ≡ 0) × (view_of y ≡ view_of x)
 
--- variable u refers to nothing: by the plain heap where objects aren't shared, and by its word where they are
+-- variable u refers to nothing: by the plain heap if objects aren't shared, and by its word if they are
 abbrev pub RefersToNothing : Bool → ℕ → HeapSeat → Type 0
 RefersToNothing false u s = variable (plain_of s) u ≡ Nil
 RefersToNothing true u s = word_in (state_of s) u ≡ 0

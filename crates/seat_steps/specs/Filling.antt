@@ -32,12 +32,12 @@ abbrev pub make_steps : Shape → ℕ
 make_steps sh = filling_steps sh + (sh.fields + 11)
 
 -- what a try came to: no block had a free cell, or marking was done, and no cell was popped; or it got a cache and paid for it, or found the heap full, and
--- before the block was claimed no cell was popped; and so many steps were taken at most
+-- before the block was claimed no cell was popped; and this many steps were taken at most
 abbrev pub TriesToFill : Option Refill → View → View → Type 0
 TriesToFill None v w = IsTrue (may_stop v.shape (events v w)) × PopsNone v w × AtMost (search_steps v.shape) v w
 TriesToFill (Some refill) v w = RefillsTo refill v.state.made v w × IsTrue (pops_where_paid (events v w)) × AtMost (filling_steps v.shape) v w
 
--- so many steps were taken at most, then a try was made that came to this, and then so many steps
+-- this many steps were taken at most, then a try was made that came to this, and then this many steps
 pub record TriesOnce (before later : ℕ) (tried : Option Refill) (v w : View) : Type 0 where
   pub asked : View
   pub first : Ran v asked
@@ -52,6 +52,6 @@ pub record TriesOnce (before later : ℕ) (tried : Option Refill) (v w : View) :
 abbrev pub TriesSome : ℕ → ℕ → View → View → Type 0
 TriesSome before later v w = (tried : Option Refill) × TriesOnce before later tried v w
 
--- so many steps were taken at most in all, or so many before a try to get a cell and so many after it
+-- this many steps were taken at most in all, or this many before a try to get a cell and this many after it
 abbrev pub FewBesides : ℕ → ℕ → ℕ → View → View → Type 0
 FewBesides most before later v w = AtMost most v w ⊎ TriesSome before later v w

@@ -9,22 +9,22 @@ use Rattle.mutator_ops.specs.Few.{AtMost}
 use Rattle.seat_steps.specs.Filling.{TriesOnce}
 use Rattle.seat_steps.specs.Seeking.{SeeksOnce}
 
--- a count of 64 bits, with so many more
+-- a count of 64 bits, with this many more
 abbrev pub counts_more : ℕ → ℕ → ℕ
 counts_more count n = min (count + n) (2 ^ 64 - 1)
 
--- the count after a try that came to this: where it got a cache, with the objects that were traced to pay for it
+-- the count after a try that came to this: if it got a cache, with the objects that were traced to pay for it
 abbrev pub counts_after : Option Refill → ℕ → ℕ
 counts_after (Some (refills.Cache h paid)) count = counts_more count paid.done
 counts_after tried count = count
 
--- so many steps were taken at most, then a try to get a cell was made, and then so many steps; what it paid was counted
+-- this many steps were taken at most, then a try to get a cell was made, and then this many steps; what it paid was counted
 pub record CountsTry (earlier later before after : ℕ) (v w : View) : Type 0 where
   pub tried : Option Refill
   pub tries : TriesOnce earlier later tried v w
   pub counts : after ≡ counts_after tried before
 
--- so many steps were taken at most in all, and nothing was counted; or a try to get a cell was made, and what it paid was counted
+-- this many steps were taken at most in all, and nothing was counted; or a try to get a cell was made, and what it paid was counted
 abbrev pub CountsBeside : ℕ → ℕ → ℕ → ℕ → ℕ → View → View → Type 0
 CountsBeside most earlier later before after v w = (AtMost most v w × (after ≡ before)) ⊎ CountsTry earlier later before after v w
 

@@ -1,4 +1,4 @@
--- What a piece of a collection did: so many of the roots, objects, cards or blocks.
+-- What a piece of a collection did: this many of the roots, objects, cards or blocks.
 use Rattle.std.specs.Prelude.{ℕ, ◌≡◌, ◌≢◌, ◌≤◌, ◌<◌, ◌+◌, ◌⊎◌, [], ◌∷◌, ◌++◌}
 use Rattle.std.specs.List.{range_with_len}
 use Rattle.mark_core.specs.Layout.{block_count, card_count}
@@ -18,20 +18,20 @@ use Rattle.gc_cycle.specs.Sorts.{draws_block, pops}
 use Rattle.gc_cycle.specs.RoundParts.{BringsBack, LacksPacket}
 use Rattle.gc_cycle.specs.Turns.{DrainsFor}
 
--- so many roots from this one on were read, each once and in their order, and nothing else was done but to mark what they refer to
+-- this many roots from this one on were read, each once and in their order, and nothing else was done but to mark what they refer to
 pub record SeesRoots (from n : ℕ) (v w : View) : Type 0 where
   pub part : IsPart Drain v w
   pub only : Only sees_roots v w
   pub reads : picked (roots_read v.shape) (events v w) ≡ range_with_len from n
 
--- what was deferred was brought back, and so many objects were popped and no more, or fewer, and then at some moment there was none to pop
+-- what was deferred was brought back, and this many objects were popped and no more, or fewer, and then at some moment there was none to pop
 pub record TracesFor (most : ℕ) (v w : View) : Type 0 where
   pub part : IsPart Drain v w
   pub brings : BringsBack v w
   pub worked : DrainsFor most v w
   pub at_most : count_of pops (events v w) ≤ most
 
--- each card from this one on was seen clean, and then the count of empty packets said so many
+-- each card from this one on was seen clean, and then the count of empty packets said this many
 abbrev pub LooksToEnd : ℕ → ℕ → View → View → Type 0
 LooksToEnd from n v w = events v w ≡ looks_clean from (card_count v.shape) ++ event ReadCount n ∷ []
 
@@ -51,7 +51,7 @@ pub record BeginsSweep (from : ℕ) (v w : View) : Type 0 where
   pub looks : LooksToEnd from (empty_offset + v.shape.packets) v drained
   pub moved : IsMove Drain Sweep drained w
 
--- the marks of fewer stretches of blocks than so many were cleared, which were all that were left, and then the drain began once more
+-- the marks of fewer stretches of blocks than this many were cleared, which were all that were left, and then the drain began once more
 pub record BeginsAgain (most : ℕ) (v w : View) : Type 0 where
   pub cleared : View
   pub part : IsPart Clear v cleared
@@ -64,10 +64,10 @@ pub record EndsSweep (v w : View) : Type 0 where
   pub part : IsPart Sweep v swept
   pub moved : IsMove Sweep Idle swept w
 
--- at most so many roots from this one on were seen to, or none, since no packet was found for it
+-- at most this many roots from this one on were seen to, or none, since no packet was found for it
 abbrev pub SeesFewRoots : ℕ → ℕ → View → View → Type 0
 SeesFewRoots from most v w = ((n : ℕ) × (n ≤ most) × SeesRoots from n v w) ⊎ LacksPacket v w
 
--- at most so many cards from this one on were looked at, and cleaned where they were dirty, or none, since no packet was found for it
+-- at most this many cards from this one on were looked at, and cleaned if they were dirty, or none, since no packet was found for it
 abbrev pub CleansFewCards : ℕ → ℕ → View → View → Type 0
 CleansFewCards from most v w = ((n : ℕ) × (n ≤ most) × CleansCards from n v w) ⊎ LacksPacket v w

@@ -1,4 +1,4 @@
--- What a stepper is told that makes an object by its cache alone, and that comes to a cache with a free cell in pieces.
+-- What a stepper that makes an object only by its cache, and that comes to a cache with a free cell in pieces, is told.
 use Rattle.std.specs.Prelude.{ℕ, ◌≡◌, ◌≤◌, ◌<◌, ◌+◌, ◌-◌, ◌*◌, ◌⊎◌, length, min, Option, None, Some, IsTrue}
 use Rattle.std.specs.Arc.{arc_value}
 use Rattle.mark_core.specs.Layout.{block_count}
@@ -22,7 +22,7 @@ use Rattle.seat_steps.specs.Steps.{shape_of}
 use Rattle.seat_steps.specs.declared.stepper.Stage.TheVariants.{Inside, Outside}
 use Rattle.seat_steps.specs.declared.stepper.Stepper.{Stepper}
 
--- what making an object of a cell of the cache came to, where the section may make one
+-- what making an object of a cell of the cache came to, if the section may make one
 abbrev pub MakesCached : Came → Op → Stepper → Stepper → Type 0
 MakesCached cames.Done op x y = StepperDoes op x y × Across (CachedBy cames.Done) x.seat y.seat
 MakesCached cames.OutOfRange op x y = (IsInRange (fields_in x) op → ⊥) × (y ≡ x)
@@ -38,7 +38,7 @@ MakesCached c op x y = ⊥
 abbrev pub blocks_of : Stepper → ℕ
 blocks_of x = block_count (shape_of x)
 
--- how many blocks a step of a search looks at that is to look at so many at most: none that it has seen, and none behind the last
+-- how many blocks a step of a search looks at that is to look at this many at most: none that it has seen, and none behind the last
 abbrev pub reach : ℕ → Stepper → ℕ
 reach most x = min most (blocks_of x - x.seen)
 
@@ -51,7 +51,7 @@ SeenTo cames.NotYet number x y = (y.seen ≡ x.seen + number) × (y.seen < block
 SeenTo cames.NoCell number x y = (y.seen ≡ 0) × (blocks_of x ≤ x.seen + number)
 SeenTo c number x y = ⊥
 
--- the stepper noted that so many blocks more were seen without a free cell, and from which one on its search goes on
+-- the stepper noted that this many more blocks were seen without a free cell, and from which one on its search goes on
 pub record NotesSeen (number next : ℕ) (came : Came) (x y : Stepper) : Type 0 where
   pub seat : y.seat ≡ x.seat
   pub stage : y.stage ≡ x.stage
@@ -79,8 +79,8 @@ pub record BeginsSearch (x y : Stepper) : Type 0 where
   pub paid_is : y.paid ≡ x.paid
   pub search : IsToSearch y
 
--- from the block on where the search stood so many blocks were looked at, in their order, and no other, and each was seen without a free cell; then a look at the
--- world found no stop; the search goes on behind these blocks, or at block 0; so many steps were taken at most
+-- from the block on where the search stood, this many blocks were looked at, in their order, and no other, and each was seen without a free cell; then a look at the
+-- world found no stop; the search goes on behind these blocks, or at block 0; this many steps were taken at most
 pub record LooksOn (most : ℕ) (x y : Stepper) : Type 0 where
   pub piece : Piece
   pub seeks : Across (SeeksOnce 3 GoesFreely x.block (reach most x) piece) x.seat y.seat

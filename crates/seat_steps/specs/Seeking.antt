@@ -38,7 +38,7 @@ StandsAfter pieces.Ended heap s = Halts heap s
 StandsAfter pieces.MarkingDone heap s = Halts heap s
 StandsAfter pieces.Full heap s = Halts heap s × KnowsFull (view_of s)
 
--- what a piece did that looks at so many blocks from this one on: which it saw, how many steps it took, up to the claim of a cache and with what was paid for it, and
+-- what a piece did that looks at this many blocks from this one on: which it saw, how many steps it took, up to the claim of a cache and with what was paid for it, and
 -- what it paid
 pub record TriesPiece (from most : ℕ) (piece : Piece) (v w : View) : Type 0 where
   pub sees : SeesTo from most piece v w
@@ -46,7 +46,7 @@ pub record TriesPiece (from most : ℕ) (piece : Piece) (v w : View) : Type 0 wh
   pub longest : length (events v w) ≤ 3 * most + 6 + payment_steps 1024 card_looks v.shape
   pub gets : IfSome (refill_of piece) (λ r. RefillsTo r v.state.made v w)
 
--- so many steps were taken at most, then a piece was made that came to this, and then what is so `Later`
+-- this many steps were taken at most, then a piece was made that came to this, and then what is so `Later`
 pub record SeeksOnce (before : ℕ) (Later : View → View → Type 0) (from most : ℕ) (piece : Piece) (v w : View) : Type 0 where
   pub asked : View
   pub first : Ran v asked
@@ -76,7 +76,7 @@ abbrev pub RefillsBy : ℕ → ℕ → Sought → View → View → Type 0
 RefillsBy from most soughts.Free v w = HasFree w.state.cache × ((w ≡ v) ⊎ ((h : Cache) × (paid : Paid) × SeeksOnce 3 GoesFreely from most (pieces.Cache h paid) v w))
 RefillsBy from most sought v w = SoughtBy 3 from most sought v w
 
--- a look at the world found no stop, and an object was made of a cell that was free in the seat's cache, by so many steps at most
+-- a look at the world found no stop, and an object was made of a cell that was free in the seat's cache, by this many steps at most
 pub record MakesOwn (v w : View) : Type 0 where
   pub had : HasFree v.state.cache
   pub free : IsTrue (some_event sees_no_flag (events v w))

@@ -53,7 +53,7 @@ pub record StepperDoes (op : Op) (x y : Stepper) : Type 0 where
   pub world : arc_value y.heap ≡ arc_value x.heap
   pub name_is : y.name ≡ x.name
 
--- the call took so many steps at most as the operation may
+-- the call took this many steps at most as the operation may
 abbrev pub TakesFew : Op → Stepper → Stepper → Type 0
 TakesFew op x y = Across (AtMost (most_steps (fields_in x) op)) x.seat y.seat
 

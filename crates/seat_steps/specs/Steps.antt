@@ -48,7 +48,7 @@ objects_popped x y = count_of pops (did x.seat y.seat)
 abbrev pub stretches_drawn : Stepper → Stepper → ℕ
 stretches_drawn x y = count_of (draws_block (block_count (shape_of x))) (did x.seat y.seat)
 
--- how many stretches a step takes that is to clear or sweep at most so many blocks: as many as have no more between them, but at least one
+-- how many stretches a step takes that is to clear or sweep at most this many blocks: as many as have no more between them, but at least one
 abbrev pub draws_for : ℕ → Stepper → ℕ
 draws_for most x = stretches_in (shape_of x) most
 
@@ -72,11 +72,11 @@ CountsTraced x y = (y.traced ≡ min (x.traced + objects_popped x y) greatest) �
 abbrev pub CountsCleaned : Stepper → Stepper → Type 0
 CountsCleaned x y = (y.traced ≡ x.traced) × (y.cleaned ≡ min (x.cleaned + cards_cleaned x y) greatest)
 
--- so many roots were seen to, or no packet was found for it
+-- this many roots were seen to, or no packet was found for it
 abbrev pub SeesSome : ℕ → Stepper → Stepper → Type 0
 SeesSome most x y = ((most ≤ roots_left x) × (y.next ≡ x.next + most) × Across (SeesRoots x.next most) x.seat y.seat) ⊎ ((y.next ≡ x.next) × Across LacksPacket x.seat y.seat)
 
--- so many cards were passed, and cleaned where they were dirty, or no packet was found for it
+-- this many cards were passed, and cleaned if they were dirty, or no packet was found for it
 abbrev pub CleansSome : ℕ → Stepper → Stepper → Type 0
 CleansSome most x y =
     ((most ≤ cards_left x) × (y.next ≡ x.next + most) × Across (CleansCards x.next most) x.seat y.seat × CountsCleaned x y)
@@ -114,7 +114,7 @@ counts_of x = record { marked = x.counted; freed = x.freed; rescanned = 0 }
 abbrev pub Finishes : Came → Stepper → Stepper → Type 0
 Finishes came x y = (x.stage ≡ stages.Ending) × Across (EndsBy (counts_of x) came) x.seat y.seat
 
--- what a step of a collection came to, of so many roots, objects, cards or blocks
+-- what a step of a collection came to, of this many roots, objects, cards or blocks
 abbrev pub StepsCollection : ℕ → Came → Stepper → Stepper → Type 0
 StepsCollection most cames.NotYet x y = StepsOn x.stage y.stage most x y × KeepsAll x y
 StepsCollection most cames.Done x y = Finishes cames.Done x y × (y.stage ≡ stages.Inside) × KeepsAll x y

@@ -1,4 +1,4 @@
-//! What a stepper does in a world whose mutators share their objects: the root, and exchanges.
+//! What a stepper does only in a shared world: the root, and exchanges.
 ghost use Rattle.std.specs.Prelude.{◌≡◌, IfErr, IfOk};
 ghost use Rattle.mark_core.specs.Steps.MutatorSteps.{seat_variable as word_in};
 ghost use Rattle.gc_table.specs.Seats.{state_of};
@@ -15,8 +15,7 @@ use seat_turns::{exchange_shared, exchange_value_shared, lend_shared, word_of};
 const ROOT: u8 = 0;
 
 impl Stepper {
-    /// Variable w becomes the root: the object that the world made when it was opened, by which its mutators find each other's objects. It is looked at before
-    /// it is told: Nil says that nothing was found, of which the contracts alone don't say that it can't be.
+    /// Variable w becomes the root. Nil says that nothing was found: no contract of this call excludes that.
     pub fn root(&mut self, w: u8) -> Came
         ensures root { TakesRoot result w self.old self.new }
     {
@@ -39,8 +38,8 @@ impl Stepper {
         }
     }
 
-    /// Where reference i of variable v's object is what variable `expected` is, it becomes what variable `new` is: true where it was. A variable that refers to
-    /// nothing may stand for nothing.
+    /// If reference i of variable v's object is variable `expected`, it becomes variable `new`. True if it was.
+    /// Either variable may be nil.
     pub fn exchange(&mut self, v: u8, i: u8, expected: u8, new: u8) -> Result<bool, Came>
         ensures done { IfOk result (λ won. StepperActs (CanExchange self.old v i expected new) 2 (ExchangesField v i expected new won) self.old self.new) }
         ensures refused { IfErr result (λ came. WantsObject came (CanExchange self.old v i expected new) v self.old self.new) }
@@ -64,8 +63,7 @@ impl Stepper {
         }
     }
 
-    /// Where the value of variable v's object is the expected one it becomes the new one: true where it was. So threads count together, and take and free
-    /// locks.
+    /// If the value of variable v's object is the expected one, it becomes the new one. True if it was.
     pub fn exchange_value(&mut self, v: u8, expected: u32, new: u32) -> Result<bool, Came>
         ensures done { IfOk result (λ won. StepperActs (IsVariable v) 1 (ExchangesValue v expected new won) self.old self.new) }
         ensures refused { IfErr result (λ came. WantsObject came (IsVariable v) v self.old self.new) }

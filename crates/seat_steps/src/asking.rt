@@ -1,4 +1,4 @@
-//! What a stepper is asked of its variables, and of the stop that it waits for.
+//! What a stepper is asked.
 ghost use Rattle.std.specs.Prelude.{◌≡◌, IfErr, IfOk, IsFalse, IsTrue};
 ghost use Rattle.plain_heap.specs.declared.operation.Op.TheVariants as ops;
 ghost use Rattle.seat_steps.specs.Doing.{RefersToNothing, RefersToOne};
@@ -12,7 +12,7 @@ use crate::stepper::{Stage, Stepper};
 use mark_core::VARIABLES;
 
 impl Stepper {
-    /// Whether variable v refers to nothing. Err says why it couldn't be answered: v is out of range, or the stepper is outside or collects.
+    /// Whether variable v refers to nothing. Err: v is out of range, or the stepper is outside or collects.
     pub fn is_nil(&self, v: u8) -> Result<bool, Came>
         ensures nil { IfOk result (λ nil. IsTrue nil → RefersToNothing (shares self.now) v self.now.seat) }
         ensures some { IfOk result (λ nil. IsFalse nil → RefersToNothing (shares self.now) v self.now.seat → ⊥) }
@@ -57,7 +57,8 @@ impl Stepper {
         }
     }
 
-    /// Whether it has asked for a stop, to collect, and others may be inside still: then its next step may do nothing, and its thread may rest before it.
+    /// Whether it has asked for a stop and others may still be inside: then its thread may rest before the next
+    /// step.
     pub fn is_stopping(&self) -> bool
         ensures stopping { result ≡ is_stopping_at self.now.stage }
     {

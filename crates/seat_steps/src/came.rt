@@ -5,7 +5,7 @@
 pub enum Came {
     /// It is done.
     Done,
-    /// A collection of its own is under way: it is to take the next step.
+    /// A collection or a refill is under way: the next step is to be taken.
     NotYet,
     /// A stop of another is under way: the mutator is outside now.
     Stopped,

@@ -1,4 +1,4 @@
-//! How a mutator gets a free cell without waiting, and makes an object of it.
+//! How a mutator gets a free cell without waiting.
 ghost use Rattle.std.specs.Prelude.{◌≡◌, ◌<◌, length, IfErr, IfNone, IfOk, IfSome, None};
 ghost use Rattle.std.specs.Int.Count.{ones};
 ghost use Rattle.mark_core.specs.Numbers.{section_variables};
@@ -27,7 +27,6 @@ use gc_cycle::Refill;
 use gc_table::{Heap, HeapSeat};
 use seat_turns::{keep_some, leave, with_free};
 
-/// Tries to get a cache with a free cell, and pays for it.
 fn try_fill(heap: &Heap, seat: &mut HeapSeat) -> Option<Refill>
     requires halts { Halts heap.now seat.old }
     ensures refills { IfSome result (λ r. Refills r heap.now seat.new) }
@@ -41,7 +40,6 @@ fn try_fill(heap: &Heap, seat: &mut HeapSeat) -> Option<Refill>
     try_refill(heap, seat, made)
 }
 
-/// Comes to its turn without a cell.
 fn lacks_cell(heap: &Heap, seat: &mut HeapSeat) -> Came
     requires halts { Halts heap.now seat.old }
     ensures lacks { LacksCell result heap.now seat.new }
@@ -56,7 +54,7 @@ fn lacks_cell(heap: &Heap, seat: &mut HeapSeat) -> Came
     }
 }
 
-/// Comes to its turn with a cache that was got, and with a free cell of it.
+/// Comes to its turn with this cache, and with a free cell of it.
 pub fn point_with(heap: &Heap, seat: &mut HeapSeat, cache: Cache) -> Result<Cache, Came>
     requires works { Works heap.now seat.old }
     requires cache { IsCached cache (view_of seat.old) }
@@ -84,7 +82,6 @@ pub fn point_with(heap: &Heap, seat: &mut HeapSeat, cache: Cache) -> Result<Cach
     }
 }
 
-/// Another cache, with a free cell: this one is given up.
 fn fill(
     heap: &Heap,
     seat: &mut HeapSeat,
@@ -117,7 +114,6 @@ fn fill(
     }
 }
 
-/// Comes to a cache with a free cell.
 fn come_once(heap: &Heap, seat: &mut HeapSeat, paid: &mut u64) -> Result<Cache, Came>
     requires turn { IsAtTurn heap.now seat.old }
     ensures ok { IfOk result (λ free. Plays heap.now seat.new × IsCached free (view_of seat.new)) }

@@ -1,4 +1,4 @@
-//! A mutator gives up its cache, and leaves, by a few steps.
+//! A mutator gives up its cache, and leaves.
 ghost use Rattle.std.specs.Prelude.{◌≡◌};
 ghost use Rattle.gc_cycle.specs.Answering.{HasCache};
 ghost use Rattle.gc_table.specs.Running.{Ran};

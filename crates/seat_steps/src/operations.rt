@@ -1,4 +1,4 @@
-//! One operation of a mutator at its turn, by whether its heap's objects are shared.
+//! One operation of a mutator at its turn, whether or not its heap's objects are shared.
 ghost use Rattle.std.specs.Prelude.{◌<◌, ◌+◌, IfNone, IfSome, IsTrue};
 ghost use Rattle.std.specs.Bool.{OnFalse, OnTrue};
 ghost use Rattle.std.specs.Int.Count.{ones};
@@ -54,7 +54,7 @@ pub fn sets(heap: &Heap, seat: &mut HeapSeat, v: u8, i: u8, w: u8)
     }
 }
 
-/// Variable w becomes reference i of variable v's object, or nil where v is.
+/// Variable w becomes reference i of variable v's object, or nil if v is.
 #[tactic(auto, using(seat_turns::proofs::Operating::operating))]
 pub fn gets(heap: &Heap, seat: &mut HeapSeat, w: u8, v: u8, i: u8)
     requires turn { IsAtTurn heap.now seat.old }
@@ -118,7 +118,6 @@ pub fn puts(heap: &Heap, seat: &mut HeapSeat, v: u8, value: u32)
     }
 }
 
-/// The low 32 bits of the value of variable v's object, where objects are shared.
 fn finds_low(heap: &Heap, seat: &mut HeapSeat, v: u8) -> Option<u32>
     requires turn { IsAtTurn heap.now seat.old }
     requires shared { IsTrue heap.now.shape.sharing }
@@ -134,7 +133,7 @@ fn finds_low(heap: &Heap, seat: &mut HeapSeat, v: u8) -> Option<u32>
     }
 }
 
-/// The value of variable v's object. None where it refers to nothing.
+/// The value of variable v's object; None if it refers to nothing.
 pub fn finds(heap: &Heap, seat: &mut HeapSeat, v: u8) -> Option<u32>
     requires turn { IsAtTurn heap.now seat.old }
     requires range { v < section_variables }

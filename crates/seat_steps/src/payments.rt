@@ -1,4 +1,4 @@
-//! What a mutator traces to pay for its caches is counted.
+//! What is traced for caches is counted.
 ghost use Rattle.std.specs.Prelude.{◌≡◌};
 ghost use Rattle.seat_steps.specs.PaidTries.{counts_more};
 

@@ -1,4 +1,4 @@
-//! A stepper makes an object where its cache has a free cell, and comes to a cache with one in pieces.
+//! A stepper makes an object of its cache, and comes to a cache in pieces.
 ghost use Rattle.std.specs.Prelude.{◌≡◌, ◌≤◌, ◌<◌, ◌+◌, min, IfNone, IfSome};
 ghost use Rattle.std.specs.Arc.{arc_value};
 ghost use Rattle.mark_core.specs.Layout.{block_count};
@@ -13,7 +13,7 @@ use crate::seeking::{Sought, make_here, refill_once};
 use crate::stepper::{Stage, Stepper};
 use mark_core::{BLOCK_CELLS, CacheState, VARIABLES};
 
-/// The block behind that of this cache, among so many.
+/// The block behind that of this cache.
 fn behind(cache: Option<CacheState>, blocks: u32) -> u32
     ensures { result ≡ min (block_behind cache) blocks }
 {
@@ -23,7 +23,7 @@ fn behind(cache: Option<CacheState>, blocks: u32) -> u32
     }
 }
 
-/// How many blocks were seen, with so many more; None where these are all blocks.
+/// How many blocks were seen, with `number` more; None if these are all blocks.
 fn seen_after(seen: u32, number: u32, blocks: u32) -> Option<u32>
     ensures some { IfSome result (λ n. (n ≡ seen + number) × (n < blocks)) }
     ensures none { IfNone result (blocks ≤ seen + number) }
@@ -36,8 +36,8 @@ fn seen_after(seen: u32, number: u32, blocks: u32) -> Option<u32>
 }
 
 impl Stepper {
-    /// Makes an object as `make` does, where a cell of the mutator's cache is free. Where none is, it looks for none and answers `NoCache`: then `refill_step` is
-    /// to be called until it is `Done`.
+    /// Makes an object if a cell of the mutator's cache is free. Otherwise it answers `NoCache`: then `refill_step`
+    /// is to be called until it is `Done`.
     pub fn make_cached(&mut self, v: u8, value: u32) -> Came
         ensures makes { MakesCached result (ops.New v value) self.old self.new }
     {
@@ -51,7 +51,6 @@ impl Stepper {
         }
     }
 
-    /// Makes an object, inside the world: a safe point, and a cell of the cache.
     fn make_inside_cached(&mut self, v: u8, value: u32) -> Came
         requires inside { self.old.stage ≡ stages.Inside }
         requires range { v < section_variables }
@@ -70,9 +69,10 @@ impl Stepper {
         }
     }
 
-    /// The next step on the way to a cache with a free cell: `Done` where the mutator has one, and `NotYet` where it is to go on. It looks at no more than so
-    /// many blocks, which are at least 1: 0 is out of range. For a cache that it gets it pays, while a cycle is marking. `NoCell` comes where its steps looked at
-    /// as many blocks as there are, one after another, and none had a free cell, or where marking is done: a collection is called for. It is a safe point too.
+    /// The next step on the way to a cache with a free cell: `Done` if the mutator has one, `NotYet` if there is
+    /// more to do. It looks at no more than `most` blocks, at least 1: 0 is out of range. For a cache that it gets
+    /// it pays. `NoCell` means that its steps saw all blocks, one after another, without a free cell, or that
+    /// marking is done: a collection is called for. It is a safe point too.
     pub fn refill_step(&mut self, most: u32) -> Came
         ensures refills { StepperRefills most result self.old self.new }
         ensures pays { PaysRefill most self.old self.new }
@@ -87,7 +87,6 @@ impl Stepper {
         }
     }
 
-    /// The next step of a refill, inside the world.
     fn refill_inside(&mut self, most: u32) -> Came
         requires inside { self.old.stage ≡ stages.Inside }
         ensures refills { StepperRefills most result self.old self.new }
@@ -110,7 +109,6 @@ impl Stepper {
         }
     }
 
-    /// How many blocks its world has.
     fn blocks(&self) -> u32
         ensures { result ≡ block_count (arc_value self.now.heap).shape }
     {
@@ -125,7 +123,7 @@ impl Stepper {
         self.seen = 0;
     }
 
-    /// Notes that so many blocks more were seen without a free cell, and from which one on the search goes on.
+    /// Notes how many blocks more were seen without a free cell, and where the search goes on.
     fn note_seen(&mut self, number: u32, next: u32) -> Came
         requires next { next ≤ block_count (arc_value self.old.heap).shape }
         ensures notes { NotesSeen number next result self.old self.new }

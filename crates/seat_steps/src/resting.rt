@@ -1,4 +1,4 @@
-//! A mutator's seat outside the world, with what goes along with it: a mutator that waits and a stepper are made of it, and come apart into it.
+//! A mutator's seat outside the world: mutators and steppers are made of it, and come apart into it.
 ghost use Rattle.std.specs.Arc.{arc_value};
 ghost use Rattle.seat_turns.specs.Standing.{IsMutatorOutside};
 
@@ -15,7 +15,7 @@ pub struct RestingSeat {
     pub seat: HeapSeat,
     /// The name of the world that lends it.
     pub name: u32,
-    /// Whether it collects in stops alone, where it waits.
+    /// Whether a mutator made of it collects only in stops.
     pub in_stops: bool,
     ghost outside: { IsMutatorOutside (arc_value heap) seat },
 }

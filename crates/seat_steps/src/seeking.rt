@@ -1,4 +1,4 @@
-//! A mutator looks for a cell in pieces, each of so many blocks. No call waits.
+//! A mutator looks for a cell in pieces of a few blocks.
 ghost use Rattle.std.specs.Prelude.{◌≡◌, ◌≤◌, ◌<◌, length, IfErr, IfOk};
 ghost use Rattle.mark_core.specs.Layout.{block_count};
 ghost use Rattle.mark_core.specs.Numbers.{section_variables};
@@ -31,13 +31,12 @@ pub enum Sought {
     Free,
     /// None of the blocks that it looked at had a free cell. The search goes on from this one.
     Next(u32),
-    /// None from the first that it looked at to the last had a free cell.
+    /// None up to the last block had a free cell.
     Ended,
-    /// The cycle under way is done with marking.
+    /// Marking is done.
     MarkingDone,
 }
 
-/// A piece of the search, of a mutator without a cache.
 fn tries_some(heap: &Heap, seat: &mut HeapSeat, from: u32, most: u32) -> Piece
     requires halts { Halts heap.now seat.old }
     requires from { from ≤ block_count heap.now.shape }
@@ -51,7 +50,6 @@ fn tries_some(heap: &Heap, seat: &mut HeapSeat, from: u32, most: u32) -> Piece
     try_refill_some(heap, seat, made, from, most)
 }
 
-/// Comes to its turn after a piece that found no cell.
 fn lacks_some(heap: &Heap, seat: &mut HeapSeat, sought: Sought) -> Result<Sought, Came>
     requires halts { Halts heap.now seat.old }
     ensures ok { IfOk result (λ s. s ≡ sought) }
@@ -69,7 +67,6 @@ fn lacks_some(heap: &Heap, seat: &mut HeapSeat, sought: Sought) -> Result<Sought
     }
 }
 
-/// A piece of the search, and then the way to its turn.
 fn seek(
     heap: &Heap,
     seat: &mut HeapSeat,
@@ -109,7 +106,8 @@ fn seek(
     }
 }
 
-/// Comes to a cache with a free cell, or looks for one in so many blocks from this one on. A cache without a free cell is given up first.
+/// Comes to a cache with a free cell, or looks for one in `most` blocks from `from` on. A cache without a free cell
+/// is given up.
 pub fn refill_once(
     heap: &Heap,
     seat: &mut HeapSeat,
@@ -139,7 +137,8 @@ pub fn refill_once(
     }
 }
 
-/// Makes an object in variable v, after a safe point, where the mutator's cache has a free cell. The section hasn't made all its objects.
+/// Makes an object in variable v, after a safe point, if the cache has a free cell. The section hasn't made all its
+/// objects.
 pub fn make_here(heap: &Heap, seat: &mut HeapSeat, v: u8, value: u32) -> Came
     requires turn { IsAtTurn heap.now seat.old }
     requires room { length (plain_of seat.old).objects < heap.now.shape.objects }

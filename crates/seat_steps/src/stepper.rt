@@ -26,7 +26,7 @@ pub enum Stage {
     Rooting,
     /// It collects, and traces objects.
     Draining,
-    /// It collects, and looks for a dirty card, since it found no object to trace.
+    /// It collects, and looks for a dirty card, since no object was left to trace.
     Looking,
     /// It collects, and cleans cards, since it found a dirty one.
     Cleaning,
@@ -40,22 +40,20 @@ pub enum Stage {
     Ending,
 }
 
-/// What a mutator is for a thread that may not wait, in a world whose mutators share their objects and in one where each has its own: no call takes the
-/// runtime's handle. What may take long is done in steps, between which the caller does as it likes. Before it is let go it is to leave: a stop waits for each
-/// that is inside, and while it collects the world stands still.
+/// A mutator for a thread that may not wait, in either kind of world: what may take long is done in steps. Before
+/// it is dropped it has to leave: a stop waits for each that is inside, and while it collects the world stands
+/// still.
 #[derive(Drop)]
 pub struct Stepper {
     /// The world's heap.
     pub(crate) heap: Arc<Heap, Global>,
     /// The seat of its section, which has its variables and objects.
     pub(crate) seat: HeapSeat,
-    /// Where it is: outside, at its turn, or between two steps of a collection.
     pub(crate) stage: Stage,
-    /// The name of the world that lends it.
     pub(crate) name: u32,
-    /// Whether the mutator that it was collects in stops alone.
+    /// Whether the mutator that it was collects only in stops.
     pub(crate) in_stops: bool,
-    /// The collection is to mark once more, from the roots alone, since a cycle was marking when it began.
+    /// The collection is to mark once more, from the roots only, since a cycle was marking when it began.
     pub(crate) again: bool,
     /// How many cells its sweep has freed, at most 4,294,967,295.
     pub(crate) freed: u32,
@@ -65,11 +63,11 @@ pub struct Stepper {
     pub(crate) cleaned: u32,
     /// How many objects it has traced to pay for its caches, at most 2^64 - 1.
     pub(crate) paid: u64,
-    /// From which root, card or block on the pass is to go on that its stage makes.
+    /// The root, card or block from which the pass of its stage goes on.
     pub(crate) next: u32,
     /// How many cells in use it has counted.
     pub(crate) counted: u32,
-    /// From which block on its search for a free cell is to go on.
+    /// The block from which its search for a free cell goes on.
     pub(crate) block: u32,
     /// How many blocks it has seen without a free cell in that search, one after another.
     pub(crate) seen: u32,

@@ -1,4 +1,4 @@
-//! What a mutator does that doesn't wait.
+//! What a stepper does to objects.
 ghost use Rattle.std.specs.Prelude.{◌≡◌, ◌<◌};
 ghost use Rattle.mark_core.specs.Numbers.{section_variables};
 ghost use Rattle.plain_heap.specs.declared.operation.Op.TheVariants as ops;
@@ -15,7 +15,7 @@ use crate::tries::{enter_once, pass_once};
 use mark_core::VARIABLES;
 
 impl Stepper {
-    /// Enters the world, where no stop is under way.
+    /// Enters the world, if no stop is under way.
     pub fn enter(&mut self) -> Came
         ensures entered { Entered result self.old self.new }
     {
@@ -26,7 +26,6 @@ impl Stepper {
         }
     }
 
-    /// Enters, from outside: one try.
     fn enter_from_outside(&mut self) -> Came
         requires outside { self.old.stage ≡ stages.Outside }
         ensures entered { Entered result self.old self.new }
@@ -55,7 +54,7 @@ impl Stepper {
         }
     }
 
-    /// A safe point. Where a stop is under way it leaves.
+    /// A safe point. If a stop is under way it leaves.
     pub fn safe_point(&mut self) -> Came
         ensures passed { Passed result self.old self.new }
     {
@@ -66,7 +65,6 @@ impl Stepper {
         }
     }
 
-    /// A safe point, inside the world.
     fn pass_inside(&mut self) -> Came
         requires inside { self.old.stage ≡ stages.Inside }
         ensures passed { Passed result self.old self.new }
@@ -80,8 +78,9 @@ impl Stepper {
         }
     }
 
-    /// Makes an object with this value, whose references refer to nothing, and lets variable v refer to it. It is a safe point too.
-    /// Where no cell of its cache is free it looks at all blocks, if need be, and may pay for another cache: `make_cached` and `refill_step` do so step by step.
+    /// Makes an object with this value, whose references refer to nothing, and lets variable v refer to it. It is a
+    /// safe point too. If no cell of its cache is free it may look at all blocks and pay for another cache:
+    /// `make_cached` and `refill_step` do so in steps.
     pub fn make(&mut self, v: u8, value: u32) -> Came
         ensures makes { StepperMakes result (ops.New v value) self.old self.new }
         ensures pays { PaysMaking self.old self.new }
@@ -96,7 +95,6 @@ impl Stepper {
         }
     }
 
-    /// Makes an object, inside the world: a safe point, and a cell.
     fn make_inside(&mut self, v: u8, value: u32) -> Came
         requires inside { self.old.stage ≡ stages.Inside }
         requires range { v < section_variables }
@@ -116,7 +114,8 @@ impl Stepper {
         }
     }
 
-    /// Reference i of variable v's object becomes what variable w refers to. Nothing happens where v refers to nothing.
+    /// Reference i of variable v's object becomes what variable w refers to. Nothing happens if v refers to
+    /// nothing.
     pub fn set(&mut self, v: u8, i: u8, w: u8) -> Came
         ensures operates { Operates result (ops.Set v i w) self.old self.new }
     {
@@ -133,7 +132,7 @@ impl Stepper {
         }
     }
 
-    /// Variable w becomes what reference i of variable v's object refers to, or refers to nothing where v does.
+    /// Variable w becomes what reference i of variable v's object refers to, or refers to nothing if v does.
     pub fn get(&mut self, w: u8, v: u8, i: u8) -> Came
         ensures operates { Operates result (ops.Get w v i) self.old self.new }
     {
@@ -184,7 +183,7 @@ impl Stepper {
         }
     }
 
-    /// The value of variable v's object becomes this one. Nothing happens where v refers to nothing.
+    /// The value of variable v's object becomes this one. Nothing happens if v refers to nothing.
     pub fn put(&mut self, v: u8, value: u32) -> Came
         ensures operates { Operates result (ops.Put v value) self.old self.new }
     {
@@ -201,7 +200,7 @@ impl Stepper {
         }
     }
 
-    /// Writes the value of variable v's object. Where objects are shared, it is what one read finds.
+    /// Writes the value of variable v's object, as one read finds it if objects are shared.
     pub fn value(&mut self, v: u8, out: &mut u32) -> Came
         ensures reads { ReadsValue result v self.old self.new out.old out.new }
     {

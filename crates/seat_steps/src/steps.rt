@@ -27,10 +27,11 @@ use cycle_steps::{
 use gc_table::{Heap, HeapSeat};
 use seat_turns::leave;
 
-/// How many roots, objects, cards or blocks a step does at most (or those of one stretch of blocks), where its caller says nothing of it.
+/// How many roots, objects, cards or blocks a step does at most, if its caller says nothing of it.
 const STEP: u32 = 4_096;
 
-/// Asks for a stop, with the number of objects that were made. False where another's comes first, and then the seat is outside.
+/// Asks for a stop, with the number of objects that were made. False where another's comes first, and then the seat
+/// is outside.
 fn asks(heap: &Heap, seat: &mut HeapSeat) -> bool
     requires halts { Halts heap.now seat.old }
     ensures yours { OnTrue result (Collects AwaitsStop WaitsSinceAsked heap.now seat.new) }
@@ -43,7 +44,6 @@ fn asks(heap: &Heap, seat: &mut HeapSeat) -> bool
     ask_to_stop(heap, seat, made)
 }
 
-/// Sets the numbers for the next cycle, lets the world go on, and comes to its turn.
 fn end_to_turn(heap: &Heap, seat: &mut HeapSeat, counted: u32, freed: u32) -> Came
     requires counted { Collects (HasCounted counted) CountsSinceAsked heap.now seat.old }
     ensures arrives { Arrives result heap.now seat.new }
@@ -57,17 +57,17 @@ fn end_to_turn(heap: &Heap, seat: &mut HeapSeat, counted: u32, freed: u32) -> Ca
 }
 
 impl Stepper {
-    /// The next step of a precise collection: `NotYet` where there is more to do. While it is under way the world stands still, or is asked to, so the
-    /// caller comes again soon.
+    /// The next step of a precise collection: `NotYet` if there is more to do. Meanwhile the world stands still, so
+    /// the caller comes again soon.
     pub fn collect_step(&mut self) -> Came
         ensures collects { CollectsAtMost 4096 result self.old self.new }
     {
         self.take_step(STEP)
     }
 
-    /// The next step of a collection, with a bound: it sees to at most so many roots, traces at most so many objects, looks at or cleans at most so many cards, or
-    /// clears, sweeps or counts at most so many blocks. Blocks are cleared and swept in stretches (of 1 to 128, by the heap's size): one at least. `most` is at
-    /// least 1: 0 is out of range.
+    /// The next step of a collection, which sees to, traces, looks at, cleans, clears, sweeps or counts at most
+    /// `most` roots, objects, cards or blocks. Blocks are cleared and swept in stretches (of 1 to 128, by the
+    /// heap's size): one at least. 0 is out of range.
     pub fn collect_at_most(&mut self, most: u32) -> Came
         ensures collects { CollectsAtMost most result self.old self.new }
     {
@@ -77,7 +77,6 @@ impl Stepper {
         self.take_step(most)
     }
 
-    /// The next step, with this bound.
     fn take_step(&mut self, most: u32) -> Came
         ensures collects { StepsCollection most result self.old self.new }
         ensures bounded { IsBoundedStep most self.old self.new }
@@ -97,7 +96,6 @@ impl Stepper {
         }
     }
 
-    /// Asks for a stop of its own, to collect in it.
     fn ask(&mut self) -> Came
         requires inside { self.old.stage ≡ stages.Inside }
         ensures collects { (most : ℕ) → StepsCollection most result self.old self.new }
@@ -112,7 +110,7 @@ impl Stepper {
         Came::Stopped
     }
 
-    /// Begins to mark, where the world has stopped.
+    /// Begins to mark once the world has stopped.
     fn begin(&mut self) -> Came
         requires stopping { self.old.stage ≡ stages.Stopping }
         ensures collects { (most : ℕ) → StepsCollection most result self.old self.new }
@@ -134,7 +132,6 @@ impl Stepper {
         Came::Full
     }
 
-    /// Sees to the roots on.
     fn scan(&mut self, most: u32) -> Came
         requires rooting { self.old.stage ≡ stages.Rooting }
         ensures collects { StepsCollection most result self.old self.new }
@@ -151,7 +148,7 @@ impl Stepper {
         Came::NotYet
     }
 
-    /// Traces on. Where there is no object left it is to look for a dirty card.
+    /// Traces on. If there is no object left it is to look for a dirty card.
     fn trace(&mut self, most: u32) -> Came
         requires draining { self.old.stage ≡ stages.Draining }
         ensures collects { StepsCollection most result self.old self.new }
@@ -166,7 +163,7 @@ impl Stepper {
         Came::NotYet
     }
 
-    /// Looks on for a dirty card. Where all is marked it begins to sweep, or to clear all marks.
+    /// Looks for a dirty card. If all is marked it begins to sweep, or to clear all marks.
     fn look(&mut self, most: u32) -> Came
         requires looking { self.old.stage ≡ stages.Looking }
         ensures collects { StepsCollection most result self.old self.new }
@@ -217,7 +214,7 @@ impl Stepper {
         Came::NotYet
     }
 
-    /// Clears the marks of so many stretches as have at most so many blocks between them, or of one. Where no cell is marked it begins to mark once more.
+    /// Clears the marks of as many stretches as have at most `most` blocks, or of one.
     fn clear(&mut self, most: u32) -> Came
         requires clearing { self.old.stage ≡ stages.Clearing }
         ensures collects { StepsCollection most result self.old self.new }
@@ -234,7 +231,7 @@ impl Stepper {
         Came::NotYet
     }
 
-    /// Sweeps so many stretches as have at most so many blocks between them, or one. After the last block the cycle ends.
+    /// Sweeps as many stretches as have at most `most` blocks, or one.
     fn sweep(&mut self, most: u32) -> Came
         requires sweeping { self.old.stage ≡ stages.Sweeping }
         ensures collects { StepsCollection most result self.old self.new }
@@ -253,7 +250,6 @@ impl Stepper {
         Came::NotYet
     }
 
-    /// Counts the cells in use on.
     fn count(&mut self, most: u32) -> Came
         requires counting { self.old.stage ≡ stages.Counting }
         ensures collects { StepsCollection most result self.old self.new }
@@ -269,7 +265,6 @@ impl Stepper {
         Came::NotYet
     }
 
-    /// Ends the collection.
     fn end(&mut self) -> Came
         requires ending { self.old.stage ≡ stages.Ending }
         ensures collects { (most : ℕ) → StepsCollection most result self.old self.new }

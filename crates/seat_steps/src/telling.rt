@@ -28,8 +28,8 @@ impl Stepper {
         self.stage
     }
 
-    /// What its collection has counted: how many cells it freed, from the sweep on, and how many are in use, once it is at [`Stage::Ending`]. There its next step
-    /// ends the cycle by these counts. No object is counted as scanned again.
+    /// What its collection has counted: how many cells it freed, from the sweep on, and how many are in use, once
+    /// it is at [`Stage::Ending`]. No object is counted as scanned again.
     pub fn counts(&self) -> Counts
         ensures counts { result ≡ counts_of self.now }
     {
@@ -61,7 +61,7 @@ impl Stepper {
         self.paid
     }
 
-    /// Whether its collection is to mark once more. As it begins to mark that says whether a cycle was marking beside the program when the world stopped.
+    /// Whether its collection is to mark once more, since a cycle was marking when the world stopped.
     pub fn is_to_mark_again(&self) -> bool
         ensures again { result ≡ self.now.again }
     {

@@ -1,4 +1,4 @@
-//! Into the world, to the mutator's turn, and a safe point, each as one try that doesn't wait.
+//! Into the world, to the mutator's turn, and a safe point, each as one try.
 ghost use Rattle.std.specs.Prelude.{◌≡◌, ◌<◌, IfErr, IfOk, IsTrue, is_some, None};
 ghost use Rattle.std.specs.Bool.{OnFalse, OnTrue};
 ghost use Rattle.gc_cycle.specs.Answering.{HasCache};
@@ -20,7 +20,6 @@ use cache_refills::{Pass, try_enter, try_safe_point};
 use gc_table::{Heap, HeapSeat};
 use seat_turns::{TURN, is_turn, keep_some, leave};
 
-/// Tries to enter the world.
 fn try_in(heap: &Heap, seat: &mut HeapSeat) -> Pass
     requires waits { IsMutatorOutside heap.now seat.old }
     ensures tries { Tries result heap.now seat.new }
@@ -33,7 +32,6 @@ fn try_in(heap: &Heap, seat: &mut HeapSeat) -> Pass
     try_enter(heap, seat)
 }
 
-/// A safe point that doesn't wait, with this cache.
 fn try_pass(heap: &Heap, seat: &mut HeapSeat, cache: &mut Option<Cache>) -> Pass
     requires works { Works heap.now seat.old }
     requires cache { HasCache cache.old (view_of seat.old) }
@@ -48,7 +46,6 @@ fn try_pass(heap: &Heap, seat: &mut HeapSeat, cache: &mut Option<Cache>) -> Pass
     try_safe_point(heap, seat, cache, made)
 }
 
-/// Comes to a turn, where the phase was read and the heap isn't full. True where it is the mutators' turn.
 fn comes_to_turn(heap: &Heap, seat: &mut HeapSeat, _cache: &Option<Cache>) -> bool
     requires going { Passes passes.Going heap.now seat.old _cache.now }
     ensures plays { OnTrue result (Plays heap.now seat.new) }
@@ -64,7 +61,6 @@ fn comes_to_turn(heap: &Heap, seat: &mut HeapSeat, _cache: &Option<Cache>) -> bo
     is_turn(heap, seat, TURN)
 }
 
-/// There is no cache to give up.
 fn spend_none(cache: Option<Cache>)
     requires { cache ≡ None }
 {
@@ -74,7 +70,6 @@ fn spend_none(cache: Option<Cache>)
     }
 }
 
-/// Gives the cache up and leaves.
 fn leave_with(heap: &Heap, seat: &mut HeapSeat, cache: Option<Cache>)
     requires works { Works heap.now seat.old }
     requires cache { HasCache cache (view_of seat.old) }
@@ -88,7 +83,7 @@ fn leave_with(heap: &Heap, seat: &mut HeapSeat, cache: Option<Cache>)
     leave(heap, seat);
 }
 
-/// Comes to its turn with this cache. Where a stop is under way or the heap is full it leaves.
+/// Comes to its turn with this cache, or leaves.
 pub fn point(heap: &Heap, seat: &mut HeapSeat, cache: Option<Cache>) -> Result<Option<Cache>, Came>
     requires works { Works heap.now seat.old }
     requires cache { HasCache cache (view_of seat.old) }
@@ -140,7 +135,7 @@ pub fn arrive(heap: &Heap, seat: &mut HeapSeat) -> Came
     }
 }
 
-/// Enters the world, where no stop is under way, and comes to its turn.
+/// Enters the world, if no stop is under way, and comes to its turn.
 pub fn enter_once(heap: &Heap, seat: &mut HeapSeat) -> Came
     requires waits { IsMutatorOutside heap.now seat.old }
     ensures arrives { Arrives result heap.now seat.new }

@@ -30,7 +30,7 @@ use Rattle.seat_turns.specs.Halting.{HaltsFull}
 use Rattle.seat_turns.specs.declared.refused.Refused.{Refused}
 use Rattle.seat_turns.specs.declared.refused.Refused.TheVariants as refusals
 
--- no flag was raised, no cycle begun, the heap wasn't said to be full, and a number changed only where the cache was given up
+-- no flag was raised, no cycle begun, the heap wasn't said to be full, and a number changed only if the cache was given up
 pub record Calm (handed kept : Option Cache) (v w : View) : Type 0 where
   pub calm : never raises_flag (events v w) ≡ true
   pub not_full : never_fills (events v w) ≡ true
@@ -93,7 +93,7 @@ refill-none h s refusals.Outside b sh handed v w halts finds = absurd halts
 refill-none h s refusals.OutOfRange b sh handed v w halts finds = absurd halts
 refill-none h s refusals.Nil b sh handed v w halts finds = absurd halts
 
--- a refill, by whether the mutator collects in stops alone
+-- a refill, by whether the mutator collects only in stops
 pub by-stops : (b : Bool) (sh : Shape) (r : Refill) (v w : View) → b ≡ true → RefillsInStops sh r v w → RefillsBy b sh r v w
 by-stops b sh r v w e x = subst (λ (b : Bool). RefillsBy b sh r v w) (sym e) x
 

@@ -27,7 +27,7 @@ use Rattle.gc_table.specs.Running.{Ran}
 use Rattle.seat_turns.proofs.Seats.{plays-made, plays-on, plays-turn, turn-plays}
 use Rattle.seat_turns.proofs.Uncatalogued.{after-none, object-none, objects_of, sees-none}
 
--- what a mutator has that may do an operation, where objects aren't shared
+-- what a mutator that may do an operation has, if objects aren't shared
 pub operates-ready : (v : View) → MayOperate v → v.shape.sharing ≡ false → IsReady v
 operates-ready v k alone = record { owned = alone; stores = k.stores; idle = k.idle; whole = k.whole; register = k.register; counted = k.counted }
 

@@ -1,4 +1,4 @@
--- Two variables name one object exactly where their words are the same.
+-- Two variables name one object exactly if their words are the same.
 use Rattle.std.proofs.Common.{ℕ, zero, suc, ◌≡◌, ◌+◌, ◌-◌, ◌<◌, ◌⊎◌, ⊎_elim, inl, inr, List, arith, refl, sym, ◌∙◌, subst, true}
 use Rattle.std.specs.Prelude.{IsFalse, ◌==◌, slice_index}
 use Rattle.std.specs.List.{list_any}

@@ -32,7 +32,7 @@ use Rattle.seat_turns.specs.Turning.{LooksAtSeason}
 use Rattle.seat_turns.specs.Standing.{Halts, IsAtTurn, IsMutator, MayOperate, Plays, Works, saw_going}
 use Rattle.alloc_cache.specs.Making.{with_cell}
 
--- the phase that was read last isn't Full, where none was read as Full
+-- the phase that was read last isn't Full, if none was read as Full
 none_some : (p : Phase) → None ≡ Some p → ⊥
 none_some p e = false≢true (ap (λ (o : Option Phase). is_some o) e)
 

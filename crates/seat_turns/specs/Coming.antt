@@ -51,7 +51,7 @@ pub record GivesCache (handed : Option Cache) (v w : View) : Type 0 where
   pub only : Only retires v w
   pub numbers : GivesUp handed None v w
 
--- safe points: the seat polled, raised no flag, began no cycle, didn't say that the heap is full, and changed a number only where it gave up its cache
+-- safe points: the seat polled, raised no flag, began no cycle, didn't say that the heap is full, and changed a number only if it gave up its cache
 pub record Polls (handed kept : Option Cache) (v w : View) : Type 0 where
   pub polled : IsTrue (some_event polls (events v w))
   pub calm : IsTrue (never raises_flag (events v w))
@@ -75,7 +75,7 @@ pub record RefillsBeside (sh : Shape) (r : Refill) (v w : View) : Type 0 where
   pub only : Only fills_part v w
   pub numbers : RefillsNumbers r v w
 
--- a refill of a mutator that collects in stops alone answered so: it began no cycle, paid nothing, and popped cells in stops alone
+-- a refill of a mutator that collects only in stops answered so: it began no cycle, paid nothing, and popped cells only in stops
 pub record RefillsInStops (sh : Shape) (r : Refill) (v w : View) : Type 0 where
   pub ran : Ran v w
   pub fills : FillsTo r v.state.made v w
@@ -90,7 +90,7 @@ pub record RefillsInStops (sh : Shape) (r : Refill) (v w : View) : Type 0 where
   pub only : Only fills_part v w
   pub numbers : RefillsNumbers r v w
 
--- the one, or the other where the mutator collects in stops alone
+-- the one, or the other if the mutator collects only in stops
 abbrev pub RefillsBy : Bool → Shape → Refill → View → View → Type 0
 RefillsBy false sh r v w = RefillsBeside sh r v w
 RefillsBy true sh r v w = RefillsInStops sh r v w
@@ -100,7 +100,7 @@ abbrev pub FillsWith : (Refill → View → View → Type 0) → Option Cache �
 FillsWith R None v w = ⊥
 FillsWith R (Some h) v w = (paid : Paid) × R (refills.Cache h paid) v w
 
--- a cache in which no cell can be made was given up, where there was one, and then a refill answered so
+-- a cache in which no cell can be made was given up, if there was one, and then a refill answered so
 pub record FillsOnce (in_stops : Bool) (sh : Shape) (kept : Option Cache) (r : Refill) (v w : View) : Type 0 where
   pub lacks : LacksFree kept
   pub given : View
@@ -148,7 +148,7 @@ PollsWith handed v w = (kept : Option Cache) × Polls handed kept v w
 abbrev pub PollsOutWith : Option Cache → View → View → Type 0
 PollsOutWith handed v w = (polled : View) × Polls handed None v polled × StepsOut polled w
 
--- the seat did this with the cache that it had, or without one where it had none
+-- the seat did this with the cache that it had, or without one if it had none
 abbrev pub WithOwn : (Option Cache → View → View → Type 0) → View → View → Type 0
 WithOwn R v w = (handed : Option Cache) × HasCache handed v × R handed v w
 
@@ -205,7 +205,7 @@ pub record MakesAtTurn (in_stops : Bool) (sh : Shape) (u n : ℕ) (v w : View) :
   pub ran : Ran came w
   pub makes : steps_of (events came w) ≡ creating_steps sh.fields came.state u n cell
 
--- the same where objects are shared: the seat came to a free cell, and made an object with value n in it, to which variable u refers
+-- the same if objects are shared: the seat came to a free cell, and made an object with value n in it, to which variable u refers
 pub record MakesSharedAtTurn (sh : Shape) (u n : ℕ) (v w : View) : Type 0 where
   pub free : Cache
   pub came : View
@@ -213,7 +213,7 @@ pub record MakesSharedAtTurn (sh : Shape) (u n : ℕ) (v w : View) : Type 0 wher
   pub leaves : LeavesHeap v came
   pub makes : MakesShared u n came w
 
--- where no object was made the seat left if the heap is full, and did nothing more if not
+-- if no object was made, the seat left if the heap is full, and did nothing more if not
 abbrev pub LeavesNone : Refused → View → View → Type 0
 LeavesNone refusals.Full v w = StepsOut v w
 LeavesNone e v w = w ≡ v

@@ -1,4 +1,4 @@
--- What one operation makes of a plain heap, where there is no catalogue.
+-- What one operation makes of a plain heap, if there is no catalogue.
 use Rattle.std.specs.Prelude.{ℕ, ◌≡◌, length, Option, Some, None}
 use Rattle.mark_core.specs.Numbers.{section_variables}
 use Rattle.plain_heap.specs.declared.object.Object.{Object}
@@ -13,7 +13,7 @@ pub record Steps (op : Op) (x y : Heap) : Type 0 where
   -- there are as many variables as a mutator has
   pub count : length x.variables ≡ section_variables
 
--- the value of an object, where there is one
+-- the value of an object, if there is one
 abbrev pub value_of_some : Option Object → Option ℕ
 value_of_some None = None
 value_of_some (Some object) = Some object.value

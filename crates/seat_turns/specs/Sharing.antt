@@ -9,7 +9,7 @@ use Rattle.gc_table.specs.Log.{Only}
 use Rattle.gc_table.specs.Running.{Ran}
 use Rattle.mutator_ops.specs.Sharing.{FollowsFound, SetsVariable, ShareCreates}
 
--- variable u became what field i of variable w's object was found to be, or nil where w is
+-- variable u became what field i of variable w's object was found to be, or nil if w is
 abbrev pub FollowsField : ℕ → ℕ → ℕ → View → View → Type 0
 FollowsField u w i v x = ((word_in v.state w ≡ 0) × SetsVariable u 0 v x) ⊎ ((0 < word_in v.state w) × FollowsFound u w i v x)
 

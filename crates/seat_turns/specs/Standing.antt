@@ -18,7 +18,7 @@ use Rattle.gc_cycle.specs.Standing.{IsOut, Mutates}
 abbrev pub plain_of : HeapSeat → PlainHeap
 plain_of s = (view_of s).own.meaning.heap
 
--- what is so of a mutator's seat from the first step to the last: where objects aren't shared there is no catalogue; its section plays in season 1, and each cell
+-- what is so of a mutator's seat from the first step to the last: if objects aren't shared, there is no catalogue; its section plays in season 1, and each cell
 -- that it made has its object
 pub record IsMutator (v : View) : Type 0 where
   pub uncatalogued : IsFalse v.shape.sharing → v.plan ≡ []

@@ -1,4 +1,4 @@
-//! Exchanges of a mutator at its turn, in a heap whose objects are shared: of several mutators that expect the same one alone succeeds.
+//! Exchanges in a heap whose objects are shared: of several that expect the same only one succeeds.
 ghost use Rattle.std.specs.Prelude.{◌<◌, IsTrue};
 ghost use Rattle.mark_core.specs.Numbers.{section_variables};
 ghost use Rattle.mark_core.specs.Steps.MutatorSteps.{seat_variable as word_in};
@@ -9,7 +9,8 @@ ghost use Rattle.seat_turns.specs.Standing.{IsAtTurn};
 use gc_table::{Heap, HeapSeat};
 use mutator_ops::{share_count, share_exchange};
 
-/// Where reference i of variable v's object, which isn't nil, is what variable `expected` is, it becomes what variable `new` is, by the barrier: true where it was.
+/// If reference i of variable v's object, which isn't nil, is variable `expected`, it becomes variable `new`, by
+/// the barrier. True if it was.
 pub fn exchange_shared(
     heap: &Heap,
     seat: &mut HeapSeat,
@@ -28,7 +29,8 @@ pub fn exchange_shared(
     share_exchange(heap, seat, v, i, Some(expected), Some(new))
 }
 
-/// Where the value of variable v's object, which isn't nil, is the expected one it becomes the new one: true where it was.
+/// If the value of variable v's object, which isn't nil, is the expected one, it becomes the new one. True if it
+/// was.
 pub fn exchange_value_shared(
     heap: &Heap,
     seat: &mut HeapSeat,

@@ -36,7 +36,7 @@ pub fn leave(heap: &Heap, seat: &mut HeapSeat)
     go_out(heap, seat, made);
 }
 
-/// Leaves the world, as the heap is full.
+/// Leaves the world, since the heap is full.
 pub fn leave_full(heap: &Heap, seat: &mut HeapSeat) -> Refused
     requires halts { Halts heap.now seat.old }
     requires full { KnowsFull (view_of seat.old) }
@@ -78,7 +78,7 @@ pub fn leave_turn(heap: &Heap, seat: &mut HeapSeat)
     leave(heap, seat);
 }
 
-/// A safe point, with this cache. Where the heap is full the mutator leaves the world.
+/// A safe point, with this cache.
 fn come_to_turn<R: Wait>(
     rt: &R,
     heap: &Heap,
@@ -104,7 +104,8 @@ fn come_to_turn<R: Wait>(
     }
 }
 
-/// Enters the world, as soon as no stop is under way, and comes to its turn. Refused only where the heap is full; the seat is outside then.
+/// Enters the world, as soon as no stop is under way, and comes to its turn. Refused only where the heap is full;
+/// the seat is outside then.
 pub fn enter_turn<R: Wait>(rt: &R, heap: &Heap, seat: &mut HeapSeat) -> Result<(), Refused>
     requires waits { IsMutatorOutside heap.now seat.old }
     ensures ok { IfOk result (λ _. IsAtTurn heap.now seat.new) }
@@ -118,7 +119,7 @@ pub fn enter_turn<R: Wait>(rt: &R, heap: &Heap, seat: &mut HeapSeat) -> Result<(
     come_to_turn(rt, heap, seat, None)
 }
 
-/// A safe point at its turn. Refused only where the heap is full; the seat is outside then.
+/// A safe point at its turn. Refused only if the heap is full; then the seat is outside.
 pub fn pass_turn<R: Wait>(rt: &R, heap: &Heap, seat: &mut HeapSeat) -> Result<(), Refused>
     requires turn { IsAtTurn heap.now seat.old }
     ensures ok { IfOk result (λ _. IsAtTurn heap.now seat.new) }
@@ -132,7 +133,8 @@ pub fn pass_turn<R: Wait>(rt: &R, heap: &Heap, seat: &mut HeapSeat) -> Result<()
     come_to_turn(rt, heap, seat, cache)
 }
 
-/// A precise collection at its turn, which ends in its turn. Refused only where the heap is full; the seat is outside then.
+/// A precise collection, which begins and ends at its turn. Refused only if the heap is full; then the seat is
+/// outside.
 pub fn collect_turn<R: Wait>(rt: &R, heap: &Heap, seat: &mut HeapSeat) -> Result<(), Refused>
     requires turn { IsAtTurn heap.now seat.old }
     ensures ok { IfOk result (λ _. IsAtTurn heap.now seat.new × IsTrue (collects (did seat.old seat.new))) }

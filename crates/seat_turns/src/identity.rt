@@ -1,4 +1,4 @@
-//! Which object a variable of a mutator at its turn refers to, in a heap whose objects are shared.
+//! Which object a variable refers to, in a heap whose objects are shared.
 ghost use Rattle.std.specs.Prelude.{◌<◌, ◌-◌, IsTrue};
 ghost use Rattle.mark_core.specs.Numbers.{section_variables};
 ghost use Rattle.mark_core.specs.Steps.MutatorSteps.{seat_variable as word_in};
@@ -10,7 +10,8 @@ use crate::sharing::word_of;
 use gc_table::{Heap, HeapSeat};
 use mark_core::Cell;
 
-/// The identity of variable v's object, which isn't nil, by one read: 4,294,967,296 times the section that made it, and its number there.
+/// The identity of variable v's object, which isn't nil, by one read: 4,294,967,296 times its section, and its
+/// number there.
 pub fn identity_shared(heap: &Heap, seat: &mut HeapSeat, v: u8) -> u64
     requires turn { IsAtTurn heap.now seat.old }
     requires shared { IsTrue heap.now.shape.sharing }

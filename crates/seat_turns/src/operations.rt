@@ -52,7 +52,8 @@ pub fn make_in(heap: &Heap, seat: &mut HeapSeat, cache: Cache, v: u8, value: u32
     leave_with_seat(cache);
 }
 
-/// Makes an object in variable v, after a safe point. Refused where the heap is full, and the seat is outside then, or where all numbers of objects are used.
+/// Makes an object in variable v, after a safe point. Refused if the heap is full (the seat is outside then) or the
+/// section has made all its objects.
 pub fn make_object<R: Wait, W: Watch>(
     rt: &R,
     heap: &Heap,
@@ -83,7 +84,7 @@ pub fn make_object<R: Wait, W: Watch>(
     }
 }
 
-/// The value of variable v's object. None where it refers to nothing.
+/// The value of variable v's object; None if it refers to nothing.
 pub fn read_value(heap: &Heap, seat: &mut HeapSeat, v: u8) -> Option<u32>
     requires turn { IsAtTurn heap.now seat.old }
     requires owned { IsFalse heap.now.shape.sharing }

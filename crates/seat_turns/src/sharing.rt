@@ -1,4 +1,4 @@
-//! One operation of a mutator at its turn, in a heap whose objects are shared.
+//! One operation in a heap whose objects are shared.
 ghost use Rattle.std.specs.Prelude.{◌≡◌, ◌<◌, ◌+◌, ◌-◌, [], ◌∷◌, IfErr, IfNone, IfOk, IfSome, IsTrue, false, slice_index};
 ghost use Rattle.std.specs.Int.Count.{ones};
 ghost use Rattle.mark_core.specs.Numbers.{section_variables};
@@ -49,7 +49,7 @@ pub fn put_shared(heap: &Heap, seat: &mut HeapSeat, v: u8, value: u32)
     share_put(heap, seat, v, value);
 }
 
-/// Variable w becomes reference i of variable v's object, or nil where v is.
+/// Variable w becomes reference i of variable v's object, or nil if v is.
 pub fn get_shared(heap: &Heap, seat: &mut HeapSeat, w: u8, v: u8, i: u8)
     requires turn { IsAtTurn heap.now seat.old }
     requires shared { IsTrue heap.now.shape.sharing }
@@ -101,7 +101,7 @@ pub fn lend_shared(heap: &Heap, seat: &mut HeapSeat, w: u8, c: u8)
     share_lend(heap, seat, w, c);
 }
 
-/// The value of variable v's object, as one read finds it. None where v refers to nothing.
+/// The value of variable v's object, as one read finds it; None if v refers to nothing.
 pub fn value_shared(heap: &Heap, seat: &mut HeapSeat, v: u8) -> Option<u64>
     requires turn { IsAtTurn heap.now seat.old }
     requires shared { IsTrue heap.now.shape.sharing }
@@ -114,7 +114,7 @@ pub fn value_shared(heap: &Heap, seat: &mut HeapSeat, v: u8) -> Option<u64>
     share_value_of(heap, seat, v)
 }
 
-/// The word of variable v: 0 where it refers to nothing, and else the number of its object's cell and 1.
+/// The word of variable v: 0 if it refers to nothing, and otherwise its object's cell number plus 1.
 pub fn word_of(seat: &HeapSeat, v: u8) -> u32
     requires { v < section_variables }
     ensures { result ≡ slice_index (state_of seat.now).env v }
@@ -141,7 +141,8 @@ pub fn make_shared_in(heap: &Heap, seat: &mut HeapSeat, cache: Cache, v: u8, val
     leave_with_seat(cache);
 }
 
-/// Makes an object in variable v, after a safe point. Refused where the heap is full, and the seat is outside then, or where all numbers of objects are used.
+/// Makes an object in variable v, after a safe point. Refused if the heap is full (the seat is outside then) or the
+/// section has made all its objects.
 pub fn make_shared<R: Wait, W: Watch>(
     rt: &R,
     heap: &Heap,

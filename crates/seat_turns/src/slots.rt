@@ -1,4 +1,4 @@
-//! Slots of a mutator at its turn, in a heap whose objects are shared: roots that it names by a number, for a stack of frames.
+//! Slots in a heap whose objects are shared: numbered roots, for a stack of frames.
 ghost use Rattle.std.specs.Prelude.{◌<◌, ◌≤◌, ◌-◌, ◌∷◌, [], IsTrue};
 ghost use Rattle.mark_core.specs.Numbers.{section_variables};
 ghost use Rattle.mark_core.specs.Steps.MutatorSteps.{seat_variable as word_in};
@@ -33,7 +33,6 @@ pub fn fill_shared(heap: &Heap, seat: &mut HeapSeat, v: u8, k: u16)
     share_fill(heap, seat, v, k);
 }
 
-/// Slot k of the mutator becomes nil.
 fn clear_slot(heap: &Heap, seat: &mut HeapSeat, k: u16)
     requires turn { IsAtTurn heap.now seat.old }
     requires shared { IsTrue heap.now.shape.sharing }
@@ -44,7 +43,7 @@ fn clear_slot(heap: &Heap, seat: &mut HeapSeat, k: u16)
     heap.store_slot(seat, k, 0);
 }
 
-/// The slots from number `from` on and below `to` become nil, one after the other.
+/// The slots from `from` on and below `to` become nil.
 pub fn clear_slots_shared(heap: &Heap, seat: &mut HeapSeat, from: u32, to: u32)
     requires turn { IsAtTurn heap.now seat.old }
     requires shared { IsTrue heap.now.shape.sharing }

@@ -1,4 +1,4 @@
-//! A mutator comes to its turn, and to a cell to make an object in.
+//! A mutator comes to its turn, and to a free cell.
 ghost use Rattle.std.specs.Prelude.{◌≡◌, ◌<◌, None, Some, IfOk, IfErr};
 ghost use Rattle.std.specs.Int.Count.{ones};
 ghost use Rattle.gc_table.specs.Log.{Only};
@@ -21,7 +21,7 @@ use gc_cycle::{Refill, Safe, safe_point};
 use gc_table::{Heap, HeapSeat};
 use std::sync::Wait;
 
-/// The season in which the mutators play: the catalogue's section has ended its turn, in which it made nothing.
+/// The season in which the mutators play: section 0 has ended its turn.
 pub const TURN: u64 = 1;
 
 /// Gives a cache up, if there is one.
@@ -38,15 +38,14 @@ pub fn retire_some(heap: &Heap, seat: &mut HeapSeat, cache: Option<Cache>)
     gc_cycle::retire_some(heap, seat, cache);
 }
 
-/// Lets the cache go that stays the seat's, if there is one.
+/// Lets go of a cache that stays the seat's.
 pub fn keep_some(cache: Option<Cache>) {
     if let Some(cache) = cache {
         leave_with_seat(cache);
     }
 }
 
-/// A safe point: where a stop is under way the mutator gives its cache up, leaves, helps, and enters again. It ends in the mutators' turn, or where the
-/// heap is full.
+/// A safe point: if a stop is under way the mutator gives its cache up, leaves, helps, and enters again.
 pub fn pass<R: Wait>(
     rt: &R,
     heap: &Heap,
@@ -80,7 +79,6 @@ pub fn pass<R: Wait>(
     unreachable!()
 }
 
-/// A cache with a free cell, which the collector is paid for.
 fn fill_beside<R: Wait, W: Watch>(
     rt: &R,
     heap: &Heap,
@@ -102,7 +100,6 @@ fn fill_beside<R: Wait, W: Watch>(
     }
 }
 
-/// A cache with a free cell, for a mutator that collects in stops alone.
 fn fill_in_stops<R: Wait, W: Watch>(
     rt: &R,
     heap: &Heap,
@@ -124,7 +121,7 @@ fn fill_in_stops<R: Wait, W: Watch>(
     }
 }
 
-/// Another cache, with a free cell: this one, which has none, is given up, and the collector is paid for the next, or collects in stops alone.
+/// Another cache, with a free cell. The old one is given up.
 fn fill<R: Wait, W: Watch>(
     rt: &R,
     heap: &Heap,
@@ -151,7 +148,7 @@ fn fill<R: Wait, W: Watch>(
     }
 }
 
-/// The cache, where a cell can be made in it.
+/// The cache, if it has a free cell.
 pub fn with_free(cache: Option<Cache>) -> Result<Cache, Option<Cache>>
     ensures ok { IfOk result (λ free. (cache ≡ Some free) × (0 < ones free.cells)) }
     ensures lacks { IfErr result (λ none. LacksFree none) }
@@ -169,8 +166,8 @@ pub fn with_free(cache: Option<Cache>) -> Result<Cache, Option<Cache>>
     }
 }
 
-/// Comes to a new object: a safe point, and a cache with a free cell. After a refill there is a safe point again, since a refill may stop the world.
-/// Where the section has made all its objects, the mutator is at its turn afterwards, and where the heap is full it has no cache.
+/// Comes to a new object: a safe point, and a cache with a free cell. After a refill it passes a safe point again,
+/// since a refill may stop the world.
 pub fn come_to<R: Wait, W: Watch>(
     rt: &R,
     heap: &Heap,

@@ -133,7 +133,7 @@ season_one fields (StoreNew c part word) e = absurd (false≢true e)
 season_one fields NextSeason e = absurd (false≢true e)
 season_one fields step e = (refl, refl)
 
--- these events change no value, and make so many objects
+-- these events change no value, and make this many objects
 record Makes (fields n : ℕ) (es : List Entry) : Type 0 where
   values : all_steps (spares_values fields) es ≡ true
   made : made_count fields es ≡ n

@@ -52,7 +52,7 @@ some_word (x ∷ xs) c e = omega arith
 none_some : (x : Name) → Some x ≡ None → ⊥
 none_some x e = cc
 
--- where variable 0 of section 0 refers to the object of this name, or to nothing, the value that the words have there is this object's
+-- if variable 0 of section 0 refers to the object of this name, or to nothing, the value that the words have there is this object's
 held : (d : Core) (world : World) (w : Words) (root : Name) (n : ℕ) → IsCore d → AgreesWith d world → AreWords d.shape d.words w → (variable_of world 0 0 ≡ None) ⊎ (variable_of world 0 0 ≡ Some root) → root_value_of w ≡ Some n
     → (object : WorldObject) × (object_of world root ≡ Some object) × (object.value ≡ n)
 held d world w root n core agrees words kept e =

@@ -1,4 +1,4 @@
--- What a call of a mutator does whose world shares its objects. A call is told by its events: the steps that it added to the log of its seat, with what each found.
+-- What a call of a mutator whose world shares its objects does. A call is described by its events: the steps that it added to the log of its seat, with what each found.
 use Rattle.std.specs.Prelude.{ℕ, ◌≡◌, ◌≤◌, ◌<◌, ◌-◌, IsTrue}
 use Rattle.std.specs.Arc.{arc_value}
 use Rattle.mark_core.specs.Numbers.{section_variables}
@@ -51,7 +51,7 @@ CantAct e range x = ⊥
 abbrev pub Refuses : Refused → Op → SharedMutator → Type 0
 Refuses e op x = CantAct e (IsInRange (field_count_of x) op) x
 
--- a call that was refused did nothing where a number is out of range or the mutator was outside, and else what R says
+-- a call that was refused did nothing if a number is out of range or the mutator was outside, and else what R says
 abbrev pub RefusedBy : (View → View → Type 0) → Refused → SharedMutator → SharedMutator → Type 0
 RefusedBy R refusals.OutOfRange x y = y ≡ x
 RefusedBy R refusals.Outside x y = y ≡ x
@@ -75,7 +75,7 @@ pub record IsSame (x y : SharedMutator) : Type 0 where
 abbrev pub IsFull : SharedMutator → Type 0
 IsFull m = KnowsFull (view_of m.seat)
 
--- the seat went in and to its turn; or nothing was done, where it was inside already
+-- the seat went in and to its turn; or nothing was done, if it was inside already
 abbrev pub EntersFrom : Place → HeapSeat → HeapSeat → Type 0
 EntersFrom Outside s t = Across EntersTurn s t
 EntersFrom Inside s t = t ≡ s
@@ -91,7 +91,7 @@ abbrev pub CantEnter : Refused → SharedMutator → SharedMutator → Type 0
 CantEnter refusals.Full x y = IsFull y × (x.place ≡ Outside) × (y.place ≡ Outside) × IsSame x y
 CantEnter e x y = ⊥
 
--- the seat gave up its cache and left; or nothing was done, where it was outside already
+-- the seat gave up its cache and left; or nothing was done, if it was outside already
 abbrev pub LeavesFrom : Place → HeapSeat → HeapSeat → Type 0
 LeavesFrom Outside s t = t ≡ s
 LeavesFrom Inside s t = Across LeavesTurn s t

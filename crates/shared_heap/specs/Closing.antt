@@ -9,7 +9,7 @@ use Rattle.shared_heap.specs.Calls.{SharerLeft}
 use Rattle.shared_heap.specs.declared.mutator.SharedMutator.{SharedMutator}
 use Rattle.shared_heap.specs.declared.world.SharedWorld.{SharedWorld}
 
--- the seat is the mutator's, which left the world where it was inside
+-- the seat is the mutator's, which left the world if it was inside
 pub record HasLeft (m : SharedMutator) (s : HeapSeat) : Type 0 where
   pub left : SharedMutator
   pub leaves : SharerLeft m left

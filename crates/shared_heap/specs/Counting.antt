@@ -30,7 +30,7 @@ abbrev pub won_by : List SharedMutator → ℕ
 won_by [] = 0
 won_by (m ∷ ms) = won_count (view_of m.seat).log + won_by ms
 
--- where the mutators of a closed world made no object and changed values by exchanges of a number for the next alone, the root's value at the end is the number of exchanges that their logs say were won
+-- if the mutators of a closed world made no object and changed values only by exchanges of a number for the next, the root's value at the end is the number of exchanges that their logs say were won
 abbrev pub CounterClosed : Type 0
 CounterClosed =
     (world : SharedWorld) (mutators : List SharedMutator) (tracers : List Tracer) (w : Words) (end : IsSharedEnd world mutators tracers w) (es : List Event)
@@ -52,7 +52,7 @@ CounterRead =
     (world : SharedWorld) (mutators : List SharedMutator) (tracers : List Tracer) (w : Words) → IsSharedEnd world mutators tracers w
     → EachLog (OnlyExchanges (arc_value world.heap).shape.fields) mutators → EachLog (λ l. IsTrue (all_steps raises l)) mutators → (n : ℕ) → root_value_of w ≡ Some n → n ≡ won_by mutators
 
--- where they made no object, and each that was outside tried to exchange 0 for 1 alone, and each that came in 1 for 0, no two are inside, after whatever number of events
+-- if they made no object, and each that was outside only tried to exchange 0 for 1, and each that came in only 1 for 0, no two are inside, after whatever number of events
 abbrev pub LockClosed : Type 0
 LockClosed =
     (world : SharedWorld) (mutators : List SharedMutator) (tracers : List Tracer) (w : Words) (end : IsSharedEnd world mutators tracers w) (es : List Event)

@@ -10,7 +10,7 @@ use Rattle.seat_steps.specs.declared.stepper.Stepper.{Stepper}
 use Rattle.shared_heap.specs.declared.mutator.Place.TheVariants.{Outside}
 use Rattle.shared_heap.specs.declared.mutator.SharedMutator.{SharedMutator}
 
--- the stepper is this mutator, outside the world; no step was taken that a plain heap sees, and none where the mutator was outside
+-- the stepper is this mutator, outside the world; no step was taken that a plain heap sees, and none if the mutator was outside
 pub record IsInSteps (m : SharedMutator) (s : Stepper) : Type 0 where
   pub outside : s.stage ≡ stages.Outside
   pub rests : m.place ≡ Outside → s.seat ≡ m.seat

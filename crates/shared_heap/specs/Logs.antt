@@ -29,7 +29,7 @@ is_quiet step = true
 abbrev pub AddsQuiet : SharedMutator → SharedMutator → Type 0
 AddsQuiet = Adds (λ es. IsTrue (all_steps is_quiet es))
 
--- these events make no object and change values by exchanges of a number for the next alone, of which so many were won
+-- these events make no object and change values only by exchanges of a number for the next, of which this many were won
 pub record Raises (fields n : ℕ) (es : List Entry) : Type 0 where
   pub only : OnlyExchanges fields es
   pub raises : IsTrue (all_steps raises es)
@@ -39,7 +39,7 @@ pub record Raises (fields n : ℕ) (es : List Entry) : Type 0 where
 abbrev pub AddsRaises : ℕ → SharedMutator → SharedMutator → Type 0
 AddsRaises n x y = Adds (Raises (field_count_of x) n) x y
 
--- these events make no object and change values by exchanges alone, of 0 for 1 while the seat is outside the lock, and of 1 for 0 while it is inside; so many were
+-- these events make no object and change values only by exchanges, of 0 for 1 while the seat is outside the lock, and of 1 for 0 while it is inside; this many were
 -- won. Before them it was inside or not, and after them it is or not
 pub record Locks (fields : ℕ) (was is : Bool) (n : ℕ) (es : List Entry) : Type 0 where
   pub only : OnlyExchanges fields es

@@ -44,6 +44,6 @@ pub record IsRootSeat (h : Heap) (s : HeapSeat) : Type 0 where
   pub keeps : KeepsRoot 0 s
   pub one : MakesOne h.shape.fields (view_of s).log
 
--- the heap was opened with a seat for each section and for so many tracers
+-- the heap was opened with a seat for each section and for this many tracers
 abbrev pub HasSeats : Heap → ℕ → HeapSeat → Type 0
 HasSeats h tracers s = (view_of s).opened ≡ h.shape.sections + tracers

@@ -23,7 +23,7 @@ use std::sync::Wait;
 const ROOT: u8 = 0;
 
 impl SharedMutator {
-    /// Enters the world, as soon as no collection is under way. Meanwhile it helps to collect. Full comes where the heap is full.
+    /// Enters the world as soon as no collection is under way, and helps meanwhile. Refused if the heap is full.
     pub fn enter<R: Wait>(&mut self, rt: &R) -> Result<(), Refused>
         ensures entered { IfOk result (λ _. SharerEntered self.old self.new) }
         ensures refused { IfErr result (λ e. CantEnter e self.old self.new) }
@@ -42,7 +42,8 @@ impl SharedMutator {
         }
     }
 
-    /// Leaves the world, if it is inside. What its variables refer to is kept. It leaves before it waits for anything, since a collection waits for it.
+    /// Leaves the world, if it is inside. A thread leaves before it waits for anything, since a collection waits
+    /// for it. What its variables refer to is kept.
     pub fn leave(&mut self)
         ensures left { SharerLeft self.old self.new }
         ensures world { arc_value self.new.heap ≡ arc_value self.old.heap }
@@ -57,7 +58,8 @@ impl SharedMutator {
         }
     }
 
-    /// A safe point, which each loop has that runs long and makes nothing. Where a collection is under way the mutator helps until that has ended.
+    /// A safe point, for each loop that runs long and makes nothing. If a collection is under way the mutator
+    /// helps.
     pub fn safe_point<R: Wait>(&mut self, rt: &R) -> Result<(), Refused>
         ensures passed { IfOk result (λ _. HasPassed self.old self.new) }
         ensures refused { IfErr result (λ e. StaysOut e self.old self.new) }
@@ -77,7 +79,8 @@ impl SharedMutator {
         }
     }
 
-    /// A precise collection: afterwards the cells in use are those of the objects that were reachable while the world stood still. It is a safe point too.
+    /// A precise collection: afterwards the cells in use are those of the objects that were reachable while the
+    /// world stood still.
     pub fn collect<R: Wait>(&mut self, rt: &R) -> Result<(), Refused>
         ensures passed { IfOk result (λ _. HasPassed self.old self.new) }
         ensures collected { IfOk result (λ _. SharerCollected self.old self.new) }
@@ -98,8 +101,8 @@ impl SharedMutator {
         }
     }
 
-    /// Makes an object with this value, whose references refer to nothing, and lets variable v refer to it. It is a safe point. The answer is the cell in which
-    /// the object lies for as long as it is reachable.
+    /// Makes an object with this value, whose references refer to nothing, and lets variable v refer to it. It is a
+    /// safe point. The answer is the cell in which the object lies for as long as it is reachable.
     pub fn make<R: Wait>(&mut self, rt: &R, v: u8, value: u32) -> Result<u32, Refused>
         ensures made { IfOk result (λ c. SharerDoes (MakesSharedAfter v value) (ops.New v value) self.old self.new) }
         ensures place { IfOk result (λ c. word_in (state_of self.new.seat) v ≡ c + 1) }
@@ -131,8 +134,8 @@ impl SharedMutator {
         }
     }
 
-    /// Variable w becomes the root: the object that the world made when it was opened, by which its mutators find each other's objects. It is looked at before
-    /// it is told: Nil says that nothing was found, of which the contracts alone don't say that it can't be.
+    /// Variable w becomes the root. Nil says that nothing was found: only the run of the closed world excludes
+    /// that.
     pub fn root(&mut self, w: u8) -> Result<(), Refused>
         ensures done { IfOk result (λ _. SharerDoes (LendsFound w 0) (ops.Cat w 0) self.old self.new) }
         ensures some { IfOk result (λ _. 0 < word_in (state_of self.new.seat) w) }
@@ -155,7 +158,8 @@ impl SharedMutator {
         }
     }
 
-    /// Reference i of variable v's object, whoever made it, becomes what variable w refers to. Nothing happens where v refers to nothing.
+    /// Reference i of variable v's object, whoever made it, becomes what variable w refers to. Nothing happens if v
+    /// refers to nothing.
     pub fn set(&mut self, v: u8, i: u8, w: u8) -> Result<(), Refused>
         ensures done { IfOk result (λ _. SharerDoes (TakesSteps (setting_steps (state_of self.old.seat) v i w)) (ops.Set v i w) self.old self.new) }
         ensures refused { IfErr result (λ e. SharerRefused e (ops.Set v i w) self.old self.new) }
@@ -174,7 +178,8 @@ impl SharedMutator {
         }
     }
 
-    /// Variable w becomes what reference i of variable v's object is found to refer to, or refers to nothing where v does.
+    /// Variable w becomes what reference i of variable v's object is found to refer to, or refers to nothing if v
+    /// does.
     pub fn get(&mut self, w: u8, v: u8, i: u8) -> Result<(), Refused>
         ensures done { IfOk result (λ _. SharerDoes (FollowsField w v i) (ops.Get w v i) self.old self.new) }
         ensures refused { IfErr result (λ e. SharerRefused e (ops.Get w v i) self.old self.new) }
@@ -231,7 +236,7 @@ impl SharedMutator {
         }
     }
 
-    /// The value of variable v's object, whoever made it, becomes this one. Nothing happens where v refers to nothing.
+    /// The value of variable v's object, whoever made it, becomes this one. Nothing happens if v refers to nothing.
     pub fn put(&mut self, v: u8, value: u32) -> Result<(), Refused>
         ensures done { IfOk result (λ _. SharerDoes (TakesSteps (putting_steps (state_of self.old.seat) v value)) (ops.Put v value) self.old self.new) }
         ensures refused { IfErr result (λ e. SharerRefused e (ops.Put v value) self.old self.new) }
@@ -250,7 +255,7 @@ impl SharedMutator {
         }
     }
 
-    /// The value of variable v's object, as one read finds it. Nil where it refers to nothing.
+    /// The value of variable v's object, as one read finds it. Refused as Nil if it refers to nothing.
     pub fn value(&mut self, v: u8) -> Result<u64, Refused>
         ensures value { IfOk result (λ n. SharerDoes (FindsValue v n) (ops.Say v) self.old self.new) }
         ensures refused { IfErr result (λ e. ReadsNone e v self.old self.new) }

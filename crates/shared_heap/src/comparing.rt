@@ -25,7 +25,7 @@ impl SharedMutator {
         }
     }
 
-    /// Whether variables v and w refer to one object, or both to nothing: their words are the same.
+    /// Whether variables v and w refer to one object, or both to nothing: whether their words are the same.
     pub fn same(&self, v: u8, w: u8) -> Result<bool, Refused>
         ensures one { IfOk result (λ one. IsTrue one → word_in (state_of self.now.seat) v ≡ word_in (state_of self.now.seat) w) }
         ensures two { IfOk result (λ one. IsFalse one → word_in (state_of self.now.seat) v ≡ word_in (state_of self.now.seat) w → ⊥) }

@@ -19,7 +19,6 @@ use std::alloc::{AllocError, Global};
 use std::sync::Arc;
 use world_seats::{Sizes, deal_tracers, first_of};
 
-/// A mutator that has done nothing.
 fn mutator_of(
     heap: &Arc<Heap, Global>,
     seat: HeapSeat,
@@ -39,7 +38,7 @@ fn mutator_of(
     })
 }
 
-/// Deals so many seats out to mutators, one after the other.
+/// Deals the next seats out to mutators.
 fn deal_mutators(
     alloc: Global,
     heap: &Arc<Heap, Global>,
@@ -64,7 +63,6 @@ fn deal_mutators(
     Ok(all)
 }
 
-/// A world over this heap.
 fn share(
     alloc: Global,
     heap: Heap,
@@ -103,7 +101,7 @@ fn share(
     })
 }
 
-/// A world of these sizes, which fit. Out of memory is the only refusal.
+/// A world of these sizes, which fit. Refused only if there is no memory.
 pub fn open_fitting(alloc: Global, sizes: Sizes) -> Result<SharedWorld, NotOpened>
     requires fits { Fits sizes }
     ensures opened { IfOk result (λ w. IsSharedOpened sizes w) }

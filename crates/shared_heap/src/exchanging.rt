@@ -1,4 +1,4 @@
-//! Exchanges in a shared world: of several mutators that expect the same one alone succeeds.
+//! Exchanges in a shared world: of several that expect the same only one succeeds.
 ghost use Rattle.std.specs.Arc.{arc_value};
 ghost use Rattle.std.specs.Prelude.{◌≡◌, IfErr, IfOk};
 ghost use Rattle.gc_table.specs.Seats.{Across};
@@ -12,8 +12,8 @@ use mark_core::VARIABLES;
 use seat_turns::{Refused, exchange_shared, exchange_value_shared, word_of};
 
 impl SharedMutator {
-    /// Where reference i of variable v's object is what variable `expected` is, it becomes what variable `new` is: true where it was. A variable that refers to
-    /// nothing may stand for nothing.
+    /// If reference i of variable v's object is variable `expected`, it becomes variable `new`. True if it was.
+    /// Either variable may be nil.
     pub fn exchange(&mut self, v: u8, i: u8, expected: u8, new: u8) -> Result<bool, Refused>
         ensures done { IfOk result (λ won. SharerActs (CanExchange self.old v i expected new) (ExchangesField v i expected new won) self.old self.new) }
         ensures refused { IfErr result (λ e. WantsObject e (CanExchange self.old v i expected new) v self.old self.new) }
@@ -35,8 +35,8 @@ impl SharedMutator {
         }
     }
 
-    /// Where the value of variable v's object is the expected one it becomes the new one: true where it was. So threads count together, and take and free
-    /// locks.
+    /// If the value of variable v's object is the expected one, it becomes the new one. True if it was. So threads
+    /// count together, and take and free locks.
     pub fn exchange_value(&mut self, v: u8, expected: u32, new: u32) -> Result<bool, Refused>
         ensures done { IfOk result (λ won. SharerActs (IsVariable v) (ExchangesValue v expected new won) self.old self.new) }
         ensures refused { IfErr result (λ e. WantsObject e (IsVariable v) v self.old self.new) }

@@ -20,7 +20,8 @@ impl SharedMutator {
         })
     }
 
-    /// The mutator that a stepper was, outside the world. While it collects it is handed back, and where its world doesn't share objects.
+    /// The mutator that a stepper was, outside the world. The stepper is handed back if it collects, or its world
+    /// doesn't share objects.
     pub fn of_steps(stepper: Stepper) -> Result<SharedMutator, Stepper>
         ensures ok { IfOk result (λ m. IsOfSteps stepper m) }
         ensures err { IfErr result (λ s. IsHandedBack stepper s) }

@@ -17,8 +17,8 @@ use std::alloc::Global;
 use world_seats::{Sizes, Statistics, first_of, read_statistics};
 
 impl SharedWorld {
-    /// A world of these sizes with its root, an object with value 0 whose references refer to nothing. It is refused where a size is out of its range, where
-    /// stops are asked for, or where there is no memory.
+    /// A world of these sizes with its root, an object with value 0 whose references refer to nothing. It is
+    /// refused where a size is out of its range, where stops are asked for, or where there is no memory.
     pub fn open(alloc: Global, sizes: Sizes) -> Result<SharedWorld, NotOpened>
         ensures opened { IfOk result (λ w. IsSharedOpened sizes w) }
         ensures refused { IfErr result (λ e. e ≡ OutOfRange → FitsShared sizes → ⊥) }
@@ -29,7 +29,7 @@ impl SharedWorld {
         open_fitting(alloc, sizes)
     }
 
-    /// One of the mutators that nobody has, outside the world. None where all are taken.
+    /// A mutator that nobody has, outside the world; None if all are taken.
     pub fn mutator(&mut self) -> Option<SharedMutator>
         ensures some { IfSome result (λ m. self.old.mutators.items ≡ m ∷ self.new.mutators.items) }
         ensures none { IfNone result (self.old.mutators.items ≡ []) }
@@ -42,7 +42,6 @@ impl SharedWorld {
         Some(first_of(&mut self.mutators))
     }
 
-    /// Whether a mutator of this name may be one that is out.
     fn lacks_mutator(&self, name: u32) -> bool
         ensures lacks { OnTrue result ((name ≡ self.now.sizes.name) × (vec_len self.now.mutators < self.now.sizes.mutators)) }
         ensures none { OnFalse result (TakesNoMutator name self.now) }
@@ -50,8 +49,8 @@ impl SharedWorld {
         name == self.sizes.name && self.mutators.len() < self.sizes.mutators as usize
     }
 
-    /// Takes a mutator back, which leaves first. Its variables and slots stay, and what they refer to is kept: who takes it next finds them. It is handed back
-    /// only where it has the name of another world, or where all of this world's are back.
+    /// Takes a mutator back, which leaves first. What its variables and slots refer to is kept, for whoever takes
+    /// it next. It is handed back only if it has another world's name, or all of this world's are back.
     pub fn take_mutator(&mut self, mutator: SharedMutator) -> Result<(), SharedMutator>
         ensures back { OnOk result (IsBack mutator self.old self.new) }
         ensures refused { IfErr result (SharerLeft mutator) }
@@ -69,7 +68,7 @@ impl SharedWorld {
         Ok(())
     }
 
-    /// Numbers of the heap. Where others act on it meanwhile, each is of another moment.
+    /// Numbers of the heap. If others act on it meanwhile, each is of another moment.
     pub fn statistics(&mut self) -> Statistics
         ensures read { ReadsStatistics result (arc_value self.old.heap) (view_of self.old.zero) (view_of self.new.zero) }
         ensures rest { HasAllStill self.old self.new }

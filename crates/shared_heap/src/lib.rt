@@ -1,7 +1,8 @@
 //! A heap whose objects all its mutators share, and which collects its own garbage.
 //!
-//! A [`SharedWorld`] is a heap; a thread acts on it through a [`SharedMutator`], which has 32 variables of its own. All mutators begin at one object, the
-//! *root*, which the world makes when it is opened ([`SharedMutator::root`]). What one stores in a field, the others find there.
+//! A [`SharedWorld`] is a heap; a thread acts on it through a [`SharedMutator`], which has 32 variables of its own.
+//! All mutators begin at one object, the *root*, which the world makes when it is opened ([`SharedMutator::root`]).
+//! What one stores in a field, the others find there.
 //!
 //!     let mut world = SharedWorld::open(alloc, SharedSizes::of_cells(1024).fields(2).mutators(2))?;
 //!     let mut m = world.mutator()?;
@@ -13,15 +14,18 @@
 //!
 //! # What a mutator is told
 //!
-//! A call is told by the *steps* that it takes, each an atomic operation on one word, and by what they found. There is one order of all steps of all
-//! mutators, in which each mutator's come in its own order, and which a plain heap explains that forgets nothing: the crate `heap_runs` proves this of every run.
-//! It is sequential consistency: what a thread learns of another outside the heap says nothing about that order.
+//! A call is described by the *steps* that it takes, each an atomic operation on one word, and by what they found.
+//! There is one order of all steps of all mutators, in which each mutator's come in its own order, and which a
+//! plain heap explains that forgets nothing: the crate `heap_runs` proves this of every run. It is sequential
+//! consistency: what a thread learns of another outside the heap says nothing about that order.
 //!
 //! # Where things are
 //!
-//! `world` and `mutator` have the two types. `opening` makes a heap with its root, `dealing` deals its seats out to mutators and tracers, `lending`
-//! lends these and takes them back, as `tracing` does with the tracers, and `closing` closes the world. What a mutator does is in `calls`, `comparing`, `exchanging`,
-//! `slots` and `identity`. A mutator that doesn't wait is in `seat_steps`, a tracer in `seat_turns`; `handing` turns a mutator into such a one and back.
+//! `world` and `mutator` have the two types. `opening` makes a heap with its root, `dealing` deals its seats out to
+//! mutators and tracers, `lending` lends these and takes them back, as `tracing` does with the tracers, and
+//! `closing` closes the world. What a mutator does is in `calls`, `comparing`, `exchanging`, `slots` and
+//! `identity`. A mutator that doesn't wait is in `seat_steps`, a tracer in `seat_turns`; `handing` turns a mutator
+//! into such a one and back.
 #![tactic(auto)]
 
 ghost use Rattle.shared_heap.specs.Counting.{CounterClosed, CounterRead, LockClosed};
@@ -52,20 +56,20 @@ pub use seat_turns::{NotOpened, Refused, Tracer, TryTurn, Turn};
 pub use world::SharedWorld;
 pub use world_seats::{NotClosed, Sizes as SharedSizes, Statistics as SharedStatistics, Unclosed};
 
-/// Whatever the threads of a closed world did, it is one run, in which each thread's steps come in their order and nobody else takes part. After each step the
-/// words agree with one plain heap that forgets nothing, whatever a step found is what this heap had just before, and there is one root: no thread that asked for
-/// it found nil.
+/// Whatever the threads of a closed world did is one run, in which each thread's steps come in their order and
+/// nobody else takes part. After each step the words agree with one plain heap that forgets nothing, each step
+/// found what this heap had, and no thread that asked for the root found nil.
 pub fn threads_run()
     ensures { ThreadsRun }
 {}
 
-/// Whatever a call of a mutator finds, while the world is open and others act on it, is what one plain heap that forgets nothing had at the moment of that step: the
-/// one that all events before it made, of which the mutator's log is its part.
+/// Whatever a mutator's call finds while the world is open is what one plain heap had at the moment of that step:
+/// the one that all events before it made, of which the mutator's log is its part.
 pub fn calls_find()
     ensures { CallsFind }
 {}
 
-/// So the number that [`value`](SharedMutator::value) answers is the value that the object had in this heap.
+/// So [`value`](SharedMutator::value) answers the value that the object had in this heap.
 pub fn value_found()
     ensures { ValueFound }
 {}
@@ -75,19 +79,19 @@ pub fn field_found()
     ensures { FieldFound }
 {}
 
-/// Where the mutators of a closed world made no object, and changed values alone by exchanges of a number for the next, the root's value at the end is the number
-/// of exchanges that their logs say were won, whatever the schedule.
+/// If the mutators of a closed world made no object, and changed values only by exchanges of a number for the next,
+/// the root's value at the end is the number of exchanges won, whatever the schedule.
 pub fn counter_closed()
     ensures { CounterClosed }
 {}
 
-/// So is the value that [`root_value`] reads in the words of the closed world.
+/// That is what [`root_value`] reads in the words of the closed world.
 pub fn counter_read()
     ensures { CounterRead }
 {}
 
-/// Where they made no object, and each that was outside exchanged a value 0 for 1 alone, and each that came in 1 for 0, no two were inside at any moment, whatever
-/// the schedule.
+/// If they made no object, and each exchanged a value only from 0 to 1 while it was outside and from 1 to 0 while
+/// it was inside, no two were inside at any moment, whatever the schedule.
 pub fn lock_closed()
     ensures { LockClosed }
 {}

@@ -21,7 +21,7 @@ use std::alloc::Global;
 use stop_world::{leave, resume};
 use world_seats::Sizes;
 
-/// The sizes of the heap: a section for each mutator besides section 0, which has the root.
+/// A section for each mutator besides section 0, which has the root.
 fn shape_of(sizes: &Sizes) -> Shape
     requires fits { Fits sizes.now }
     ensures shape { IsShape result }
@@ -65,7 +65,7 @@ pub fn open(alloc: Global, sizes: &Sizes) -> Result<(Heap, Vec<HeapSeat>), NotOp
     }
 }
 
-/// Goes in at the turn of section 0. False where the heap isn't new.
+/// Goes in at the turn of section 0. False if the heap isn't new.
 fn goes_in(heap: &Heap, seat: &mut HeapSeat) -> bool
     requires new { IsNewSeat heap.now 0 seat.old × (0 < heap.now.shape.sections) }
     ensures turn { OnTrue result (IsAtFirstTurn heap.now seat.new) }
@@ -77,7 +77,6 @@ fn goes_in(heap: &Heap, seat: &mut HeapSeat) -> bool
     }
 }
 
-/// Makes the root in this cache, which it gives up.
 fn makes_in(heap: &Heap, seat: &mut HeapSeat, cache: Cache) -> bool
     requires turn { HasFirstCache heap.now cache seat.old }
     requires shared { IsTrue heap.now.shape.sharing }
@@ -98,7 +97,7 @@ fn makes_in(heap: &Heap, seat: &mut HeapSeat, cache: Cache) -> bool
     }
 }
 
-/// Makes the root in variable 0 of section 0. False where no cell is free.
+/// Makes the root in variable 0 of section 0. False if no cell is free.
 fn makes_root(heap: &Heap, seat: &mut HeapSeat) -> bool
     requires turn { IsAtFirstTurn heap.now seat.old }
     requires shared { IsTrue heap.now.shape.sharing }
@@ -112,7 +111,7 @@ fn makes_root(heap: &Heap, seat: &mut HeapSeat) -> bool
     }
 }
 
-/// Stops the world, as it is found at once: true where no cycle is under way.
+/// Stops the world, by one look. True if no cycle is under way.
 fn stops(heap: &Heap, seat: &mut HeapSeat) -> bool
     requires root { HasRoot heap.now seat.old }
     ensures stops { OnTrue result (StopsWithRoot heap.now seat.new) }
@@ -127,7 +126,6 @@ fn stops(heap: &Heap, seat: &mut HeapSeat) -> bool
     }
 }
 
-/// Section 0 ends its turn.
 fn turn(heap: &Heap, seat: &mut HeapSeat)
     requires { StopsWithRoot heap.now seat.old }
     ensures alone { IsAloneInIdle heap.now seat.new }
@@ -137,7 +135,6 @@ fn turn(heap: &Heap, seat: &mut HeapSeat)
     heap.next_season(seat);
 }
 
-/// The world goes on, and the seat is outside.
 fn goes_on(heap: &Heap, seat: &mut HeapSeat)
     requires { IsAloneInIdle heap.now seat.old }
     ensures rests { RestsOutside heap.now seat.new }
@@ -148,7 +145,8 @@ fn goes_on(heap: &Heap, seat: &mut HeapSeat)
     leave(heap, seat);
 }
 
-/// Makes the root and opens the mutators' turn with the seat of section 0. False where another seat is at work, which is not so in a new heap.
+/// Makes the root and opens the mutators' turn with the seat of section 0. False if another seat is at work, which
+/// is not so in a new heap.
 pub fn open_turn(heap: &Heap, seat: &mut HeapSeat) -> bool
     requires new { IsNewSeat heap.now 0 seat.old × (0 < heap.now.shape.sections) }
     requires shared { IsTrue heap.now.shape.sharing }

@@ -1,10 +1,10 @@
-//! What the words of a closed world say of its root.
+//! What a closed world's words say of its root.
 ghost use Rattle.std.specs.Prelude.{◌≡◌};
 ghost use Rattle.shared_heap.specs.Counting.{root_value_of};
 
 use gc_table::Words;
 
-/// The value of the root in the words of a world that was closed. None where the words have no root, which those of no world lack.
+/// The value of the root in the words of a closed world; None only if these are the words of no world.
 pub fn root_value(words: &Words) -> Option<u64>
     ensures value { result ≡ root_value_of words.now }
 {

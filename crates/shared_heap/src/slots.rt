@@ -1,4 +1,4 @@
-//! Slots of a mutator of a shared world: roots that it names by a number, for the frames of a stack.
+//! Slots in a shared world: numbered roots, for the frames of a stack.
 ghost use Rattle.std.specs.Arc.{arc_value};
 ghost use Rattle.std.specs.Prelude.{◌≡◌, ◌-◌, ◌∷◌, [], IfErr, IfOk};
 ghost use Rattle.mark_core.specs.Steps.MutatorSteps.{seat_variable as word_in};
@@ -53,7 +53,7 @@ impl SharedMutator {
         }
     }
 
-    /// The slots from number `from` on and below `to` refer to nothing any more. Whoever leaves a frame lets go of its slots so.
+    /// The slots from `from` on and below `to` refer to nothing any more, as when a frame is left.
     pub fn forget_slots(&mut self, from: u32, to: u32) -> Result<(), Refused>
         ensures done { IfOk result (λ _. SharerActs (HasSlots self.old from to) (TakesSteps (clearing_steps from (to - from))) self.old self.new) }
         ensures refused { IfErr result (λ e. ActRefused e (HasSlots self.old from to) self.old self.new) }

@@ -11,7 +11,7 @@ use seat_turns::{Tracer, tell_dismissed, try_dismiss};
 use std::sync::Wait;
 
 impl SharedWorld {
-    /// One of the tracers that nobody has. None where all are taken.
+    /// A tracer that nobody has; None if all are taken.
     pub fn tracer(&mut self) -> Option<Tracer>
         ensures some { IfSome result (λ t. self.old.tracers.items ≡ self.new.tracers.items ++ t ∷ []) }
         ensures none { IfNone result (self.old.tracers.items ≡ []) }
@@ -21,7 +21,6 @@ impl SharedWorld {
         self.tracers.pop()
     }
 
-    /// Whether a tracer of this name may be one that is out.
     fn lacks_tracer(&self, name: u32) -> bool
         ensures lacks { OnTrue result ((name ≡ self.now.sizes.name) × (vec_len self.now.tracers < self.now.sizes.tracers)) }
         ensures none { OnFalse result (TakesNoTracer name self.now) }
@@ -29,7 +28,7 @@ impl SharedWorld {
         name == self.sizes.name && self.tracers.len() < self.sizes.tracers as usize
     }
 
-    /// Takes a tracer back. It is handed back only where it has the name of another world, or where all of this world's are back.
+    /// Takes a tracer back. It is handed back only if it has another world's name, or all of this world's are back.
     pub fn take_tracer(&mut self, tracer: Tracer) -> Result<(), Tracer>
         ensures back { OnOk result (self.new.tracers.items ≡ self.old.tracers.items ++ tracer ∷ []) }
         ensures out { OnOk result ((tracer.name ≡ self.old.sizes.name) × (vec_len self.old.tracers < self.old.sizes.tracers)) }
@@ -45,7 +44,7 @@ impl SharedWorld {
         Ok(())
     }
 
-    /// Tells the tracers that they are dismissed: each that runs ends, also one that sleeps, and each later turn answers so.
+    /// Dismisses the tracers: each that runs ends, also one that sleeps, and each later turn answers so.
     pub fn dismiss_tracers<R: Wait>(&mut self, rt: &R)
         ensures dismisses { Across DismissesInside self.old.zero self.new.zero }
         ensures rest { HasAllStill self.old self.new }
@@ -53,8 +52,8 @@ impl SharedWorld {
         tell_dismissed(rt, &self.heap, &mut self.zero);
     }
 
-    /// Tells the tracers that they are dismissed, as [`dismiss_tracers`](SharedWorld::dismiss_tracers) does, but without waiting. False where a stop is under
-    /// way: then it is to be called again. It wakes none: a tracer that sleeps finds it when it wakes by itself.
+    /// [`dismiss_tracers`](SharedWorld::dismiss_tracers) without waiting. False if a stop is under way: then it is
+    /// to be called again. A tracer that sleeps isn't woken.
     pub fn try_dismiss_tracers(&mut self) -> bool
         ensures dismisses { OnTrue result (Across Dismisses self.old.zero self.new.zero) }
         ensures turns { OnFalse result (Across TurnsBack self.old.zero self.new.zero) }
@@ -63,7 +62,6 @@ impl SharedWorld {
         try_dismiss(&self.heap, &mut self.zero)
     }
 
-    /// Whether all mutators and tracers are back.
     fn has_all(&self) -> bool
         ensures all { OnTrue result (AreAllBack self.now) }
         ensures missing { OnFalse result (AreAllBack self.now → ⊥) }
@@ -72,7 +70,8 @@ impl SharedWorld {
             && self.tracers.len() == self.sizes.tracers as usize
     }
 
-    /// Frees the heap, and hands out no words. It is refused, and the world handed back, exactly where a mutator or a tracer isn't back.
+    /// Frees the heap, and hands out no words. The world is handed back exactly if a mutator or a tracer isn't
+    /// back.
     pub fn free(self) -> Result<(), SharedWorld>
         ensures freed { OnOk result (AreAllBack self) }
         ensures refused { IfErr result (λ world. (world ≡ self) × (AreAllBack self → ⊥)) }

@@ -1,4 +1,4 @@
-//! A heap whose objects threads share, with those of its mutators and tracers that nobody has.
+//! A heap whose objects threads share.
 ghost use Rattle.std.specs.Arc.{arc_value};
 ghost use Rattle.std.specs.Prelude.{◌≤◌, vec_capacity};
 ghost use Rattle.seat_turns.specs.Standing.{RestsOutside};
@@ -11,16 +11,14 @@ use std::alloc::Global;
 use std::sync::Arc;
 use world_seats::Sizes;
 
-/// A heap whose objects threads share. It has those of its mutators and tracers that nobody has taken.
+/// A heap whose objects threads share, with those of its mutators and tracers that nobody has taken.
 #[derive(Drop)]
 pub struct SharedWorld {
-    /// The heap, which its mutators and tracers share.
     pub(crate) heap: Arc<Heap, Global>,
     /// The seat of section 0, which has the root in its variable 0. From then on it reads and tells.
     pub(crate) zero: HeapSeat,
     /// The mutators that nobody has taken, with room for all.
     pub(crate) mutators: Vec<SharedMutator>,
-    /// The tracers that nobody has taken, with room for all.
     pub(crate) tracers: Vec<Tracer>,
     /// The sizes that it was opened with.
     pub(crate) sizes: Sizes,

@@ -22,7 +22,7 @@ pub enum Raised {
     Theirs,
 }
 
-/// Enters the running world: true where the seat is now active. False exactly where a stop is under way: then the seat has left again.
+/// Enters the running world: true if the seat is now active. If a stop is under way the seat has left again.
 pub fn enter(heap: &Heap, seat: &mut HeapSeat) -> bool
     requires seat { Sits heap.now seat.old }
     requires bare { IsTrue (is_bare (state_of seat.old)) }
@@ -38,7 +38,7 @@ pub fn enter(heap: &Heap, seat: &mut HeapSeat) -> bool
     false
 }
 
-/// Leaves the running world. The seat has given back its packets and its cache, and has nothing in hand.
+/// Leaves the running world, with nothing in hand: no packet, no cache.
 pub fn leave(heap: &Heap, seat: &mut HeapSeat)
     requires seat { Sits heap.now seat.old }
     requires active { IsTrue (state_of seat.old).active }
@@ -61,7 +61,8 @@ pub fn poll(heap: &Heap, seat: &mut HeapSeat) -> bool
     flag_of(heap.observe(seat))
 }
 
-/// Raises the flag that stops the world: Theirs exactly where another seat's flag was up. The seat is outside the world and its help.
+/// Raises the flag that stops the world: Theirs exactly if another seat's flag was up. The seat is outside the
+/// world and its help.
 pub fn raise(heap: &Heap, seat: &mut HeapSeat) -> Raised
     requires seat { Sits heap.now seat.old }
     requires bare { IsTrue (is_bare (state_of seat.old)) }

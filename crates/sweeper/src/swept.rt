@@ -5,7 +5,7 @@
 pub struct Swept {
     /// The first of them.
     pub block: u32,
-    /// How many they are. They follow each other.
+    /// How many they are, side by side.
     pub blocks: u32,
     /// The cells whose allocation bits the sweep cleared.
     pub freed: u32,

@@ -1,7 +1,7 @@
 //! Whole runs, written down as texts.
 //!
-//! A case is `$ ` and the words, in the next lines the source, up to `=> ` with the status, and in the lines behind it the text that
-//! is to be written:
+//! A case is `$ ` and the words, in the next lines the source, up to `=> ` with the status, and in the lines behind
+//! it the text that is to be written:
 //!
 //! ```text
 //! $ run --cells 64
@@ -18,7 +18,7 @@ use std::alloc::Global;
 use std::sync::Wait;
 use std::thread::Threads;
 
-/// A case. Of its text the sink is handed pieces of these sizes, or line by line, where none is named.
+/// A case. Its text is handed to the sink in pieces of these sizes, or line by line.
 #[derive(Drop)]
 pub struct Case<'a> {
     pub words: &'a str,
@@ -43,7 +43,6 @@ pub fn case_of(alloc: Global, told: &str) -> Result<Case<'_>, NotRun> {
     })
 }
 
-/// Whether the case is answered so, with these words behind its own.
 fn is_answered<R: AllocGlobal + Threads + Wait + Sync>(
     rt: &R,
     told: &str,

@@ -1,9 +1,5 @@
-//! Whole runs of the program, from the words and the bytes in to the bytes out, as the tests of `test_plays` and `test_play_heaps` tell them.
-//!
-//! - `outside`: a source and a sink for one run, and what the run answers.
-//! - `cases`: runs that are written down as texts, and the first one that isn't answered so.
-//! - `texts`: texts in which braces enclose what is repeated.
-//! - `not_run`: why a run wasn't made.
+//! Whole runs of the program, from the words and the bytes in to the bytes out, for `test_plays` and
+//! `test_play_heaps`.
 #![tactic(auto)]
 
 mod cases;

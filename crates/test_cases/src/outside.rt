@@ -1,4 +1,3 @@
-//! A source and a sink for one run, and what the run answers.
 ghost use Rattle.std.specs.Prelude.{◌≡◌, ◌∷◌, [], Contains, IfOk};
 
 use crate::not_run::NotRun;
@@ -9,8 +8,8 @@ use std::alloc::Global;
 use std::sync::Wait;
 use std::thread::Threads;
 
-/// A source and a sink for one run: the source gives `per_read` bytes in a call, the sink takes `per_write` and has
-/// room for `room`, and the listed reads and writes fail.
+/// A source that gives `per_read` bytes in a call and a sink that takes `per_write` and has room for `room`; the
+/// listed reads and writes fail.
 #[derive(Clone, Copy, Debug)]
 pub struct Outside<'a> {
     pub bytes: &'a [u8],
@@ -21,7 +20,7 @@ pub struct Outside<'a> {
     pub writes: &'a [u32],
 }
 
-/// A source of these bytes, where nothing fails.
+/// A source of these bytes, if nothing fails.
 pub fn sure(bytes: &[u8]) -> Outside<'_> {
     Outside {
         bytes,

@@ -1,7 +1,7 @@
 //! Texts in which braces enclose what is repeated.
 //!
-//! `{3*ab}` stands for ababab, and `{1..4*a%}` for a1a2a3, with the numbers from the first up to the last, which is left out. In `{2*a&b&}`, which stands for
-//! a0b1a2b3, each `&` counts on.
+//! `{3*ab}` stands for ababab, and `{1..4*a%}` for a1a2a3: the last number is left out. In `{2*a&b&}`, which stands
+//! for a0b1a2b3, each `&` counts on.
 use crate::not_run::NotRun;
 use std::alloc::{AllocError, Global};
 
@@ -9,7 +9,6 @@ fn push_number(alloc: Global, whole: &mut String, number: u32) -> Result<(), All
     whole.push_str(format!(in alloc; "{number}")?.as_str())
 }
 
-/// Adds the body once, with this number, and counts on.
 fn push_body(
     alloc: Global,
     whole: &mut String,

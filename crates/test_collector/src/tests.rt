@@ -33,7 +33,7 @@ const THREE: Shape = Shape {
     ..LARGE
 };
 
-/// 256 blocks, and 64 packets of two entries, so that packets are given back soon.
+/// 256 blocks, and 64 packets of two entries, so that packets are soon given back.
 const BROAD: Shape = Shape {
     cells: 16_384,
     packets: 64,

@@ -1,9 +1,4 @@
 //! Runs of events from the start, with what they are answered and what they leave, written down as texts.
-//!
-//! - `runs`: how a run is written down, and judged. `events`: how an event is read. `heaps`: the shapes of the heaps, and the names of their words.
-//! - `first`: packets, phases, and one cell. `barrier`, `deferred`, `overflow`, `precise`, `filled`: cycles of one mutator and a tracer. `helped`, `stretches`: stops
-//!   with helpers.
-//! - `shared`, `storing`, `exchanging`, `slots`: objects that sections share.
 mod barrier;
 mod deferred;
 mod events;

@@ -1,4 +1,3 @@
-//! A seat leaves, and a heap with one seat is closed.
 ghost use Rattle.std.specs.Prelude.{◌≡◌};
 ghost use Rattle.mark_core.specs.Shapes.{IsShape};
 ghost use Rattle.gc_table.specs.Seats.{Across, IsOutside, Sits, state_of, view_of};
@@ -11,7 +10,7 @@ use mark_core::Shape;
 use std::alloc::Global;
 use stop_world::leave;
 
-/// Leaves: true where the seat was active and had nothing in hand.
+/// Leaves: true if the seat was active and had nothing in hand.
 pub fn leaves(heap: &Heap, seat: &mut HeapSeat) -> bool
     requires { Sits heap.now seat.old }
     ensures seat { Sits heap.now seat.new }
@@ -25,7 +24,7 @@ pub fn leaves(heap: &Heap, seat: &mut HeapSeat) -> bool
     true
 }
 
-/// Closes a heap with its seat, which is outside. False where memory ran out.
+/// Closes a heap with its seat, which is outside. False if memory ran out.
 pub fn close_one(alloc: Global, heap: Heap, seat: HeapSeat) -> bool
     requires seat { Sits heap seat × ((state_of seat).number ≡ 0) }
     requires outside { IsOutside (view_of seat) }
@@ -37,7 +36,7 @@ pub fn close_one(alloc: Global, heap: Heap, seat: HeapSeat) -> bool
     heap.close(alloc, seats).is_ok()
 }
 
-/// Closes a heap with its seat. False where the seat is inside, or memory ran out.
+/// Closes a heap with its seat. False if the seat is inside, or memory ran out.
 pub fn try_close(alloc: Global, heap: Heap, seat: HeapSeat) -> bool
     requires { Sits heap seat }
 {
@@ -56,7 +55,7 @@ fn opens_one(alloc: Global, shape: Shape) -> bool
     }
 }
 
-/// Heaps with one seat that are made and closed, so many of them. False where there is no memory.
+/// Makes and closes so many heaps with one seat. False if there is no memory.
 pub fn opens(alloc: Global, shape: Shape, rounds: u64) -> bool
     requires { IsShape shape }
 {

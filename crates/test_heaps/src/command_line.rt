@@ -1,4 +1,3 @@
-//! What the words of a bench's command line say, and what a bench writes.
 use std::rt::{Env, Runtime};
 use std::{env, io};
 
@@ -16,12 +15,12 @@ pub fn command_words<R: Env + AllocGlobal>(rt: &R) -> io::Result<Vec<String>> {
     Ok(words)
 }
 
-/// How many rounds the word asks for, or nothing.
+/// How many rounds the word asks for, if any.
 pub fn rounds_of(word: &String) -> Option<u64> {
     word.as_str().parse::<u64>().ok()
 }
 
-/// The name and the number of rounds that two words say, or nothing.
+/// The name and the number of rounds that two words say, if any.
 pub fn named_rounds(words: &[String]) -> Option<(&str, u64)> {
     let [name, rounds] = words else {
         return None;
@@ -29,7 +28,7 @@ pub fn named_rounds(words: &[String]) -> Option<(&str, u64)> {
     Some((name.as_str(), rounds_of(rounds)?))
 }
 
-/// Writes what was done so many times, or that it failed.
+/// Writes what was done this many times, or that it failed.
 pub fn report<R: Runtime>(rt: &R, name: &str, rounds: u64, is_done: bool) -> io::Result<()> {
     if is_done {
         println!(rt; "{name} {rounds}")

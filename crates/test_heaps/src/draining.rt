@@ -1,4 +1,3 @@
-//! A drain begins and ends, and the sweep begins, in a stop in which nothing was left to trace.
 ghost use Rattle.std.specs.Prelude.{◌≡◌};
 ghost use Rattle.std.specs.Bool.{OnTrue};
 ghost use Rattle.mark_core.specs.declared.kinds.Phase.TheVariants.{Drain, Sweep};
@@ -31,7 +30,7 @@ pub fn resets(heap: &Heap, seat: &mut HeapSeat)
     heap.reset(seat, BLOCK_COUNTER);
 }
 
-/// Sees to all roots, where no block was handed out.
+/// Sees to all roots, if no block was handed out.
 pub fn scans_all(heap: &Heap, seat: &mut HeapSeat) -> bool
     requires { Sits heap.now seat.old × IsBeforeSweep (view_of seat.old) }
     ensures { OnTrue result (Sits heap.now seat.new × IsRooted (view_of seat.new)) }

@@ -1,16 +1,5 @@
-//! Heaps of tests and benches: they are opened with their seats, the season moves on, objects are made, a cycle ends in a stop, and the heap is closed.
-//!
-//! The crates of tests and of benches all begin with a heap that was just made. The conditions of the calls by which they do so are proved here, once:
-//!
-//! - `shapes`: the sizes of a small heap.
-//! - `opening`: a heap in which nothing has happened, and its seats, one after another.
-//! - `seasons`: a seat stops the world and lets it go on; the catalogue's turn ends, and the warehouses' begins; a seat enters.
-//! - `marking`: marking begins, and a seat finds that it has begun.
-//! - `objects`: a mutator takes a block, and makes objects in it.
-//! - `draining`: a drain begins and ends in a stop, and the sweep begins.
-//! - `closing`: a seat leaves, and a heap with one seat is closed.
-//! - `checks`: what a seat's record says, by which a test knows that it may go on.
-//! - `command_line`: what a bench is asked for, and what it writes.
+//! Heaps of tests and benches: they are opened with their seats, the season moves on, objects are made, a cycle
+//! ends in a stop, and the heap is closed. The conditions of these calls are proved here, once.
 #![tactic(auto)]
 
 mod checks;

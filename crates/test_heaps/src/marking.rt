@@ -1,4 +1,3 @@
-//! Marking begins, and a seat finds that it has begun.
 ghost use Rattle.std.specs.Bool.{OnTrue};
 ghost use Rattle.gc_table.specs.Seats.{Across};
 ghost use Rattle.gc_table.specs.SeatRecords.{At, entered, inside};
@@ -7,7 +6,7 @@ ghost use Rattle.stop_world.specs.StopRecords.{KeepsMeaningAndPlan};
 use gc_table::{Heap, HeapSeat};
 use mark_core::Phase;
 
-/// Begins marking, where no cycle is under way.
+/// Begins marking, if no cycle is under way.
 pub fn try_marking(heap: &Heap, seat: &mut HeapSeat, k: u32)
     requires { At heap.now entered k seat.old }
     ensures seat { At heap.now entered k seat.new }

@@ -1,4 +1,3 @@
-//! A mutator takes a block, and makes objects in it.
 ghost use Rattle.std.specs.Prelude.{◌<◌, IfNone, IfSome};
 ghost use Rattle.std.specs.Bool.{OnTrue};
 ghost use Rattle.mark_core.specs.Numbers.{section_variables};
@@ -24,7 +23,7 @@ pub fn sees_season(heap: &Heap, seat: &mut HeapSeat) -> bool
     is_ready(heap, seat)
 }
 
-/// A block of the seat's own, where it may store and has none.
+/// A block of the seat's own, if it may store and has none.
 pub fn take(heap: &Heap, seat: &mut HeapSeat) -> Option<Cache>
     requires { HasEachObject heap.now seat.old }
     ensures some { IfSome result (λ cache. IsReadyWithCache heap.now seat.new cache) }

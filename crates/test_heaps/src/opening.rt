@@ -1,4 +1,3 @@
-//! A heap in which nothing has happened, and its seats.
 ghost use Rattle.std.specs.Prelude.{ℕ, ◌≡◌, ◌<◌, ◌≤◌, ◌+◌, Some, slice_get, vec_len, IfSome};
 ghost use Rattle.gc_table.specs.declared.seat.HeapSeat.{HeapSeat};
 ghost use Rattle.gc_table.specs.SeatRecords.{resting};
@@ -10,7 +9,7 @@ use mark_core::Shape;
 use plain_heap::NoPlan;
 use std::alloc::Global;
 
-/// A heap with so many seats, of which the first is the catalogue's. None where memory ran out.
+/// A heap with so many seats, the first of them the catalogue's.
 pub fn open(alloc: Global, shape: Shape, seats: u32) -> Option<(Heap, Vec<HeapSeat>)>
     requires shape { IsShape shape }
     requires seats { (0 < seats) × (seats ≤ 3) }
@@ -33,7 +32,7 @@ pub fn next_seat(heap: &Heap, seats: &mut Vec<HeapSeat>, k: u32) -> HeapSeat
     seats.remove(0)
 }
 
-/// A heap with the catalogue's seat alone. None where memory ran out.
+/// A heap with only the catalogue's seat.
 pub fn open_one(alloc: Global, shape: Shape) -> Option<(Heap, HeapSeat)>
     requires { IsShape shape }
     ensures { IfSome result (λ r. (r.0.shape ≡ shape) × New r.0 resting 0 r.1 × HasEachObject r.0 r.1) }

@@ -1,4 +1,3 @@
-//! Seats enter the world, stop it and let it go on, and the season turns for the first time.
 ghost use Rattle.std.specs.Prelude.{◌≡◌, ◌<◌, IsFalse};
 ghost use Rattle.std.specs.Bool.{OnTrue};
 ghost use Rattle.mark_core.specs.declared.kinds.Phase.TheVariants.{Idle};
@@ -14,7 +13,7 @@ use mark_core::Phase;
 use std::sync::Wait;
 use stop_world::{Raised, await_stopped, leave, raise, resume};
 
-/// Raises the flag: true where it is the seat's own.
+/// Raises the flag: whether it is the seat's own.
 pub fn raises_own(heap: &Heap, seat: &mut HeapSeat, k: u32) -> bool
     requires { At heap.now resting k seat.old }
     ensures raised { OnTrue result (At heap.now flagged k seat.new × IsFalse (has_moved (view_of seat.new).log)) }
@@ -26,7 +25,7 @@ pub fn raises_own(heap: &Heap, seat: &mut HeapSeat, k: u32) -> bool
     }
 }
 
-/// Waits for the stop: true where no cycle was under way.
+/// Waits for the stop: whether no cycle was under way.
 pub fn stops_idle<R: Wait>(rt: &R, heap: &Heap, seat: &mut HeapSeat, k: u32) -> bool
     requires { At heap.now flagged k seat.old × IsFalse (has_moved (view_of seat.old).log) }
     ensures stopped { OnTrue result (At heap.now stopped k seat.new × Alone Idle (view_of seat.new)) }
@@ -39,7 +38,6 @@ pub fn stops_idle<R: Wait>(rt: &R, heap: &Heap, seat: &mut HeapSeat, k: u32) -> 
     }
 }
 
-/// Turns the season, for the first time.
 fn turn(heap: &Heap, seat: &mut HeapSeat)
     requires { New heap.now stopped 0 seat.old × (0 < heap.now.shape.sections) × Alone Idle (view_of seat.old) }
     ensures stopped { At heap.now stopped 0 seat.new × Alone Idle (view_of seat.new) }
@@ -58,7 +56,7 @@ pub fn goes_on(heap: &Heap, seat: &mut HeapSeat, k: u32)
     leave(heap, seat);
 }
 
-/// The catalogue's turn ends, and the warehouses' begins: true where the seat made that stop.
+/// The catalogue's turn ends, and the warehouses' begins: whether the seat made that stop.
 pub fn next_turn<R: Wait>(rt: &R, heap: &Heap, seat: &mut HeapSeat) -> bool
     requires { New heap.now resting 0 seat.old × (0 < heap.now.shape.sections) }
     ensures rests { OnTrue result (At heap.now resting 0 seat.new) }
@@ -72,7 +70,7 @@ pub fn next_turn<R: Wait>(rt: &R, heap: &Heap, seat: &mut HeapSeat) -> bool
     true
 }
 
-/// Enters: true where no stop was under way.
+/// Enters: true if no stop was under way.
 pub fn enters(heap: &Heap, seat: &mut HeapSeat, k: u32) -> bool
     requires { At heap.now resting k seat.old }
     ensures entered { OnTrue result (At heap.now entered k seat.new) }

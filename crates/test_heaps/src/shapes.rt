@@ -1,4 +1,4 @@
-//! The shapes of small heaps, in which each cell and each packet can be told apart by hand.
+//! Shapes of small heaps, in which each cell and packet can be told apart by hand.
 use mark_core::Shape;
 
 /// One block, and two packets of two entries.

@@ -1,4 +1,3 @@
-//! What is told of sources in memory.
 mod faults;
 mod folded;
 mod limits;
@@ -9,7 +8,7 @@ use play_report::MemorySink;
 use schedule_check::{ScheduleFault, Told, Untold, read_schedule, tell_schedule};
 use std::alloc::Global;
 
-/// Told of the source is this, and the text is this, by a sink that takes seven bytes a call.
+/// Whether this is told of the source, and this text, by a sink that takes seven bytes a call.
 fn says(alloc: Global, source: &[u8], told: Told, text: &[u8]) -> bool {
     match MemorySink::make(alloc, 128, 7, &[]) {
         Err(_) => false,
@@ -42,7 +41,7 @@ fn scanning_an_unpublished_cell_is_refused(rt: HostRuntime) {
     let alloc = rt.alloc();
     let text = b"refused line 27 rule 10 part 1\n";
     assert!(rt; says(alloc, UNPUBLISHED, Told::Refused, text));
-    // Without that event the cell is marked, and in use though it isn't published; one packet is out.
+    // Without that event the cell is marked, and in use though not published; one packet is out.
     let text = b"accepted 24\nphase 1\nempty 65\nmarked 1\nused 1\nclosed no\n";
     let before = UNPUBLISHED.strip_suffix(b"1 read_field 0 0\n");
     assert!(rt; says(alloc, before.unwrap_or(b""), Told::Accepted, text));

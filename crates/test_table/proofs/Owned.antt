@@ -129,7 +129,7 @@ ready-linked h x y u i w n r sits is =
       ap (λ (z : View). length z.own.meaning.heap.variables) is ∙ ap (λ (xs : List Ref). length xs) (stored-variables heap (variable heap u) change) ∙ r.2,
     )
 
--- where the seat has read that marking is under way, the store is the operation `set`
+-- if the seat has read that marking is under way, the store is the operation `set`
 pub asked-set : (x : HeapSeat) (u i w : ℕ) → ((view_of x).state.active && saw (view_of x).state.phase_seen Marking) ≡ true → Asked (StoreField u i (Some w)) (view_of x)
 asked-set x u i w seen = let marking = seen_marking (view_of x).state.phase_seen (and_parts _ _ seen).1 in (marking, λ alone. (ops.Set u i w, (marking, refl)))
 

@@ -12,6 +12,6 @@ use Rattle.gc_table.specs.Seats.{view_of}
 abbrev pub SeatHasOwn : HeapSeat → ℕ → Type 0
 SeatHasOwn x v = is_own (variable (view_of x).own.meaning.heap v) ≡ true
 
--- the condition of a store of variable w in field i of variable v's object, as far as the record tells, where objects aren't shared
+-- the condition of a store of variable w in field i of variable v's object, as far as the record tells, if objects aren't shared
 abbrev pub may_link : Shape → SeatState → ℕ → ℕ → ℕ → Bool
 may_link sh s v i w = (nat_lt v section_variables && nat_lt i sh.fields && nat_lt w section_variables && may_mutate s) && (is_none s.owes && not s.spent && not sh.sharing)

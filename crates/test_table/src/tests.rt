@@ -10,7 +10,7 @@ mod seasons;
 mod seats;
 mod world;
 
-// So many words, all 0.
+// This many words, all 0.
 fn are_zero(words: &[u64], count: usize) -> bool {
     words.len() == count && words.iter().all(|x| *x == 0)
 }

@@ -57,7 +57,7 @@ module _ (xs : List Held) (h : Held) (ys : List Held) (v : View) where
 pub carries-head : (h : Held) (hs : List Held) (v : View) → Carries (h ∷ hs) v → HoldsPacket h v
 carries-head h hs v c = record { there = c.fit.0; known = c.held.0; fits = c.fit.1 }
 
--- a slot is free where there are at most three
+-- a slot is free if there are at most three
 pub carries-free : (hs : List Held) (v : View) → length hs ≤ 3 → Carries hs v → has_free_slot v.state.held ≡ true
 carries-free hs v l c = some-free v.state.held (omega (arith, l, c.free))
 
@@ -159,7 +159,7 @@ pub taken-either : (qs : List ℕ) (r : Option Held) (hs : List Held) (v w : Vie
 taken-either qs None hs v w shape room some none c = carries-same v w shape hs (ap (λ (s : SeatState). s.held) none) c
 taken-either qs (Some h) hs v w shape room some none c = carries-take v w shape qs h hs some room c
 
--- the packet that is being filled with deferred cells, before the others, where it may be there or not
+-- the packet that is being filled with deferred cells, if it is there, before the others
 pub deferred-front : (i : Held) (o d : Option Held) (v : View) → Carries (i ∷ in_front o (in_front d [])) v → Carries (in_front d (i ∷ in_front o [])) v
 deferred-front i o None v c = c
 deferred-front i o (Some h) v c = deferred-first i o h v c

@@ -101,11 +101,11 @@ front-keeps qs (x ∷ xs) ys m =
     let h = and_parts (moves_packet qs x.step) (only_moves qs xs) m in
     ap (λ b. cond b (x ∷ front (moves_packet qs) (xs ++ ys)) []) h.0 ∙ ap (λ l. x ∷ l) (front-keeps qs xs ys h.1)
 
--- the search in vain for a packet to read from is told by the steps that follow
+-- the search in vain for a packet to read from is shown by the steps that follow
 pub input-front : (sh : Shape) (xs ys : List Entry) → NoInput sh xs → only_moves input_pools xs ≡ true → no_input sh (front (moves_packet input_pools) (xs ++ ys)) ≡ true
 input-front sh xs ys none m = ap (no_input sh) (front-keeps input_pools xs ys m) ∙ all-missed-left sh input_pools xs (front (moves_packet input_pools) ys) none
 
--- the search in vain for a packet with room is told by the steps that follow
+-- the search in vain for a packet with room is shown by the steps that follow
 pub output-front : (sh : Shape) (xs ys : List Entry) → NoOutput sh xs → only_moves output_pools xs ≡ true → no_output sh (front (moves_packet output_pools) (xs ++ ys)) ≡ true
 output-front sh xs ys none m = ap (no_output sh) (front-keeps output_pools xs ys m) ∙ no-output-left sh xs (front (moves_packet output_pools) ys) none
 
@@ -123,7 +123,7 @@ tail-apart x hs a i j d k l = a (suc i) (suc j) d (omega (arith, k)) (omega (ari
 spent-one : (ps : List ℕ) (p n : ℕ) (l : Option ℕ) (b : Bool) → l ≡ Some n → ((n == 0) || list_any (λ x. x == p) ps) ≡ true → is_spent_slot ps (Some (p, l, b)) ≡ true
 spent-one ps p n l b e s = ap (λ k. is_spent_slot ps (Some (p, k, b))) e ∙ s
 
--- each slot is free or spent, where each packet that is held is empty or waits
+-- each slot is free or spent, if each packet that is held is empty or waits
 pub all-spent : (ps : List ℕ) (hs : Slots) → AllPairs IsApart hs → ((p : ℕ) → holds hs p ≡ true → (n : ℕ) × (known_length hs p ≡ Some n) × (((n == 0) || list_any (λ x. x == p) ps) ≡ true)) → list_all (is_spent_slot ps) hs ≡ true
 all-spent ps [] a f = refl
 all-spent ps (None ∷ hs) a f = all-spent ps hs (tail-apart None hs a) f

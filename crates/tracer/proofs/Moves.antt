@@ -1,4 +1,4 @@
--- The searches of a tracer move packets alone.
+-- The searches of a tracer move only packets.
 use Rattle.std.proofs.Common.{ℕ, ◌≡◌, ap, ◌∙◌, List, refl, Bool, true, false, Some, None, Option}
 use Rattle.std.specs.Prelude.{◌||◌, ◌==◌, IfSome, IfNone}
 use Rattle.std.proofs.lemmas.Bool.{false≢true}

@@ -132,7 +132,7 @@ clean : (step : Step) (n : ℕ) → gives_back step ≡ true → dirties step n 
 clean (DirtyCard card) n g = absurd (false≢true g)
 clean step n g = refl
 
--- what waits, by the steps alone
+-- what waits, by the steps only
 abbrev given_on : ℕ → Step → Bool → Bool
 given_on p (Give q d) b = b && not ((q == p) && d)
 given_on p step b = b

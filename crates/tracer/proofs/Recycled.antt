@@ -152,7 +152,7 @@ was-asked : (p : ℕ) (es : List Entry) → was_got p es ≡ true → all_ask p 
 was-asked p [] g = absurd (false≢true g)
 was-asked p (e ∷ es) g = ⊎_elim (λ x. or_left _ _ (got-asks p e.step e.found x)) (λ x. or_right (asks p e.step) _ (was-asked p es x)) (or_cases (gets p e.step e.found) (was_got p es) g)
 
--- what is given, by the steps alone
+-- what is given, by the steps only
 abbrev gives_step : ℕ → Step → Bool
 gives_step p (Give q deferred) = (q == p) && not deferred
 gives_step p step = false

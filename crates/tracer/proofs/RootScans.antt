@@ -199,7 +199,7 @@ asked-marked c (e ∷ es) a = by_step e.step e.found a (asked-marked c es)
 pub nil-seen : (s v n : ℕ) (es : List Entry) → es ≡ entry_of (ReadRoot s v) n ∷ [] → n ≡ 0 → root_marked s v es ≡ true
 nil-seen s v n es all z = ap (root_marked s v) all ∙ or_left _ _ (and_from _ _ (and_from _ _ (eq-eqb s s refl) (eq-eqb v v refl)) (or_left _ _ (eq-eqb n 0 z)))
 
--- a root is seen to where its cell is asked for afterwards
+-- a root is seen to if its cell is asked for afterwards
 pub cell-seen : (s v n : ℕ) (ys es : List Entry) → es ≡ entry_of (ReadRoot s v) n ∷ ys → picked cells_asked ys ≡ cell_of n ∷ [] → root_marked s v es ≡ true
 cell-seen s v n ys es all a =
     ap (root_marked s v) all

@@ -39,7 +39,7 @@ use Rattle.tracer.proofs.Hand.{free-of, none-of}
 use Rattle.tracer.proofs.Histories.{waits-join}
 use Rattle.tracer.proofs.Moments.{all-spent, at-moment, input-front, moment-after, moment-state, moment-waits}
 
--- a card is dirtied for a cell in hand alone
+-- a card is dirtied only for a cell in hand
 spill-one : (s : SeatState) (step : Step) (n : ℕ) → keeps_cells s step ≡ true → spills s step ≡ dirties step n
 spill-one s (DirtyCard card) n k = k
 spill-one s step n k = refl

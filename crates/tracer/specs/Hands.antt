@@ -48,17 +48,17 @@ abbrev pub packet_of : Option Held → Option ℕ
 packet_of None = None
 packet_of (Some h) = Some h.packet
 
--- the packet, where there is one, has a cell and room for another
+-- the packet, if there is one, has a cell and room for another
 abbrev pub HasCellAndRoom : Shape → Option Held → Type 0
 HasCellAndRoom sh None = Unit {0}
 HasCellAndRoom sh (Some h) = (0 < h.length) × (h.length < sh.entries)
 
--- the packet, where there is one, has no cell
+-- the packet, if there is one, has no cell
 abbrev pub HasNoCell : Option Held → Type 0
 HasNoCell None = Unit {0}
 HasNoCell (Some h) = h.length ≡ 0
 
--- but for the object in scan, the cleaning and the card that is owed, the record is as it was; no card is owed where none was
+-- except for the object in scan, the cleaning and the card that is owed, the record is as it was; no card is owed if none was
 pub record KeepsRecord (v w : View) : Type 0 where
   pub same : w.state ≡ record v.state { scan = w.state.scan; cleaning = w.state.cleaning; owes = w.state.owes }
   pub owes : v.state.owes ≡ None → w.state.owes ≡ None

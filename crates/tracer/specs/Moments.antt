@@ -1,4 +1,4 @@
--- The moments of a call: what the seat has in hand then, and what it does from then on. A search for a packet is told by the steps that follow.
+-- The moments of a call: what the seat has in hand then, and what it does from then on. A search for a packet is shown by the steps that follow.
 use Rattle.std.specs.Prelude.{ℕ, ◌==◌, ◌&&◌, ◌||◌, not, if◌then◌else◌, List, [], ◌∷◌, Bool, true, Some, None}
 use Rattle.std.specs.List.{list_all, list_any}
 use Rattle.mark_core.specs.Effects.{seat_after}

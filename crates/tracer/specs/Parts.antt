@@ -14,7 +14,7 @@ use Rattle.tracer.specs.Hands.{HasNoCell}
 use Rattle.tracer.specs.Deferral.{waits, pops_waiting, defers}
 use Rattle.tracer.specs.Tally.{pops, count_by, only_traces}
 
--- packet o, if there is one, had a deferred cell before these events, and q has one afterwards; so many cells were popped, deferred, and left to their cards
+-- packet o, if there is one, had a deferred cell before these events, and q has one afterwards; this many cells were popped, deferred, and left to their cards
 pub record Did (o q : Option ℕ) (popped deferrals lost : ℕ) (v : View) (es : List Entry) : Type 0 where
   pub waiting : (p : ℕ) → waits p v es (is_the o p) ≡ is_the q p
   pub kept : (p : ℕ) → IsFalse (pops_waiting p v es (is_the o p))

@@ -37,7 +37,7 @@ abbrev pub only_roots : List Entry → Bool
 only_roots [] = true
 only_roots (e ∷ es) = scans_roots e.step && only_roots es
 
--- these roots were read, and each cell that they name was to be marked, in order: so many were white, and so many of these are left to their cards, each right
+-- these roots were read, and each cell that they name was to be marked, in order: this many were white, and this many of these are left to their cards, each right
 -- after a search that found no packet with room
 pub record FollowsRoots (sh : Shape) (roots : List (ℕ × ℕ)) (white lost : ℕ) (es : List Entry) : Type 0 where
   pub read : picked roots_read es ≡ roots
@@ -76,7 +76,7 @@ root_marked section v (e ∷ es) = shows_root section v e.step e.found es || roo
 abbrev pub roots_scanned : ℕ → List Entry → Bool
 roots_scanned section es = list_all (λ v. root_marked section v es) (range_with_len 0 section_variables)
 
--- where the scan was done, each variable was seen to
+-- if the scan was done, each variable was seen to
 abbrev pub SeesRoots : ℕ → RootScan → List Entry → Type 0
 SeesRoots section (Done marked) es = IsTrue (roots_scanned section es)
 SeesRoots section NoPacket es = Unit {0}

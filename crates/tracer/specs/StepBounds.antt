@@ -27,7 +27,7 @@ turn_steps sh = share_steps sh + find_steps sh + 1
 abbrev pub object_steps : Shape → ℕ
 object_steps sh = 1 + scan_steps sh.fields sh
 
--- so many objects are popped and traced, with packets that are taken and given back; and one more turn in which nothing is found
+-- this many objects are popped and traced, with packets that are taken and given back; and one more turn in which nothing is found
 abbrev pub trace_steps : ℕ → Shape → ℕ
 trace_steps popped sh = popped * (turn_steps sh + object_steps sh) + turn_steps sh + input_steps sh + 3 * give_steps
 

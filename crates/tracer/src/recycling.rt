@@ -12,7 +12,6 @@ use gc_table::{Heap, HeapSeat};
 use mark_core::{DEFERRED_POOL, WORD_BITS, has_bit};
 use packet_pools::{give, take_deferred_at};
 
-/// Moves packet p from the deferred pool to that of its length, where it is there. True where it was moved.
 fn recycle(heap: &Heap, seat: &mut HeapSeat, p: u32) -> bool
     requires seat { IsTracer heap.now seat.old }
     requires idle { IsIdle (view_of seat.old) }
@@ -34,7 +33,6 @@ fn recycle(heap: &Heap, seat: &mut HeapSeat, p: u32) -> bool
     true
 }
 
-/// Moves the packets from `first` on and below `end` that are in the deferred pool to those of their lengths: how many it moved.
 fn recycle_between(heap: &Heap, seat: &mut HeapSeat, first: u32, end: u32) -> u32
     requires seat { IsTracer heap.now seat.old }
     requires idle { IsIdle (view_of seat.old) }
@@ -53,7 +51,7 @@ fn recycle_between(heap: &Heap, seat: &mut HeapSeat, first: u32, end: u32) -> u3
     moved
 }
 
-/// Moves the packets of word g of the deferred pool that are below `end`: how many it moved. A word that shows none is read once.
+/// Moves the packets of word g of the deferred pool that are below `end`. A word that shows none is read once.
 fn recycle_in_word(heap: &Heap, seat: &mut HeapSeat, g: u32, end: u32) -> u32
     requires seat { IsTracer heap.now seat.old }
     requires idle { IsIdle (view_of seat.old) }
@@ -71,7 +69,7 @@ fn recycle_in_word(heap: &Heap, seat: &mut HeapSeat, g: u32, end: u32) -> u32
     recycle_between(heap, seat, WORD_BITS * g, end)
 }
 
-/// Moves the packets of all words of the deferred pool that stand for 64 packets each: how many it moved.
+/// Moves the packets of those words of the deferred pool that stand for 64 packets each.
 fn recycle_words(heap: &Heap, seat: &mut HeapSeat) -> u32
     requires seat { IsTracer heap.now seat.old }
     requires idle { IsIdle (view_of seat.old) }
@@ -89,9 +87,11 @@ fn recycle_words(heap: &Heap, seat: &mut HeapSeat) -> u32
     moved
 }
 
-/// Moves the deferred packets to the pools of their lengths, where tracers find them: how many it moved, each at most once. The seat may trace,
-/// and holds no packet. Each packet was moved, or was seen outside the deferred pool or lost to another seat there in this call.
-/// Cells that still aren't published are deferred again when they are popped, so a caller publishes first, or waits for others to.
+/// Moves the deferred packets to the pools of their lengths, where tracers find them: how many it moved, each at
+/// most once. The seat may trace, and holds no packet.
+///
+/// Cells that still aren't published are deferred again when they are popped, so a caller publishes first, or waits
+/// for others to.
 pub fn recycle_deferred(heap: &Heap, seat: &mut HeapSeat) -> u32
     requires seat { IsTracer heap.now seat.old }
     requires idle { IsIdle (view_of seat.old) }

@@ -17,7 +17,6 @@ use gc_table::{Heap, HeapSeat};
 use mark_core::{VARIABLES, cell_of};
 use packet_pools::{Held, Scanned, give, mark_cell, take_input, take_output};
 
-/// Takes a packet to put cells in, or else any with cells.
 fn take_either(heap: &Heap, seat: &mut HeapSeat) -> Option<Held>
     requires seat { IsTracer heap.now seat.old }
     requires idle { IsIdle (view_of seat.old) }
@@ -35,7 +34,6 @@ fn take_either(heap: &Heap, seat: &mut HeapSeat) -> Option<Held>
     }
 }
 
-/// Marks what one variable refers to.
 fn scan_root(
     heap: &Heap,
     seat: &mut HeapSeat,
@@ -66,11 +64,11 @@ fn scan_root(
     mark_cell(heap, seat, out, cell_of(word))
 }
 
-/// Marks what the 32 variables of a section refer to, and pushes what was white: how many cells that were. The seat may trace, and holds no packet.
+/// Marks what the 32 variables of a section refer to, and pushes what was white: how many cells that were. The seat
+/// may trace, and holds no packet.
 ///
-/// Each variable was read as nil, or its cell was marked or seen marked later in the call.
-/// Any section's variables may be scanned, while its mutator runs: a variable that is stored after it was read is that mutator's to scan again.
-/// NoPacket comes only where neither a packet with room nor one with cells was found while the seat held none, and nothing is marked then.
+/// The section's mutator may run meanwhile: if it stores a variable after it was read, it has to scan that again.
+/// The answer is NoPacket only if no packet with room or with cells was found, and nothing is marked then.
 pub fn scan_roots(heap: &Heap, seat: &mut HeapSeat, section: u32) -> RootScan
     requires seat { IsTracer heap.now seat.old }
     requires idle { IsIdle (view_of seat.old) }

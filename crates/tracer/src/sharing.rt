@@ -1,4 +1,4 @@
-//! A tracer gives some of its work to others where they lack it.
+//! A tracer gives some of its work to others if they lack it.
 ghost use Rattle.std.specs.Prelude.{ℕ, ◌≡◌, ◌<◌, ◌==◌, ◌∷◌, List, Option, None, IsTrue, IsFalse, ◌≤◌, ◌*◌, length};
 ghost use Rattle.mark_core.specs.Layout.{pool_words};
 ghost use Rattle.mark_core.specs.Numbers.{pools_in_all};
@@ -22,10 +22,9 @@ use std::mem;
 /// How many cells a packet has at least that is given away.
 const SHARE_CELLS: u32 = 4;
 
-/// How often a tracer looks whether others lack work: once in so many objects.
+/// How often a tracer looks whether others lack work: once in this many objects.
 const SHARE_EACH: u32 = 64;
 
-/// Whether word g of pool q shows no packet.
 fn is_bare(heap: &Heap, seat: &mut HeapSeat, q: u8, g: u32) -> bool
     requires seat { IsTracer heap.now seat.old }
     requires word { (q < pools_in_all) × (g < pool_words heap.now.shape) }
@@ -39,7 +38,6 @@ fn is_bare(heap: &Heap, seat: &mut HeapSeat, q: u8, g: u32) -> bool
     heap.look(seat, q, g) == 0
 }
 
-/// Whether word g shows no packet in either pool that has packets with cells.
 fn are_bare(heap: &Heap, seat: &mut HeapSeat, g: u32) -> bool
     requires seat { IsTracer heap.now seat.old }
     requires word { g < pool_words heap.now.shape }
@@ -72,7 +70,6 @@ pub fn lacks_work(heap: &Heap, seat: &mut HeapSeat) -> bool
     true
 }
 
-/// Takes a packet to push into from now on. There is none yet.
 fn fill_another(heap: &Heap, seat: &mut HeapSeat, packets: &mut Packets)
     requires seat { IsTracer heap.now seat.old }
     requires packets { Carries (packets_of packets.old) (view_of seat.old) × (packets.old.output ≡ None) }
@@ -89,7 +86,7 @@ fn fill_another(heap: &Heap, seat: &mut HeapSeat, packets: &mut Packets)
     give_some(heap, seat, nothing, false);
 }
 
-/// Where others lack work and the input has cells to spare, the seat goes on with a second packet.
+/// If others lack work and the input has cells to spare, the seat goes on with a second packet.
 fn part_with(heap: &Heap, seat: &mut HeapSeat, packets: &mut Packets)
     requires seat { IsTracer heap.now seat.old }
     requires packets { Carries (packets_of packets.old) (view_of seat.old) × (packets.old.output ≡ None) }
@@ -109,7 +106,7 @@ fn part_with(heap: &Heap, seat: &mut HeapSeat, packets: &mut Packets)
     }
 }
 
-/// Where there is a second packet, the seat goes on with it and gives the first away; else it takes one where others lack work.
+/// If there is a second packet, goes on with it and gives the first away; else takes one if others lack work.
 fn share(heap: &Heap, seat: &mut HeapSeat, packets: &mut Packets)
     requires seat { IsTracer heap.now seat.old }
     requires packets { Carries (packets_of packets.old) (view_of seat.old) }

@@ -24,7 +24,7 @@ use gc_table::{Heap, HeapSeat};
 use mark_core::{BLOCK_CELLS, Cell, has_bit};
 use packet_pools::{Scanned, give, scan_whole, take_input};
 
-/// Scans the object in scan, which is this one, into the output, or into the input where there is none.
+/// Scans the object in scan into the output, or into the input if there is none.
 fn scan(heap: &Heap, seat: &mut HeapSeat, packets: &mut Packets, cell: Cell) -> Scanned
     requires seat { IsTracer heap.now seat.old }
     requires packets { Carries (packets_of packets.old) (view_of seat.old) }
@@ -44,7 +44,6 @@ fn scan(heap: &Heap, seat: &mut HeapSeat, packets: &mut Packets, cell: Cell) -> 
     }
 }
 
-/// Traces the cell that was popped: how many cells were deferred for it, 0 or 1, and how many were left to their cards.
 fn trace_cell(heap: &Heap, seat: &mut HeapSeat, packets: &mut Packets, cell: Cell) -> Passed
     requires seat { IsTracer heap.now seat.old }
     requires packets { Carries (packets_of packets.old) (view_of seat.old) × HasCellAndRoom heap.now.shape packets.old.deferred }
@@ -72,7 +71,6 @@ fn trace_cell(heap: &Heap, seat: &mut HeapSeat, packets: &mut Packets, cell: Cel
     }
 }
 
-/// Traces at most so many cells.
 fn trace_all(heap: &Heap, seat: &mut HeapSeat, packets: &mut Packets, quota: u32) -> Traced
     requires seat { IsTracer heap.now seat.old }
     requires packets { Carries (packets_of packets.old) (view_of seat.old) × HasCellAndRoom heap.now.shape packets.old.deferred }
@@ -100,7 +98,7 @@ fn trace_all(heap: &Heap, seat: &mut HeapSeat, packets: &mut Packets, quota: u32
     traced
 }
 
-/// Takes a packet to trace with. None comes only where no packet with a cell was found.
+/// Takes a packet to trace with. The answer is None only if no packet with a cell was found.
 fn begin(heap: &Heap, seat: &mut HeapSeat) -> Option<Packets>
     requires seat { IsTracer heap.now seat.old }
     requires idle { IsIdle (view_of seat.old) }
@@ -142,11 +140,11 @@ fn finish(heap: &Heap, seat: &mut HeapSeat, packets: Packets)
     give(heap, seat, input, false);
 }
 
-/// Traces at most `quota` objects: each is popped, and what it refers to is marked and pushed. The seat may trace, and holds no packet.
+/// Traces at most `quota` objects: each is popped, and what it refers to is marked and pushed. The seat may trace,
+/// and holds no packet.
 ///
-/// `done` counts the objects that were popped, `deferred` those of them that weren't published yet and went into a deferred packet, and `overflowed` the cells
-/// that found no packet with room, so that their cards are dirty. Quota is answered exactly where `done` is the quota. NoWork comes only where no packet with a
-/// cell was found while nothing was left in hand. NoPacket never comes: where only one packet is to be had, the seat pops out of it and pushes into it.
+/// The answer is Quota exactly if `done` is the quota. It is never NoPacket: if only one packet is to be had, the
+/// seat pops out of it and pushes into it.
 pub fn trace(heap: &Heap, seat: &mut HeapSeat, quota: u32) -> Traced
     requires seat { IsTracer heap.now seat.old }
     requires idle { IsIdle (view_of seat.old) }

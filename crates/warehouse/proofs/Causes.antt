@@ -78,7 +78,7 @@ caused sh before earlier (e ∷ es) b h =
 fills_stores : (v w : View) → Only fills_part v w → Only stores_none v w
 fills_stores v w o = only-more fills_part stores_none fills-stores v w o
 
--- a call that stops the world for cause alone
+-- a call that stops the world only for cause
 pub waits-caused : (v w : View) → Ran v w → Only fills_part v w → stops_with_cause v.shape (events v w) ≡ true → Paces v w → DoesNothing v w
 waits-caused v w ran only h paced season =
     let none : all_steps stores_none (events v w) ≡ true = fills_stores v w only in

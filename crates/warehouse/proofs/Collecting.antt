@@ -1,4 +1,4 @@
--- A mutator collects, where the script says so.
+-- A mutator collects, if the script says so.
 use Rattle.std.proofs.Common.{ℕ, ◌≡◌, ◌+◌, ◌≤◌, ◌++◌, List, [], ◌∷◌, map, refl, sym, ap, ◌∙◌, subst, Option, Some, None, if◌then◌else◌, arith, inl}
 use Rattle.plain_heap.specs.PlainRun.{with_label}
 use Rattle.plain_heap.specs.PlainStep.{line_of}

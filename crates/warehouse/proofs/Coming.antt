@@ -98,7 +98,7 @@ module _ (h : Heap) (p : Parts) (turn : ℕ) (e : Execution) (m : Mutator) (s : 
         free = free;
       }
 
-  -- where the heap was found full, the mutator stops before the command
+  -- if the heap was found full, the mutator stops before the command
   pub comes-full : FindsFull m.count (view_of m.seat) (view_of s) → (IsTrue (view_of s).own.full → IsTrue (view_of m.seat).own.full ⊎ IsNew e.op) → StopsBefore h p e m (moved m s)
   comes-full k found =
       record {
@@ -119,7 +119,7 @@ module _ (h : Heap) (p : Parts) (turn : ℕ) (e : Execution) (m : Mutator) (s : 
           let a = k.acts season in
           record { ran = a.ran; polled = a.polled; collected = a.collected; stopped = λ since. let q : _ ≤ 0 = a.stopped since in omega (arith, q); stored = a.stored; uncounted = a.uncounted; seasons = a.seasons; paced = a.paced }
 
--- where it makes an object, it is `new`
+-- if it makes an object, it is `new`
 pub makes-new : (op : Op) → makes_object op ≡ true → IsNew op
 makes-new (ops.New v n) b = tt
 makes-new (ops.Let v w) b = absurd (false≢true b)

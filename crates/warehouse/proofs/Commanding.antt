@@ -30,7 +30,7 @@ use Rattle.warehouse.proofs.Turning.{turns-of}
 pub alike-stepped : (op : Op) (d : ℕ) (v w : View) → IsStepped op d v w → AreAlike w.own.meaning.heap (heap_after v.own.meaning.heap (seen v) op)
 alike-stepped op d v w e = ap uncounted (e v.own.meaning.heap.dropped)
 
--- a command other than `new`, where its seat drops no store in the heap of its view
+-- a command other than `new`, if its seat drops no store in the heap of its view
 pub does-other : (op : Op) (d : ℕ) (v w : View) → makes_object op ≡ false → OperationDoes op d v w → SectionDoes (seen v) (season_of v.state) op v.own w.own
 does-other op d v w old k =
     let t = turns-of op v w k.ran k.only in

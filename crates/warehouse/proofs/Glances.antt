@@ -67,13 +67,13 @@ module _ (n : ℕ) (u v : View) (polled : Found Observe n u v) (mutates : Mutate
     pub glance-free : has_flag n ≡ false → poll_found_stop (events u w) ≡ false
     glance-free none = ap poll_found_stop (ran-events u v w poll_ran read_ran ∙ ap (λ (es : List Entry). es ++ events v w) (events-after u v Observe n polled.0)) ∙ none
 
-    -- where it was Full, the mutator is hindered
+    -- if it was Full, the mutator is hindered
     pub glance-full : saw (Some (phase_of m)) Full ≡ true → IsHindered u w
     glance-full full =
         let last : saw_full (events v w) ≡ true = ap saw_full (events-after v w ReadPhase m read.0) ∙ or_left (saw (Some (phase_of m)) Full) false full in
         inr (ap saw_full (ran-events u v w poll_ran read_ran) ∙ some-right (reads_phase Full) (events u v) (events v w) last)
 
-    -- where it wasn't Full, the mutator goes on
+    -- if it wasn't Full, the mutator goes on
     pub glance-goes : saw (Some (phase_of m)) Full ≡ false → GoesOn u w
     glance-goes low =
         let tells : TellsFull u v = tells-more u u v (ran-refl u) poll_ran (only-after tries_stopping u v Observe n refl polled.0) (tells-none u) in

@@ -79,7 +79,7 @@ module _ (n : ℕ) (v w : View) (stopped : HasStopped v) (rest : has_nothing v.s
       or_none true = refl
       or_none false = refl
 
--- where it is neither Full nor Marking, no cycle is under way
+-- if it is neither Full nor Marking, no cycle is under way
 pub idle-left : (p : Phase) → is_mutators p ≡ true → (p ≡ Full → ⊥) → (p ≡ Marking → ⊥) → p ≡ Idle
 idle-left Idle m f g = refl
 idle-left Marking m f g = absurd (g refl)

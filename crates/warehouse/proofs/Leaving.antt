@@ -1,4 +1,4 @@
--- What a player has left of a part, where it waits and where it does a command.
+-- What a player has left of a part, when it waits and when it does a command.
 use Rattle.std.proofs.Common.{ℕ, ◌≡◌, ◌+◌, ◌-◌, ◌<◌, List, ◌∷◌, map, sym, ap, ◌∙◌, Some, length}
 use Rattle.plain_heap.specs.Sections.{Execution, Parts, Sections, end_of}
 use Rattle.gc_table.specs.declared.view.Place.{Place}

@@ -111,7 +111,7 @@ makes-none (ops.Say v) b = refl
 makes-none (ops.Sum v i limit) b = refl
 makes-none ops.Collect b = refl
 
--- it prints a line exactly where the script says so
+-- it prints a line exactly if the script says so
 pub prints-line : (heap : Heap) (catalogue : Option Heap) (op : Op) → is_some (line_of heap catalogue op) ≡ prints_line op
 prints-line heap catalogue (ops.New v n) = refl
 prints-line heap catalogue (ops.Let v w) = refl

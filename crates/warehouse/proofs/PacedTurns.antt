@@ -1,4 +1,4 @@
--- Between two turns the numbers that pace a cycle are changed by the end of a cycle alone.
+-- Between two turns the numbers that pace a cycle are changed only by the end of a cycle.
 use Rattle.std.proofs.Common.{ℕ, ◌≡◌, refl, true, false}
 use Rattle.std.proofs.lemmas.Bool.{false≢true}
 use Rattle.mark_core.specs.declared.kinds.Step.{Step}

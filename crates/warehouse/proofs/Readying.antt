@@ -39,7 +39,7 @@ use Rattle.warehouse.proofs.Seen.{last-right, last-some, some-count}
 use Rattle.warehouse.proofs.Sparings.{spares-stores, stays-join, stays-none, stays-spared, waits-calm, waits-none}
 use Rattle.warehouse.proofs.Storing.{stored-none, stores_none, writes-none}
 
--- the phase that was read last isn't Full, where none was read as Full
+-- the phase that was read last isn't Full, if none was read as Full
 none_some : (p : Phase) → None ≡ Some p → ⊥
 none_some p e = false≢true (ap (λ (o : Option Phase). is_some o) e)
 
@@ -118,7 +118,7 @@ module _ (n : ℕ) (w x : View) (found : Found ReadSeason n w x) where
   season_cache : (kept : Option Cache) → HasCache kept w → HasCache kept x
   season_cache kept h = has-cache kept w x (ap (λ (y : View). y.state.cache) found.0) h
 
--- the season is read, where it wasn't known
+-- the season is read, if it wasn't known
 module _ (w x : View) (looks : LooksAtSeason w x) where
   looks_by : (P : View → Type 0) → P w → ((n : ℕ) → Found ReadSeason n w x → P x) → P x
   looks_by P p f = ⊎_elim (λ same. subst P (sym same) p) (λ read. f read.0 read.1) looks
@@ -166,7 +166,7 @@ known_ready turn x owned m seen counted t is =
       season = is;
     }
 
--- of events that store nothing, the polls alone matter
+-- of events that store nothing, only the polls matter
 some_poll : (es : List Entry) → all_steps stores_none es ≡ true → some_event (λ step n. mutator_stores step n || polls step n) es ≡ some_event polls es
 some_poll [] b = refl
 some_poll (e ∷ es) b =
@@ -209,7 +209,7 @@ acts-polled v w a h season =
     let k = a season in
     record { ran = k.ran; polled = some-count polls (events v w) h; collected = omega arith; stopped = k.stopped; stored = k.stored; uncounted = k.uncounted; seasons = k.seasons; paced = k.paced }
 
--- so a safe point and the season make ready, where it is the turn
+-- so a safe point and the season make ready, if it is the turn
 pub reads-ready :
     (turn : ℕ) (kept : Option Cache) (v w x : View) → IsFalse v.shape.sharing → Ran v w → Only spares_part v w → never raises_flag (events v w) ≡ true → KeepsSeat v w → some_event polls (events v w) ≡ true → Paces v w → GoesOn v w → HasCache kept w → ObjectsHaveCells v
     → has_turn v.state.section (Some turn) ≡ true → LooksAtSeason w x → x.state.season_seen ≡ Some turn → GetsReady turn kept v x

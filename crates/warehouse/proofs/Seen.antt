@@ -1,4 +1,4 @@
--- Tests over events: of lists one after another, and by the steps alone.
+-- Tests over events: of lists one after another, and by the steps only.
 use Rattle.std.proofs.Common.{ℕ, ◌≡◌, ◌+◌, ◌≤◌, ◌&&◌, ◌||◌, List, [], ◌∷◌, ◌++◌, refl, ap, ◌∙◌, Bool, true, false, not, if◌then◌else◌, arith}
 use Rattle.std.proofs.lemmas.Bool.{and_parts, false≢true, not-true, or_from, or_left, or_parts, or_right}
 use Rattle.mark_core.specs.declared.kinds.Step.{Step}
@@ -45,7 +45,7 @@ some-count f (e ∷ es) a = by (f e.step e.found) (some_event f es) (count_of f 
     by true c m later h = omega arith
     by false c m later h = let r : 1 ≤ m = later h in omega (arith, r)
 
--- the last event of a sort is among the later ones, where there is one
+-- the last event of a sort is among the later ones, if there is one
 pub last-right : (f g : Sort) (xs ys : List Entry) → some_event f ys ≡ true → last_is f g (xs ++ ys) ≡ last_is f g ys
 last-right f g [] ys h = refl
 last-right f g (x ∷ xs) ys h =

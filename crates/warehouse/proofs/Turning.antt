@@ -21,7 +21,7 @@ use Rattle.gc_table.proofs.History.Log.{only-more}
 use Rattle.mutator_ops.specs.Doing.{belongs, stores_plainly, plain_steps}
 use Rattle.play_end.specs.Done.{last_heap_of}
 
--- by so many plain steps of one turn the section's heap became another
+-- by this many plain steps of one turn the section's heap became another
 pub record Turns (season count : ℕ) (x y : SectionState) : Type 0 where
   pub more : List PlainStep
   pub many : length more ≡ count
@@ -133,7 +133,7 @@ of-command (ops.Say v) step b = absurd (false≢true b)
 of-command (ops.Sum v i limit) step b = absurd (false≢true b)
 of-command ops.Collect step b = absurd (false≢true b)
 
--- the plain steps of a call that takes steps of one command alone
+-- the plain steps of a call that takes only steps of one command
 pub turns-of : (op : Op) (v w : View) → Ran v w → Only (belongs op) v w → Turns (season_of v.state) (plain_steps (steps_of (events v w))) v.own w.own
 turns-of op v w ran only =
     subst (λ (x : View). Turns (season_of v.state) (plain_steps (steps_of (events v w))) v.own x.own) (sym ran.steps)

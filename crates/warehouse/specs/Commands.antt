@@ -35,7 +35,7 @@ is_other (ops.New v n) = false
 is_other ops.Collect = false
 is_other op = true
 
--- the command is next, by some script with this section, of which so many commands were done
+-- the command is next, by some script with this section, of which this many commands were done
 pub record IsNextOf (p : Parts) (turn : ℕ) (e : Execution) (m : Mutator) : Type 0 where
   pub sections : Sections
   pub z : ℕ
@@ -69,7 +69,7 @@ pub record DoesOne (h : Heap) (p : Parts) (kept : Option Cache) (e : Execution) 
   pub room : (later : List Execution) → HasRoomForCommands (e ∷ later) x → HasRoomForCommands later y
   pub acts : ActsIn (collects_by (e ∷ [])) (collects_by (e ∷ [])) x y
 
--- the heap was found full before the command was done: the section is kept, and where its own seat found that, the command makes an object
+-- the heap was found full before the command was done: the section is kept, and if its own seat found that, the command makes an object
 pub record StopsBefore (h : Heap) (p : Parts) (e : Execution) (x y : Mutator) : Type 0 where
   pub playing : IsPlaying h p None y
   pub kept : IsKept (view_of x.seat).own (view_of y.seat).own

@@ -10,7 +10,7 @@ use Rattle.warehouse.specs.Pacing.{CountsOne}
 use Rattle.warehouse.specs.Playing.{counts_part}
 use Rattle.warehouse.specs.Turns.{KeepsPart}
 
--- the season moved on, and where that ended the last turn, an exact cycle ended in the same stop; or the phase was read as Full in it
+-- the season moved on, and if that ended the last turn, an exact cycle ended in the same stop; or the phase was read as Full in it
 abbrev pub PlaySettles : Played → View → View → Type 0
 PlaySettles plays.Done v w = (w.own.seasons ≡ v.own.seasons + 1) × (IsTrue (v.own.seasons % 2 == 1) → IsTrue w.own.settled)
 PlaySettles plays.Full v w = KnowsFull w

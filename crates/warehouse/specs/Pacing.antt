@@ -1,4 +1,4 @@
--- What a part does to the numbers that pace a cycle and to the number of parts that were played, and where it begins a cycle.
+-- What a part does to the numbers that pace a cycle and to the number of parts that were played, and when it begins a cycle.
 use Rattle.std.specs.Prelude.{ℕ, ◌≡◌, List, [], ◌∷◌, false, Option, None, IsTrue}
 use Rattle.mark_core.specs.Numbers.{done_count}
 use Rattle.mark_core.specs.declared.kinds.Step.TheVariants.{AddStat}
@@ -38,12 +38,12 @@ pub record PassesPoint (v w : View) : Type 0 where
   pub numbers : GivesUp handed kept v w
   pub unbegun : IsTrue (never tries_marking (events v w))
 
--- the numbers were changed by the ends of cycles alone, and no cycle was begun
+-- the numbers were changed only by the ends of cycles, and no cycle was begun
 pub record EndsCyclesAlone (v w : View) : Type 0 where
   pub numbers : ChangesNumbers [] v w
   pub unbegun : IsTrue (never tries_marking (events v w))
 
--- the seat asked for a cache: its cells were taken off the free ones, what was traced for it was told, and a cycle was begun only where one was due
+-- the seat asked for a cache: its cells were taken off the free ones, what was traced for it was told, and a cycle was begun only if one was due
 pub record Refills (v w : View) : Type 0 where
   pub refill : Refill
   pub done : ℕ
@@ -56,7 +56,7 @@ pub record CountsOne (v w : View) : Type 0 where
   pub changed : ChangesBy (AddStat done_count 1 false ∷ []) v w
   pub unbegun : IsTrue (never tries_marking (events v w))
 
--- by which call the numbers were changed, or a cycle begun: a cycle is begun in a refill where one is due, and in a collection cycles end and none begins
+-- by which call the numbers were changed, or a cycle begun: a cycle is begun in a refill if one is due, and in a collection cycles end and none begins
 pub data Changes (v w : View) : Type 0 where
   by_retiring : Retires v w → Changes v w
   by_safe_point : PassesPoint v w → Changes v w
@@ -69,6 +69,6 @@ abbrev pub PacesBetween : List (View × View) → View → View → Type 0
 PacesBetween [] v w = LeavesPace v w
 PacesBetween (call ∷ calls) v w = LeavesPace v call.0 × Changes call.0 call.1 × PacesBetween calls call.1 w
 
--- the numbers were changed, and cycles begun, by such calls alone
+-- the numbers were changed, and cycles begun, only by such calls
 abbrev pub Paces : View → View → Type 0
 Paces v w = (calls : List (View × View)) × PacesBetween calls v w

@@ -76,7 +76,7 @@ abbrev pub counts_part : Step → ℕ → Bool
 counts_part (AddStat which by down) found = (which == done_count) && not down
 counts_part step found = false
 
--- so many commands and collections were done, with so many stops that had no cause, and what was stored was stored in this season
+-- this many commands and collections were done, with this many stops that had no cause, and what was stored was stored in this season
 pub record Acts (season commands collects stops : ℕ) (v w : View) : Type 0 where
   pub ran : Ran v w
   pub polled : commands ≤ count_of polls (events v w)
@@ -164,7 +164,7 @@ pub record MayPlay (h : Heap) (p : Parts) (z : ℕ) (m : Mutator) : Type 0 where
 abbrev pub commands_of_part : Parts → ℕ → List Execution
 commands_of_part p z = slice_index_or p.parts (z - 1) []
 
--- what the events of a part say, where it was played to its end by n commands
+-- what the events of a part say, if it was played to its end by n commands
 pub record TellsDone (p : Parts) (z n : ℕ) (v w : View) : Type 0 where
   pub plays : PlaysCommands v.shape n (collects_by (commands_of_part p z)) (events v w)
   pub all : n ≡ length (commands_of_part p z)
@@ -174,14 +174,14 @@ pub record TellsDone (p : Parts) (z n : ℕ) (v w : View) : Type 0 where
   -- none of it said that the heap is full
   pub unfilled : IsTrue (never_fills (events v w))
 
--- what the events of a part say, where it stopped after n commands because the heap was found full
+-- what the events of a part say, if it stopped after n commands because the heap was found full
 pub record PartTellsFull (p : Parts) (z n : ℕ) (v w : View) : Type 0 where
   pub stops : StopsAtFull v.shape n (collects_by (take n (commands_of_part p z))) (collects_by (take 1 (drop n (commands_of_part p z)))) (events v w)
   pub counted : count_of counts_part (events v w) ≡ 0
   pub stored : IsTrue (stores_in (turn_word p.number z) v (events v w))
   pub paced : Paces v w
 
--- what the events of a part say, where it was played to its end or the heap was found full
+-- what the events of a part say, if it was played to its end or the heap was found full
 abbrev pub PartTells : Played → Parts → ℕ → ℕ → View → View → Type 0
 PartTells plays.Done p z n v w = TellsDone p z n v w
 PartTells plays.Full p z n v w = PartTellsFull p z n v w
@@ -199,7 +199,7 @@ pub record IsPartPlayed (played : Played) (h : Heap) (p : Parts) (z : ℕ) (x y 
   pub position : (view_of y.seat).own.position ≡ y.count
   pub tells : PartTells played p z (y.count - x.count) (view_of x.seat) (view_of y.seat)
 
--- when a gate may be passed: the seat is active and the section's, its plain heap is that of any script with this section after so many commands, and of the
+-- when a gate may be passed: the seat is active and the section's, its plain heap is that of any script with this section after this many commands, and of the
 -- seat's stores and polls the last is a poll
 pub record MayPass (s : HeapSeat) (p : Parts) (command : ℕ) : Type 0 where
   pub active : IsTrue (view_of s).state.active

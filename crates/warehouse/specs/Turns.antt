@@ -46,7 +46,7 @@ pub record MayTurnSeason (v : View) : Type 0 where
   pub early : v.own.seasons < 128
   pub planned_is : IsTrue (v.own.seasons % 2 == 0) → v.own.meaning.heap ≡ planned v.shape v.plan (v.own.seasons + 1)
 
--- the seat stopped the world, and is alone in it with nothing in hand; where it read in the stop that the heap is full, it knows that
+-- the seat stopped the world, and is alone in it with nothing in hand; if it read in the stop that the heap is full, it knows that
 pub record StopsAt (v w : View) : Type 0 where
   pub keeps : KeepsPart v w
   pub seasons : w.own.seasons ≡ v.own.seasons
@@ -68,7 +68,7 @@ pub record LeavesNoCycle (full : Bool) (v w : View) : Type 0 where
   pub read : saw_full (events v w) ≡ full
   pub found : KnowsFull v → full ≡ true
 
--- where it is full, the seat knows it; else the phase is Idle
+-- if it is full, the seat knows it; else the phase is Idle
 abbrev pub AloneAt : Bool → View → Type 0
 AloneAt true w = Alone Full w
 AloneAt false w = Alone Idle w

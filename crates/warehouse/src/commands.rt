@@ -1,4 +1,3 @@
-//! One command of a part.
 ghost use Rattle.std.specs.Prelude.{◌≡◌, ◌+◌, ◌<◌, ◌≤◌, ◌⊎◌, ◌++◌, [], ◌∷◌, if◌then◌else◌, is_some, length, map, IsTrue, IsFalse, None, vec_capacity};
 ghost use Rattle.std.specs.Bool.{OnFalse, OnTrue};
 ghost use Rattle.plain_heap.specs.PlainRun.{with_label};
@@ -21,7 +20,7 @@ use plain_heap::{Line, Op};
 use play_report::Said;
 use std::sync::Wait;
 
-/// Notes what a command printed, in room that was taken before.
+/// Notes what a command printed, in room taken before.
 fn say<'a>(said: &mut Vec<Said<'a>>, command: &Command<'a>, line: Option<Line>)
     requires room { IsTrue (is_some line) → length said.old.items < vec_capacity said.old }
     ensures said { map printed_of said.new.items ≡ map printed_of said.old.items ++ with_label command.now.label.now line [] }
@@ -38,7 +37,7 @@ fn say<'a>(said: &mut Vec<Said<'a>>, command: &Command<'a>, line: Option<Line>)
     }
 }
 
-/// Notes the cell of a new object, in room that was taken before.
+/// Notes the cell of a new object, in room taken before.
 fn place(places: &mut Vec<u32>, cell: u32)
     requires room { length places.old.items < vec_capacity places.old }
     ensures places { places.new.items ≡ places.old.items ++ cell ∷ [] }
@@ -50,7 +49,6 @@ fn place(places: &mut Vec<u32>, cell: u32)
     };
 }
 
-/// Makes an object, in the cache.
 fn make_object<'a>(
     heap: &Heap,
     mutator: &mut Mutator<'a>,
@@ -74,14 +72,13 @@ fn make_object<'a>(
     mutator.count += 1;
 }
 
-/// 1 where it is so, else 0.
 fn one_if(so: bool) -> u32
     ensures { result ≡ (if so then 1 else 0) }
 {
     if so { 1 } else { 0 }
 }
 
-/// Does a command that neither makes an object nor collects. The cache stays as it is.
+/// Does a command that neither makes an object nor collects.
 fn do_other<'a>(
     heap: &Heap,
     mutator: &mut Mutator<'a>,
@@ -100,7 +97,7 @@ fn do_other<'a>(
     mutator.count += 1;
 }
 
-/// Collects, where the script says so. False where the heap is full.
+/// Collects if the command says so. False if the heap is full.
 fn collect_now<'a, R: Wait>(
     rt: &R,
     heap: &Heap,
@@ -126,7 +123,7 @@ fn collect_now<'a, R: Wait>(
     }
 }
 
-/// Does a command, of a mutator that is in its turn, and has a cell where the command makes an object. False where the heap is full.
+/// Does a command in its turn, with a cell if it makes an object. False if the heap is full.
 fn do_command<'a, R: Wait>(
     rt: &R,
     heap: &Heap,
@@ -164,7 +161,8 @@ fn makes(op: Op) -> bool
     }
 }
 
-/// Comes to the command by a safe point in the turn, with a cell where the command makes an object. False where the heap is full.
+/// Comes to the command through a safe point in the turn, with a cell if it makes an object. False if the heap is
+/// full.
 #[cold]
 #[inline(never)]
 fn come_late<'a, R: Wait>(
@@ -189,7 +187,7 @@ fn come_late<'a, R: Wait>(
     }
 }
 
-/// Whether a mutator that may be ready has the cell that the command needs, if it needs one.
+/// Whether a ready mutator has the cell that the command needs.
 fn may_begin(ready: bool, command: &Command<'_>, cache: &Option<Cache>) -> bool
     ensures ready { IsTrue result → IsTrue ready }
     ensures free { IsTrue result → IsTrue (makes_object (execution_of command.now).op) → HasFree cache.now }
@@ -198,7 +196,7 @@ fn may_begin(ready: bool, command: &Command<'_>, cache: &Option<Cache>) -> bool
     ready && (!makes(command.op) || has_free(cache))
 }
 
-/// Comes to the command, at once where nothing stands in the way. False where the heap is full.
+/// Comes to the command, at once if nothing stands in the way. False if the heap is full.
 fn come_to<'a, R: Wait>(
     rt: &R,
     heap: &Heap,
@@ -221,7 +219,7 @@ fn come_to<'a, R: Wait>(
     come_late(rt, heap, mutator, section, command, cache, turn)
 }
 
-/// Plays a command: comes to it, tells the gate, and does it. False where the heap is full, and then no cache is left.
+/// Comes to a command, tells the gate, and does it. False if the heap is full; then no cache is left.
 pub(crate) fn play_command<'a, R: Wait, G: Gate>(
     rt: &R,
     heap: &Heap,

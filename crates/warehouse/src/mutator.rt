@@ -1,4 +1,3 @@
-//! A section's seat, with what its player has.
 ghost use Rattle.std.specs.Prelude.{◌≡◌, ◌≤◌, [], IfOk, IfErr};
 ghost use Rattle.gc_table.specs.Seats.{Sits, state_of, view_of};
 ghost use Rattle.plain_heap.specs.Sections.{joined};
@@ -33,7 +32,7 @@ pub struct Mutator<'a> {
 }
 
 impl<'a> Mutator<'a> {
-    /// Takes all the memory that the section needs. Where there is none, the seat comes back.
+    /// Takes all the memory that the section needs. If there is none, the seat comes back.
     pub fn make(
         alloc: Global,
         seat: HeapSeat,
@@ -66,8 +65,8 @@ impl<'a> Mutator<'a> {
         self.seat.number()
     }
 
-    /// Moves the season on, with the catalogue's seat, between two turns: in a stop, once a cycle that was marking has ended. Full comes where the heap was
-    /// found full in the stop; the season then stays.
+    /// Moves the season on with the catalogue's seat between two turns: in a stop, once a cycle that was marking
+    /// has ended. Full if the heap was found full in the stop; the season then stays.
     pub fn next_turn<R: Wait>(&mut self, rt: &R, heap: &Heap) -> Played
         requires seat { Sits heap.now self.old.seat × IsOut (view_of self.old.seat) }
         requires turn { MayTurnSeason (view_of self.old.seat) }
@@ -80,7 +79,8 @@ impl<'a> Mutator<'a> {
         turn_season(rt, heap, &mut self.seat)
     }
 
-    /// Ends the last turn, with the catalogue's seat: the season moves on, and in the same stop the heap is collected precisely.
+    /// Ends the last turn with the catalogue's seat: the season moves on, and the heap is collected precisely in
+    /// the same stop.
     pub fn end_play<R: Wait>(&mut self, rt: &R, heap: &Heap) -> Played
         requires seat { Sits heap.now self.old.seat × IsOut (view_of self.old.seat) }
         requires turn { MayTurnSeason (view_of self.old.seat) }
@@ -94,7 +94,7 @@ impl<'a> Mutator<'a> {
         end_play(rt, heap, &mut self.seat)
     }
 
-    /// The seat, what was printed, the cell of each object by its number, and how many stores were dropped.
+    /// The seat, what was printed, each object's cell by its number, and how many stores were dropped.
     pub fn finish(self) -> (HeapSeat, Vec<Said<'a>>, Vec<u32>, u32)
         ensures { (result.0 ≡ self.entry.seat) × (result.1 ≡ self.entry.said) × (result.2 ≡ self.entry.places) × (result.3 ≡ self.entry.dropped) }
     {

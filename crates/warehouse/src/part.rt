@@ -1,4 +1,3 @@
-//! One part of a section.
 ghost use Rattle.std.specs.Prelude.{◌≡◌, ◌≤◌, None, is_some, IsTrue};
 ghost use Rattle.gc_table.specs.Seats.{Across, Sits, state_of, view_of};
 ghost use Rattle.gc_cycle.specs.Standing.{IsOut};
@@ -20,7 +19,7 @@ use play_end::Played;
 use std::sync::Wait;
 use stop_world::leave;
 
-/// The season word in a section's turn: the catalogue's comes first.
+/// The season word in a section's turn.
 fn turn_of(section: u32, season: u32) -> u64
     requires { 1 ≤ season }
     ensures { result ≡ turn_word section season }
@@ -29,7 +28,6 @@ fn turn_of(section: u32, season: u32) -> u64
     if section == 0 { end - 2 } else { end - 1 }
 }
 
-/// Plays each command of a part, until the heap is found full.
 fn play_commands<'a, R: Wait, G: Gate>(
     rt: &R,
     heap: &Heap,
@@ -53,7 +51,7 @@ fn play_commands<'a, R: Wait, G: Gate>(
     Safe::Going(cache)
 }
 
-/// Counts the part, gives the cache up, and leaves with the position stored.
+/// Counts the part, gives up the cache, and leaves with the position stored.
 fn end_part<'a>(heap: &Heap, mutator: &mut Mutator<'a>, section: &Section<'a>, cache: Option<Cache>)
     requires playing { IsPlaying heap.now section.now cache mutator.old }
     ensures { CountsPart 1 heap.now section.now mutator.old mutator.new }
@@ -64,7 +62,7 @@ fn end_part<'a>(heap: &Heap, mutator: &mut Mutator<'a>, section: &Section<'a>, c
     go_out(heap, &mut mutator.seat, mutator.count);
 }
 
-/// Plays one part of a section. Full comes where the heap was found full: the section then stands at its stored position.
+/// Plays one part of a section. Full if the heap was found full: the section then stands at its stored position.
 pub fn play_part<'a, R: Wait, G: Gate>(
     rt: &R,
     heap: &Heap,
@@ -89,7 +87,7 @@ pub fn play_part<'a, R: Wait, G: Gate>(
     }
 }
 
-/// Counts the part of a section that has no commands: its seat enters, counts the part and leaves.
+/// Counts the part of a section that has no commands.
 pub fn play_absent<R: Wait>(rt: &R, heap: &Heap, seat: &mut HeapSeat)
     requires seat { Sits heap.now seat.old × IsOut (view_of seat.old) }
     requires section { IsTrue (is_some (state_of seat.old).section) }

@@ -1,4 +1,3 @@
-//! A mutator comes into its turn, with a cache where it needs one.
 ghost use Rattle.std.specs.Prelude.{◌≡◌, ◌⊎◌, Some, None, IsTrue, IsFalse};
 ghost use Rattle.std.specs.Bool.{OnFalse, OnTrue};
 ghost use Rattle.mark_core.specs.Seats.{has_turn, saw};
@@ -29,7 +28,7 @@ pub(crate) fn spend_none(cache: Option<Cache>)
     }
 }
 
-/// Leaves, and enters again: only where the season is another than this turn.
+/// Leaves and enters again, only if the season is another than this turn's.
 #[cold]
 #[inline(never)]
 fn go_round<R: Wait>(
@@ -54,7 +53,6 @@ fn go_round<R: Wait>(
     go_in(rt, heap, seat);
 }
 
-/// Whether a heap in this phase is full.
 fn is_full(phase: Phase) -> bool
     ensures { result ≡ saw (Some phase) Full }
 {
@@ -64,7 +62,8 @@ fn is_full(phase: Phase) -> bool
     }
 }
 
-/// Whether no stop is under way and the heap isn't full. The mutator only looks: where there is one, or the heap is full, it still has a safe point to pass.
+/// Whether no stop is under way and the heap isn't full. The mutator only looks: if not, it still has a safe point
+/// to pass.
 #[inline(always)]
 fn sees_clear(heap: &Heap, seat: &mut HeapSeat) -> bool
     requires seat { Sits heap.now seat.old × Mutates (view_of seat.old) }
@@ -80,8 +79,8 @@ fn sees_clear(heap: &Heap, seat: &mut HeapSeat) -> bool
     !is_full(heap.read_phase(seat))
 }
 
-/// Whether a command may be done at once, as it nearly always may: no stop is under way, the heap isn't full, and it is the turn. Else the mutator has only
-/// looked.
+/// Whether a command may be done at once, as it nearly always may: no stop is under way, the heap is not full, and
+/// it is the turn. Otherwise the mutator only looked.
 #[inline(always)]
 pub(crate) fn is_ready(heap: &Heap, seat: &mut HeapSeat, _cache: &Option<Cache>, turn: u64) -> bool
     requires seat { Sits heap.now seat.old × Mutates (view_of seat.old) }
@@ -102,8 +101,9 @@ pub(crate) fn is_ready(heap: &Heap, seat: &mut HeapSeat, _cache: &Option<Cache>,
     is_turn(heap, seat, turn)
 }
 
-/// A safe point, and the season after it: in a stop the seat was outside, and what it had read of the season is no longer known. Where it isn't this turn
-/// the seat goes out and in until it is. True where it is; else the heap is full, and the cache is given up.
+/// A safe point, and the season after it: in a stop the seat was outside, and what it had read of the season is no
+/// longer known. If it isn't this turn, the seat goes out and in until it is. False if the heap is full; the cache
+/// is then given up.
 pub(crate) fn await_turn<R: Wait>(
     rt: &R,
     heap: &Heap,
@@ -134,7 +134,6 @@ pub(crate) fn await_turn<R: Wait>(
     unreachable!()
 }
 
-/// Whether a cell can be made in the cache.
 pub(crate) fn has_free(cache: &Option<Cache>) -> bool
     ensures free { IsTrue result → HasFree cache.now }
     ensures none { OnFalse result (HasNoFree cache.now) }
@@ -145,7 +144,7 @@ pub(crate) fn has_free(cache: &Option<Cache>) -> bool
     }
 }
 
-/// Takes out a cache in which no cell can be made, if there is one.
+/// Takes out a cache without a free cell, if there is one.
 fn take_empty(cache: &mut Option<Cache>) -> Option<Cache>
     requires { HasNoFree cache.old }
     ensures value { result ≡ cache.old }
@@ -154,7 +153,7 @@ fn take_empty(cache: &mut Option<Cache>) -> Option<Cache>
     cache.take()
 }
 
-/// Keeps a cache where there was none.
+/// Keeps a cache if there was none.
 fn keep(place: &mut Option<Cache>, cache: Cache)
     requires { place.old ≡ None }
     ensures { place.new ≡ Some cache }

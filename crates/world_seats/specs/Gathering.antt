@@ -7,7 +7,7 @@ use Rattle.gc_table.specs.declared.seat.HeapSeat.{HeapSeat}
 use Rattle.gc_table.specs.declared.words.Words.{Words}
 use Rattle.seat_turns.specs.declared.background.Tracer.{Tracer}
 
--- the seat of section 0 of a heap that was opened with a seat for each section and for so many tracers
+-- the seat of section 0 of a heap that was opened with a seat for each section and for this many tracers
 pub record IsFirstSeat (h : Heap) (tracers : ℕ) (s : HeapSeat) : Type 0 where
   pub number : (state_of s).number ≡ 0
   pub opened : (view_of s).opened ≡ h.shape.sections + tracers

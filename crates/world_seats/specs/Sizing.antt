@@ -13,6 +13,6 @@ pub record Fits (s : Sizes) : Type 0 where
   pub packets : (2 ≤ s.packets) × (s.packets ≤ 1024)
   pub entries : (2 ≤ s.entries) × (s.entries ≤ 512)
 
--- how many cells a packet has room for where no number is given
+-- how many cells a packet has room for if no number is given
 abbrev pub usual_entries : ℕ → ℕ
 usual_entries cells = min (max (cells / 2048) 32) 512

@@ -28,7 +28,8 @@ pub struct Unclosed<W, M> {
 /// Why a world gave no words when it was closed.
 #[derive(Drop)]
 pub enum NotClosed<W, M> {
-    /// A mutator or a tracer wasn't handed in, or they stand in another order than that of their numbers. All is handed back.
+    /// A mutator or a tracer wasn't handed in, or they stand in another order than that of their numbers. All is
+    /// handed back.
     Missing(Unclosed<W, M>),
     /// There is no memory to gather them in. All is handed back.
     NoRoom(Unclosed<W, M>),
@@ -49,7 +50,8 @@ fn are_there<W: Opened, M: Lent>(world: &W, mutators: &[M], tracers: &[Tracer]) 
     are_all(1, sections - 1, mutators) && are_all(sections, world.tracer_count(), tracers)
 }
 
-/// The words of a heap whose seats are these. None where there is no memory for them, or where somebody else has the heap.
+/// The words of a heap whose seats are these. None where there is no memory for them, or where somebody else has
+/// the heap.
 fn words_of(heap: Arc<Heap, Global>, alloc: Global, seats: Vec<HeapSeat>) -> Option<Words>
     requires some { 0 < vec_len seats }
     requires rest { All (RestsOutside (arc_value heap)) seats.items }
@@ -87,8 +89,8 @@ fn close_all<W: Opened, M: Lent>(
     words_of(heap, alloc, seats)
 }
 
-/// Closes a world with all its mutators and all its tracers, each in the order of their numbers, and hands out what its words say. Where one is missing, or
-/// where there is no memory to gather them in, all is handed back.
+/// Closes a world with all its mutators and all its tracers, each in the order of their numbers, and hands out what
+/// its words say. Where one is missing, or where there is no memory to gather them in, all is handed back.
 pub fn close_world<W: Opened, M: Lent>(
     world: W,
     alloc: Global,

@@ -5,8 +5,9 @@ ghost use Rattle.world_seats.specs.Sizing.{Fits, usual_entries as usual};
 
 use mark_core::BLOCK_CELLS;
 
-/// How many cells a packet has room for where no number is given: a 2,048th of the heap's cells, but 32 at least and 512 at most. So what waits to be scanned
-/// in a large heap fits the packets, and they take a 32nd of a word for each cell.
+/// How many cells a packet has room for if no number is given: a 2,048th of the heap's cells, but 32 at least and
+/// 512 at most. So what waits to be scanned in a large heap fits the packets, and they take a 32nd of a word for
+/// each cell.
 fn usual_entries(cells: u32) -> u32
     ensures { result ≡ usual cells }
 {
@@ -37,8 +38,9 @@ pub struct Sizes {
 }
 
 impl Sizes {
-    /// A heap of so many cells, 64 to 16,777,216, a multiple of 64. Each cell holds one object. Objects have two references, and there is one mutator, without
-    /// slots, and no tracer, unless other numbers are given. Twice as many cells as objects are reachable at once are ample.
+    /// A heap of so many cells, 64 to 16,777,216, a multiple of 64. Each cell holds one object. Objects have two
+    /// references, and there is one mutator, without slots, and no tracer, unless other numbers are given. Twice as
+    /// many cells as objects are reachable at once are ample.
     pub fn of_cells(cells: u32) -> Sizes
         ensures { result ≡ record { cells = cells; fields = 2; mutators = 1; tracers = 0; slots = 0; packets = 64; entries = usual cells; name = 0; in_stops = false } }
     {
@@ -55,37 +57,37 @@ impl Sizes {
         }
     }
 
-    /// With so many references in each object, 1 to 16. Each takes a word in every cell.
+    /// With this many references in each object, 1 to 16. Each takes a word in every cell.
     pub fn fields(self, fields: u32) -> Sizes
         ensures { result ≡ record self { fields = fields } }
     {
         Sizes { fields, ..self }
     }
 
-    /// With so many mutators, 1 to 32. Each is for one thread at a time.
+    /// With this many mutators, 1 to 32. Each is for one thread at a time.
     pub fn mutators(self, mutators: u32) -> Sizes
         ensures { result ≡ record self { mutators = mutators } }
     {
         Sizes { mutators, ..self }
     }
 
-    /// With so many tracers, 0 to 8. A tracer helps where a processor is free for it: without any, mutators trace as they make objects.
+    /// With this many tracers, 0 to 8. Each helps if a processor is free for it: mutators trace, too.
     pub fn tracers(self, tracers: u32) -> Sizes
         ensures { result ≡ record self { tracers = tracers } }
     {
         Sizes { tracers, ..self }
     }
 
-    /// With so many slots for each mutator, 0 to 65,536: roots besides its 32 variables, for the frames of a stack.
+    /// With this many slots for each mutator, 0 to 65,536: roots besides its 32 variables, for the frames of a stack.
     pub fn slots(self, slots: u32) -> Sizes
         ensures { result ≡ record self { slots = slots } }
     {
         Sizes { slots, ..self }
     }
 
-    /// With so many packets, 2 to 1,024, each with room for so many cells, 2 to 512, that wait to be scanned. Where more wait, cards take the place of
-    /// packets: too few cost time and nothing else. Where none are given there are 64, each with room for a 2,048th of the cells, but 32 at least and 512 at
-    /// most.
+    /// With this many packets, 2 to 1,024, each with room for this many cells, 2 to 512, that wait to be scanned.
+    /// If more wait, cards take the place of packets: too few cost time and nothing else. If none are given there
+    /// are 64, each with room for a 2,048th of the cells, but 32 at least and 512 at most.
     pub fn packets(self, packets: u32, entries: u32) -> Sizes
         ensures { result ≡ record self { packets = packets; entries = entries } }
     {
@@ -96,15 +98,16 @@ impl Sizes {
         }
     }
 
-    /// With this name, which the world's mutators and tracers have too: where a program has several worlds, each with a name of its own, none takes back what
-    /// another lent. Any number will do; 0 where none is given.
+    /// With this name, which the world's mutators and tracers have too: if a program has several worlds, each with
+    /// a name of its own, none takes back what another lent. Any number will do; 0 if none is given.
     pub fn named(self, name: u32) -> Sizes
         ensures { result ≡ record self { name = name } }
     {
         Sizes { name, ..self }
     }
 
-    /// With mutators that collect in stops alone, where that is asked for: nothing is marked beside them, so each stop marks all. It is there to compare with.
+    /// With mutators that collect only in stops, if that is asked for: nothing is marked beside them, so each stop
+    /// marks all. It is there to compare with.
     pub fn in_stops(self, in_stops: bool) -> Sizes
         ensures { result ≡ record self { in_stops = in_stops } }
     {

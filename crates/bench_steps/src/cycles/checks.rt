@@ -7,7 +7,6 @@ ghost use Rattle.gc_cycle.specs.Standing.{Mutates, is_at_rest as is_at_rest_of};
 use gc_table::{Heap, HeapSeat};
 use test_heaps::{empty_handed, has_making, work_in_hand};
 
-/// The seat has nothing in hand, but perhaps a cache.
 fn is_at_rest(heap: &Heap, seat: &HeapSeat) -> bool
     requires { Sits heap.now seat.now }
     ensures { result ≡ is_at_rest_of heap.now.shape (state_of seat.now) }

@@ -1,4 +1,3 @@
-//! All cells are filled with objects of four references each.
 ghost use Rattle.std.specs.Prelude.{◌<◌};
 ghost use Rattle.test_heaps.specs.Seats.{HasEachObject, IsReadyWithCache};
 
@@ -8,7 +7,6 @@ use mark_core::BLOCK_CELLS;
 use mutator_ops::{clear, set};
 use test_heaps::{is_ready, make, take};
 
-/// Stores variable w in field i of variable v's object.
 fn link(heap: &Heap, seat: &mut HeapSeat, cache: &Cache, v: u8, i: u8, w: u8)
     requires range { (v < 32) × (w < 32) }
     requires fills { IsReadyWithCache heap.now seat.old cache.now }
@@ -45,7 +43,6 @@ fn fill(heap: &Heap, seat: &mut HeapSeat, cache: &mut Cache, first: u32) -> bool
     filled
 }
 
-/// Takes a block and fills it.
 fn fill_block(heap: &Heap, seat: &mut HeapSeat, first: u32) -> bool
     requires { HasEachObject heap.now seat.old }
     ensures { HasEachObject heap.now seat.new }
@@ -58,7 +55,7 @@ fn fill_block(heap: &Heap, seat: &mut HeapSeat, first: u32) -> bool
     filled
 }
 
-/// Fills all blocks: whether all cells were free. Each object is reached.
+/// Fills all blocks with objects that are reached: whether all cells were free.
 pub fn fill_all(heap: &Heap, seat: &mut HeapSeat) -> bool
     requires { HasEachObject heap.now seat.old }
     ensures { HasEachObject heap.now seat.new }
@@ -71,7 +68,8 @@ pub fn fill_all(heap: &Heap, seat: &mut HeapSeat) -> bool
     true
 }
 
-/// Makes the variables nil that [`fill_all`] stored in, so that no object is reached. False if the seat is no mutator between two commands.
+/// Makes the variables nil that [`fill_all`] stored in, so that no object is reached. False if the seat is no
+/// mutator between two commands.
 pub fn forget_all(heap: &Heap, seat: &mut HeapSeat) -> bool
     requires { HasEachObject heap.now seat.old }
     ensures { HasEachObject heap.now seat.new }

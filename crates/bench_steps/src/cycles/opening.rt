@@ -1,4 +1,3 @@
-//! The sizes of a heap, whose seat enters as the catalogue's mutator.
 ghost use Rattle.std.specs.Prelude.{false};
 ghost use Rattle.mark_core.specs.Shapes.{IsShape};
 ghost use Rattle.test_heaps.specs.Seats.{HasEachObject};

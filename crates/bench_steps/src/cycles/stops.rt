@@ -1,4 +1,3 @@
-//! Collections, and how long the fastest took.
 ghost use Rattle.test_heaps.specs.Seats.{HasEachObject};
 
 use crate::cycles::checks::may_call;
@@ -51,7 +50,6 @@ fn timed<R: Wait + Clock>(rt: &R, heap: &Heap, seat: &mut HeapSeat) -> Option<u6
     u64::try_from(took.as_nanos()).ok()
 }
 
-/// Makes the heap full of objects that aren't reached, if that is asked: whether it is as asked.
 fn prepares(heap: &Heap, seat: &mut HeapSeat, content: Content) -> bool
     requires { HasEachObject heap.now seat.old }
     ensures { HasEachObject heap.now seat.new }
@@ -62,7 +60,6 @@ fn prepares(heap: &Heap, seat: &mut HeapSeat, content: Content) -> bool
     }
 }
 
-/// The nanoseconds of the fastest of so many collections.
 fn collects_on<R: Wait + Clock>(
     rt: &R,
     heap: &Heap,
@@ -83,7 +80,6 @@ fn collects_on<R: Wait + Clock>(
     Some(least)
 }
 
-/// Whether as many cells are free after the last collection as there should be.
 fn has_freed(heap: &Heap, seat: &mut HeapSeat, content: Content) -> bool
     requires { HasEachObject heap.now seat.old }
     ensures { HasEachObject heap.now seat.new }
@@ -95,7 +91,6 @@ fn has_freed(heap: &Heap, seat: &mut HeapSeat, content: Content) -> bool
     }
 }
 
-/// The nanoseconds of the fastest of the collections that are asked for, of a seat that has just entered.
 fn works<R: Wait + Clock>(
     rt: &R,
     heap: &Heap,
@@ -118,7 +113,7 @@ fn works<R: Wait + Clock>(
     }
 }
 
-/// The nanoseconds of the fastest of so many collections in a new heap. None if one didn't come to its end as it should.
+/// The nanoseconds of the fastest of so many collections in a new heap. None if one didn't end as it should.
 pub fn run<R: Wait + Clock>(rt: &R, alloc: Global, asked: Collections) -> Option<u64> {
     let (heap, mut seat) = open_one(alloc, sizes_of(asked.size))?;
     if !begin(&heap, &mut seat) {

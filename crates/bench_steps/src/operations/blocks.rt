@@ -1,4 +1,3 @@
-//! A block is taken to make cells in, and given back.
 ghost use Rattle.std.specs.Prelude.{◌<◌, ◌+◌, IfSome};
 ghost use Rattle.gc_table.specs.Seats.{Sits};
 ghost use Rattle.bench_steps.specs.Standing.{Filling, Waiting};
@@ -34,7 +33,7 @@ pub fn show(heap: &Heap, seat: &mut HeapSeat, cache: &mut Cache, n: u32)
     publish(heap, seat, cache);
 }
 
-/// Publishes what was made and isn't published, and gives the block up.
+/// Publishes what was made, and gives up the block.
 pub fn give_up(heap: &Heap, seat: &mut HeapSeat, cache: Cache, n: u32)
     requires { Filling heap.now n cache seat.old }
     ensures { Waiting heap.now n seat.new }

@@ -1,4 +1,3 @@
-//! Cells are made in all blocks, one block after another.
 ghost use Rattle.std.specs.Prelude.{◌<◌, ◌+◌, ◌*◌};
 ghost use Rattle.std.specs.Bool.{OnTrue};
 ghost use Rattle.mark_core.specs.Cards.{block_cells};
@@ -13,7 +12,6 @@ use mark_core::BLOCK_CELLS;
 use std::alloc::Global;
 use test_heaps::{leaves, try_close};
 
-/// Makes as many cells as a block has, each in variable 0.
 fn fill(heap: &Heap, seat: &mut HeapSeat, cache: &mut Cache, first: u32)
     requires few { first < sizes.cells }
     requires filling { Filling heap.now first cache.old seat.old }
@@ -24,7 +22,7 @@ fn fill(heap: &Heap, seat: &mut HeapSeat, cache: &mut Cache, first: u32)
     }
 }
 
-/// Takes a block, fills it and gives it up: false if none was to be had.
+/// Takes a block, fills it and gives it up: false if there was none.
 fn fill_block(heap: &Heap, seat: &mut HeapSeat, first: u32) -> bool
     requires few { first < sizes.cells }
     requires waits { Waiting heap.now first seat.old }
@@ -53,7 +51,6 @@ fn fill_all(heap: &Heap, seat: &mut HeapSeat) -> bool
     true
 }
 
-/// Whether a new heap was filled.
 fn one(alloc: Global) -> bool {
     let Some((heap, mut seat)) = open(alloc) else {
         return false;
@@ -65,7 +62,7 @@ fn one(alloc: Global) -> bool {
     leaves(&heap, &mut seat) && try_close(alloc, heap, seat) && made == CELLS
 }
 
-/// Heaps that are filled. False if there is no memory, or if a step that was to come could not be taken.
+/// Fills heaps. False if there is no memory or a step could not be taken.
 pub fn run(alloc: Global, rounds: u64) -> bool {
     for _round in 0..rounds {
         if !one(alloc) {

@@ -1,4 +1,3 @@
-//! A heap with one seat, which enters and begins to mark.
 ghost use Rattle.std.specs.Prelude.{IfSome};
 ghost use Rattle.std.specs.Bool.{OnTrue};
 ghost use Rattle.gc_table.specs.SeatRecords.{inside, resting};
@@ -28,7 +27,7 @@ pub const SIZES: Shape = Shape {
     stretch: 1,
 };
 
-/// A heap in which nothing has happened, and its seat, which is the catalogue's. None if there is no memory.
+/// A heap in which nothing has happened, and its seat, the catalogue's.
 pub fn open(alloc: Global) -> Option<(Heap, HeapSeat)>
     ensures { IfSome result (λ r. Blank r.0 resting r.1) }
 {

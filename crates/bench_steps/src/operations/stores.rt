@@ -1,4 +1,3 @@
-//! References are stored in objects, which are published or not.
 ghost use Rattle.std.specs.Prelude.{◌<◌};
 ghost use Rattle.gc_table.specs.Seats.{Sits};
 ghost use Rattle.bench_steps.specs.Standing.{Filling, Waiting};
@@ -20,7 +19,6 @@ pub fn link(heap: &Heap, seat: &mut HeapSeat, cache: &Cache, v: u8, i: u8, w: u8
     set(heap, seat, v, i, w);
 }
 
-/// Stores variable 0 in the fields of four objects, one after another.
 #[inline(never)]
 fn stores(heap: &Heap, seat: &mut HeapSeat, cache: &Cache, rounds: u64)
     requires { Filling heap.now 4 cache.now seat.old }
@@ -39,7 +37,6 @@ fn stores(heap: &Heap, seat: &mut HeapSeat, cache: &Cache, rounds: u64)
     }
 }
 
-/// Makes an object in each of the variables 0 to 3.
 fn make_four(heap: &Heap, seat: &mut HeapSeat, cache: &mut Cache)
     requires { Filling heap.now 0 cache.old seat.old }
     ensures { Filling heap.now 4 cache.new seat.new }
@@ -50,7 +47,6 @@ fn make_four(heap: &Heap, seat: &mut HeapSeat, cache: &mut Cache)
     make(heap, seat, cache, 3, 3);
 }
 
-/// Publishes what was made, if it is to be published.
 fn show_some(heap: &Heap, seat: &mut HeapSeat, cache: &mut Cache, published: bool)
     requires { Filling heap.now 4 cache.old seat.old }
     ensures { Filling heap.now 4 cache.new seat.new }
@@ -75,7 +71,7 @@ fn store(heap: &Heap, seat: &mut HeapSeat, rounds: u64, published: bool) -> bool
     true
 }
 
-/// Stores in the objects of a new heap. False if there is no memory, or if a step that was to come could not be taken.
+/// Stores in the objects of a new heap. False if there is no memory or a step could not be taken.
 pub fn run(alloc: Global, rounds: u64, published: bool) -> bool {
     let Some((heap, mut seat)) = open(alloc) else {
         return false;

@@ -19,7 +19,6 @@ use test_heaps::{
     work_in_hand,
 };
 
-/// Whether the seat stopped the world, is alone in it, and is between two calls.
 fn stands_alone(heap: &Heap, seat: &HeapSeat) -> bool
     requires { Sits heap.now seat.now }
     ensures { OnTrue result (StandsAlone (view_of seat.now)) }
@@ -41,7 +40,6 @@ fn stops<R: Wait>(rt: &R, heap: &Heap, seat: &mut HeapSeat) -> bool
     raises_own(heap, seat, 0) && stops_idle(rt, heap, seat, 0)
 }
 
-/// Begins a drain, and sets the counter of blocks to its start.
 fn prepare(heap: &Heap, seat: &mut HeapSeat)
     requires seat { Sits heap.now seat.old }
     requires alone { Alone Idle (view_of seat.old) }
@@ -52,7 +50,6 @@ fn prepare(heap: &Heap, seat: &mut HeapSeat)
     resets(heap, seat);
 }
 
-/// Sees to all roots, and looks at all cards and at the count of empty packets: whether nothing is left to trace.
 #[inline(never)]
 fn settle(heap: &Heap, seat: &mut HeapSeat) -> bool
     requires seat { Sits heap.now seat.old }
@@ -95,7 +92,6 @@ fn end(heap: &Heap, seat: &mut HeapSeat) -> bool
     true
 }
 
-/// So many cycles, one after another: whether each came to its end.
 fn sweeps(heap: &Heap, seat: &mut HeapSeat, rounds: u64) -> bool
     requires seat { Sits heap.now seat.old }
     requires alone { Alone Idle (view_of seat.old) }
@@ -111,7 +107,7 @@ fn sweeps(heap: &Heap, seat: &mut HeapSeat, rounds: u64) -> bool
     true
 }
 
-/// One cycle that looks so often whether anything is left to trace: whether it came to its end.
+/// One cycle that looks so often whether anything is left to trace.
 fn settles(heap: &Heap, seat: &mut HeapSeat, rounds: u64) -> bool
     requires seat { Sits heap.now seat.old }
     requires alone { Alone Idle (view_of seat.old) }
@@ -140,7 +136,7 @@ fn finish(heap: &Heap, seat: &mut HeapSeat) -> bool
     leaves(heap, seat)
 }
 
-/// So many cycles in a stopped new heap, or one that looks so often whether it is at its end.
+/// This many cycles in a stopped new heap, or one that looks so often whether it is at its end.
 fn cycles<R: Wait>(rt: &R, heap: &Heap, seat: &mut HeapSeat, rounds: u64, swept: bool) -> bool
     requires { Blank heap.now resting seat.old }
     ensures { OnTrue result (Sits heap.now seat.new) }
@@ -156,7 +152,7 @@ fn cycles<R: Wait>(rt: &R, heap: &Heap, seat: &mut HeapSeat, rounds: u64, swept:
     if ended { finish(heap, seat) } else { false }
 }
 
-/// Cycles in a new heap, with a sweep each or with one in all. False if there is no memory, or if a step that was to come could not be taken.
+/// Cycles in a new heap, with a sweep each or one in all. False if there is no memory or a step could not be taken.
 pub fn run<R: Wait>(rt: &R, alloc: Global, rounds: u64, swept: bool) -> bool {
     let Some((heap, mut seat)) = open(alloc) else {
         return false;

@@ -1,4 +1,3 @@
-//! Objects are made in all blocks, each with references to four that were made before it, and traced from the variables.
 ghost use Rattle.std.specs.Prelude.{◌<◌, ◌+◌, ◌*◌};
 ghost use Rattle.std.specs.Bool.{OnTrue};
 ghost use Rattle.mark_core.specs.Cards.{block_cells};
@@ -15,7 +14,6 @@ use std::alloc::Global;
 use test_heaps::{leaves, marks_as_mutator, try_close};
 use tracer::{scan_roots, trace};
 
-/// Makes an object in one of the variables 0 to 4, with references to the objects of the four others.
 fn knot(heap: &Heap, seat: &mut HeapSeat, cache: &mut Cache, n: u32)
     requires few { n < 10000 }
     requires filling { Filling heap.now n cache.old seat.old }
@@ -67,7 +65,6 @@ fn fill_all(heap: &Heap, seat: &mut HeapSeat) -> bool
     true
 }
 
-/// Traces all that the variables lead to: how many objects that were.
 #[inline(never)]
 fn trace_all(heap: &Heap, seat: &mut HeapSeat) -> u32
     requires { Sits heap.now seat.old }
@@ -96,7 +93,7 @@ fn one(alloc: Global, traces: bool) -> bool {
     leaves(&heap, &mut seat) && try_close(alloc, heap, seat) && done == CELLS
 }
 
-/// Heaps that are filled and, if they are to be, traced. False if there is no memory, or if a step that was to come could not be taken.
+/// Heaps that are filled and, if asked, traced. False if there is no memory or a step could not be taken.
 pub fn run(alloc: Global, rounds: u64, traces: bool) -> bool {
     for _round in 0..rounds {
         if !one(alloc, traces) {

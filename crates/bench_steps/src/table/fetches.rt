@@ -1,4 +1,3 @@
-//! Two fetches, many times: one is taken from a count, and given back.
 ghost use Rattle.std.specs.Bool.{OnTrue};
 ghost use Rattle.mark_core.specs.declared.kinds.Step.{Step};
 ghost use Rattle.bench_steps.specs.Records.{SitsWithRecord, entered, marking, reserved, resting};
@@ -38,7 +37,6 @@ fn fetches(heap: &Heap, seat: &mut HeapSeat, rounds: u64)
     }
 }
 
-/// Begins marking: whether the seat finds that it is under way.
 fn marks(heap: &Heap, seat: &mut HeapSeat) -> bool
     requires { SitsWithRecord heap.now entered seat.old }
     ensures { OnTrue result (SitsWithRecord heap.now marking seat.new) }
@@ -54,7 +52,7 @@ fn leave(heap: &Heap, seat: &mut HeapSeat)
     heap.leave_step(seat);
 }
 
-/// Fetches in a heap. False if there is no memory, or if a step that was to come could not be taken.
+/// Fetches in a heap. False if there is no memory or a step could not be taken.
 pub fn run(alloc: Global, rounds: u64) -> bool {
     let Some((heap, mut seat)) = open_entered(alloc) else {
         return false;

@@ -1,4 +1,3 @@
-//! One load, many times: of a word that is always the same, or of one card after another.
 ghost use Rattle.bench_steps.specs.Records.{SitsWithRecord, resting};
 ghost use Rattle.bench_steps.specs.Taken.{TakesRounds, a_load, a_look};
 
@@ -8,7 +7,6 @@ use mark_core::EMPTY_OFFSET;
 use std::alloc::Global;
 use test_heaps::close_one;
 
-/// The sum of the words that were loaded.
 #[inline(never)]
 fn loads(heap: &Heap, seat: &mut HeapSeat, rounds: u64) -> u64
     requires { SitsWithRecord heap.now resting seat.old }
@@ -38,7 +36,7 @@ fn looks(heap: &Heap, seat: &mut HeapSeat, rounds: u64) -> u64
     sum
 }
 
-/// Loads from a heap. False if there is no memory, or if a load found another word than a new heap has.
+/// Loads from a heap. False if there is no memory, or a load found another word than a new heap has.
 pub fn run(alloc: Global, rounds: u64) -> bool {
     let Some((heap, mut seat)) = open(alloc) else {
         return false;
@@ -48,7 +46,7 @@ pub fn run(alloc: Global, rounds: u64) -> bool {
         && sum == rounds.wrapping_mul(EMPTY_OFFSET + u64::from(SIZES.packets))
 }
 
-/// Loads of cards. False if there is no memory, or if a load found another word than a new heap has.
+/// Loads of cards. False if there is no memory, or a load found another word than a new heap has.
 pub fn run_looks(alloc: Global, rounds: u64) -> bool {
     let Some((heap, mut seat)) = open(alloc) else {
         return false;

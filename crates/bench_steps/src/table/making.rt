@@ -1,4 +1,3 @@
-//! Cells, made one after another in all blocks of the heap.
 ghost use Rattle.std.specs.Prelude.{◌≡◌, ◌<◌, ◌≤◌, ◌+◌, ◌*◌, IsTrue, is_none, is_some};
 ghost use Rattle.std.specs.Bool.{OnTrue, OnFalse};
 ghost use Rattle.mark_core.specs.Cards.{block_cells};
@@ -13,7 +12,6 @@ use mark_core::{BLOCK_CELLS, Cell, Phase};
 use std::alloc::Global;
 use test_heaps::{close_one, has_free};
 
-/// Reads the phase and the season: true if the seat may make cells and store them.
 fn begin(heap: &Heap, seat: &mut HeapSeat) -> bool
     requires enters { SitsWithRecord heap.now entered seat.old }
     requires objects { objects_of seat.old ≡ 0 }
@@ -25,7 +23,6 @@ fn begin(heap: &Heap, seat: &mut HeapSeat) -> bool
     }
 }
 
-/// Claims a block: true if it is the seat's.
 fn claim(heap: &Heap, seat: &mut HeapSeat, b: u32) -> bool
     requires makes { MayMakeCells heap.now seat.old × IsTrue (is_none (block_of_maker seat.old)) }
     requires block { b < blocks_in_all }
@@ -44,7 +41,6 @@ fn read_free(heap: &Heap, seat: &mut HeapSeat)
     heap.read_free(seat);
 }
 
-/// Makes an object in a free cell, and stores it in variable 0.
 fn make_cell(heap: &Heap, seat: &mut HeapSeat, number: u32)
     requires makes { MayMakeCells heap.now seat.old × IsTrue (free_in (block_of_maker seat.old) number) }
     requires cell { number < sizes.cells }
@@ -60,7 +56,6 @@ fn make_cell(heap: &Heap, seat: &mut HeapSeat, number: u32)
     heap.store_root(seat, 0, u64::from(number) + 1);
 }
 
-/// Makes cells in the free cells of the block.
 fn fill(heap: &Heap, seat: &mut HeapSeat, b: u32)
     requires makes { MayMakeCells heap.now seat.old × IsTrue (is_some (block_of_maker seat.old)) }
     requires block { b < blocks_in_all }
@@ -76,7 +71,6 @@ fn fill(heap: &Heap, seat: &mut HeapSeat, b: u32)
     }
 }
 
-/// Publishes the cells of the block, and gives it up.
 fn finish(heap: &Heap, seat: &mut HeapSeat)
     requires { MayMakeCells heap.now seat.old × IsTrue (is_some (block_of_maker seat.old)) }
     ensures { MayMakeCells heap.now seat.new × IsTrue (is_none (block_of_maker seat.new)) × (cells_made seat.new ≡ cells_made seat.old) }
@@ -85,7 +79,6 @@ fn finish(heap: &Heap, seat: &mut HeapSeat)
     heap.release_block(seat);
 }
 
-/// Makes cells in block b, if nobody has it.
 fn fill_block(heap: &Heap, seat: &mut HeapSeat, b: u32)
     requires makes { MayMakeCells heap.now seat.old × IsTrue (is_none (block_of_maker seat.old)) }
     requires block { b < blocks_in_all }
@@ -100,7 +93,6 @@ fn fill_block(heap: &Heap, seat: &mut HeapSeat, b: u32)
     }
 }
 
-/// Makes cells in all blocks, one after another.
 #[inline(never)]
 fn fill_all(heap: &Heap, seat: &mut HeapSeat)
     requires makes { MayMakeCells heap.now seat.old × IsTrue (is_none (block_of_maker seat.old)) }
@@ -119,7 +111,6 @@ fn leave(heap: &Heap, seat: &mut HeapSeat)
     heap.leave_step(seat);
 }
 
-/// Whether a new heap was filled.
 fn one(alloc: Global) -> bool {
     let Some((heap, mut seat)) = open_entered(alloc) else {
         return false;
@@ -133,7 +124,7 @@ fn one(alloc: Global) -> bool {
     close_one(alloc, heap, seat) && made == CELLS
 }
 
-/// Heaps that are filled. False if there is no memory, or if a step that was to come could not be taken.
+/// Fills heaps. False if there is no memory or a step could not be taken.
 pub fn run(alloc: Global, rounds: u64) -> bool {
     for _round in 0..rounds {
         if !one(alloc) {

@@ -1,4 +1,3 @@
-//! A heap with one seat, which enters.
 ghost use Rattle.std.specs.Prelude.{◌≡◌, IfSome};
 ghost use Rattle.bench_steps.specs.Making.{objects_of};
 ghost use Rattle.bench_steps.specs.Records.{SitsWithRecord, entered, resting};
@@ -30,7 +29,7 @@ pub const SIZES: Shape = Shape {
     stretch: 1,
 };
 
-/// A heap in which nothing has happened, and its seat. None if there is no memory.
+/// A heap in which nothing has happened, and its seat.
 pub fn open(alloc: Global) -> Option<(Heap, HeapSeat)>
     ensures rests { IfSome result (λ r. SitsWithRecord r.0 resting r.1) }
     ensures objects { IfSome result (λ r. objects_of r.1 ≡ 0) }
@@ -38,7 +37,7 @@ pub fn open(alloc: Global) -> Option<(Heap, HeapSeat)>
     open_one(alloc, SIZES)
 }
 
-/// A new heap whose seat is in the world. None if there is no memory.
+/// A new heap whose seat is in the world.
 pub fn open_entered(alloc: Global) -> Option<(Heap, HeapSeat)>
     ensures enters { IfSome result (λ r. SitsWithRecord r.0 entered r.1) }
     ensures objects { IfSome result (λ r. objects_of r.1 ≡ 0) }

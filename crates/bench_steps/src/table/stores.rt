@@ -26,7 +26,7 @@ fn leave(heap: &Heap, seat: &mut HeapSeat)
     heap.leave_step(seat);
 }
 
-/// Stores into a heap. False if there is no memory, or if a step that was to come could not be taken.
+/// Stores into a heap. False if there is no memory or a step could not be taken.
 pub fn run(alloc: Global, rounds: u64) -> bool {
     let Some((heap, mut seat)) = open_entered(alloc) else {
         return false;

@@ -28,7 +28,7 @@ use Rattle.cache_refills.specs.Pace.Pacing.{looks_by, looks_seen}
 use Rattle.cache_refills.specs.Pace.Payment.{reads_number}
 use Rattle.cache_refills.proofs.Refills.PaidFor.{late-before, none-read, read-before}
 
--- so many looks in one call, and so many in the next
+-- this many looks in one call, and this many in the next
 pub looks-join : (j k : ℕ) (u v w : View) → Ran u v → Ran v w → count_of looks_at_card (events u v) ≤ j → count_of looks_at_card (events v w) ≤ k → count_of looks_at_card (events u w) ≤ j + k
 looks-join j k u v w r q a b = let both = count-run looks_at_card u v w r q in omega (arith, both, a, b)
 

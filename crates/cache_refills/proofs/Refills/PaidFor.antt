@@ -109,7 +109,7 @@ pub late-before : (xs ys : List Entry) → never reads_pace ys ≡ true → late
 late-before xs ys h =
     λ i. late_by (read-before last_count xs ys (none-read last_count ys (omega arith) h) i) (read-before traced_count xs ys (none-read traced_count ys (omega arith) h) i) (read-before free_count xs ys (none-read free_count ys (omega arith) h) i)
 
--- up to the first event like f, where the first of two lists has none
+-- up to the first event like f, if the first of two lists has none
 until-longer : (f : Sort) (xs ys : List Entry) → never f xs ≡ true → until_first f (xs ++ ys) ≡ xs ++ until_first f ys
 until-longer f [] ys h = refl
 until-longer f (x ∷ xs) ys h =
@@ -125,7 +125,7 @@ until-never f g (e ∷ es) h = let p = or_parts (g e.step e.found) (some_event g
     split true k rest = refl
     split false k rest = ap not (or_from _ _ k (not-true _ rest))
 
--- why it stopped, where no block was claimed either
+-- why it stopped, if no block was claimed either
 regroup : (a b d : Bool) → (a && (b && d)) ≡ true → ((a && b) && d) ≡ true
 regroup true b d h = h
 regroup false b d h = absurd (false≢true h)

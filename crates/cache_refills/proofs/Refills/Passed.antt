@@ -44,7 +44,7 @@ use Rattle.cache_refills.proofs.Refills.Paced.{seeks-prepare}
 use Rattle.cache_refills.proofs.Refills.Rounds.{Leads, unlooked}
 use Rattle.gc_cycle.proofs.Sequences.{none-of-steps, some-none}
 
--- a safe point where a stop was found
+-- a safe point that found a stop
 pub stepped-out : (u v w x : View) (n : ℕ) → Ran u v → v ≡ after Observe n u → has_flag n ≡ true → Ran v w → Only retires v w → GoesOut w x → GoesOut u x × (poll_found_stop (events u x) ≡ true) × (some_event polls (events u x) ≡ true)
 stepped-out u v w x n r e f q o g =
     let all : events u x ≡ event Observe n ∷ events v x = ran-events u v x r (ran-join v w x q g.ran) ∙ ap (λ es. es ++ events v x) (events-after u v Observe n e) in (
@@ -53,7 +53,7 @@ stepped-out u v w x n r e f q o g =
       ap (some_event polls) all,
     )
 
--- a safe point where none was
+-- a safe point that found none
 module _ (u v w : View) (n done : ℕ) (handed : Option Cache) (r : Ran u v) (e : v ≡ after Observe n u) (f : has_flag n ≡ false) (h : HasCache handed u) (q : Ran v w) where
   unseen : poll_found_stop (events u w) ≡ false
   unseen =
@@ -150,7 +150,7 @@ found-none sh v w m none e some r s n o =
       failed = search-failed v.shape (events v w) some o (subst (λ (k : Shape). NoBlock k (events v w)) (sym e) n);
     }
 
--- a collection is called for where no block was found
+-- a collection is called for if no block was found
 pub none-calls : (o : Option Refill) (u v w : View) → Ran u v → Ran v w → saw_full (events u v) ≡ false → IfNone o (FindsNoBlock v w) → IfNone o (CallsForCollection u w)
 none-calls None u v w r q a n =
     let sh : Shape = u.shape in

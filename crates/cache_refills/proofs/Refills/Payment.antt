@@ -40,7 +40,7 @@ use Rattle.gc_cycle.proofs.Longer.{later-moment, earlier-moment, roots-left, has
 pub quiet-longer : (f : Sort) (test : Moment → List Entry → Bool) (ys : List Entry) → never f ys ≡ true → ((m : Moment) (es : List Entry) → test m es ≡ true → test m (es ++ ys) ≡ true) → (m : Moment) (es : List Entry) → (never f es && test m es) ≡ true → (never f (es ++ ys) && test m (es ++ ys)) ≡ true
 quiet-longer f test ys n g m es h = let p = and_parts (never f es) (test m es) h in and_from _ _ (never-join f es ys p.0 n) (g m es p.1)
 
--- where there is none like f, none follows any moment
+-- if there is none like f, none follows any moment
 pub quiet-moment : (sh : Shape) (f : Sort) (test : Moment → List Entry → Bool) (es : List Entry) (m : Moment) → never f es ≡ true → at_some_moment sh test m es ≡ true → at_some_moment sh (λ n later. never f later && test n later) m es ≡ true
 quiet-moment sh f test [] m n h = h
 quiet-moment sh f test (e ∷ es) m n h =
@@ -136,7 +136,7 @@ undrawn es h = count-none draws es (ap not (none-drawn es (not-true _ h)))
     none-drawn (f ∷ fs) k =
         let q = or_parts (draws_or_clears f.step f.found) (some_event draws_or_clears fs) k in or_from (draws f.step f.found) (some_event draws fs) (drawn-one f.step f.found q.0) (none-drawn fs q.1)
 
--- so many cards were drawn in one call, and so many in the next
+-- this many cards were drawn in one call, and this many in the next
 looked-join : (j k : ℕ) (u v w : View) → Ran u v → Ran v w → count_of draws (events u v) ≤ j → count_of draws (events v w) ≤ k → count_of draws (events u w) ≤ j + k
 looked-join j k u v w r q a b = let both = count-run draws u v w r q in omega (arith, both, a, b)
 

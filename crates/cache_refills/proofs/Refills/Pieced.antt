@@ -86,11 +86,11 @@ calm-leaves v w o = untried stays_calm calm-untried (events v w) o
 pub looked-leaves : (v w : View) → Took ReadPhase v w → LeavesBlocks v w
 looked-leaves v w t = let one = events-after v w ReadPhase t.0 t.1.0 in record { untried = ap blocks_tried one; without = ap (never takes_cells) one }
 
--- blocks that were tried in the second of two calls alone
+-- blocks that were tried only in the second of two calls
 later-tried : (u v w : View) (bs : List ℕ) → Ran u v → Ran v w → blocks_tried (events u v) ≡ [] → blocks_tried (events v w) ≡ bs → blocks_tried (events u w) ≡ bs
 later-tried u v w bs r q a b = ap blocks_tried (ran-events u v w r q) ∙ (both-tried (events u v) (events v w) ∙ (λ i. a i ++ b i))
 
--- or in the first alone
+-- or only in the first
 pub first-tried : (u v w : View) (bs : List ℕ) → Ran u v → Ran v w → blocks_tried (events u v) ≡ bs → blocks_tried (events v w) ≡ [] → blocks_tried (events u w) ≡ bs
 first-tried u v w bs r q a b = ap blocks_tried (ran-events u v w r q) ∙ (both-tried (events u v) (events v w) ∙ ((λ i. a i ++ b i) ∙ append-nil bs))
 

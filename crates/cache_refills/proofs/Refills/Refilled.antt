@@ -1,4 +1,4 @@
--- A mutator's answer, once it has claimed a block and looked at the phase: it paid while a cycle was marking, and owed nothing where none was.
+-- A mutator's answer, once it has claimed a block and looked at the phase: it paid while a cycle was marking, and owed nothing if none was.
 use Rattle.std.proofs.Common.{ℕ, ◌≡◌, List, [], ◌∷◌, ◌++◌, ◌+◌, length, arith, refl, sym, ap, ◌∙◌, subst, Bool, true, false, not, ◌&&◌, ◌||◌, Some, None, Option, ⊎_elim, ◌⊎◌}
 use Rattle.std.specs.Prelude.{if◌then◌else◌, is_some, unwrap_or}
 use Rattle.std.specs.Int.Count.{ones}
@@ -240,7 +240,7 @@ read-idle v n p f a is unmarking unfull =
     (λ (y : (n ≡ 1) ⊎ (n ≡ 5)). absurd (⊎_elim (λ (z : n ≡ 1). unmarking (is ∙ ap phase_of z)) (λ (z : n ≡ 5). unfull (is ∙ ap phase_of z)) y))
     (active-read v n f a)
 
--- where the heap is full by then, the cache is given up
+-- if the heap is full by then, the cache is given up
 pub gives-up : (v w x y : View) (h : Cache) (done n : ℕ) → Mutates v → Found ReadPhase n v w → phase_of n ≡ Full → Ran w x → x.state ≡ record w.state { cache = None } → steps_of (events w x) ≡ retiring_steps h (used_bits w.state.cache) → Stored (StorePosition done) x y → Ran v y × Only answers v y × EndsFull done v y × KnowsFull y
 gives-up v w x y h done n m f e r none steps stored =
     ends-full v w x y done (n, f)

@@ -43,7 +43,7 @@ seen-on lo hi u v w q a s =
           (cases_lt b lo);
     }
 
--- where there is none like f, all events are those since the last one
+-- if there is none like f, all events are those since the last one
 all-since : (f : Sort) (es : List Entry) → never f es ≡ true → since_or_all f es ≡ es
 all-since f es n = ap (λ (b : Bool). if b then since_last f es else es) (not-true _ n)
 

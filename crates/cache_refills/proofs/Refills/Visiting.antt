@@ -1,4 +1,4 @@
--- A mutator's round raises the flag with cause, one of this visit, and pops where it may.
+-- A mutator's round raises the flag with cause, one of this visit, and pops when it may.
 use Rattle.std.proofs.Common.{◌≡◌, [], ap, ◌∙◌, true, false, Option, None, Some}
 use Rattle.std.specs.Prelude.{IfNone, IsFalse}
 use Rattle.mark_core.specs.declared.kinds.Shape.{Shape}
@@ -52,7 +52,7 @@ leads-paid u v w l r h = ap pops_where_paid (ran-events u v w l.ran r) ∙ paid-
 pub leads-claimed : (u v w : View) → Leads u v → Ran v w → some_event claims (events u v) ≡ true → some_event claims (events v w) ≡ false → pops_where_paid (events u w) ≡ true
 leads-claimed u v w l r h n = ap pops_where_paid (ran-events u v w l.ran r) ∙ claimed-paid (events u v) (events v w) h (unpopped (events u v) l.unpopped) n
 
--- what comes before pops nothing, and nothing was popped where the answer is none
+-- what comes before pops nothing, and nothing was popped if the answer is none
 pub none-pops : (o : Option Refill) (u v w : View) → Leads u v → Ran v w → IfNone o (IsFalse (some_event pops (events v w))) → IfNone o (IsFalse (some_event pops (events u w)))
 none-pops None u v w l r h = ap (some_event pops) (ran-events u v w l.ran r) ∙ some-none pops (events u v) (events v w) l.unpopped h
 none-pops (Some x) u v w l r h = tt

@@ -160,7 +160,7 @@ another_was_first = record { due = true; read = refl; tried = refl; answer = ref
 none_due : KicksOff false (did (ReadStat last_count) 512 ∷ did (ReadStat rescanned_count) 0 ∷ did (ReadStat free_count) 64 ∷ [])
 none_due = record { due = false; read = refl; tried = refl; answer = refl }
 
--- it must try where a cycle is due
+-- it must try if a cycle is due
 refused-try : (began : Bool) → KicksOff began (did (ReadStat last_count) 576 ∷ did (ReadStat rescanned_count) 0 ∷ did (ReadStat free_count) 64 ∷ []) → ⊥
 refused-try began k = true≢false (ap or-false k.read ∙ sym k.tried)
   where

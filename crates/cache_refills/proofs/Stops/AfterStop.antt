@@ -84,7 +84,7 @@ round-theirs done v w t at count still away m =
       spares = tt;
     }
 
--- what is done in a stop ends cycles only with cause, where the flag was raised before
+-- what is done in a stop ends cycles only with cause, if the flag was raised before
 abbrev pub CyclesIn : Shape → View → View → Type 0
 CyclesIn sh v w = (before : List Entry) → some_event raises_flag (since_or_all ends_cycle before) ≡ true → each_after (may_end sh) ends_cycle before (events v w) ≡ true
 
@@ -153,7 +153,7 @@ module _ (o : Option Cache) (u v w x y : View) (t : TriesToStop u v) (once : cou
   round-cycles sh e raised cycles =
       subst (λ (z : Shape). cycles_with_cause z (events u y) ≡ true) (sym e) (stop-cycles sh u v w y t.ran c.ran tail t.only tail-only raised cycles)
 
-  -- one did where the heap isn't full
+  -- one did if the heap isn't full
   round-ends : some_event raises_flag (events u v) ≡ true → never resumes (events u v) ≡ true → (some_event ends_cycle (events v w) ≡ true) ⊎ KnowsFull w → (KnowsFull w → ⊥) → resumes_with_end (events u y) ≡ true
   round-ends raised still ends n =
       ⊎_elim
@@ -186,7 +186,7 @@ module _ (o : Option Cache) (u v w x y : View) (t : TriesToStop u v) (once : cou
   drop-tells : (z : View) → (KnowsFull v → KnowsFull w) → Ran z u → TellsFull z u → TellsFull z x
   drop-tells z full r k = tells-more z w x (to-claim z r) dropped (only-drop w x d) (claim-tells z full r k)
 
-  -- where the mutator goes on, the heap wasn't said to be full
+  -- if the mutator goes on, the heap wasn't said to be full
   unfull : (kept : Option Cache) → KeepsOn o kept x y → KnowsFull w → ⊥
   unfull kept k f =
       let n = k.looked.0 in

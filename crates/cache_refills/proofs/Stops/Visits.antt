@@ -46,7 +46,7 @@ caused-visits sh xs ys n i m o =
     cause : (es : List Entry) → some_event comes_in es ≡ false → test (xs ++ es) ≡ true
     cause es k = ap (may_stop sh) (all-since comes_in (xs ++ es) false (some-none comes_in xs es i k)) ∙ stop-more sh xs es m
 
--- the world is resumed where a cycle ended in the stop
+-- the world is resumed if a cycle ended in the stop
 
 ended-later : (xs ys : List Entry) → has_ended ys ≡ true → has_ended (xs ++ ys) ≡ true
 ended-later xs ys h =
@@ -97,7 +97,7 @@ collects-join xs ys a b = either (saw_full ys) refl b
     either false e k = ended-all (xs ++ ys) (ends-join xs ys a k)
     either true e k = ap (λ (c : Bool). resumes_with_end (if c then before_last resumes (xs ++ ys) else xs ++ ys)) (some-right (reads_phase Full) xs ys e) ∙ full-last xs ys a k
 
--- a cycle ends where the flag was raised, or a search failed, since the last one
+-- a cycle ends only if the flag was raised, or a search failed, since the last one
 
 abbrev gives_cause : Shape → List Entry → Bool
 gives_cause sh es = some_event raises_flag es || claim_failed sh es

@@ -12,7 +12,7 @@ use Rattle.gc_cycle.specs.Events.{each_after}
 use Rattle.gc_cycle.specs.Sorts.{moves}
 pub use Rattle.gc_cycle.specs.Sorts.{tries_marking}
 
--- the number in the word of a statistic, which is bounded, and 0 where the word fell below 0
+-- the number in the word of a statistic, which is bounded, and 0 if the word fell below 0
 abbrev pub statistic : ℕ → ℕ
 statistic word = if nat_le 9223372036854775808 word then 0 else min word 16777216
 
@@ -49,7 +49,7 @@ abbrev pub quota_by : ℕ → Option ℕ → Option ℕ → Option ℕ → Optio
 quota_by cells (Some last) (Some rescanned) (Some traced) (Some free) = Some (quota cells last rescanned traced free)
 quota_by cells last rescanned traced free = None
 
--- the quota for a cache of so many free cells, by the numbers as read last
+-- the quota for a cache of this many free cells, by the numbers as read last
 abbrev pub quota_seen : ℕ → List Entry → Option ℕ
 quota_seen cells es = quota_by cells (last_read last_count es) (last_read rescanned_count es) (last_read traced_count es) (last_read free_count es)
 
@@ -57,7 +57,7 @@ quota_seen cells es = quota_by cells (last_read last_count es) (last_read rescan
 abbrev pub late : ℕ → ℕ → ℕ → Bool
 late last traced free = nat_le (7 * last) (8 * traced) || nat_le (64 * free) last
 
--- whether it is by these numbers, where each was read
+-- whether it is by these numbers, if each was read
 abbrev pub late_by : Option ℕ → Option ℕ → Option ℕ → Option Bool
 late_by (Some last) (Some traced) (Some free) = Some (late last traced free)
 late_by last traced free = None
@@ -66,7 +66,7 @@ late_by last traced free = None
 abbrev pub late_seen : List Entry → Option Bool
 late_seen es = late_by (last_read last_count es) (last_read traced_count es) (last_read free_count es)
 
--- a payment looks at so many cards at most
+-- a payment looks at this many cards at most
 abbrev pub card_looks : ℕ
 card_looks = 1024
 
@@ -88,7 +88,7 @@ is_due (Some due) = due
 abbrev pub was_due : List Entry → Bool
 was_due es = is_due (due_seen es)
 
--- a try to begin a cycle came only where one was due, by the numbers as read last before it
+-- a try to begin a cycle came only if one was due, by the numbers as read last before it
 abbrev pub begins_where_due : List Entry → Bool
 begins_where_due es = each_after was_due tries_marking [] es
 
@@ -98,7 +98,7 @@ kicks (ReadStat which) = true
 kicks (StorePhase Marking) = true
 kicks step = false
 
--- the call read whether a cycle was due, tried to begin one exactly where it was, and began one exactly where it says so
+-- the call read whether a cycle was due, tried to begin one exactly if it was, and began one exactly if it says so
 pub record KicksOff (began : Bool) (es : List Entry) : Type 0 where
   pub due : Bool
   pub read : due_seen es ≡ Some due

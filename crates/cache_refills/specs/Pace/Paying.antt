@@ -20,7 +20,7 @@ use Rattle.gc_cycle.specs.Roots.{roots_scanned}
 abbrev pub since_claim : List Entry → List Entry
 since_claim es = since_last claims es
 
--- before the call claimed the block of its cache, or where it claimed none, it popped cells in stops alone
+-- before the call claimed the block of its cache, or if it claimed none, it popped cells only in stops
 abbrev pub pops_where_paid : List Entry → Bool
 pops_where_paid es = pops_in_stops (if some_event claims es then before_last claims es else es)
 
@@ -40,7 +40,7 @@ ran_out_of_work sh m es = at_some_moment sh (λ n later. roots_are_read later &&
 abbrev pub ran_out_of_packets : Shape → Moment → List Entry → Bool
 ran_out_of_packets sh m es = at_some_moment sh (λ n later. roots_are_read later && finds_no_room sh n later) m es
 
--- why it stopped to trace: Quota exactly where it traced as many as it should
+-- why it stopped to trace: Quota exactly if it traced as many as it should
 abbrev pub StopsAs : Stopped → Shape → ℕ → ℕ → Moment → List Entry → Type 0
 StopsAs Quota sh quota done m es = done ≡ quota
 StopsAs NoWork sh quota done m es = (done ≢ quota) × IsTrue (ran_out_of_work sh m es)
@@ -57,7 +57,7 @@ pub record PaysInMarking (sh : Shape) (section cells : ℕ) (paid : Paid) (m : M
   pub early : quota_seen cells (until_first pops (since_claim es)) ≡ Some paid.quota
   pub done : count_of pops (since_claim es) ≡ paid.done
   pub most : paid.done ≤ paid.quota
-  -- a quota is at most 1,024 objects; and as many cards of the pass were drawn, at most, and none where the cycle wasn't far on by the numbers read
+  -- a quota is at most 1,024 objects; and as many cards of the pass were drawn, at most, and none if the cycle wasn't far on by the numbers read
   pub short : paid.quota ≤ 1024
   pub looked : count_of draws (since_claim es) ≤ looks_seen (since_claim es)
   pub stopped : StopsAs paid.stopped sh paid.quota paid.done m es

@@ -43,17 +43,17 @@ is_out_of_work sh n later = never reads_root later && finds_no_work sh n later
 abbrev pub is_out_of_room : Shape → Moment → List Entry → Bool
 is_out_of_room sh n later = never reads_root later && finds_no_room sh n later
 
--- why it stopped to trace, after the last root was read: Quota exactly where it traced as many as it should
+-- why it stopped to trace, after the last root was read: Quota exactly if it traced as many as it should
 abbrev pub StopsTracing : Stopped → ℕ → ℕ → View → View → Type 0
 StopsTracing Quota quota done v w = done ≡ quota
 StopsTracing NoWork quota done v w = (done ≢ quota) × IsTrue (at_some_moment v.shape (is_out_of_work v.shape) (begins v) (events v w))
 StopsTracing NoPacket quota done v w = (done ≢ quota) × IsTrue (at_some_moment v.shape (is_out_of_room v.shape) (begins v) (events v w))
 
--- why nothing was traced of such a quota, where no packet could be taken
+-- why nothing was traced of such a quota, if no packet could be taken
 abbrev pub stop_of : ℕ → Stopped
 stop_of quota = if quota == 0 then Quota else NoPacket
 
--- so many objects were traced after `before`, and in all as many as `paid` says, whose quota is this; so many cards of the pass were drawn, at most
+-- this many objects were traced after `before`, and in all as many as `paid` says, whose quota is this; this many cards of the pass were drawn, at most
 pub record TracesOn (quota before looks : ℕ) (paid : Paid) (v w : View) : Type 0 where
   pub traced : HasTraced v w
   pub quota_is : paid.quota ≡ quota
@@ -64,7 +64,7 @@ pub record TracesOn (quota before looks : ℕ) (paid : Paid) (v w : View) : Type
   pub unrooted : IsTrue (never reads_root (events v w))
   pub stops : StopsTracing paid.stopped quota paid.done v w
 
--- the roots were seen to, or no packet could be taken; and a quota of objects was traced, and so many cards of the pass were drawn, at most
+-- the roots were seen to, or no packet could be taken; and a quota of objects was traced, and this many cards of the pass were drawn, at most
 pub record MarksAndTraces (section quota looks : ℕ) (paid : Paid) (v w : View) : Type 0 where
   pub traced : HasTraced v w
   pub roots : IsTrue (roots_scanned section (events v w) || at_some_moment v.shape (finds_no_packet v.shape) (begins v) (events v w))
@@ -75,7 +75,7 @@ pub record MarksAndTraces (section quota looks : ℕ) (paid : Paid) (v w : View)
   pub unread : IsTrue (never reads_pace (events v w))
   pub stops : StopsTracing paid.stopped quota paid.done v w
 
--- nothing was traced, and so many cards of the pass were drawn, at most
+-- nothing was traced, and this many cards of the pass were drawn, at most
 pub record TracesNone (looks : ℕ) (v w : View) : Type 0 where
   pub traced : HasTraced v w
   pub looked : count_of draws (events v w) ≤ looks
@@ -83,8 +83,8 @@ pub record TracesNone (looks : ℕ) (v w : View) : Type 0 where
   pub unread : IsTrue (never reads_pace (events v w))
   pub unrooted : IsTrue (never reads_root (events v w))
 
--- the increment for a cache of so many cells: the numbers were read and set the quota, the roots were seen to or no packet could be taken, and so many objects
--- were traced, by which the number of traced objects was raised once; cards of the pass were drawn only where the cycle was far on by these numbers
+-- the increment for a cache of this many cells: the numbers were read and set the quota, the roots were seen to or no packet could be taken, and this many objects
+-- were traced, by which the number of traced objects was raised once; cards of the pass were drawn only if the cycle was far on by these numbers
 pub record HasPaid (cells : ℕ) (paid : Paid) (v w : View) : Type 0 where
   pub ran : Ran v w
   pub only : Only pays_cells v w

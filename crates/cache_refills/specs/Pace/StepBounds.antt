@@ -10,7 +10,7 @@ use Rattle.cache_refills.specs.Pace.Pacing.{card_looks}
 abbrev pub look_steps : Shape → ℕ
 look_steps sh = 3 + clean_one_steps card_cells sh + trace_steps 0 sh
 
--- a quota is traced, so many objects of it, and so many cards are looked at; what was deferred is brought back
+-- a quota is traced, this many objects of it, and this many cards are looked at; what was deferred is brought back
 abbrev pub quota_steps : ℕ → ℕ → Shape → ℕ
 quota_steps done looks sh = trace_steps done sh + looks * look_steps sh + recycle_steps sh
 

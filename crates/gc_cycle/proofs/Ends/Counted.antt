@@ -104,7 +104,7 @@ blocks-count (suc n) ws v h =
     let noted = ap ones one.0 in
     omega (arith, split, rest, here, noted)
 
--- no seat has a used cell, so a cell is in use where it is published
+-- no seat has a used cell, so a cell is in use if it is published
 
 and-none : (b c : Bool) → c ≡ false → (b && c) ≡ false
 and-none true c e = e

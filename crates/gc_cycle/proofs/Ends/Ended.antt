@@ -31,7 +31,7 @@ use Rattle.gc_cycle.specs.declared.counts.Counts.{Counts}
 use Rattle.gc_cycle.proofs.Ends.Counted.{blocks-count, none-used, Reads}
 
 module _ (x : TableState) (i : ℕ) (v : View) (k : IsState x) (a : Agrees x i v) where
-  -- where a seat knows that the world is stopped, no seat is active
+  -- if a seat knows that the world is stopped, no seat is active
   none-active : v.state.knows ≡ true → NoneActive (standings x.core.seats)
   none-active h =
       let s : Sits x.core i v.state = sits x.core i v.state a.seat in

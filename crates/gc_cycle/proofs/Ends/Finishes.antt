@@ -35,7 +35,7 @@ use Rattle.gc_cycle.specs.Sorts.{begins_exactly, ends_cycle, moves, moves_to, op
 use Rattle.gc_cycle.proofs.Sequences.{count-none, followed-later, moments, moments-state, none-of-steps, since-this, some-moment-later, some-none}
 use Rattle.gc_cycle.proofs.Ends.Completing.{no-end, no-move, no-tell, total-run, no-try}
 
--- an event like g, where one is after one like f
+-- an event like g, if one is after one like f
 some-of-followed : (f g : Sort) (es : List Entry) → followed_by f g es ≡ true → some_event g es ≡ true
 some-of-followed f g [] h = absurd (false≢true h)
 some-of-followed f g (e ∷ es) h =
@@ -102,7 +102,7 @@ exact-moves step n h =
     (λ (a : moves Clear Drain step n ≡ true). (and_parts (moves_to Drain step n) (is_phase n Clear) a).0)
     (or_cases (moves Idle Drain step n) (moves Clear Drain step n) h)
 
--- what is asked of moments by their records alone
+-- what is asked of moments by their records only
 same-moments : (sh : Shape) (es : List Entry) (m n : Moment) → m.state ≡ n.state → at_some_moment sh ends_exactly m es ≡ true → at_some_moment sh ends_exactly n es ≡ true
 same-moments sh [] m n e h = h
 same-moments sh (x ∷ es) m n e h =
@@ -196,7 +196,7 @@ module _ (v0 v1 v2 : View) (b : BeginsExactly v0 v1) (k : Completes v1 v2) where
       let one = k.once in
       omega (arith, all, two, three, before, begun, one)
 
--- where the stop began exactly, no cycle is under way, and the seat is alone, the cells in use are the reachable ones
+-- if the stop began exactly, no cycle is under way, and the seat is alone, the cells in use are the reachable ones
 pub exact-end : (v : View) → IsAloneIn Idle v → v.state.exact ≡ true → InEach IsExact v
 exact-end v a e x i k g c low =
     let phase : (words_of x.core.shape x.core.words).phase ≡ 0 = phase-is x i v 0 g a.alone.phase in

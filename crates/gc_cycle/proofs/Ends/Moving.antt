@@ -90,7 +90,7 @@ may-end_sweep v h all x i k a =
     let sweeps : IsSweepingPhase (words_of x.core.shape x.core.words).phase = ap (λ n. is_phase n Sweep || is_phase n Clear) phase in
     (ap (λ n. is_phase n Sweep) phase, (and_from _ _ h.rest.knows (done x i v k a h.rest sweeps all), (unless-alone v h.rest, tt)))
 
--- the drain may begin where no cycle is under way, and where one is marking
+-- the drain may begin if no cycle is under way, and also if one is marking
 pub may-begin_idle : (v : View) → IsAloneIn Idle v → May (StorePhase Drain) v
 may-begin_idle v h x i k a =
     let phase = at-phase Idle x i v a h.alone in (
@@ -117,7 +117,7 @@ may-begin_again v h all x i k a =
       (and_from _ _ h.rest.knows (or_right _ _ (done x i v k a h.rest sweeps all)), (unless-alone v h.rest, tt)),
     )
 
--- a counter or statistic may be reset in a drain, and where no cycle is under way
+-- a counter or statistic may be reset in a drain, and also if no cycle is under way
 pub may-reset_drain : (which : ℕ) (v : View) → nat_le which free_count ≡ true → IsAloneIn Drain v → May (Reset which) v
 may-reset_drain which v low h x i k a =
     let phase = at-phase Drain x i v a h.alone in

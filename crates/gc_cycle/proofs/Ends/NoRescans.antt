@@ -1,4 +1,4 @@
--- Where nothing of a cleaning is left, and none begins, no object of a card is scanned again.
+-- If nothing of a cleaning is left, and none begins, no object of a card is scanned again.
 use Rattle.std.proofs.Common.{ℕ, ◌≡◌, [], ◌∷◌, List, refl, ap, arith, cond, Bool, true, false, not, Some, None, Option}
 use Rattle.std.specs.Prelude.{◌==◌, ◌||◌}
 use Rattle.std.proofs.lemmas.Bool.{and_from, and_parts, false≢true, false_from_ne_true, or_from, or_parts}

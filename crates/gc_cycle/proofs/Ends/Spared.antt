@@ -48,7 +48,7 @@ all-spared (x ∷ es) a h =
     let q = or_parts (moves_to Full x.step x.found) (some_event (moves_to Full) es) h in
     and_from _ _ (spared x.step x.found p.0 q.0) (all-spared es p.1 q.1)
 
--- where nothing told that the heap is full, it wasn't said, and wasn't seen
+-- if nothing told that the heap is full, it wasn't said, and wasn't seen
 untold : (es : List Entry) → some_event tells_full es ≡ false → (some_event (moves_to Full) es ≡ false) × (saw_full es ≡ false)
 untold [] h = (refl, refl)
 untold (x ∷ es) h =

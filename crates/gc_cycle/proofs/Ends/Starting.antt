@@ -1,4 +1,4 @@
--- The phase that a seat finds which is alone in the stop, and the drain that it begins.
+-- The phase that a seat that is alone in the stop finds, and the drain that it begins.
 use Rattle.std.proofs.Common.{ℕ, ◌≡◌, [], ◌∷◌, ◌++◌, refl, sym, ap, ◌∙◌, subst, true, not, ◌⊎◌, ⊎_elim, arith, inl, inr}
 use Rattle.std.proofs.lemmas.Bool.{true≢false}
 use Rattle.mark_core.specs.Numbers.{card_counter}
@@ -35,7 +35,7 @@ looked p v w n f a =
 pub found-phase : (p : Phase) (v w : View) (n : ℕ) → Found ReadPhase n v w → IsAloneIn p v → n ≡ phase_number p
 found-phase p v w n f a = found-noted v ReadPhase n (phase_number p) the_phase f.1 refl a.alone.phase
 
--- a drain that begins where no cycle is under way
+-- a drain that begins when no cycle is under way
 pub idle-begins : (v w : View) → Ran v w → events v w ≡ event (StorePhase Drain) 0 ∷ event (Reset card_counter) 0 ∷ [] → IsAloneIn Drain w → w.state.exact ≡ true → BeginsExactly v w
 idle-begins v w r e a x =
     record { ran = r; only = ap (all_steps finishes) e; alone = a; exact = x; before = []; rest = event (Reset card_counter) 0 ∷ []; move = event (StorePhase Drain) 0; all = e; begins = refl; stayed = refl; fresh = refl; not_full = refl; unbegun = refl; unended = refl }
@@ -60,7 +60,7 @@ marking-found v w n f h e =
     (λ (a : IsAloneIn Marking v). looked Marking v w n f a)
     h
 
--- where a cycle is marking: it looked, began the drain, drained alone, and began again
+-- if a cycle is marking: it looked, began the drain, drained alone, and began again
 pub marking-ran : (v w x : View) → Took ReadPhase v w → Ran w x → Ran v x
 marking-ran v w x t r = ran-join v w x (look-ran v w t) r
 

@@ -22,7 +22,7 @@ use Rattle.mark_core.specs.declared.kinds.Phase.TheVariants.{Sweep}
 use Rattle.mark_core.specs.declared.kinds.Shape.{Shape}
 use Rattle.gc_cycle.specs.Finishing.{stays_in}
 
--- a seat that sweeps stays in the sweep, and is alone still where it was
+-- a seat that sweeps stays in the sweep, and is alone still if it was
 pub sweeps-stay : (step : Step) → is_sweeping step ≡ true → stays_in Sweep step ≡ true
 sweeps-stay NextBlock e = refl
 sweeps-stay (ReadAlloc b) e = refl

@@ -85,7 +85,7 @@ unpolled es h = or_left (not (poll_found_stop es)) _ (ap not (unfound es h))
 pub answers-offered : (es : List Entry) → all_steps answers es ≡ true → offered_help es ≡ true
 answers-offered es o = unpolled es (none-of-steps answers polls no-poll es o)
 
--- the first poll is that of the first call, where that polled
+-- the first poll is that of the first call, if that polled
 pub first-left : (f g : Sort) (xs ys : List Entry) → some_event f xs ≡ true → first_is f g (xs ++ ys) ≡ first_is f g xs
 first-left f g [] ys h = absurd (false≢true h)
 first-left f g (x ∷ xs) ys h = either (f x.step x.found) (first-left f g xs ys) h

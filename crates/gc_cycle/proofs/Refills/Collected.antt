@@ -158,7 +158,7 @@ ends-at_full v w h f r t =
       collected = inr (full-known v w r (only-drop v w t) known);
     }
 
--- the seat that holds the world is alone in a phase of mutators, but for Full
+-- the seat that holds the world is alone in a phase of mutators, except Full
 pub holds-phase : (v : View) → HoldsWorld v → (v.state.phase_seen ≡ Some Full → ⊥) → (IsAloneIn Idle v ⊎ IsAloneIn Marking v) × (KnowsFull v → ⊥)
 holds-phase v h n =
     ⊎_elim

@@ -77,7 +77,7 @@ full-all (e ∷ es) v o s (inl h) =
 full-all (e ∷ es) v o s (inr k) =
     let p = and_parts (tries_stopping e.step) (all_steps tries_stopping es) o in full-all es (after e.step e.found v) p.1 s.1 (inr (full-step v e.step e.found p.0 s.0 k))
 
--- where it was found full, it is
+-- if it was found full, it is
 pub full-seen : (v w : View) → Ran v w → Only tries_stopping v w → saw_full (events v w) ≡ true → Known w the_phase 5
 full-seen v w r o h = subst (λ (x : View). Known x the_phase 5) (sym r.steps) (full-all (events v w) v o r.seen (inl h))
 

@@ -58,7 +58,7 @@ sees_work = inl (1, omega arith, refl)
 begins : since_last (moves_to Drain) (did (StorePhase Drain) 1 ∷ did (Reset card_counter) 0 ∷ []) ≡ did (Reset card_counter) 0 ∷ []
 begins = refl
 
--- a drain that begins is refused where a block was read after the counter was set
+-- a drain that begins is refused if a block was read after the counter was set
 refused-late : BeginsDrain before (after_these (did (StorePhase Drain) 1 ∷ did (Reset card_counter) 0 ∷ did (ReadAlloc 0) 0 ∷ [])) → ⊥
 refused-late h = absurd (true≢false (ap (some_event reads_alloc) h.1))
   where

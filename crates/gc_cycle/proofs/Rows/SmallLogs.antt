@@ -57,7 +57,7 @@ stopper = record (start_seat small 1) { raised = true; knows = true; alone = tru
 abbrev pub nil_roots : List Entry
 nil_roots = map (λ v. did (ReadRoot 1 v) 0) (range_with_len 0 section_variables)
 
--- block 0 is claimed, with this allocation word and so many free cells
+-- block 0 is claimed, with this allocation word and this many free cells
 abbrev pub claiming : ℕ → ℕ → List Entry
 claiming word free = did (ClaimBlock 0) 0 ∷ did ReadFree word ∷ did (AddStat free_count free true) 100 ∷ []
 

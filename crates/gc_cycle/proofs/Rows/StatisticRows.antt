@@ -39,7 +39,7 @@ two_fewer : takes_off two_cells ≡ AddStat free_count 2 true
 unfolding lib.Count.ones
 two_fewer = refl
 
--- whether a change is one of a claim alone, as far as numbers go
+-- whether a change is only one of a claim, as far as numbers go
 abbrev claims_two : List Step → Bool
 claims_two (AddStat which by down ∷ []) = (which == free_count) && (by == 2) && down
 claims_two steps = false
@@ -101,7 +101,7 @@ nothing (s ∷ ss) = false
 refused-kept : GivesUp (Some two_cells) (Some two_cells) (seen_by marker) (record (seen_by marker) { log = did (gives_back two_cells) 100 ∷ [] }) → ⊥
 refused-kept h = absurd (true≢false (sym (ap nothing h.changed.all)))
 
--- a cycle ended where help was let in for its drain and its sweep
+-- a cycle ended only if help was let in for its drain and its sweep
 refused-end : (counts : Counts) → EndsCycle counts (seen_by stopper) (seen_by stopper) → ⊥
 refused-end counts e = absurd (true≢false (sym e.help))
 

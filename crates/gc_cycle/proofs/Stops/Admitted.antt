@@ -102,7 +102,7 @@ idle-grows sh s ps qs es h e = let a = and_parts (never clears es) _ e in and_fr
 pub room-grows : (sh : Shape) → Grows (finds_no_room sh)
 room-grows sh s ps qs es h e = e
 
--- a search is told by more events too
+-- a search is also shown by more events
 pub never-join : (f : Sort) (xs ys : List Entry) → never f xs ≡ true → never f ys ≡ true → never f (xs ++ ys) ≡ true
 never-join f xs ys a b = ap not (some-none f xs ys (not-true _ a) (not-true _ b))
 

@@ -145,7 +145,7 @@ waited-later Quota u v w r q e = tt
 waited-later NoPacket u v w r q e = tt
 waited-later Swept u v w r q e = tt
 
--- where it says that all packets are empty
+-- if it says that all packets are empty
 pub waited-empty : (h : HelpEnd) (u v w : View) → Ran u v → Ran v w → some_event (sees_all_empty (empty_offset + u.shape.packets)) (events v w) ≡ true → EndsAt h u w
 waited-empty NoWork u v w r q e =
     let f = sees_all_empty (empty_offset + u.shape.packets) in or_left _ _ (ap (some_event f) (ran-events u v w r q) ∙ some-right f (events u v) (events v w) e)
@@ -153,7 +153,7 @@ waited-empty Quota u v w r q e = tt
 waited-empty NoPacket u v w r q e = tt
 waited-empty Swept u v w r q e = tt
 
--- where it looked often enough
+-- if it looked often enough
 pub waited-long : (h : HelpEnd) (u w : View) → help_looks ≤ count_of reads_count (events u w) → EndsAt h u w
 waited-long NoWork u w n = or_right (some_event (sees_all_empty (empty_offset + u.shape.packets)) (events u w)) _ (le-leb help_looks (count_of reads_count (events u w)) n)
 waited-long Quota u w n = tt

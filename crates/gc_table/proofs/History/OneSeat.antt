@@ -1,4 +1,4 @@
--- Where a heap has one seat, its log says what every word is.
+-- If a heap has one seat, its log says what every word is.
 use Rattle.std.proofs.Common.{ℕ, ◌≡◌, ◌+◌, ◌<◌, ◌≤◌, List, [], ◌∷◌, ◌++◌, map, set, length, arith, refl, sym, ap, ◌∙◌, Bool, true, false, Option, Some, None, cond, eqb, eq-eqb, true≢false, length-append, length-set}
 use Rattle.std.specs.Prelude.{slice_get, slice_index, IsFalse, not, ◌&&◌}
 use Rattle.std.specs.List.{All}

@@ -1,4 +1,4 @@
--- What has happened, where one event more does.
+-- What has happened, when one more event does.
 use Rattle.std.proofs.Common.{ℕ, zero, suc, ◌≡◌, ◌+◌, ◌<◌, ◌≤◌, List, [], ◌∷◌, ◌++◌, set, take, length, arith, refl, sym, ap, ◌∙◌, subst, Bool, true, false, Option, Some, None, cond, eqb, eq-eqb, length-set, length-append, append_assoc}
 use Rattle.std.specs.Prelude.{is_none, slice_get, slice_index}
 use Rattle.std.specs.List.{All}

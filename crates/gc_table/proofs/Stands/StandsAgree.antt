@@ -14,7 +14,7 @@ use Rattle.plain_heap.specs.PlainStep.{lent}
 use Rattle.gc_table.specs.StandsFor.{WordAgrees, HoldsObject, IsForNextObject, SeatStands}
 use Rattle.gc_table.specs.declared.view.Meaning.{Meaning}
 
--- a word and a reference agree as before, where the cell that is named keeps its identity, and no object goes
+-- a word and a reference agree as before, if the cell that is named keeps its identity, and no object goes
 pub agrees-on : (ids ids' : List ℕ) (p q : ℕ → ℕ) (w word : ℕ) (ref : Ref) → (0 < word → slice_index ids' (word - 1) ≡ slice_index ids (word - 1)) → ((k : ℕ) → p k ≤ q k) → WordAgrees ids p w word ref → WordAgrees ids' q w word ref
 agrees-on ids ids' p q w word ref same more (inl z) = inl z
 agrees-on ids ids' p q w word ref same more (inr (some, names, there)) =
@@ -22,7 +22,7 @@ agrees-on ids ids' p q w word ref same more (inr (some, names, there)) =
     let now : P (slice_index ids' (word - 1)) = subst P (sym (same some)) (names, omega (arith, there, more (section_of_cell ids (word - 1)))) in
     inr (some, now.0, now.1)
 
--- nil agrees with nil alone
+-- nil agrees only with nil
 pub nil-is : (ids : List ℕ) (p : ℕ → ℕ) (w : ℕ) (ref : Ref) → WordAgrees ids p w 0 ref → ref ≡ refs.Nil
 nil-is ids p w ref (inl z) = z.1
 nil-is ids p w ref (inr (some, names, there)) = absurd (omega (arith, some))
@@ -56,7 +56,7 @@ number-same ids ids' c e = ap (λ (n : ℕ). n % flag) e
 pub section-same : (ids ids' : List ℕ) (c : ℕ) → slice_index ids' c ≡ slice_index ids c → section_of_cell ids' c ≡ section_of_cell ids c
 section-same ids ids' c e = ap (λ (n : ℕ). n / flag) e
 
--- a cell that stays holds its object, where this stays too
+-- a cell that stays holds its object, if this stays too
 pub holds-on : (sh : Shape) (ids ids' values values' fields fields' : List ℕ) (p q : ℕ → ℕ) (m n : Meaning) (c : ℕ) → Stays sh ids ids' values values' fields fields' p q c
     → slice_get n.heap.objects (number_of_cell ids c) ≡ slice_get m.heap.objects (number_of_cell ids c) → HoldsObject sh ids values fields p m c → HoldsObject sh ids' values' fields' q n c
 holds-on sh ids ids' values values' fields fields' p q m n c k same h =
@@ -73,7 +73,7 @@ holds-on sh ids ids' values values' fields fields' p q m n c k same h =
           (agrees-on ids ids' p q (section_of_cell ids c) (field sh fields c i) (slice_index_or h.object.refs i refs.Nil) (k.targets i l) k.more (h.each_field i l)));
     }
 
--- a cell that is made for the next object still is, where no object came
+-- a cell that is made for the next object still is, if no object came
 pub next-on : (sh : Shape) (ids ids' values values' fields fields' : List ℕ) (p q : ℕ → ℕ) (m n : Meaning) (c : ℕ) → Stays sh ids ids' values values' fields fields' p q c
     → length n.heap.objects ≡ length m.heap.objects → n.value ≡ m.value → IsForNextObject sh ids values fields m c → IsForNextObject sh ids' values' fields' n c
 next-on sh ids ids' values values' fields fields' p q m n c k same value h =
@@ -87,7 +87,7 @@ last_on : (ids ids' : List ℕ) (w made : ℕ) (o : Option ℕ) → ((c : ℕ) �
 last_on ids ids' w made None same h = tt
 last_on ids ids' w made (Some c) same h = (ap (λ (n : ℕ). n + 1) (same c refl) ∙ h.0, h.1)
 
--- what a seat has at hand agrees as before, where the words of the cells that it makes and names stay
+-- what a seat has at hand agrees as before, if the words of the cells that it makes and names stay
 pub seat-on : (sh : Shape) (ids ids' values values' : List ℕ) (p q : ℕ → ℕ) (w : ℕ) (s : SeatState) (m : Meaning) → (0 < s.got → slice_index ids' (s.got - 1) ≡ slice_index ids (s.got - 1))
     → ((c part : ℕ) → makes s.cache c part ≡ true → slice_index values' c ≡ slice_index values c) → ((c : ℕ) → last_made s.cache ≡ Some c → slice_index ids' c ≡ slice_index ids c) → ((k : ℕ) → p k ≤ q k)
     → SeatStands sh ids values p w s m → SeatStands sh ids' values' q w s m

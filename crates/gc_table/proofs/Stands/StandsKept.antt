@@ -102,7 +102,7 @@ still c i s step ms k st r f none longer each =
     (subst (λ (vs : List ℕ). Stands c.shape w.roots w.identities vs (words_left c s step).fields after seats ms) (sym (values-same c i s step k f))
     (subst (λ (fs : List ℕ). Stands c.shape w.roots w.identities w.values fs after seats ms) (sym (fields-same c i s step k f)) same)))
 
--- each seat where one record changed
+-- each seat when one record changed
 pub each-but : (c : Core) (i : ℕ) (t : SeatState) (seats : List SeatState) (ms : List Meaning) → ((m : Meaning) → slice_get ms i ≡ Some m → IsFalse t.spent → SeatStands c.shape (words_of c.shape c.words).identities (words_of c.shape c.words).values (object_count ms) i t m)
     → EachStands c seats ms → EachStands c (set seats i t) ms
 each-but c i t seats ms own each w s m f g live = of (set-cases seats i w t s f)

@@ -127,7 +127,7 @@ made-moves c i s x part word ms k st a free next room here last identity = recor
         subst (λ j. HasMeaning c.shape ids w.values w.fields (set ms i m) j) (sym made.0)
         (m, ap (λ j. slice_get (set ms i m) j) section ∙ get-set_same ms i m m a.there, inr (record { number = number; value = mine.making x part next last; nil = λ j l. new-fields c i s x part word k last j l }))
 
--- what stands after the part, where it is a field, at most the value, and the value
+-- what stands after the part, if it is a field, at most the value, and the value
 abbrev NewStands : Core → ℕ → SeatState → ℕ → ℕ → ℕ → List Meaning → Bool → Bool → Bool → Type 0
 NewStands c i s x part word ms field_part early value_part =
     let w : Words = put_word (cond field_part (11, x * c.shape.fields + part) (cond value_part (10, x) (9, x))) word (words_of c.shape c.words) in
@@ -135,7 +135,7 @@ NewStands c i s x part word ms field_part early value_part =
     (set c.seats i (record s { cache = cond early (with_making s.cache x (part + 1)) (with_made s.cache x); made = cond early s.made (s.made + 1) }))
     (set ms i (record (meaning_of ms i) { value = cond value_part word (meaning_of ms i).value }))
 
--- what is known where a part of a new cell may be stored
+-- what is known if a part of a new cell may be stored
 pub record MakesPart (c : Core) (i : ℕ) (s : SeatState) (x part word : ℕ) (ms : List Meaning) : Type 0 where
   pub taken : Taken c i s (StoreNew x part word)
   pub stands : StandsFor c ms

@@ -52,7 +52,7 @@ own_ref ids p i word (refs.Own n) some e (inr (nonzero, names, below)) = (ap (λ
 own_ref ids p zero word (refs.Cat n) some e (inr (nonzero, names, below)) = absurd names
 own_ref ids p (suc i) word (refs.Cat n) some e (inr (nonzero, names, below)) = absurd (omega (arith, e, names.0))
 
--- where objects aren't shared a seat stores in its own section's alone
+-- if objects aren't shared, a seat stores only in its own section's
 pub owned : (sh : Shape) (ids : List ℕ) (s : SeatState) (v : ℕ) → IsFalse sh.sharing → may_change sh ids s v ≡ true → has_own ids s v ≡ true
 owned sh ids s v alone e = ap (λ (b : Bool). not (eqb (word_in s v) 0) && (b || is_the s.section (section_of_cell ids (word_in s v - 1)))) (sym alone) ∙ e
 

@@ -32,7 +32,7 @@ use Rattle.gc_table.proofs.Stands.StandsFrame.{counts-grow}
 use Rattle.gc_table.proofs.Stands.StandsMoves.{Moves, moved, had-meaning}
 use Rattle.gc_table.proofs.Stands.StandsSeat.{Mutates, mutates, known-agrees}
 
--- the register alone has changed
+-- only the register has changed
 got_moves : (c : Core) (i : ℕ) (s : SeatState) (step : Step) (ms : List Meaning) (word : ℕ) (ref : Ref) → Taken c i s step → StandsFor c ms → Mutates c i s ms → ((y : ℕ) → IsMadeBy c.shape step y → ⊥)
     → WordAgrees (words_of c.shape c.words).identities (object_count ms) i word ref → Moves c i s step (words_of c.shape c.words) (record s { got = word }) (with_got ref (meaning_of ms i)) ms
 got_moves c i s step ms word ref k st a none got =

@@ -34,7 +34,7 @@ use Rattle.gc_table.proofs.Stands.StandsMoves.{Moves, moved, had-meaning}
 use Rattle.gc_table.proofs.Stands.StandsSeat.{Mutates, mutates, env-agrees}
 use Rattle.mark_core.specs.Numbers.{value_bound, section_span}
 
--- each root of the section agrees, where one is stored beside its variable
+-- each root of the section agrees, if one is stored beside its variable
 own_root : (ids : List ℕ) (q : ℕ → ℕ) (i v r : ℕ) (roots : List ℕ) (vars : List Ref) (ref : Ref) → length vars ≡ 32 → i * 32 + v < length roots → v < 32 → WordAgrees ids q i r ref
     → ((u : ℕ) → u < 32 → WordAgrees ids q i (get_or roots (i * 32 + u) 0) (get_or vars u refs.Nil)) → (u : ℕ) → u < 32 → WordAgrees ids q i (get_or (set roots (i * 32 + v) r) (i * 32 + u) 0) (get_or (set vars v ref) u refs.Nil)
 own_root ids q i v r roots vars ref l h hv now before u hu =
@@ -43,7 +43,7 @@ own_root ids q i v r roots vars ref l h hv now before u hu =
     (λ (d : u ≢ v). rw (get_or-set_other roots (i * 32 + v) (i * 32 + u) r 0 (λ z. d (omega (arith, z))), get_or-set_other vars v u ref refs.Nil d) (before u hu))
     (cases_eq u v)
 
--- what becomes of the plain heap, where the variable gets this reference
+-- what becomes of the plain heap, if the variable gets this reference
 pub record Assigns (c : Core) (i : ℕ) (s : SeatState) (v r : ℕ) (m n : Meaning) (ms : List Meaning) (ref : Ref) : Type 0 where
   pub variables : n.heap.variables ≡ set m.heap.variables v ref
   pub section : n.heap.section ≡ m.heap.section

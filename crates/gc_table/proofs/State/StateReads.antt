@@ -60,7 +60,7 @@ object_agrees sh ids values fields ms (suc i) c m (refs.Cat n) g (inr (some, nam
     let seen : slice_get ms 0 ≡ Some o.0 = ap (λ k. slice_get ms k) (sym section) ∙ o.1 in
     (o.2.object, ap (λ y. object_of m.heap (heap_in y) (refs.Cat n)) seen ∙ ap (λ k. slice_get o.0.heap.objects k) (sym number) ∙ o.2.there, o.2.value)
 
--- a word is nil exactly where its reference is
+-- a word is nil exactly if its reference is
 nil_both : (ids : List ℕ) (p : ℕ → ℕ) (w word : ℕ) (ref : Ref) → WordAgrees ids p w word ref → (word ≡ 0) ↔ (ref ≡ refs.Nil)
 nil_both ids p w word ref (inl z) = (λ e. z.1, λ e. z.0)
 nil_both ids p w word ref (inr (some, names, below)) = (λ e. absurd (omega (arith, e, some)), λ e. absurd (subst (λ (r : Ref). Names w r (name_at ids (word - 1))) e names))

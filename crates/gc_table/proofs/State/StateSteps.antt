@@ -1,4 +1,4 @@
--- A step that a seat may take from a state that meets the rule, where what is asked besides is met; and the words, records and sections that it leaves.
+-- A step that a seat may take from a state that meets the rule, if what is asked besides is met; and the words, records and sections that it leaves.
 use Rattle.std.proofs.Common.{ℕ, zero, suc, ◌+◌, ◌≡◌, ◌≢◌, List, [], ◌∷◌, set, refl, sym, ap, ◌∙◌, subst, ⊎_elim, Bool, Option, Some, None, cond, ◌⊎◌}
 use Rattle.std.specs.Prelude.{slice_get, IsFalse}
 use Rattle.mark_core.specs.Layout.{Words, words_of}

@@ -34,7 +34,7 @@ pub before-late : (season : ℕ) (heap : Heap) (ts : List PlainStep) (t : PlainS
 before-late season heap [] t h = ap (λ (b : Bool). if b then t.heap else heap) (not_before t.season season h)
 before-late season heap (u ∷ ts) t h = before-late season (if nat_lt u.season season then u.heap else heap) ts t h
 
--- where each turn was before a season, the next season has the same heap
+-- if each turn was before a season, the next season has the same heap
 pub before-next : (season : ℕ) (heap : Heap) (ts : List PlainStep) → ((n : ℕ) (t : PlainStep) → slice_get ts n ≡ Some t → t.season < season) → heap_before season heap ts ≡ heap_before (season + 1) heap ts
 before-next season heap [] h = refl
 before-next season heap (u ∷ ts) h =
@@ -42,14 +42,14 @@ before-next season heap (u ∷ ts) h =
     let same : nat_lt u.season season ≡ nat_lt u.season (season + 1) = lt-ltb u.season season l ∙ sym (lt-ltb u.season (season + 1) (omega (arith, l))) in
     ap (λ (b : Bool). heap_before season (if b then u.heap else heap) ts) same ∙ before-next season (if nat_lt u.season (season + 1) then u.heap else heap) ts (λ n t g. h (suc n) t g)
 
--- a section that changes leaves the heaps, where its turns before the season mean the same
+-- a section that changes leaves the heaps, if its turns before the season mean the same
 pub heaps-set : (sh : Shape) (season w : ℕ) (xs : List SectionState) (k : ℕ) (y : SectionState)
     → ((x : SectionState) → slice_get xs k ≡ Some x → (base : Heap) → heap_before season base y.history ≡ heap_before season base x.history) → heaps_before sh season w (set xs k y) ≡ heaps_before sh season w xs
 heaps-set sh season w [] k y h = refl
 heaps-set sh season w (x ∷ xs) zero y h = ap (λ (b : Heap). b ∷ heaps_before sh season (w + 1) xs) (h x refl (empty_heap sh.fields w))
 heaps-set sh season w (x ∷ xs) (suc k) y h = ap (λ (bs : List Heap). heap_before season (empty_heap sh.fields w) x.history ∷ bs) (heaps-set sh season (w + 1) xs k y h)
 
--- they are those of now, where the turns before the season are all
+-- they are those of now, if the turns before the season are all
 pub heaps-now : (sh : Shape) (season w : ℕ) (xs : List SectionState)
     → ((k j : ℕ) (x : SectionState) → j ≡ w + k → slice_get xs k ≡ Some x → heap_before season (empty_heap sh.fields j) x.history ≡ x.meaning.heap) → heaps_before sh season w xs ≡ heaps_of (meanings_of xs)
 heaps-now sh season w [] h = refl

@@ -60,7 +60,7 @@ in-turn x i s step w g m e =
 section_heap : (xs : List SectionState) (w : ℕ) (y : SectionState) → slice_get xs w ≡ Some y → Contains (heaps_of (meanings_of xs)) y.meaning.heap
 section_heap xs w y h = heap-there (meanings_of xs) w y.meaning (slice_get-map (λ (x : SectionState). x.meaning) xs w ∙ ap (option_map (λ (x : SectionState). x.meaning)) h)
 
--- there is a first section where there is any
+-- there is a first section if there is any
 first_there : (xs : List SectionState) (w : ℕ) (y : SectionState) → slice_get xs w ≡ Some y → slice_get xs 0 ≡ Some (section_at xs 0)
 first_there [] w y h = absurd (omega (arith, slice_get_within [] w y h))
 first_there (x ∷ xs) w y h = refl
@@ -122,7 +122,7 @@ beside_now x i s step zero c y g m e there h a =
     headed (u ∷ us) y h = (us, ap (λ v. v ∷ us) (same_Some u y h))
 beside_now x i s step (suc w) c y g m e there h a = beside_warehouse x i s step w c y g m e there h a
 
--- where an object lies that is reachable: its cell is in use
+-- where a reachable object lies: its cell is in use
 reached_lies : (x : TableState) (i : ℕ) (s : SeatState) (step : Step) (w m : ℕ) (y : SectionState) (o : Place) → IsFalse x.core.shape.sharing → Goes x i s step → slice_get x.sections w ≡ Some y → slice_get y.places m ≡ Some o
     → IsReachable (heaps_of (meanings_of x.sections)) (record { section = w; number = m }) → Used x.core o.cell ≡ true
 reached_lies x i s step w m y o alone g there at reach =
@@ -175,7 +175,7 @@ beside_same sh plan season (Some (suc k)) f (x ∷ xs) zero p late l =
     (heaps-set sh p.season 1 xs k (f (section_at xs k))
     (λ y g base. ap (λ (u : SectionState). heap_before p.season base (f u).history) (get_or_from_slice_get xs k y no_section g) ∙ late (suc k) p.season y refl g l base))
 
--- sections stay apart, where one changes so
+-- sections stay apart, if one changes so
 apart_left : (sh : Shape) (plan : List (List Op)) (season : ℕ) (o : Option ℕ) (f : SectionState → SectionState) (xs : List SectionState) → Turns sh season xs → AreApart sh plan xs
     → AddsLate season o f xs → AddsApart sh plan season o f xs → AreApart sh plan (with_section o f xs)
 apart_left sh plan season o f xs turns apart late adds = each-left P f o xs other own

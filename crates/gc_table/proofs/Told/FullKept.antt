@@ -75,7 +75,7 @@ seat_sees c i s DropStep k e h = λ a. tt
 seat_sees c i s LeaveHelpStep k e h = λ a. tt
 seat_sees c i s step k e h = h
 
--- all seats, where the heap was full before
+-- all seats, if the heap was full before
 pub seen-on : (c : Core) (i : ℕ) (s : SeatState) (step : Step) → Taken c i s step → (words_of c.shape c.words).phase ≡ 5 → All SeesFull c.seats → All SeesFull (seats_left c i s step)
 seen-on c i s step k e a =
     local-kept SeesFull c.shape step c.seats i (seat_after c.shape s step (found c s step)) (λ j t. absurd (false≢true t)) (λ j t. absurd (false≢true t)) a (seat_sees c i s step k e (mine c i s step SeesFull k a))
@@ -83,7 +83,7 @@ seen-on c i s step k e a =
 inactive_sees : (s : SeatState) → IsFalse s.active → SeesFull s
 inactive_sees s f a = absurd (true≢false (sym a ∙ f))
 
--- all seats, where the heap is found full now, while no seat is active
+-- all seats, if the heap is found full now, while no seat is active
 pub seen-first : (c : Core) (i : ℕ) (s : SeatState) → Taken c i s (StorePhase Full) → AllStill c → All SeesFull (seats_left c i s (StorePhase Full))
 seen-first c i s k still =
     let step : Step = StorePhase Full in
@@ -229,7 +229,7 @@ all_published x i s g y h =
     let none = none-used x.core.shape w.world w.help x.core.seats g.whole.core.sound.world (still_world x i s g) in
     sym (use-published w.allocs x.core.seats y none) ∙ reachable-used x.core y g.whole.core (all_reached x i s g y h)
 
--- what is true where the heap is full after a step
+-- what is true if the heap is full after a step
 abbrev FullAfter : TableState → ℕ → SeatState → Step → Type 0
 FullAfter x i s step = AllPublishedAfter x.core s step × EachCell x.core.shape (ReachedAfter x.core s step) × All SeesFull (seats_left x.core i s step) × ((k : ℕ) × (y : SectionState) × (slice_get (sections_left x s step) k ≡ Some y) × IsTrue y.full)
 
@@ -266,7 +266,7 @@ full_after x i s step g e =
     (λ (a : step ≡ StorePhase Full). subst (λ z. Goes x i s z → FullAfter x i s z) (sym a) (begins x i s) g)
     (phase-came x.core i s step Full (taken x i s step g) e)
 
--- the phase and the name, where section k is full after a step
+-- the phase and the name, if section k is full after a step
 abbrev IsNamed : TableState → SeatState → Step → ℕ → Type 0
 IsNamed x s step k = ((words_left x.core s step).phase ≡ 5) × ((words_left x.core s step).named ≡ k)
 

@@ -128,11 +128,11 @@ placed-more sh ids used used' seats xs i c word s t f p a k = record {
 abbrev new_place : SeatState → ℕ → SectionState → Place
 new_place s c y = record { cell = c; season = season_of s; heap = y.meaning.heap }
 
--- the section after the word, where it is the last
+-- the section after the word, if it is the last
 abbrev new_section : Shape → SeatState → ℕ → ℕ → ℕ → Bool → SectionState → SectionState
 new_section sh s c part word last y = record y { meaning = with_part sh part word y.meaning; places = cond last (y.places ++ new_place s c y ∷ []) y.places; settled = false }
 
--- where objects lie after the word, where it is a field, at most the value, the value, and the last
+-- where objects lie after the word, if it is a field, at most the value, the value, and the last
 abbrev NewPlaced : TableState → ℕ → SeatState → ℕ → ℕ → ℕ → Bool → Bool → Bool → Bool → Type 0
 NewPlaced x i s c part word field_part early value_part last =
     let w : Words = put_word (cond field_part (11, c * x.core.shape.fields + part) (cond value_part (10, c) (9, c))) word (words_of x.core.shape x.core.words) in

@@ -1,4 +1,4 @@
--- A store of a mutator is the plain step that it was asked for, as the views alone tell.
+-- A store of a mutator is the plain step that it was asked for, as the views by themselves tell.
 use Rattle.std.proofs.Common.{◌≡◌}
 use Rattle.std.specs.Prelude.{IsTrue, IsFalse}
 use Rattle.std.proofs.Math.Logic.{∥∥₁_elim}

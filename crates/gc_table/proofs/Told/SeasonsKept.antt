@@ -1,4 +1,4 @@
--- The catalogue's seat alone moves the season on, and stores only in its own turn, so the warehouses find what the plan says.
+-- Only the catalogue's seat moves the season on, and it stores only in its own turn, so the warehouses find what the plan says.
 use Rattle.std.proofs.Common.{ℕ, ◌≡◌, ◌+◌, ◌%◌, ◌<◌, zero, suc, List, length, arith, refl, sym, ap, ◌∙◌, subst, Bool, true, false, ◌&&◌, eqb, Option, Some, None, ⊎_elim}
 use Rattle.std.specs.Prelude.{IsTrue, IfSome, nat_lt, unwrap_or}
 use Rattle.std.proofs.lemmas.Bool.{true≢false, false≢true, and_parts, ltb-true, eqb-true, eq-eqb, cases_Bool}

@@ -71,7 +71,7 @@ in_turned sh s season w m y seen turn k = record {
   last = sym (heap_last (season + 1) (empty_heap sh.fields w) y.history (record { season = season_of s; heap = m.heap }) (omega (arith, seen)));
 }
 
--- a place more, where the last word of a new cell is stored
+-- a place more, when the last word of a new cell is stored
 place_more : (season w : ℕ) (b : Bool) (ps : List Place) (p : Place) → Past season w p.season → EachAt (λ n (o : Place). Past season w o.season) ps → EachAt (λ n (o : Place). Past season w o.season) (cond b (ps ++ p ∷ []) ps)
 place_more season w true ps p h a = each-push (λ n (o : Place). Past season w o.season) ps p h a
 place_more season w false ps p h a = a

@@ -23,7 +23,7 @@ use Rattle.heap_runs.proofs.Seats.{Mutates, mutates}
 use Rattle.heap_runs.proofs.Stores.{Refers, refers}
 use Rattle.heap_runs.proofs.unshared_stores.Goals as goal
 
--- Where a heap isn't shared, a seat stores in no other section's objects.
+-- If a heap isn't shared, a seat stores in no other section's objects.
 -- the object to which a variable refers whose object may change
 own_name : (c : Core) (i : ℕ) (s : SeatState) (step : Step) (v : ℕ) (world : World) (name : Name) → Taken c i s step → AgreesWith c world → Mutates c i s → v < 32 → may_change c.shape (words_of c.shape c.words).identities s v ≡ true → c.shape.sharing ≡ false
     → variable_of world (own_section s) v ≡ Some name → name.section ≡ own_section s

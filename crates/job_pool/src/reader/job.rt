@@ -3,7 +3,7 @@ ghost use Rattle.std.specs.Prelude.{◌≡◌};
 
 use std::marker::Model;
 
-/// A job: its number, and the script that it plays, a slice of the source. Only the reader of batches makes one, and nothing copies it. A play spends it.
+/// A job: its number, and the script that it plays, a slice of the source. Only the reader of batches makes one.
 #[derive(Drop)]
 pub struct Job<'a> {
     pub(super) number: u32,

@@ -17,7 +17,7 @@ use Rattle.mark_core.proofs.Blocks.BlocksStopped.{still-while-knows}
 use Rattle.mark_core.specs.declared.kinds.Step.{Step}
 use Rattle.mark_core.specs.declared.seat.SeatState.{SeatState}
 
--- where at most one passes, no two do
+-- if at most one passes, no two do
 pub one-passes : {X : Type 0} (f : X → Bool) (xs : List X) (i j : ℕ) (d : X) → i < length xs → j < length xs → count_by f xs ≤ 1 → f (get_or xs i d) ≡ true → f (get_or xs j d) ≡ true → i ≡ j
 one-passes f [] i j d hi hj o a b = absurd (omega (arith, hi))
 one-passes f (x ∷ xs) zero zero d hi hj o a b = refl

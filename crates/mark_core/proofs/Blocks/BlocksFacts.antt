@@ -103,11 +103,11 @@ spent-cache c i s step t =
     let all : All SpentCache c.seats = λ j d h. (t.core.strong.seats_strong j d h).cache_of_spent in
     local-kept SpentCache c.shape step c.seats i (seat_after c.shape s step (found c s step)) (λ k e. refl) (λ k e. refl) all (cache_after c i s step t (mine c i s step SpentCache t all))
 
--- where a seat is exact, no seat is active
+-- if a seat is exact, no seat is active
 pub exact-still : (c : Core) (j : ℕ) (d : SeatState) → IsCore c → j < length c.seats → IsTrue (get_or c.seats j d).exact → All (λ (x : SeatState). IsFalse x.active) c.seats
 exact-still c j d k h e = still-known c k (knower c.seats j d h ((k.strong.seats_strong j d h).exact_needs_knows e))
 
--- where a mutator runs no seat is exact
+-- if a mutator runs, no seat is exact
 pub running-not-exact : (c : Core) (i : ℕ) (s : SeatState) (step : Step) → Taken c i s step → s.active ≡ true → All NotExact c.seats
 running-not-exact c i s step t run j d h =
     ⊎_elim

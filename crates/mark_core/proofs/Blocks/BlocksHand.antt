@@ -1,4 +1,4 @@
--- The rule of the blocks in hand, and how it is kept where one seat's block is replaced.
+-- The rule of the blocks in hand, and how it is kept when one seat's block is replaced.
 use Rattle.std.proofs.Common.{ℕ, ◌≡◌, ◌<◌, ◌≤◌, List, [], ◌∷◌, ◌++◌, set, get_or, length, arith, refl, sym, subst, inl, inr, Option, Some, None, ⊎_elim}
 use Rattle.std.specs.Prelude.{IsFalse, IfSome}
 use Rattle.std.specs.List.{All, AllPairs}
@@ -17,7 +17,7 @@ use Rattle.mark_core.specs.declared.kinds.Step.TheVariants.{Split, Join}
 use Rattle.mark_core.specs.declared.seat.SeatState.{SeatState}
 use Rattle.mark_core.specs.declared.seat.BlockState.{BlockState}
 
--- a seat's block, where it has one
+-- a seat's block, if it has one
 abbrev pub IsBlock : ℕ → ℕ → List ℕ → List ℕ → Option BlockState → Type 0
 IsBlock phase nb allocs marks b = IfSome b (IsStrongBlock phase nb allocs marks)
 

@@ -20,7 +20,7 @@ all-set P xs i x o h j d l =
     (λ (n : j ≡ i → ⊥). rw (get_or-set_other xs i j x d n) (o j d lj n))
     (cases_eq j i)
 
--- each two, where the replaced one stands right with each other
+-- each two, if the replaced one stands right with each other
 pub pairs-set : {X : Type 0} (R : X → X → Type 0) (xs : List X) (i : ℕ) (x : X) → AllPairs R xs → Others i (R x) xs → Others i (λ y. R y x) xs → AllPairs R (set xs i x)
 pairs-set R xs i x a f g j k d h l =
     let lk : k < length xs = omega (arith, l, length-set xs i x) in
@@ -48,7 +48,7 @@ pairs-but R xs i x turn h is a j d l n =
     u)
     (cases_order j i)
 
--- whether some element passes stays, where the replaced one passes as before
+-- whether some element passes stays, if the replaced one passes as before
 pub any-same : {X : Type 0} (p : X → Bool) (xs : List X) (i : ℕ) (x d : X) → i < length xs → p x ≡ p (get_or xs i d) → list_any p (set xs i x) ≡ list_any p xs
 any-same p [] i x d h e = refl
 any-same p (y ∷ ys) zero x d h e = ap (λ b. b || list_any p ys) e
@@ -58,7 +58,7 @@ pub or-false : (b : Bool) → (b || false) ≡ b
 or-false true = refl
 or-false false = refl
 
--- where no other element passes, some one passes where that at i does
+-- if no other element passes, some one passes if that at i does
 pub any-alone : {X : Type 0} (p : X → Bool) (xs : List X) (i : ℕ) (x : X) → i < length xs → ((d : X) → get_or xs i d ≡ x) → Others i (λ y. p y ≡ false) xs → list_any p xs ≡ p x
 any-alone p [] i x h is o = absurd (omega (arith, h))
 any-alone p (y ∷ ys) zero x h is o =

@@ -63,7 +63,7 @@ others-apart c i s step t =
 others_right : (c : Core) (i : ℕ) (s : SeatState) (step : Step) → Taken c i s step → Others i (IsBlock (words_of c.shape c.words).phase (words_of c.shape c.words).next_block (words_of c.shape c.words).allocs (words_of c.shape c.words).marks) (blocks c.seats)
 others_right c i s step t j d h n = (hand c i s step t).strong j d h
 
--- a step that leaves the words changes the seat's own block alone
+-- a step that leaves the words changes only the seat's own block
 own_change : (c : Core) (i : ℕ) (s : SeatState) (step : Step) (v : Words) (b : Option BlockState) → Taken c i s step → SameHeap (words_of c.shape c.words) v
     → IsBlock (words_of c.shape c.words).phase (words_of c.shape c.words).next_block (words_of c.shape c.words).allocs (words_of c.shape c.words).marks b
     → ((y : Option BlockState) → AreApart s.block y → AreApart b y) → Hand v (set (blocks c.seats) i b)
@@ -80,7 +80,7 @@ hand_stays c i s step v b t p n a m e =
     let back : set (blocks c.seats) i s.block ≡ blocks c.seats = subst (λ (o : Option BlockState). set (blocks c.seats) i o ≡ blocks c.seats) (own-block c i s step None t) (set-get_or (blocks c.seats) i None) in
     rw (p, n, a, m, e, back) (hand c i s step t)
 
--- where no block was in hand, none is after a step that takes none
+-- if no block was in hand, none is after a step that takes none
 none_taken : (c : Core) (i : ℕ) (s : SeatState) (step : Step) (v : Words) → Taken c i s step → All (λ b. b ≡ None) (blocks c.seats) → Hand v (set (blocks c.seats) i s.block)
 none_taken c i s step v t a =
     let back : set (blocks c.seats) i s.block ≡ blocks c.seats = subst (λ (o : Option BlockState). set (blocks c.seats) i o ≡ blocks c.seats) (own-block c i s step None t) (set-get_or (blocks c.seats) i None) in

@@ -40,7 +40,7 @@ sweeping c i s step t e =
     saw-number s.phase_seen Sweep phase b.1 ((own-sights c i s step t).helper b.0))
     (or_cases (s.knows && is_phase phase Sweep) (s.admitted && saw s.phase_seen Sweep) e)
 
--- a block is taken in hand in Sweep and in Clear alone
+-- a block is taken in hand only in Sweep and in Clear
 pub in-time : (c : Core) (i : ℕ) (s : SeatState) (step : Step) → Taken c i s step → (may_sweep (words_of c.shape c.words).phase s || may_clear (words_of c.shape c.words).phase s) ≡ true
     → (is_phase (words_of c.shape c.words).phase Sweep || is_phase (words_of c.shape c.words).phase Clear) ≡ true
 in-time c i s step t e =
@@ -54,7 +54,7 @@ in-time c i s step t e =
 abbrev pub AllStill : Core → Type 0
 AllStill c = All (λ (s : SeatState). IsFalse s.active) c.seats
 
--- where some seat knows that the world is stopped, no seat is active
+-- if some seat knows that the world is stopped, no seat is active
 pub still-from : (sh : Shape) (world help : ℕ) (seats : List SeatState) → World sh world help (standings seats) seats → some_knows (standings seats) ≡ true → All (λ (s : SeatState). IsFalse s.active) seats
 still-from sh world help seats k e j d h =
     let ss : List Standing = standings seats in

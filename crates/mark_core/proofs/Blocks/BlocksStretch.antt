@@ -49,7 +49,7 @@ first-apart x y e s = out-from x.block y (λ l h. ⊎_elim (λ (a : y.until ≤ 
 pub firsts-differ : (x y : BlockState) → overlap (Some x) (Some y) ≡ false → x.block < x.until → y.block < y.until → eqb x.block y.block ≡ false
 firsts-differ x y e s t = ne_eqb x.block y.block (λ z. ⊎_elim (λ (a : y.until ≤ x.block). absurd (omega (arith, a, z, t))) (λ (a : x.until ≤ y.block). absurd (omega (arith, a, z, s))) (apart-to x y e))
 
--- another number is above the last one where it isn't below it
+-- another number is above the last one if it isn't below it
 next_above : (a b : ℕ) → b ≢ a → nat_le (a + 1) b ≡ nat_le a b
 next_above a b n =
     ⊎_elim
@@ -63,7 +63,7 @@ rest_in b x false e n =
     let end = ltb-false (x.block + 1) x.until e in
     sym (out-from b x (λ l h. n (omega (arith, l, h, end))))
 
--- another block than the first is in the rest of a stretch where it is in the stretch
+-- another block than the first is in the rest of a stretch if it is in the stretch
 pub rest-in : (b : ℕ) (o : Option BlockState) → b ≢ unwrap_or (block_in_hand o) 0 → in_stretch b (next_in_stretch o) ≡ in_stretch b o
 rest-in b None n = refl
 rest-in b (Some x) n = rest_in b x (nat_lt (x.block + 1) x.until) refl n

@@ -83,7 +83,7 @@ pub may-store-some : (o : Option BlockState) → may_store o ≡ true → is_som
 may-store-some None e = absurd (false≢true e)
 may-store-some (Some x) e = refl
 
--- blocks that are taken in hand, and none where all were handed out
+-- blocks that are taken in hand, and none if all were handed out
 pub takes : (phase nb nb' u : ℕ) (allocs marks : List ℕ) (b : Bool) (o : Option BlockState) → (is_phase phase Sweep || is_phase phase Clear) ≡ true → (b ≡ true → nb < u) → u ≤ nb' → o ≡ None → IsBlock phase nb' allocs marks (cond b (Some (untouched nb u)) o)
 takes phase nb nb' u allocs marks true o e some counted n = record { block_in_time = e; block_first = some refl; stretch_counted = counted; alloc_kept = λ s. tt; mark_kept = λ s. tt }
 takes phase nb nb' u allocs marks false o e some counted n = rw n tt

@@ -65,7 +65,7 @@ pub block_named : (o : Option CacheState) → is_some o ≡ true → cache_block
 block_named None e = absurd (false≢true e)
 block_named (Some x) e = refl
 
--- a claim of a block, which succeeds where it has no owner
+-- a claim of a block, which succeeds if it has no owner
 claim_by : (sh : Shape) (w : Words) (ms : List Maker) (i b number old : ℕ) (z : Bool) (m : Maker) → Caching sh w.owners w.allocs w.identities w.fields ms → slice_get ms i ≡ Some m → b < block_count sh → old ≡ slice_index w.owners b → (z ≡ true → old ≡ 0) → number ≡ i → m.cache ≡ None → i < length ms
     → Caches sh (set w.owners b (cond z (number + 1) old)) w.allocs w.identities w.fields (set ms i (with_cache m (cond z (claimed_cache b) m.cache)))
 claim_by sh w ms i b number old true m k g hb o z n none hi =

@@ -1,4 +1,4 @@
--- The owners of blocks, where a seat claims a block, gives one up, or keeps the one that it has.
+-- The owners of blocks, when a seat claims a block, gives one up, or keeps the one that it has.
 use Rattle.std.proofs.Common.{ℕ, ◌≡◌, ◌≢◌, ◌+◌, ◌<◌, ◌≤◌, List, set, get_or, length, arith, refl, sym, ap, ◌∙◌, subst, true, Some, None, eqb, ⊎_elim}
 use Rattle.std.specs.Prelude.{slice_get, slice_index}
 use Rattle.std.proofs.lemmas.Bool.{cases_eq, eqb-true, eq-eqb, ne_eqb}

@@ -41,7 +41,7 @@ use Rattle.mark_core.specs.declared.kinds.Event.{Event}
 use Rattle.mark_core.specs.declared.kinds.Step.{Step}
 
 -- The rule of caches after a step stores a part of a new cell, a field, or the allocation bits of a swept block.
--- seat z alone has section z
+-- only seat z has section z
 pub section-seat : (n j z : ℕ) (b : Bool) → is_the (cond b (Some j) None) z ≡ true → z ≡ j
 section-seat n j z true e = sym (eqb-true j z e)
 section-seat n j z false e = absurd (false≢true e)

@@ -1,4 +1,4 @@
--- Which cells of a cache are unpublished, and which fields of a cell being made are nil, where words or the cache change.
+-- Which cells of a cache are unpublished, and which fields of a cell being made are nil, when words or the cache change.
 use Rattle.std.proofs.Common.{ℕ, ◌≡◌, ◌≢◌, ◌+◌, ◌*◌, ◌/◌, ◌%◌, ◌<◌, ◌≤◌, List, set, get_or, length, arith, refl, sym, ap, ◌∙◌, subst, true, false, ◌||◌, Option, Some, None, eqb, ⊎_elim}
 use Rattle.std.specs.Prelude.{IfSome, slice_index}
 use Rattle.std.proofs.lemmas.Bool.{and_parts, or_cases, false_from_ne_true, cases_eq, cases_lt, eqb-true, true≢false, false≢true}
@@ -15,7 +15,7 @@ use Rattle.mark_core.specs.declared.kinds.Shape.{Shape}
 use Rattle.mark_core.specs.declared.seat.CacheState.{CacheState}
 use mir.Syntax.{w64}
 
--- a cell of the cache that isn't published stays so, where no further bit is set
+-- a cell of the cache that isn't published stays so, if no further bit is set
 pub unpublished-fewer : (sh : Shape) (allocs allocs' : List ℕ) (m : Maker) → ((c : ℕ) → c < sh.cells → (free_in m.cache c || used_in m.cache c) ≡ true → cell_bit allocs' c ≡ true → cell_bit allocs c ≡ true) → CachesUnpublished sh allocs m → CachesUnpublished sh allocs' m
 unpublished-fewer sh allocs allocs' m f k c h e = false_from_ne_true (cell_bit allocs' c) (λ b. true≢false (sym (f c h e b) ∙ k c h e))
 
@@ -38,15 +38,15 @@ pub zero_there : (xs : List ℕ) (k : ℕ) → get_or (set xs k 0) k 0 ≡ 0
 zero_there xs k =
     ⊎_elim (λ (h : k < length xs). get_or-set_same xs k 0 0 h) (λ (h : length xs ≤ k). get_or_past (set xs k 0) k 0 (rw length-set h)) (cases_lt k (length xs))
 
--- a nil field stays nil, where nil is written
+-- a nil field stays nil, if nil is written
 pub zero_stays : (xs : List ℕ) (k j : ℕ) → get_or xs j 0 ≡ 0 → get_or (set xs k 0) j 0 ≡ 0
 zero_stays xs k j e = ⊎_elim (λ (s : j ≡ k). ap (λ i. get_or (set xs k 0) i 0) s ∙ zero_there xs k) (λ (d : j ≢ k). get_or-set_other xs k j 0 0 d ∙ e) (cases_eq j k)
 
--- the fields of a cell being made stay nil, where nil is written
+-- the fields of a cell being made stay nil, if nil is written
 pub making-zero : (sh : Shape) (fields : List ℕ) (k : ℕ) (m : Maker) → MakesNil sh fields m → MakesNil sh (set fields k 0) m
 making-zero sh fields k m h c part i e l f = zero_stays fields k (c * sh.fields + i) (h c part i e l f)
 
--- the fields of a cell being made stay nil, where a field of another cell is written
+-- the fields of a cell being made stay nil, if a field of another cell is written
 pub making-other : (sh : Shape) (fields : List ℕ) (d f v : ℕ) (m : Maker) → f < sh.fields → ((c part : ℕ) → makes m.cache c part ≡ true → c ≢ d) → MakesNil sh fields m → MakesNil sh (set fields (d * sh.fields + f) v) m
 making-other sh fields d f v m hf apart h c part i e l g =
     get_or-set_other fields (d * sh.fields + f) (c * sh.fields + i) v 0 (λ s. apart c part e (same_place sh.fields c d i f g hf s).0) ∙ h c part i e l g

@@ -41,7 +41,7 @@ same-seat sh owners ms i j c m n k o g h l e f =
     let second : eqb (slice_index owners (c / 64)) (j + 1) ≡ true = sym (o j n h (c / 64) b) ∙ in_block n.cache c f in
     omega (arith, eqb-true _ _ first, eqb-true _ _ second)
 
--- where some seat uses the cell, one of them does
+-- if some seat uses the cell, one of them does
 pub user : (ms : List Maker) (c : ℕ) → list_any (used_by c) ms ≡ true → (j : ℕ) × (n : Maker) × (slice_get ms j ≡ Some n) × (used_in n.cache c ≡ true)
 user [] c e = absurd (false≢true e)
 user (m ∷ ms) c e =

@@ -33,7 +33,7 @@ no-facts = record { unread_is_empty = tt; free_apart_from_used = λ c. refl; mad
 claimed : (b : ℕ) → CacheFacts (Some (record { block = b; unread = true; free = 0; used = 0; making = None; last = None }))
 claimed b = record { unread_is_empty = λ e. (refl, refl, refl); free_apart_from_used = λ c. and_right _ _ (empty-set b c); made_from_free = tt }
 
--- no cell is used where the set is empty
+-- no cell is used if the set is empty
 none_used : (b free used c : ℕ) → used ≡ 0 → (in_set b free c && in_set b used c) ≡ false
 none_used b free used c e = and_right _ _ (ap (λ n. in_set b n c) e ∙ empty-set b c)
 

@@ -42,7 +42,7 @@ with_cache m o = record m { cache = o }
 pub names-of : (sh : Shape) (owners allocs ids fields : List ℕ) (ms : List Maker) → Caches sh owners allocs ids fields ms → Names sh ids (in_use allocs ms) ms
 names-of sh owners allocs ids fields ms k = record { distinct = k.distinct; numbers_below = k.numbers_below; sections_seated = k.sections_seated }
 
--- the rule of caches, put together where one seat's record changed
+-- the rule of caches, put together when one seat's record changed
 pub caches-set : (sh : Shape) (owners allocs ids fields : List ℕ) (ms : List Maker) (i : ℕ) (n : Maker) → EachAt (Owns sh owners) (set ms i n) → EachBlock sh (λ b. slice_index owners b ≤ length ms) → CachesUnpublished sh allocs n → ((j : ℕ) (x : Maker) → j ≢ i → slice_get ms j ≡ Some x → CachesUnpublished sh allocs x)
     → MakesNil sh fields n → ((j : ℕ) (x : Maker) → j ≢ i → slice_get ms j ≡ Some x → MakesNil sh fields x) → UsedOwn sh ids n → ((j : ℕ) (x : Maker) → j ≢ i → slice_get ms j ≡ Some x → UsedOwn sh ids x) → Names sh ids (in_use allocs (set ms i n)) (set ms i n) → Caches sh owners allocs ids fields (set ms i n)
 caches-set sh owners allocs ids fields ms i n own exist mine others nil nils made makes names =

@@ -1,4 +1,4 @@
--- Which cells are in use, where one seat's cache changed or the allocation bits did.
+-- Which cells are in use, when one seat's cache changed or the allocation bits did.
 use Rattle.std.proofs.Common.{ℕ, ◌≡◌, ◌/◌, ◌%◌, ◌<◌, List, [], ◌∷◌, ◌++◌, set, get_or, length, sym, ap, ◌∙◌, true, false, Some, ⊎_elim}
 use Rattle.std.specs.Prelude.{slice_get}
 use Rattle.std.specs.List.{list_any}
@@ -25,12 +25,12 @@ use-made allocs ms c e = or_right (cell_bit allocs c) (list_any (used_by c) ms) 
 pub use-mine : (allocs : List ℕ) (ms : List Maker) (i c : ℕ) (m : Maker) → slice_get ms i ≡ Some m → used_in m.cache c ≡ true → in_use allocs ms c ≡ true
 use-mine allocs ms i c m g e = use-made allocs ms c (used-any ms i c m g e)
 
--- no further cell is in use, where the seat uses no further one and no further one is published
+-- no further cell is in use, if the seat uses no further one and no further one is published
 pub use-fewer : (allocs allocs' : List ℕ) (ms : List Maker) (i c : ℕ) (m n : Maker) → slice_get ms i ≡ Some m → (used_in n.cache c ≡ true → used_in m.cache c ≡ true) → (cell_bit allocs' c ≡ true → in_use allocs ms c ≡ true) → in_use allocs' (set ms i n) c ≡ true
     → in_use allocs ms c ≡ true
 use-fewer allocs allocs' ms i c m n g used bits e = use-set (in_use allocs ms c ≡ true) allocs' ms i c n bits (λ a. use-mine allocs ms i c m g (used a)) (use-made allocs ms c) e
 
--- no further cell is in use, where a seat without a cache is added
+-- no further cell is in use, when a seat without a cache is added
 pub use-push : (allocs : List ℕ) (ms : List Maker) (c : ℕ) (n : Maker) → used_in n.cache c ≡ false → in_use allocs (ms ++ n ∷ []) c ≡ true → in_use allocs ms c ≡ true
 use-push allocs ms c n none e =
     ⊎_elim

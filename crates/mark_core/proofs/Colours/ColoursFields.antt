@@ -88,7 +88,7 @@ unread_left : (fields : ℕ) (o : Option (ℕ × ℕ)) (x j : ℕ) → j < field
 unread_left fields None x j h e = absurd (false≢true e)
 unread_left fields (Some y) x j h e = lt-ltb y.1 fields (omega (arith, h, leb-true y.1 j (and_parts (eqb y.0 x) (nat_le y.1 j) e).1))
 
--- 9: a scan goes on, where nothing is popped
+-- 9: a scan goes on, if nothing is popped
 scan_on : (fields : ℕ) (p : Option (ℕ × Bool)) (scan : Option (ℕ × ℕ)) (b word x j : ℕ) → (is_some p ≡ true → scan_left fields scan ≡ false) → scan_left fields scan ≡ true → is_unread_by scan x j ≡ true → is_unread_by (scan_after p scan b word) x j ≡ true
 scan_on fields None scan b word x j k l e = e
 scan_on fields (Some y) scan b word x j k l e = absurd (true≢false (sym l ∙ k refl))

@@ -43,7 +43,7 @@ pub same-popped : (o : Option (ℕ × Bool)) (x y : ℕ) → popped_is o x ≡ t
 same-popped None x y e f = absurd (false≢true e)
 same-popped (Some z) x y e f = sym (eqb-true z.0 x e) ∙ eqb-true z.0 y (and_parts (eqb z.0 y) z.1 f).0
 
--- 9: a popped cell stays where its bit is clear
+-- 9: a popped cell stays if its bit is clear
 popped_seen : (y : ℕ × Bool) (x : ℕ) (t h : Bool) → popped_is (Some y) x ≡ true → (popped_is (cond t (cond h None (Some (y.0, true))) (Some y)) x ≡ true) ⊎ ((t ≡ true) × (h ≡ true) × (y.0 ≡ x))
 popped_seen y x true true e = inr (refl, refl, eqb-true y.0 x e)
 popped_seen y x true false e = inl e
@@ -57,7 +57,7 @@ popped-read (Some y) b word x e =
     (λ p. inr (sym (ap (λ z. z / 64) p.2) ∙ eqb-true (y.0 / 64) b p.0, ap (λ z. has_bit word (z % 64)) (sym p.2) ∙ p.1))
     (popped_seen y x (eqb (y.0 / 64) b) (has_bit word (y.0 % 64)) e)
 
--- where a bit of the first word isn't in the second, it is in the complement
+-- if a bit of the first word isn't in the second, it is in the complement
 bit_other : (a b i : ℕ) → b < 2 ^ 64 → i < 64 → has_bit a i ≡ true → has_bit b i ≡ false → has_bit (bit_and a (complement b)) i ≡ true
 bit_other a b i h l e f =
     let none : bit_at b i ≡ 0 = ⊎_elim (λ (z : bit_at b i ≡ 1). absurd (true≢false (sym (eq-eqb (bit_at b i) 1 z) ∙ f))) (λ (z : bit_at b i ≡ 1 → ⊥). omega (arith, z, bit_at-lt b i)) (cases_eq (bit_at b i) 1) in

@@ -110,7 +110,7 @@ stored_field c i s v k r x a t h p f =
     rw same (field-after c i s step x j (field sh w.fields x j) a t hj (λ l. absurd l) (f j hj))))
     (cases_eq x y)
 
--- 50: the same where the exchange was won, and else no field changed
+-- 50: the same if the exchange was won, and else no field changed
 exchanged_field : (c : Core) (i : ℕ) (s : SeatState) (v k : ℕ) (r q : Option ℕ) (x : ℕ) → Taken c i s (ExchangeField v k r q) → IsTrue (is_tracing (words_left c s (ExchangeField v k r q)).phase) → x < c.shape.cells → cell_bit (words_of c.shape c.words).allocs x ≡ true → ScannedNow c x
     → AccountedAfter c i s (ExchangeField v k r q) x
 exchanged_field c i s v k r q x a t h p f =

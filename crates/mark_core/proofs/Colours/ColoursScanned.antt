@@ -76,7 +76,7 @@ lost-fields c i s v j r q a lost =
     ap (λ (b : Bool). set fields at (cond b (variable_or_nil s q) (found c s step))) lost
     ∙ subst (λ (word : ℕ). set fields at word ≡ fields) (sym (found-word c i s step a.core a.got a.ok)) (set-get_or fields at 0)
 
--- a field that stays is done after a step, where it was before
+-- a field that stays is done after a step, if it was before
 pub field-after : (c : Core) (i : ℕ) (s : SeatState) (step : Step) (x j word : ℕ) → Taken c i s step → IsTrue (is_tracing (words_left c s step).phase) → j < c.shape.fields → (Loads step x j → is_done (words_left c s step).marks (seats_left c i s step) word x j ≡ true)
     → is_done (words_of c.shape c.words).marks c.seats word x j ≡ true → is_done (words_left c s step).marks (seats_left c i s step) word x j ≡ true
 field-after c i s step x j word a t h loads e =
@@ -94,7 +94,7 @@ loads_done : (c : Core) (i : ℕ) (s : SeatState) (step : Step) (x j : ℕ) → 
 loads_done c i s (ReadField y k) x j a l = rw (l.0, l.1) (loaded-done c i s y k (words_left c s (ReadField y k)).marks a)
 loads_done c i s step x j a l = absurd l
 
--- a scanned cell stays so, where the step stores no field
+-- a scanned cell stays so, if the step stores no field
 pub scanned-stays : (c : Core) (i : ℕ) (s : SeatState) (step : Step) (x : ℕ) → Taken c i s step → IsTrue (is_tracing (words_left c s step).phase) → writes_field step ≡ false → ScannedNow c x → ScannedAfter c i s step x
 scanned-stays c i s step x a t f k j h =
     let w : Words = words_of c.shape c.words in

@@ -1,4 +1,4 @@
--- Some seat tends a cell or cleans its card, where one seat is replaced, and a seat without work does neither.
+-- Some seat tends a cell or cleans its card, when one seat is replaced, and a seat without work does neither.
 use Rattle.std.proofs.Common.{ℕ, ◌≡◌, List, set, get_or, refl, sym, ap, ◌∙◌, Bool, true, false, Some, ⊎_elim}
 use Rattle.std.specs.Prelude.{slice_get}
 use Rattle.std.specs.List.{list_any}

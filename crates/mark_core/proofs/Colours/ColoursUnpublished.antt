@@ -36,12 +36,12 @@ use Rattle.mark_core.specs.declared.seat.SeatState.{SeatState}
 unmarked : (ws : List ℕ) (x : ℕ) (P : Type 0) → none_marked ws ≡ true → cell_bit ws x ≡ true → P
 unmarked ws x P e f = absurd (true≢false (sym f ∙ (ap (λ w. has_bit w (x % 64)) (all-zero ws e (x / 64)) ∙ no-bit (x % 64))))
 
--- a try to begin marking changes the phase in Idle alone
+-- a try to begin marking changes the phase only in Idle
 tried : (phase : ℕ) (b : Bool) (P : Type 0) → (b ≡ true → P) → (is_tracing phase ≡ true → P) → is_tracing (cond b 1 phase) ≡ true → P
 tried phase true P f g t = f refl
 tried phase false P f g t = g t
 
--- where a cell is marked and the phase moves to tracing, it was so before
+-- if a cell is marked and the phase moves to tracing, it was so before
 moved_tracing : (c : Core) (i : ℕ) (s : SeatState) (to : Phase) (x : ℕ) → Taken c i s (StorePhase to) → IsTrue (is_tracing (words_left c s (StorePhase to)).phase) → x < c.shape.cells → cell_bit (words_of c.shape c.words).marks x ≡ true → is_tracing (words_of c.shape c.words).phase ≡ true
 moved_tracing c i s Idle x a t h m = absurd (false≢true t)
 moved_tracing c i s Marking x a t h m =
@@ -75,7 +75,7 @@ pub unpublished-before : (c : Core) (i : ℕ) (s : SeatState) (step : Step) (x :
 unpublished-before c i s StoreAlloc x a t e = absurd (true≢false (sym t ∙ block-stops c i s a.core a.got (may-store-some s.block a.ok.1.0)))
 unpublished-before c i s step x a t e = false_from_ne_true (cell_bit (words_of c.shape c.words).allocs x) (λ h. true≢false (sym (alloc-on c i s step x a refl h) ∙ e))
 
--- a cell that a step marks is fresh, where it was white
+-- a cell that a step marks is fresh, if it was white
 pub waits-new : (c : Core) (i : ℕ) (s : SeatState) (step : Step) (x : ℕ) → Taken c i s step → cell_bit (words_of c.shape c.words).marks x ≡ false → MarksIt step x → WaitsAfter c i s step x
 waits-new c i s (SetMark m) x a f e =
     let step : Step = SetMark m in

@@ -1,4 +1,4 @@
--- What follows from each way in which a grey cell waits, where the record of one seat is replaced.
+-- What follows from each way in which a grey cell waits, when the record of one seat is replaced.
 use Rattle.std.proofs.Common.{ℕ, ◌≡◌, set, ap, ◌∙◌, true, false, Some}
 use Rattle.std.specs.Prelude.{slice_get, slice_index}
 use Rattle.std.specs.List.{list_any}
@@ -31,7 +31,7 @@ WaitsAfter c i s step x = IsWaiting c.shape (words_left c s step).cards (words_l
 abbrev pub seat_left : Core → SeatState → Step → SeatState
 seat_left c s step = seat_after c.shape s step (found c s step)
 
--- what follows from each way to wait, where the record of seat i becomes t
+-- what follows from each way to wait, when the record of seat i becomes t
 pub waits-moved : (c : Core) (i : ℕ) (s t : SeatState) (x : ℕ) (P : Type 0) → slice_get c.seats i ≡ Some s → (QueuedNow c x → P) → (tends x (grasp_of s) ≡ true → P) → (list_any (tends x) (grasps (set c.seats i t)) ≡ true → P)
     → (slice_index (words_of c.shape c.words).cards (card_of x) ≡ 1 → P) → (cleans_card (card_of x) (grasp_of s) ≡ true → P) → (list_any (cleans_card (card_of x)) (grasps (set c.seats i t)) ≡ true → P) → WaitsNow c x → P
 waits-moved c i s t x P g fq ft fo fd fc fr (queued q) = fq q

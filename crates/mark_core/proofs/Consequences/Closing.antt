@@ -55,7 +55,7 @@ none_named (Some x) n e = absurd (true≢false e)
 none_tended : (fields c : ℕ) (g : Grasp) → IsIdle fields g → tends c g ≡ false
 none_tended fields c g k = rw (none_popped g.popped c k.popped, none_named g.fresh c k.fresh, done-left g.cleaning c k.cleaning) refl
 
--- each element passes where all do
+-- each element passes if all do
 pub all-passes : {X : Type 0} (f : X → Bool) (xs : List X) (i : ℕ) (d : X) → i < length xs → list_all f xs ≡ true → f (get_or xs i d) ≡ true
 all-passes f xs i d h e =
     ⊎_elim

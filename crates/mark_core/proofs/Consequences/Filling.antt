@@ -1,4 +1,4 @@
--- The heap is found full only where every cell is reachable.
+-- The heap is found full only if every cell is reachable.
 use Rattle.std.proofs.Common.{ℕ, ◌≡◌, ◌/◌, ◌%◌, ◌<◌, get_or, length, arith, refl, ap, ◌∙◌, true, ◌&&◌, eqb}
 use Rattle.std.specs.List.{list_any}
 use Rattle.std.proofs.lemmas.Bool.{and_parts, eqb-true, eq-eqb}

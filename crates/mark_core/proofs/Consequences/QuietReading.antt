@@ -1,4 +1,4 @@
--- Where the count says that all packets are empty, no packet has an entry, and no seat has work in hand.
+-- If the count says that all packets are empty, no packet has an entry, and no seat has work in hand.
 use Rattle.std.proofs.Common.{ℕ, ◌≡◌, ◌+◌, ◌<◌, ◌≤◌, [], ◌∷◌, get_or, length, arith, refl, sym, ap, ◌∙◌, subst, Bool, true, false, Some, None}
 use Rattle.std.specs.Prelude.{IfSome, IsFalse, slice_index}
 use Rattle.std.specs.List.{All, range_with_len}
@@ -26,7 +26,7 @@ use Rattle.mark_core.specs.declared.seat.SeatState.{SeatState}
 abbrev Within : Shape → Slot → Type 0
 Within sh x = IfSome x (λ h. h.0 < sh.packets)
 
--- a packet that is held, where one is
+-- a packet that is held, if one is
 some_held : (sh : Shape) (hs : Slots) → All (Within sh) hs → holds_any hs ≡ true → (p : ℕ) × (p < sh.packets) × (holds hs p ≡ true)
 some_held sh [] a e = absurd (false≢true e)
 some_held sh (None ∷ hs) a e = some_held sh hs (All-tail (Within sh) None hs a) e
@@ -36,7 +36,7 @@ idle : (b : Bool) → (b ≡ true → ⊥) → b ≡ false
 idle true h = absurd (h refl)
 idle false h = refl
 
--- where the count shows it, each packet is in the empty pool
+-- if the count shows it, each packet is in the empty pool
 all_empty : (c : Core) → ArePacketsSound c → (words_of c.shape c.words).empty ≡ 64 + c.shape.packets → (p : ℕ) → p < c.shape.packets → in_pool c.shape (words_of c.shape c.words).pools 0 p ≡ true
 all_empty c k e p h =
     let sh : Shape = c.shape in

@@ -1,4 +1,4 @@
--- Whether some element passes a test, where one element is replaced or added.
+-- Whether some element passes a test, when one element is replaced or added.
 use Rattle.std.proofs.Common.{ℕ, ◌≡◌, ◌<◌, List, set, get_or, length, sym, ap, ◌∙◌, Bool, true, ◌⊎◌, inl, inr, ⊎_elim, [], ◌∷◌, map, refl, ◌||◌, suc, zero, arith, false, ◌++◌}
 use Rattle.std.specs.List.{list_any}
 use Rattle.std.proofs.lemmas.Bool.{or_right, or_cases, or_left, true≢false}
@@ -24,15 +24,15 @@ any-old f (x ∷ xs) (suc i) y d e =
     ⊎_elim (λ (k : f (get_or xs i d) ≡ true). inl k) (λ (k : list_any f (set xs i y) ≡ true). inr (or_right (f x) (list_any f (set xs i y)) k)) (any-old f xs i y d b))
     (or_cases (f x) (list_any f xs) e)
 
--- some element still passes where one is replaced that passes if the old one did
+-- some element still passes when one is replaced that passes if the old one did
 pub any-set : {X : Type 0} (f : X → Bool) (xs : List X) (i : ℕ) (y d : X) → i < length xs → list_any f xs ≡ true → (f (get_or xs i d) ≡ true → f y ≡ true) → list_any f (set xs i y) ≡ true
 any-set f xs i y d h e g = ⊎_elim (λ (a : f (get_or xs i d) ≡ true). any-new f xs i y h (g a)) (λ (b : list_any f (set xs i y) ≡ true). b) (any-old f xs i y d e)
 
--- a test that the new element passes where the old one did
+-- a test that the new element passes if the old one did
 pub any-kept : {X : Type 0} (f : X → Bool) (xs : List X) (i : ℕ) (x y : X) → i < length xs → get_or xs i x ≡ x → (f x ≡ true → f y ≡ true) → list_any f xs ≡ true → list_any f (set xs i y) ≡ true
 any-kept f xs i x y h is k e = any-set f xs i y x h e (λ a. k (ap f (sym is) ∙ a))
 
--- where some element passes after one was replaced, that one does, or some did before
+-- if some element passes after one was replaced, that one does, or some did before
 pub any-unset : {X : Type 0} (f : X → Bool) (xs : List X) (i : ℕ) (y : X) → list_any f (set xs i y) ≡ true → (f y ≡ true) ⊎ (list_any f xs ≡ true)
 any-unset f [] i y e = inr e
 any-unset f (x ∷ xs) zero y e = ⊎_elim (λ (a : f y ≡ true). inl a) (λ (a : list_any f xs ≡ true). inr (or_right (f x) (list_any f xs) a)) (or_cases (f y) (list_any f xs) e)
@@ -42,7 +42,7 @@ any-unset f (x ∷ xs) (suc i) y e =
     (λ (a : list_any f (set xs i y) ≡ true). ⊎_elim (λ (b : f y ≡ true). inl b) (λ (b : list_any f xs ≡ true). inr (or_right (f x) (list_any f xs) b)) (any-unset f xs i y a))
     (or_cases (f x) (list_any f (set xs i y)) e)
 
--- where some element passes after one was added, the added one does, or some did before
+-- if some element passes after one was added, the added one does, or some did before
 pub any-push : {X : Type 0} (f : X → Bool) (xs : List X) (y : X) → list_any f (xs ++ y ∷ []) ≡ true → (f y ≡ true) ⊎ (list_any f xs ≡ true)
 any-push f [] y e = ⊎_elim (λ (a : f y ≡ true). inl a) (λ (a : false ≡ true). inr a) (or_cases (f y) false e)
 any-push f (x ∷ xs) y e =

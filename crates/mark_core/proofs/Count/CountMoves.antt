@@ -42,7 +42,7 @@ count_moves sh empty empty' pools pools' seats i s t hi is local old =
     let b = rw is at (sum_by-set (λ (x : SeatState). bit (has_credit x)) seats i t s hi) in
     omega (arith, a, b, local, old)
 
--- the rule is kept where the other seats' packets have their heads as before
+-- the rule is kept if the other seats' packets have their heads as before
 pub counts-moved : (sh : Shape) (empty empty' : ℕ) (heads heads' pools pools' : List ℕ) (seats : List SeatState) (i : ℕ) (s t : SeatState) → Counts sh empty heads pools seats → i < length seats → get_or seats i s ≡ s
     → CountMove sh s t empty empty' heads' pools pools' → ((j : ℕ) (d : SeatState) → j ≢ i → j < length seats → HeadsAgree sh heads' (get_or seats j d)) → Counts sh empty' heads' pools' (set seats i t)
 counts-moved sh empty empty' heads heads' pools pools' seats i s t c hi is m others =
@@ -53,7 +53,7 @@ counts-moved sh empty empty' heads heads' pools pools' seats i s t c hi is m oth
       work_holds = All-set (λ (x : SeatState). IsTrue (work_in_hand sh.fields x) → IsTrue (holds_any x.held)) seats i t m.work_holds c.work_holds;
     }
 
--- the heads agree with a seat's hand where they did, but for packet p
+-- the heads agree with a seat's hand if they did, except for packet p
 pub agrees-but-one : (sh : Shape) (heads heads' : List ℕ) (s t : SeatState) (p : ℕ) → HeadsAgree sh heads s → ((x : ℕ) → x ≢ p → slice_index heads' x ≡ slice_index heads x) → ((x : ℕ) → x ≢ p → SameInHand s.held t.held x)
     → (p < sh.packets → IsTrue (is_stored t.held p) → IsTrue (has_length t.held p) → slice_index heads' p ≡ length_in_hand t.held p) → HeadsAgree sh heads' t
 agrees-but-one sh heads heads' s t p old head hand here x hx e f =

@@ -9,7 +9,7 @@ use Rattle.mark_core.proofs.Count.CountTests.{bit, bit-below, bit-one}
 pub count-cons : {X : Type 0} (f : X → Bool) (x : X) (xs : List X) → count_by f (x ∷ xs) ≡ bit (f x) + count_by f xs
 count-cons f x xs = sum_by-cons (λ y. cond (f y) 1 0) x xs
 
--- a count over a range of numbers stays where each of them passes as before
+-- a count over a range of numbers stays if each of them passes as before
 pub count-same : (f g : ℕ → Bool) (a n : ℕ) → ((x : ℕ) → a ≤ x → x < a + n → g x ≡ f x) → count_by g (range_with_len a n) ≡ count_by f (range_with_len a n)
 count-same f g a zero s = refl
 count-same f g a (suc n) s =
@@ -17,7 +17,7 @@ count-same f g a (suc n) s =
     let here : bit (g a) ≡ bit (f a) = ap bit (s a (omega arith) (omega arith)) in
     omega (arith, count-cons f a (range_with_len (a + 1) n), count-cons g a (range_with_len (a + 1) n))
 
--- where one of them changes, the count changes by it
+-- if one of them changes, the count changes by it
 pub count-but-one : (f g : ℕ → Bool) (p a n : ℕ) → a ≤ p → p < a + n → ((x : ℕ) → a ≤ x → x < a + n → x ≢ p → g x ≡ f x) → count_by g (range_with_len a n) + bit (f p) ≡ count_by f (range_with_len a n) + bit (g p)
 count-but-one f g p a zero l h s = absurd (omega (arith, l, h))
 count-but-one f g p a (suc n) l h s =
@@ -33,7 +33,7 @@ count-but-one f g p a (suc n) l h s =
     omega arith)
     (cases_eq a p)
 
--- where as many pass as there are, each passes
+-- if as many pass as there are, each passes
 pub all-pass : {X : Type 0} (p : X → Bool) (xs : List X) → length xs ≤ count_by p xs → (k : ℕ) (d : X) → k < length xs → p (get_or xs k d) ≡ true
 all-pass p [] h k d l = absurd (omega arith)
 all-pass p (x ∷ xs) h zero d l = bit-one (p x) (omega (arith, count-cons p x xs, count_by-le-length p xs))

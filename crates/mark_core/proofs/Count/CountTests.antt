@@ -2,7 +2,7 @@
 use Rattle.std.proofs.Common.{ℕ, ◌≡◌, ◌≤◌, arith, refl, Bool, true, false, not, ◌&&◌, ◌||◌, cond}
 use Rattle.std.proofs.lemmas.Bool.{false≢true}
 
--- 1 where it holds
+-- 1 if it holds
 abbrev pub bit : Bool → ℕ
 bit b = cond b 1 0
 
@@ -24,7 +24,7 @@ neither true b e = absurd (false≢true e)
 neither false true e = absurd (false≢true e)
 neither false false e = (refl, refl)
 
--- the second holds where the first does
+-- the second holds if the first does
 pub follows : (a b : Bool) → (not a || b) ≡ true → a ≡ true → b ≡ true
 follows true b h e = h
 follows false b h e = absurd (false≢true e)

@@ -1,4 +1,4 @@
--- Where a seat without work in hand takes a step of tracing, it has none afterwards.
+-- If a seat without work in hand takes a step of tracing, it has none afterwards.
 use Rattle.std.proofs.Common.{ℕ, ◌≡◌, ◌%◌, ◌<◌, ◌&&◌, ◌||◌, arith, refl, sym, ap, ◌∙◌, Bool, true, false, not, cond, eqb, Option, Some, None, ⊎_elim}
 use Rattle.std.specs.Prelude.{is_some}
 use Rattle.std.proofs.lemmas.Bool.{cases_Bool, true≢false, false≢true, and_parts, or_cases, eqb-true, lt-ltb}
@@ -38,7 +38,7 @@ idle-from fields s h =
 idle_work : (fields : ℕ) (s : SeatState) → IsIdle fields s → work_in_hand fields s ≡ false
 idle_work fields s h = rw (h.popped, h.scan, h.value, h.fresh, h.cleaning) refl
 
--- work that is there after a step was there before it, where an idle seat stays idle
+-- work that is there after a step was there before it, if an idle seat stays idle
 pub work-before : (fields : ℕ) (s t : SeatState) → (IsIdle fields s → IsIdle fields t) → work_in_hand fields t ≡ true → work_in_hand fields s ≡ true
 work-before fields s t f h =
     ⊎_elim

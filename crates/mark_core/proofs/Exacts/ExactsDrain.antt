@@ -1,4 +1,4 @@
--- In an exact drain a step marks what is reachable alone, and loads what is reachable alone.
+-- In an exact drain a step marks only what is reachable, and loads only what is reachable.
 use Rattle.std.proofs.Common.{ℕ, ◌≡◌, ◌≢◌, ◌+◌, ◌*◌, ◌/◌, ◌%◌, ◌<◌, ◌≤◌, List, set, get_or, length, arith, refl, sym, ap, ◌∙◌, subst, true, not, ◌&&◌, ◌||◌, eqb, Option, Some, None, ◌⊎◌, inl, inr, ⊎_elim}
 use Rattle.std.specs.Prelude.{IsTrue, IfSome, is_some, nat_lt}
 use Rattle.std.proofs.lemmas.Bool.{cases_eq, and_parts, or_cases, eqb-true, ltb-true, lt-ltb, true≢false, false≢true}
@@ -96,7 +96,7 @@ marks-reached c i s StoreAlloc t p a own = a
 marks-reached c i s (Reset which) t p a own = rw (marks-kept c.shape s (Reset which) 0 (words_of c.shape c.words) refl) a
 marks-reached c i s step t p a own = rw (heap-left c i s step t refl).marks a
 
--- a reference to a cell in use is small, where all cells in use are published
+-- a reference to a cell in use is small, if all cells in use are published
 small_reference : (c : Core) (r : ℕ) → IsCore c → NoneUsed c.seats → nil_or (in_use (words_of c.shape c.words).allocs (makers c.seats)) r ≡ true → r ≤ 16777216
 small_reference c r k none e =
     let w : Words = words_of c.shape c.words in

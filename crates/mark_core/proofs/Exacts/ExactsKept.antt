@@ -42,7 +42,7 @@ use Rattle.mark_core.proofs.AtSeat.{of-view}
 use Rattle.mark_core.specs.declared.kinds.Shape.{Shape}
 use Rattle.mark_core.specs.declared.kinds.Event.{Event}
 
--- A seat is exact after a step where one was before, or where the step began its drain; and while one is, no root and no field changes.
+-- A seat is exact after a step if one was before, or if the step began its drain; and while one is, no root and no field changes.
 none_pass : {X : Type 0} (p : X → Bool) (xs : List X) → list_any p xs ≡ false → All (λ x. p x ≡ false) xs
 none_pass p xs e j d h = false_from_ne_true (p (get_or xs j d)) (λ f. true≢false (sym (list_any_at p xs j d h f) ∙ e))
 
@@ -73,7 +73,7 @@ exact-came c i s step t e =
     (cases_Bool (seat_after c.shape s step (found c s step)).exact))
     (cases_Bool (some_exact c.seats))
 
--- where some seat is exact, some seat knows
+-- if some seat is exact, some seat knows
 exact_knower : (seats : List SeatState) (d : SeatState) → All ExactKnows seats → some_exact seats ≡ true → some_knows (standings seats) ≡ true
 exact_knower seats d a e =
     let one = some-passes (λ (x : SeatState). x.exact) seats (any-passes (λ (x : SeatState). x.exact) seats e) in

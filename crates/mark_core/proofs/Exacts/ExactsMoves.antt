@@ -68,7 +68,7 @@ no_value fields s e =
     let three = or_parts _ _ four.0 in
     no-some s.value (or_parts (is_some s.popped || scan_left fields s.scan) (is_some s.value) three.0).1
 
--- where neither Marking nor Drain is, no seat has a value
+-- if the phase is neither Marking nor Drain, no seat has a value
 pub no-values : (c : Core) → IsCore c → begins_exact (words_of c.shape c.words).phase Drain ≡ true → All (λ (s : SeatState). s.value ≡ None) c.seats
 no-values c k e j d h =
     let s : SeatState = get_or c.seats j d in
@@ -79,7 +79,7 @@ no-values c k e j d h =
     (λ (a : work_in_hand c.shape.fields s ≡ false). a)
     (cases_Bool (work_in_hand c.shape.fields s)))
 
--- once all blocks were handed out and none is in hand, a cell is kept where it is in use
+-- once all blocks were handed out and none is in hand, a cell is kept if it is in use
 pub kept-last : (c : Core) (i : ℕ) (s : SeatState) (x : ℕ) → Taken c i s (StorePhase Idle) → x < c.shape.cells
     → is_kept (words_of c.shape c.words).next_block (blocks c.seats) (words_of c.shape c.words).allocs (words_of c.shape c.words).marks (makers c.seats) x ≡ in_use (words_of c.shape c.words).allocs (makers c.seats) x
 kept-last c i s x t h =

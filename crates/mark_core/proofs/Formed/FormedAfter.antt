@@ -53,7 +53,7 @@ push-cases {X} (a ∷ xs) zero y x e = inr e
 push-cases {X} (a ∷ xs) (suc j) y x e =
     ⊎_elim (λ (h : (j ≡ length xs) × (y ≡ x)). inl (ap (λ n. suc n) h.0, h.1)) (λ (h : slice_get xs j ≡ Some x). inr h) (push-cases xs j y x e)
 
--- a property of all elements of a list in which one was replaced, where each other one has it
+-- a property of all elements of a list in which one was replaced, if each other one has it
 pub all-but : {X : Type 0} (P : X → Type 0) (xs : List X) (i : ℕ) (y : X) → P y → ((j : ℕ) (x : X) → j ≢ i → slice_get xs j ≡ Some x → P x) → All P (set xs i y)
 all-but {X} P xs i y h a j d l =
     let e : slice_get (set xs i y) j ≡ Some (get_or (set xs i y) j d) = slice_get-get_or (set xs i y) j d l in
@@ -82,7 +82,7 @@ each-read {X} {Y} f P [] a j y e = absurd (some_none y (sym e))
 each-read {X} {Y} f P (x ∷ xs) a zero y e = subst (P 0) (same_Some (f x) y e) (a 0 x refl)
 each-read {X} {Y} f P (x ∷ xs) a (suc j) y e = each-read f (λ i. P (suc i)) xs (λ i z g. a (suc i) z g) j y e
 
--- each seat has the property of its index after a step, where they had before, and a new record does
+-- each seat has the property of its index after a step, if they had before, and a new record does
 pub each-kept : (P : ℕ → SeatState → Type 0) (sh : Shape) (step : Step) (seats : List SeatState) (i : ℕ) (t : SeatState) → ((k : ℕ) → P k (start_seat sh k)) → ((k : ℕ) → P k (spent_seat sh k)) → EachAt P seats → P i t → EachAt P (others_after sh step (set seats i t))
 each-kept P sh Split seats i t new old a h = each-push P (set seats i t) (start_seat sh (length (set seats i t))) (new (length (set seats i t))) (each-set P seats i t h a)
 each-kept P sh (Join other) seats i t new old a h = each-set P (set seats i t) other (spent_seat sh other) (old other) (each-set P seats i t h a)

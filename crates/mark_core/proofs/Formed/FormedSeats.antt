@@ -32,7 +32,7 @@ use Rattle.mark_core.proofs.Formed.FormedSlots.{put-list, drop-list, set-list}
 use Rattle.mark_core.proofs.Formed.FormedGrasps.{Learns, popped-after, scan-after, value-after, fresh-after, owes-after, cleaning-after}
 
 -- A seat's cache stays in range over each step that is allowed.
--- the cache is in range, where there is one
+-- the cache is in range, if there is one
 abbrev pub Cached : Shape → Option CacheState → Type 0
 Cached sh o = IfSome o (IsCache sh)
 
@@ -90,7 +90,7 @@ env-after : (sh : Shape) (s : SeatState) (step : Step) (old : ℕ) → length s.
 env-after sh s (StoreRoot v r) old k = rw length-set k
 env-after sh s step old k = k
 
--- the record of a seat after its step is in range, where what it read is
+-- the record of a seat after its step is in range, if what it read is
 pub seat-kept : (sh : Shape) (w : Words) (seats : List SeatState) (i : ℕ) (s : SeatState) (step : Step) (old : ℕ) → IsShape sh → IsSeat sh i s → ((v : ℕ) → seat_variable s v ≤ sh.cells) → IfSome s.cache MakesFree → Learns sh step old → AllTrue (parts sh w seats s step)
     → IsSeat sh i (seat_after sh s step old)
 seat-kept sh w seats i s step old k a n m l ok =

@@ -11,7 +11,7 @@ use Rattle.mark_core.specs.WellFormed.{IsApart, IsHeldList}
 use Rattle.mark_core.proofs.Writing.SlotBounds.{choose}
 use Rattle.mark_core.specs.declared.kinds.Shape.{Shape}
 
--- the first of two values has the property where it is taken, and the other anyway
+-- the first of two values has the property if it is taken, and the other anyway
 chosen : {X : Type 0} (P : X → Type 0) (b : Bool) (x y : X) → (b ≡ true → P x) → P y → P (cond b x y)
 chosen P true x y p q = p refl
 chosen P false x y p q = q

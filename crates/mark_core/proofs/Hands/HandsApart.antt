@@ -84,7 +84,7 @@ once_read : (fields : ℕ) (p : Option (ℕ × Bool)) (scan : Option (ℕ × ℕ
 once_read fields None scan b word o k = k
 once_read fields (Some x) scan b word o k = once_now fields (eqb (x.0 / 64) b && has_bit word (x.0 % 64)) x.0 scan o k
 
--- 10: a field is loaded only where the cleaning is known
+-- 10: a field is loaded only if the cleaning is known
 loads_known : (fields : ℕ) (x : Cleaning) (p : Option (ℕ × Bool)) (scan : Option (ℕ × ℕ)) (c i : ℕ) (b : Bool) (P : Type 0) → i < fields → IsAlone fields p scan x → (scans scan c i || (eqb i 0 && may_scan (Some x) c && b)) ≡ true → IsFalse x.known → P
 loads_known fields x p scan c i b P h k e u =
     let a = k u in

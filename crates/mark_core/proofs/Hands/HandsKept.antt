@@ -28,7 +28,7 @@ hands-now c k i d h =
 pub apart-now : (c : Core) → IsCore c → All (HandApart c.shape) c.seats
 apart-now c k i d h = let strong = k.strong.seats_strong i d h in record { unknown_alone = strong.unknown_alone; scanned_once = strong.scanned_once }
 
--- a rule of one seat is kept by each event that is allowed, where it is kept by each step of the seat
+-- a rule of one seat is kept by each event that is allowed, if it is kept by each step of the seat
 kept_by : (P : Shape → SeatState → Type 0) → ((sh : Shape) (k : ℕ) → P sh (start_seat sh k)) → ((sh : Shape) (k : ℕ) → P sh (spent_seat sh k))
     → ((sh : Shape) (w : Words) (seats : List SeatState) (s : SeatState) (step : Step) (old : ℕ) → P sh s → AllTrue (parts sh w seats s step) → P sh (seat_after sh s step old)) → ((c : Core) → IsCore c → All (P c.shape) c.seats)
     → (c : Core) (e : Event) → IsCore c → failing_part c e ≡ None → All (P (after_event c e).shape) (after_event c e).seats

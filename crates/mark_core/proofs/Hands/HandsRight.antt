@@ -58,7 +58,7 @@ pub popped-before : (o : Option (ℕ × Bool)) (card : ℕ) → is_some (popped_
 popped-before None card e = e
 popped-before (Some x) card e = refl
 
--- where no value is beside a fresh cell, none is beside what is left of it
+-- if no value is beside a fresh cell, none is beside what is left of it
 lone : (v f g : Bool) → (g ≡ true → f ≡ true) → (v && f) ≡ false → (v && g) ≡ false
 lone false f g k e = refl
 lone true f false k e = refl

@@ -1,4 +1,4 @@
--- Some seat passes a test, where one seat is replaced, and where one is added or ends.
+-- Some seat passes a test, when one seat is replaced, and when one is added or ends.
 use Rattle.std.proofs.Common.{ℕ, ◌≡◌, ◌<◌, ◌≤◌, List, set, get_or, length, sym, ap, ◌∙◌, subst, Bool, true, false, Some, None, ⊎_elim}
 use Rattle.std.specs.Prelude.{slice_get}
 use Rattle.std.specs.List.{list_any}
@@ -27,7 +27,7 @@ ended_seat f seats j z k e =
     (λ (p : (length seats ≤ j) × (slice_get seats j ≡ None)). rw (set_past seats j z p.0) e)
     (slice_get_cases seats j).1
 
--- some seat passes the test after a step, where one did before, and the seat that takes the step still does
+-- some seat passes the test after a step, if one did before, and the seat that takes the step still does
 pub any-after : (f : SeatState → Bool) (sh : Shape) (step : Step) (seats : List SeatState) (i : ℕ) (s t : SeatState) → i < length seats → get_or seats i s ≡ s → (f s ≡ true → f t ≡ true) → EndsUntested f seats s t step
     → list_any f seats ≡ true → list_any f (others_after sh step (set seats i t)) ≡ true
 any-after f sh Split seats i s t h is k u e = rw list_any-append (or_left (list_any f (set seats i t)) _ (any-kept f seats i s t h is k e))

@@ -1,4 +1,4 @@
--- Which bits come and go where the bit of one cell is set, or a word is cleared.
+-- Which bits come and go when the bit of one cell is set, or a word is cleared.
 use Rattle.std.proofs.Common.{ℕ, ◌≡◌, ◌/◌, ◌%◌, ◌^◌, ◌<◌, List, set, get_or, length, arith, refl, sym, ◌∙◌, ◌⊎◌, inl, inr, true, ⊎_elim}
 use Rattle.std.specs.Int.{bit_at}
 use Rattle.std.proofs.lemmas.Bool.{true≢false, cases_eq, eqb-true}

@@ -78,7 +78,7 @@ comes-published c i s (ReadAlloc b) k g ok =
     ap (λ ws. cell_bit ws x) same ∙ rw e at bit
 comes-published c i s step k g ok = tt
 
--- a word that is nil or goes to a cell in use names such a cell, where it names one
+-- a word that is nil or goes to a cell in use names such a cell, if it names one
 named : (u : ℕ → Bool) (word : ℕ) (b : Bool) → ((x : ℕ) → u x ≡ true → x < 16777216) → (b || u (word - 1)) ≡ true → IfSome (cond b None (Some (cell_of word))) (λ x. IsTrue (u x))
 named u word true f e = tt
 named u word false f e = named_cell u word f e

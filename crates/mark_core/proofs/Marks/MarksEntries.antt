@@ -1,4 +1,4 @@
--- The entries of packets are marked: kept where a packet gets shorter or stays, and where a marked cell is pushed.
+-- The entries of packets are marked: kept when a packet gets shorter or stays, and when a marked cell is pushed.
 use Rattle.std.proofs.Common.{ℕ, ◌≡◌, ◌≢◌, ◌+◌, ◌-◌, ◌*◌, ◌/◌, ◌%◌, ◌<◌, ◌≤◌, List, set, length, arith, sym, ap, ◌∙◌, Bool, true, false, not, eqb, ⊎_elim}
 use Rattle.std.specs.Prelude.{IsTrue}
 use Rattle.std.proofs.lemmas.Bool.{and_parts, and_from, cases_eq, ne_eqb}
@@ -14,7 +14,7 @@ use Rattle.mark_core.specs.declared.kinds.Shape.{Shape}
 abbrev pub EntriesGo : Shape → (ℕ → Bool) → List ℕ → List ℕ → List Slots → Type 0
 EntriesGo sh m heads entries hss = EachPacket sh (λ p. (k : ℕ) → k < packet_length heads hss p → IsTrue (goes_to m (entry sh entries p k)))
 
--- a word that goes to a cell of one kind, where those are of another
+-- a word that goes to a cell of one kind, if those are of another
 pub goes-more : (m m' : ℕ → Bool) (word : ℕ) → ((x : ℕ) → m x ≡ true → m' x ≡ true) → goes_to m word ≡ true → goes_to m' word ≡ true
 goes-more m m' word f e = let a = and_parts (not (eqb word 0)) (m (word - 1)) e in and_from (not (eqb word 0)) (m' (word - 1)) a.0 (f (word - 1) a.1)
 
@@ -32,7 +32,7 @@ entries-more sh m m' heads entries hss f a p hp k hk = goes-more m m' (entry sh 
 pub entries-fewer : (sh : Shape) (m : ℕ → Bool) (heads heads' entries : List ℕ) (hss gss : List Slots) → EachPacket sh (λ q. packet_length heads' gss q ≤ packet_length heads hss q) → EntriesGo sh m heads entries hss → EntriesGo sh m heads' entries gss
 entries-fewer sh m heads heads' entries hss gss l a q hq k hk = a q hq k (omega (arith, l q hq, hk))
 
--- two entries have the same place where they are the same
+-- two entries have the same place if they are the same
 same_entry : (e p q n k : ℕ) → n < e → k < e → q * e + k ≡ p * e + n → (q ≡ p) × (k ≡ n)
 same_entry e p q n k hn hk s = (
   sym (div-mul-add q e k hk) ∙ (ap (λ x. x / e) s ∙ div-mul-add p e n hn),

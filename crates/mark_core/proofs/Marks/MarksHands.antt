@@ -1,4 +1,4 @@
--- What a seat has in hand is marked, or published, or in use: kept by each step of the seat, where what it finds is so too.
+-- What a seat has in hand is marked, or published, or in use: kept by each step of the seat, if what it finds is so too.
 use Rattle.std.proofs.Common.{ℕ, ◌≡◌, ◌/◌, ◌%◌, ◌<◌, List, arith, refl, sym, ◌∙◌, subst, Bool, true, false, not, cond, eqb, ◌&&◌, Option, Some, None, ⊎_elim}
 use Rattle.std.specs.Prelude.{IsTrue, IfSome, nat_lt}
 use Rattle.std.proofs.lemmas.Bool.{false≢true, and_parts, or_cases, eqb-true, ltb-true, lt-ltb}

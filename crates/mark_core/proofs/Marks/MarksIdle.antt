@@ -1,4 +1,4 @@
--- Outside tracing no seat has work in hand, a block is in hand outside tracing alone, and what a seat lacks that has nothing.
+-- Outside tracing no seat has work in hand, a block is in hand only outside tracing, and what a seat that has nothing lacks.
 use Rattle.std.proofs.Common.{ℕ, ◌≡◌, ◌<◌, List, get_or, length, refl, sym, ap, ◌∙◌, subst, Bool, true, false, not, ◌&&◌, ◌||◌, eqb, Option, Some, None, ⊎_elim}
 use Rattle.std.specs.Prelude.{IsFalse, IfSome, is_some, is_none, slice_get}
 use Rattle.std.specs.List.{All}
@@ -72,7 +72,7 @@ zero_left k true r e = refl
 zero_left true false r e = absurd (true≢false e)
 zero_left false false r e = absurd (true≢false e)
 
--- where a cell is left, the cleaning isn't done
+-- if a cell is left, the cleaning isn't done
 pub left-works : (o : Option Cleaning) (c : ℕ) (P : Type 0) → cleaning_left o ≡ false → left_in o c ≡ true → P
 left-works None c P e f = absurd (false≢true f)
 left-works (Some x) c P e f =

@@ -37,14 +37,14 @@ use Rattle.mark_core.specs.declared.kinds.Shape.{Shape}
 use Rattle.mark_core.specs.declared.kinds.Event.{Event}
 
 -- A cell in use stays in use over each step, unless its block is swept while it has no mark.
--- an allocated cell stays so, where it is marked or no block is swept
+-- an allocated cell stays so, if it is marked or no block is swept
 pub alloc-stays : (c : Core) (i : ℕ) (s : SeatState) (step : Step) → Taken c i s step → (x : ℕ) → (frees step ≡ true → cell_bit (words_of c.shape c.words).marks x ≡ true) → cell_bit (words_of c.shape c.words).allocs x ≡ true → cell_bit (words_left c s step).allocs x ≡ true
 alloc-stays c i s StoreAlloc t x f e =
     let w : Words = words_of c.shape c.words in
     bits-grow w.allocs (own_block s) (survivors s.block) x (λ here _. survives w.phase w.next_block w.allocs w.marks s.block x t.ok.1.0 (own-strong c i s StoreAlloc t) (sym here) e (λ _. f refl)) e
 alloc-stays c i s step t x f e = alloc-on c i s step x t refl e
 
--- a cell in use stays in use, where it is marked or no block is swept
+-- a cell in use stays in use, if it is marked or no block is swept
 pub use-kept : (c : Core) (i : ℕ) (s : SeatState) (step : Step) → Taken c i s step → (x : ℕ) → (frees step ≡ true → cell_bit (words_of c.shape c.words).marks x ≡ true) → in_use (words_of c.shape c.words).allocs (makers c.seats) x ≡ true
     → in_use (words_left c s step).allocs (makers (seats_left c i s step)) x ≡ true
 use-kept c i s step t x f e =

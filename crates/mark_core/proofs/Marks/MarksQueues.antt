@@ -119,7 +119,7 @@ held-by c i s k g =
 abbrev nothing : Slots
 nothing = None ∷ None ∷ None ∷ None ∷ []
 
--- the lengths of packets where one seat is replaced
+-- the lengths of packets when one seat is replaced
 pub lengths-set : (heads : List ℕ) (seats : List SeatState) (i q n : ℕ) (t : SeatState) → packet_length heads (set (hands seats) i t.held) q ≡ n → packet_length heads (hands (set seats i t)) q ≡ n
 lengths-set heads seats i q n t e = subst (λ (hss : List Slots). packet_length heads hss q ≡ n) (sym (map-set (λ (x : SeatState). x.held) seats i t)) e
 

@@ -1,4 +1,4 @@
--- The counters of a cycle don't fall while a seat helps or knows that the world is stopped, but where this seat resets them.
+-- The counters of a cycle don't fall while a seat helps or knows that the world is stopped, unless this seat resets them.
 use Rattle.std.proofs.Common.{ℕ, ◌≡◌, ◌+◌, ◌%◌, ◌≤◌, List, arith, refl, sym, ap, ◌∙◌, subst, Bool, true, false, ◌&&◌, ◌||◌, cond, eqb, Some, ⊎_elim}
 use Rattle.std.specs.Prelude.{slice_get, nat_le}
 use Rattle.std.proofs.lemmas.Bool.{cases_Bool, and_parts, or_cases, eqb-true, eqb-false, leb-true, ne_eqb, true≢false, false≢true}

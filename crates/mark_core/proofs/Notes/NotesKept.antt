@@ -34,7 +34,7 @@ use Rattle.mark_core.proofs.Core.{acts}
 use Rattle.mark_core.specs.declared.kinds.Shape.{Shape}
 
 -- Who may write which word: a step of one seat leaves each word for which another seat is steady.
--- a word for which the seat is steady only where it is alone
+-- a word for which the seat is steady only if it is alone
 abbrev IsPlain : SeatState → ℕ × ℕ → ℕ → Type 0
 IsPlain t at word = steady t at word ≡ true → (t.alone || false) ≡ true
 
@@ -57,7 +57,7 @@ or_none false e = e
 knower_in : (s : SeatState) → s.knows ≡ true → takes_part s ≡ true
 knower_in s e = or-second s.active s.knows s.admitted e
 
--- a seat that takes part works on no word for which another is steady, where that one has to be alone
+-- a seat that takes part works on no word for which another is steady, if that one has to be alone
 works : (c : Core) (i : ℕ) (s : SeatState) (step : Step) (t : SeatState) → Acts c i s step t → IsPlain t (place c.shape s step) (found c s step) → takes_part s ≡ true → Leaves c s step
 works c i s step t a plain e = absurd (true≢false (sym e ∙ a.by_other.alone_quiet (or_none t.alone (plain a.steady))))
 
@@ -98,7 +98,7 @@ counter_plain t zero word h e = e
 counter_plain t (suc zero) word h e = e
 counter_plain t (suc (suc n)) word h e = statistic (λ at. IsPlain t at word) (suc (suc n)) (omega arith) h (stat_plain t (suc (suc n)) word (omega arith)) e
 
--- where the seat that acts takes part, no other is alone
+-- if the seat that acts takes part, no other is alone
 never_alone : (c : Core) (i : ℕ) (s : SeatState) (step : Step) (t : SeatState) → Acts c i s step t → takes_part s ≡ true → t.alone ≡ false
 never_alone c i s step t a e = false_from_ne_true t.alone (λ f. true≢false (sym e ∙ a.by_other.alone_quiet f))
 

@@ -21,7 +21,7 @@ holder-counts hss i q d l h =
     let one : bit (holds (get_or hss i d) q) ≡ 1 = ap bit h in
     omega (arith, get_or-le-sum_by (λ (g : Slots). bit (holds g q)) hss i d l)
 
--- where nobody holds the packet, nobody knows its length
+-- if nobody holds the packet, nobody knows its length
 pub among-unheld : (hss : List Slots) (q : ℕ) → holder_count hss q ≡ 0 → length_among hss q ≡ None
 among-unheld [] q e = refl
 among-unheld (hs ∷ hss) q e =

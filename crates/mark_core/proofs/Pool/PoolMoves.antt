@@ -1,4 +1,4 @@
--- The rule of the pools is kept where a packet is taken, given back, or gets another length in hand.
+-- The rule of the pools is kept when a packet is taken, given back, or gets another length in hand.
 use Rattle.std.proofs.Common.{ℕ, ◌≡◌, ◌≢◌, ◌<◌, ◌≤◌, List, set, get_or, length, arith, refl, sym, ap, ◌∙◌, Bool, true, false, ⊎_elim, Some, None}
 use Rattle.std.specs.Prelude.{IsTrue, slice_index}
 use Rattle.std.proofs.lemmas.Bool.{cases_eq, true≢false}
@@ -16,7 +16,7 @@ use Rattle.mark_core.proofs.Pool.PoolPlaces.{IsPlaced, pools-but-one, pools-stil
 use Rattle.mark_core.proofs.Writing.Ranges.{pool_for-below}
 use Rattle.mark_core.specs.declared.kinds.Shape.{Shape}
 
--- seat i holds hs, where the rule of the pools is met
+-- seat i holds hs, if the rule of the pools is met
 pub record Holding (sh : Shape) (heads pools : List ℕ) (hss : List Slots) (i : ℕ) (hs : Slots) : Type 0 where
   pub rule : Pools sh heads pools hss
   pub seat : i < length hss
@@ -97,7 +97,7 @@ pools-untaken sh heads pools pools' hss i q p hs k o e =
     let s = same-hands hss i x hs hs k.seat k.is (same-in-hand hs x) in
     record { inside = λ r. same-inside sh pools pools' q p o e r x h; head = refl; holders = s.0; known = s.1 })
 
--- packet p was put into pool q alone, so where it is in pool r, r is q
+-- packet p was put only into pool q, so if it is in pool r, r is q
 in_that_pool : (sh : Shape) (pools pools' : List ℕ) (q p r : ℕ) → p < sh.packets → r < 4 → pool_count sh pools p ≡ 0 → OneBit sh pools pools' q p true → IsTrue (in_pool sh pools' r p) → q ≡ r
 in_that_pool sh pools pools' q p r hp hr z o e =
     ⊎_elim

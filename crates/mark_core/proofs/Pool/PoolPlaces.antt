@@ -71,7 +71,7 @@ same-hands hss i p hs gs l is s = (
   among-set hss i p hs gs l (s.known_same ∙ ap (λ (h : Slots). known_length h p) (sym is)),
 )
 
--- the rule is kept where it is kept for the one packet that a step of seat i is about
+-- the rule is kept if it is kept for the one packet that a step of seat i is about
 pub pools-but-one : (sh : Shape) (heads heads' pools pools' : List ℕ) (hss : List Slots) (i p : ℕ) (hs gs : Slots) → Pools sh heads pools hss → i < length hss → get_or hss i hs ≡ hs
     → SamePast sh pools pools' → ((q x : ℕ) → x < sh.packets → x ≢ p → in_pool sh pools' q x ≡ in_pool sh pools q x) → ((x : ℕ) → x ≢ p → slice_index heads' x ≡ slice_index heads x) → ((x : ℕ) → x ≢ p → SameInHand hs gs x)
     → (p < sh.packets → IsPlaced sh heads' pools' (set hss i gs) p) → Pools sh heads' pools' (set hss i gs)
@@ -86,7 +86,7 @@ pools-but-one sh heads heads' pools pools' hss i p hs gs k l is past inside head
     (cases_eq x p))
     (strays-kept sh pools pools' past k.no_strays)
 
--- the rule is kept where each packet is where it was
+-- the rule is kept if each packet is where it was
 pub pools-still : (sh : Shape) (heads heads' pools pools' : List ℕ) (hss gss : List Slots) → Pools sh heads pools hss → SamePast sh pools pools' → EachPacket sh (SamePlace sh heads heads' pools pools' hss gss) → Pools sh heads' pools' gss
 pools-still sh heads heads' pools pools' hss gss k past s =
     pools_from sh heads' pools' gss (λ x h. placed_same sh heads heads' pools pools' hss gss x (s x h) (placed_in sh heads pools hss k x h)) (strays-kept sh pools pools' past k.no_strays)

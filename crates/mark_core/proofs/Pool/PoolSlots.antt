@@ -108,7 +108,7 @@ any-held [] p h = h
 any-held (None ∷ hs) p h = any-held hs p h
 any-held (Some x ∷ hs) p h = refl
 
--- where none is held, this one isn't
+-- if none is held, this one isn't
 pub none-held : (hs : Slots) (p : ℕ) → holds_any hs ≡ false → holds hs p ≡ false
 none-held [] p h = refl
 none-held (None ∷ hs) p h = none-held hs p h

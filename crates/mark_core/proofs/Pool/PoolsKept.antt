@@ -145,7 +145,7 @@ kept true false = refl
 kept false true = refl
 kept false false = refl
 
--- the seat that takes the packet, where its bit was set
+-- the seat that takes the packet, if its bit was set
 abbrev taker : SeatState → ℕ → ℕ → Bool → SeatState
 taker s q p b = record s { held = cond b (put_packet s.held p) s.held; reserved = s.reserved && not ((eqb q 0) && b) }
 
@@ -206,7 +206,7 @@ at_seat c i s k p g =
       is = get_or_from_slice_get c.seats i s s g;
     }
 
--- what the step leaves, where its word was `old`
+-- what the step leaves, if its word was `old`
 abbrev Left : Core → ℕ → SeatState → Step → ℕ → Type 0
 Left c i s step old =
     PacketsSound c.shape (put_word (place c.shape s step) (written c.shape s step old) (words_of c.shape c.words)) (others_after c.shape step (set c.seats i (seat_after c.shape s step old)))

@@ -40,7 +40,7 @@ within_sections : (n j w : ℕ) (b : Bool) → nat_lt j n ≡ b → Some w ≡ c
 within_sections n j w true e f = omega (arith, by_place true j w f, ltb-true j n e)
 within_sections n j w false e f = absurd (true≢false (sym (ap is_none f)))
 
--- a root of another section stays where one is stored
+-- a root of another section stays when one is stored
 other_root : (roots : List ℕ) (i j u v r : ℕ) → i ≢ j → u < 32 → v < 32 → get_or (set roots (i * 32 + v) r) (j * 32 + u) 0 ≡ get_or roots (j * 32 + u) 0
 other_root roots i j u v r n hu hv = get_or-set_other roots (i * 32 + v) (j * 32 + u) r 0 (λ e. n (omega (arith, e, hu, hv)))
 

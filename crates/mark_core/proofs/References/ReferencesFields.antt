@@ -32,7 +32,7 @@ use Rattle.mark_core.specs.Numbers.{value_bound, section_span}
 abbrev pub FieldsUsed : Core → ℕ → SeatState → Step → Type 0
 FieldsUsed c i s step = (x : ℕ) → x < c.shape.cells → UsedAfter c i s step x ≡ true → FieldsGo c.shape (words_left c s step).fields (UsedAfter c i s step) x
 
--- each field of a list goes where it went, but for one that is replaced and goes there too
+-- each field of a list goes where it went, except one that is replaced and goes there too
 pub field-set : (fields : List ℕ) (k j r : ℕ) (p : ℕ → Bool) → nil_or p r ≡ true → nil_or p (get_or fields j 0) ≡ true → nil_or p (get_or (set fields k r) j 0) ≡ true
 field-set fields k j r p e f =
     ⊎_elim
@@ -117,7 +117,7 @@ stored_at c i s v q o k p x h u j l =
     let before : Used c x ≡ true = no_made c i s step x k (λ m. m) u in
     field-set w.fields (cell_of (seat_variable s v) * c.shape.fields + q) (x * c.shape.fields + j) (variable_or_nil s o) (UsedAfter c i s step) (stored_goes c i s step o k refl b.1) (old_field c i s step x j k refl p h before l)
 
--- a reference is exchanged for another where it was the expected one, and else no field changes
+-- a reference is exchanged for another if it was the expected one, and else no field changes
 exchanged_at : (c : Core) (i : ℕ) (s : SeatState) (v q : ℕ) (r o : Option ℕ) → Taken c i s (ExchangeField v q r o) → is_phase (words_of c.shape c.words).phase Sweep ≡ false → FieldsUsed c i s (ExchangeField v q r o)
 exchanged_at c i s v q r o k p x h u j l =
     let step : Step = ExchangeField v q r o in

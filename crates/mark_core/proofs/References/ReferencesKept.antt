@@ -119,11 +119,11 @@ swept-names c i s k =
     ) in
     local-kept P c.shape StoreAlloc c.seats i (seat_after c.shape s StoreAlloc (found c s StoreAlloc)) (new-names p c.shape) (new-names p c.shape) all (own-fact c i s StoreAlloc P k all)
 
--- where the sweep ends, what it kept is in use
+-- when the sweep ends, what it kept is in use
 done_used : (c : Core) (i : ℕ) (s : SeatState) (x : ℕ) → Taken c i s (StorePhase Idle) → Kept c x ≡ true → UsedAfter c i s (StorePhase Idle) x ≡ true
 done_used c i s x k e = used-on c i s (StorePhase Idle) x k refl (kept-used c x k.core e)
 
--- a cell that is in use where the sweep ends was kept
+-- a cell that is in use when the sweep ends was kept
 used_kept : (c : Core) (i : ℕ) (s : SeatState) (x : ℕ) → Taken c i s (StorePhase Idle) → x < c.shape.cells → Used c x ≡ true → Kept c x ≡ true
 used_kept c i s x k h e =
     let w : Words = words_of c.shape c.words in
@@ -144,7 +144,7 @@ abbrev ReferencesLeft : Core → ℕ → SeatState → Step → Type 0
 ReferencesLeft c i s step =
     References c.shape (words_left c s step).phase (words_left c s step).roots (words_left c s step).allocs (words_left c s step).fields (makers (seats_left c i s step)) (seats_left c i s step)
 
--- the move out of the sweep goes to Idle alone
+-- the move out of the sweep goes only to Idle
 out_of_sweep : (c : Core) (i : ℕ) (s : SeatState) (to : Phase) → Taken c i s (StorePhase to) → is_phase (words_of c.shape c.words).phase Sweep ≡ true → IsFalse (is_phase (words_left c s (StorePhase to)).phase Sweep) → FieldsUsed c i s (StorePhase to)
 out_of_sweep c i s Idle k e f = swept-fields c i s k e
 out_of_sweep c i s Marking k e f = absurd (true≢false (sym (ap (λ (n : ℕ). is_phase (phase_after n Marking) Sweep) (eqb-true (words_of c.shape c.words).phase 3 e)) ∙ f))

@@ -37,7 +37,7 @@ others_pass f sh (Join other) seats new old =
     (cases_lt other (length seats))
 others_pass f sh step seats new old = omega arith
 
--- so many times u
+-- this many times u
 units : (u a b m n : ℕ) → a + b ≡ m + n → u * a + u * b ≡ u * m + u * n
 units u a b m n e = sym (mul-add u a b) ∙ (ap (λ k. u * k) e ∙ mul-add u m n)
 

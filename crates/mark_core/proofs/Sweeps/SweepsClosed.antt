@@ -84,7 +84,7 @@ only_scanned sh marks cards heads entries fields c gs x a empty clean (waiting q
 only_scanned sh marks cards heads entries fields c gs x a empty clean (owed e) = absurd (true≢false (sym e ∙ none_owes sh.fields gs (card_of x) a))
 only_scanned sh marks cards heads entries fields c gs x a empty clean (scanned k) = k
 
--- a reference to a cell that is marked or soon will be, where no seat has a value
+-- a reference to a cell that is marked or soon will be, if no seat has a value
 marked_now : (fields : ℕ) (marks : List ℕ) (gs : List Grasp) (r : ℕ) → NoneHas fields gs → nil_or (is_marked_soon marks gs) r ≡ true → nil_or (cell_bit marks) r ≡ true
 marked_now fields marks gs r a e = rw (none_values fields gs (r - 1) a, or-false (cell_bit marks (r - 1))) at e
 

@@ -119,7 +119,7 @@ goes_on c i s step t after e f =
           subst P (sym on.fields) (λ j l. nil-or-weaker old new (field c.shape w.fields x j) (still (field c.shape w.fields x j - 1)) (t.core.sound.sweeping.fields_kept was x h before j l));
     }
 
--- the sweep begins where all that is named is marked
+-- the sweep begins when all that is named is marked
 begins : (c : Core) (i : ℕ) (s : SeatState) → Taken c i s (StorePhase Sweep) → KeepsAll c.shape (words_left c s (StorePhase Sweep)) (seats_left c i s (StorePhase Sweep))
 begins c i s t =
     let w : Words = words_of c.shape c.words in

@@ -1,4 +1,4 @@
--- Which cells the sweep keeps where no seat has made a cell that isn't published, and how this stays when a stretch is taken, and when a block is swept or put down.
+-- Which cells the sweep keeps if no seat has made a cell that isn't published, and how this stays when a stretch is taken, and when a block is swept or put down.
 use Rattle.std.proofs.Common.{ℕ, zero, suc, ◌≡◌, ◌+◌, ◌/◌, ◌<◌, ◌≤◌, List, set, get_or, length, arith, refl, sym, ap, ◌∙◌, Bool, true, false, not, ◌&&◌, cond, eqb, Option, Some, None, ⊎_elim}
 use Rattle.std.specs.Prelude.{nat_lt, bit_and}
 use Rattle.std.specs.List.{list_any}
@@ -19,7 +19,7 @@ use Rattle.mark_core.proofs.Basics.{not-not}
 use Rattle.mark_core.specs.declared.kinds.Shape.{Shape}
 use Rattle.mark_core.specs.declared.seat.BlockState.{BlockState}
 
--- a cell is spared where it is published in a swept block, or marked in another
+-- a cell is spared if it is published in a swept block, or marked in another
 abbrev pub is_spared : ℕ → List (Option BlockState) → List ℕ → List ℕ → ℕ → Bool
 is_spared nb bs allocs marks x = cond (is_swept_block nb bs (x / 64)) (cell_bit allocs x) (cell_bit marks x)
 

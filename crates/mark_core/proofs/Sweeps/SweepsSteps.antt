@@ -52,7 +52,7 @@ spared-swept nb bs allocs marks x e = rw e refl
 pub spared-unswept : (nb : ℕ) (bs : List (Option BlockState)) (allocs marks : List ℕ) (x : ℕ) → is_swept_block nb bs (x / 64) ≡ false → is_spared nb bs allocs marks x ≡ cell_bit marks x
 spared-unswept nb bs allocs marks x e = rw e refl
 
--- where the block and both bits of a cell stay, so does whether it is spared
+-- if the block and both bits of a cell stay, so does whether it is spared
 same_spared : (nb : ℕ) (bs bs' : List (Option BlockState)) (allocs marks allocs' marks' : List ℕ) (x : ℕ) → is_swept_block nb bs' (x / 64) ≡ is_swept_block nb bs (x / 64) → cell_bit allocs' x ≡ cell_bit allocs x → cell_bit marks' x ≡ cell_bit marks x
     → is_spared nb bs' allocs' marks' x ≡ is_spared nb bs allocs marks x
 same_spared nb bs bs' allocs marks allocs' marks' x e a m = rw (e, a, m) refl
@@ -179,7 +179,7 @@ mark_unswept : (o : Option BlockState) (word b : ℕ) → is_unswept b (with_mar
 mark_unswept None word b = refl
 mark_unswept (Some x) word b = refl
 
--- the next stretch is taken, where there is one
+-- the next stretch is taken, if there is one
 taken_swept : (sh : Shape) (n b : ℕ) (bs : List (Option BlockState)) (i : ℕ) (o : Option BlockState) (d : Bool) → (d ≡ false → block_count sh ≤ n) → b < block_count sh → i < length bs → get_or bs i None ≡ o → o ≡ None
     → is_swept_block (n + sh.stretch) (set bs i (cond d (Some (untouched n (stretch_end sh n))) o)) b ≡ is_swept_block n bs b
 taken_swept sh n b bs i o true f h l is e = swept-taken sh n b bs i h l (is ∙ e)

@@ -1,4 +1,4 @@
--- While the world is stopped no seat has made a cell that isn't published, so a cell is in use where its bit is set.
+-- While the world is stopped no seat has made a cell that isn't published, so a cell is in use if its bit is set.
 use Rattle.std.proofs.Common.{ℕ, ◌≡◌, List, get_or, refl, false, Option}
 use Rattle.std.specs.Prelude.{IsFalse}
 use Rattle.std.specs.List.{All, list_any}
@@ -24,10 +24,10 @@ none-used sh world help seats k still x =
     list_any_none (used_by x) (makers seats)
     (All-map (λ (m : Maker). used_by x m ≡ false) maker_of seats (λ j d h. no-used (get_or seats j d).cache x (k.inactive_calm j d h (still j d h)).no_used_cell))
 
--- then a cell is in use where it is published
+-- then a cell is in use if it is published
 pub use-published : (allocs : List ℕ) (seats : List SeatState) (x : ℕ) → NoneUsed seats → in_use allocs (makers seats) x ≡ cell_bit allocs x
 use-published allocs seats x n = rw (n x) (or-false (cell_bit allocs x))
 
--- where no seat has a used cell, the sweep keeps just the cells that it spares
+-- if no seat has a used cell, the sweep keeps just the cells that it spares
 pub kept-spared : (nb : ℕ) (bs : List (Option BlockState)) (allocs marks : List ℕ) (seats : List SeatState) (x : ℕ) → NoneUsed seats → is_kept nb bs allocs marks (makers seats) x ≡ is_spared nb bs allocs marks x
 kept-spared nb bs allocs marks seats x n = rw (use-published allocs seats x n) refl

@@ -15,7 +15,7 @@ use Rattle.mark_core.proofs.AtSeat.{marks-length}
 use Rattle.mark_core.proofs.Notes.NotesBeside.{sits, beside}
 use Rattle.mark_core.specs.declared.seat.SeatState.{SeatState}
 
--- where a seat without a block is alone, no seat has a block
+-- if a seat without a block is alone, no seat has a block
 alone_none : (c : Core) (i : ℕ) (s : SeatState) → IsCore c → slice_get c.seats i ≡ Some s → IsTrue s.alone → s.block ≡ None → All (λ b. b ≡ None) (blocks c.seats)
 alone_none c i s k got alone own j d h =
     let hj : j < length c.seats = rw (length-map c.seats (λ (y : SeatState). y.block)) at h in

@@ -37,8 +37,8 @@ use Rattle.mark_core.specs.declared.kinds.Phase.TheVariants.{Idle, Marking, Drai
 use Rattle.mark_core.specs.declared.kinds.Step.{Step}
 use Rattle.mark_core.specs.declared.kinds.Step.TheVariants.{ReadAlloc, SetMark, StoreField, StoreRoot, StoreNew, PublishCells, StorePhase, Split, Join, NextBlock, ReadBlockMarks, StoreAlloc, ClearMarks, Reset, ExchangeField, StoreSlot}
 
--- Which blocks are in no stretch, where that of one seat is replaced.
--- what holds of each element, once one is replaced, held before where it held of that one
+-- Which blocks are in no stretch, when that of one seat is replaced.
+-- what holds of each element, once one is replaced, held before if it held of that one
 pub all-back : {X : Type 0} (P : X → Type 0) (xs : List X) (i : ℕ) (y : X) → ((d : X) → i < length xs → P (get_or xs i d)) → All P (set xs i y) → All P xs
 all-back P xs i y own a j d h =
     ⊎_elim
@@ -71,7 +71,7 @@ pub same-stored : (b : ℕ) (o : Option BlockState) → IsNot b (with_stored o) 
 same-stored b None n = refl
 same-stored b (Some x) n = n
 
--- another block than that in hand isn't in the stretch where it isn't in the rest
+-- another block than that in hand isn't in the stretch if it isn't in the rest
 pub rest-is-not : (b : ℕ) (o : Option BlockState) → b ≢ unwrap_or (block_in_hand o) 0 → IsNot b (next_in_stretch o) → IsNot b o
 rest-is-not b o n k = sym (rest-in b o n) ∙ k
 
@@ -117,11 +117,11 @@ Left c i s step = Swept c (words_left c s step) (set (blocks c.seats) i (seat_af
 abbrev WasNot : SeatState → Option BlockState → Type 0
 WasNot s o = (b : ℕ) → IsNot b o → IsNot b s.block
 
--- no seat had block b in its stretch, where none has now, and the seat that acts hadn't
+-- no seat had block b in its stretch, if none has now, and the seat that acts hadn't
 none_had : (c : Core) (i : ℕ) (s : SeatState) (step : Step) (o : Option BlockState) (b : ℕ) → Taken c i s step → IsNot b s.block → NoneHas b (set (blocks c.seats) i o) → NoneHas b (blocks c.seats)
 none_had c i s step o b t own a = all-back (IsNot b) (blocks c.seats) i o (λ d h. subst (IsNot b) (sym (own-block c i s step d t)) own) a
 
--- the seat that acts has no block b in its stretch after the step, where no seat has
+-- the seat that acts has no block b in its stretch after the step, if no seat has
 own_now : (c : Core) (i : ℕ) (s : SeatState) (step : Step) (o : Option BlockState) (b : ℕ) → Taken c i s step → NoneHas b (set (blocks c.seats) i o) → IsNot b o
 own_now c i s step o b t a =
     let h : i < length (blocks c.seats) = rw length-map (within c i s step t) in

@@ -83,7 +83,7 @@ makers_on c i s step x k f e =
     let mine : get_or (makers c.seats) i (maker_of s) ≡ maker_of s = get_or-map maker_of c.seats i s (maker_of s) (within c i s step k) ∙ ap maker_of (own-record c i s step s k) in
     rw (map-set maker_of c.seats i t) (any-set (used_by x) (makers c.seats) i (maker_of t) (maker_of s) (rw length-map (within c i s step k)) e (λ a. f (sym (ap (used_by x) mine) ∙ a)))
 
--- where some seat has made the cell after the step, some seat had before, or the step gives it its last word
+-- if some seat has made the cell after the step, some seat had before, or the step gives it its last word
 makers_back : (c : Core) (i : ℕ) (s : SeatState) (step : Step) (x : ℕ) → Taken c i s step → list_any (used_by x) (makers (seats_left c i s step)) ≡ true → (list_any (used_by x) (makers c.seats) ≡ true) ⊎ IsMadeBy c.shape step x
 makers_back c i s Split x k e =
     let t : SeatState = start_seat c.shape (length (set c.seats i s)) in

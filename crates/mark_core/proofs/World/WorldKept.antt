@@ -62,7 +62,7 @@ changed : (w w' : Words) (seats : List SeatState) (i : ℕ) (s t : SeatState) �
 changed w w' seats i s t a m =
     subst (Numbers w'.world w'.help) (sym (map-set standing_of seats i t)) (numbers-moved w.world w.help w'.world w'.help (standings seats) i (standing_of t) a.numbers (rw length-map a.seat) m)
 
--- the words after a step, where its word was `old`
+-- the words after a step, if its word was `old`
 abbrev words_where : Core → SeatState → Step → ℕ → Words
 words_where c s step old = put_word (place c.shape s step) (written c.shape s step old) (words_of c.shape c.words)
 

@@ -33,7 +33,7 @@ use Rattle.mark_core.specs.declared.kinds.Step.{Step}
 use Rattle.mark_core.specs.declared.kinds.Step.TheVariants.{Observe, DropStep, Split, Join}
 use Rattle.mark_core.specs.declared.seat.SeatState.{SeatState}
 
--- a knower stays one where the seat that steps doesn't forget
+-- a knower stays one if the seat that steps doesn't forget
 pub knowers-set : (seats : List SeatState) (i : ℕ) (s t : SeatState) → i < length seats → get_or seats i s ≡ s → (s.knows ≡ true → t.knows ≡ true) → some_knows (standings seats) ≡ true → some_knows (standings (set seats i t)) ≡ true
 knowers-set seats i s t h is f e =
     let ss : List Standing = standings seats in

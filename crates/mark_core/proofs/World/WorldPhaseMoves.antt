@@ -64,11 +64,11 @@ knower c i s k e =
 at_rest : (c : Core) (i : ℕ) (s : SeatState) → Moving c i s → eqb (words_of c.shape c.words).empty (64 + c.shape.packets) ≡ true → IsStill c.shape (words_of c.shape c.words).heads c.seats
 at_rest c i s k e = let n = eqb-true (words_of c.shape c.words).empty (64 + c.shape.packets) e in (quiet-hands c k.formed k.packets n, quiet-heads c k.packets n)
 
--- where every word of marks is zero, no cell is marked
+-- if every word of marks is zero, no cell is marked
 pub white-words : (c : Core) → none_marked (words_of c.shape c.words).marks ≡ true → IsWhite c.shape (words_of c.shape c.words).marks
 white-words c e x h = let ws : List ℕ = (words_of c.shape c.words).marks in ap (λ w. has_bit w (x % 64)) (all-zero ws e (x / 64)) ∙ no-bit (x % 64)
 
--- where a mutator runs no helper is admitted
+-- if a mutator runs, no helper is admitted
 none_helps : (c : Core) (i : ℕ) (s : SeatState) → Moving c i s → s.active ≡ true → (j : ℕ) (d : SeatState) (P : Type 0) → j < length c.seats → IsTrue (get_or c.seats j d).admitted → P
 none_helps c i s k run j d P h a =
     let ss : List Standing = standings c.seats in
@@ -78,7 +78,7 @@ none_helps c i s k run j d P h a =
     let still : IsFalse s.active = my_standing c i s (λ (x : Standing). IsFalse x.active) k none in
     absurd (true≢false (sym run ∙ still))
 
--- a mutator begins marking where the phase is Idle, and else leaves it
+-- a mutator begins marking if the phase is Idle, and else leaves it
 begun : (c : Core) (i : ℕ) (s : SeatState) (b : Bool) → Moving c i s → s.active ≡ true
     → InPhase c.shape (cond b 1 (words_of c.shape c.words).phase) (words_of c.shape c.words).marks (words_of c.shape c.words).heads c.seats
 begun c i s true k run =

@@ -20,7 +20,7 @@ use Rattle.mark_core.specs.declared.kinds.Step.{Step}
 use Rattle.mark_core.specs.declared.kinds.Step.TheVariants.{Take, Give, Push, Pop, StoreLength, ReadLength}
 use Rattle.mark_core.specs.declared.seat.SeatState.{SeatState}
 
--- where no seat holds a packet, nobody knows a length
+-- if no seat holds a packet, nobody knows a length
 none_known : (hss : List Slots) (p : ℕ) → All (λ h. IsFalse (holds_any h)) hss → length_among hss p ≡ None
 none_known [] p a = refl
 none_known (hs ∷ hss) p a =

@@ -30,7 +30,7 @@ any_bit f (x ∷ xs) h =
     ap (λ (b : Bool). bit (b || list_any f xs)) e ∙ (any_bit f xs (omega (arith, rest, h)) ∙ sym rest))
     (cases_Bool (f x))
 
--- where some pass, one does
+-- if some pass, one does
 pub some-passes : {X : Type 0} (f : X → Bool) (xs : List X) → 0 < count_by f xs → (k : ℕ) × (k < length xs) × ((d : X) → f (get_or xs k d) ≡ true)
 some-passes f [] h = absurd (omega (arith, h))
 some-passes f (x ∷ xs) h =
@@ -62,7 +62,7 @@ passes-any f (x ∷ xs) h =
 pub passes-counted : {X : Type 0} (f : X → Bool) (xs : List X) (k : ℕ) (d : X) → k < length xs → f (get_or xs k d) ≡ true → 0 < count_by f xs
 passes-counted f xs k d h e = omega (arith, get_or-le-sum_by (λ x. bit (f x)) xs k d h, ap bit e)
 
--- where none is counted, none passes
+-- if none is counted, none passes
 none_passes : {X : Type 0} (f : X → Bool) (xs : List X) → count_by f xs ≡ 0 → All (λ x. f x ≡ false) xs
 none_passes f xs e k d h = bit-zero (f (get_or xs k d)) (omega (arith, get_or-le-sum_by (λ x. bit (f x)) xs k d h, e))
 
@@ -138,7 +138,7 @@ numbers-of sh world help seats w k =
           };
     }
 
--- the rule of the world of the standings alone, and what is true of each besides
+-- the rule of the world in terms of the standings only, and what is true of each besides
 pub record StandsRight (world help : ℕ) (ss : List Standing) : Type 0 where
   pub world_word : world ≡ count_by is_in_world ss + flag_where (list_any is_raised ss)
   pub one_raised : count_by is_raised ss ≤ 1

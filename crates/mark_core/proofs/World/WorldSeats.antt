@@ -29,7 +29,7 @@ inside s P e f = absurd (true≢false (sym e ∙ f))
 active_runs : (s : SeatState) (P : Type 0) → s.active ≡ true → IsFalse s.active → P
 active_runs s P e f = absurd (true≢false (sym e ∙ f))
 
--- a step that is allowed inside alone, and leaves what else is told of the seat
+-- a step that is allowed only inside, and leaves what else is told of the seat
 pub stays : (sh : Shape) (s t : SeatState) → Local sh s → takes_part s ≡ true → takes_part t ≡ takes_part s → t.active ≡ s.active → t.admitted ≡ s.admitted → (IsFalse s.active → t.owes ≡ None) → t.cache ≡ s.cache → t.got ≡ s.got → Local sh t
 stays sh s t k e part active admitted owes cache got =
     record {

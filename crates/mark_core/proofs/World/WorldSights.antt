@@ -1,4 +1,4 @@
--- What seats have seen of the phase, and what the phase is where a seat traces.
+-- What seats have seen of the phase, and what the phase is if a seat traces.
 use Rattle.std.proofs.Common.{ℕ, zero, suc, ◌≡◌, ◌≤◌, List, arith, refl, sym, ap, ◌∙◌, Bool, true, false, ◌&&◌, ◌||◌, cond, eqb, Option, Some, None, ⊎_elim}
 use Rattle.std.specs.Prelude.{IsTrue, IfSome}
 use Rattle.std.proofs.lemmas.Bool.{and_parts, or_cases, eqb-true, true≢false, false≢true}

@@ -102,7 +102,7 @@ counts_one f ss i y h z =
     let at : bit (f (get_or (set ss i nowhere) i nowhere)) ≡ 0 = ap (λ (s : Standing). bit (f s)) (get_or-set_same ss i nowhere nowhere h) ∙ ap bit z in
     rw set-set at (let e : count_by f (set (set ss i nowhere) i y) ≡ count_by f (set ss i nowhere) + bit (f y) = omega (arith, moved, at) in e)
 
--- the numbers where seat i stands as y
+-- the numbers if seat i stands as y
 pub census-set : (ss : List Standing) (i : ℕ) (y : Standing) → i < length ss → census (set ss i y) ≡ plus (others ss i) y
 census-set ss i y h =
     rw (

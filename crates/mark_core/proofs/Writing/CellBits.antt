@@ -1,4 +1,4 @@
--- The bits of words and of cells: where one is set or cleared, where one word is replaced, and in unions and intersections.
+-- The bits of words and of cells: when one is set or cleared, when one word is replaced, and in unions and intersections.
 use Rattle.std.proofs.Common.{ℕ, ◌≡◌, ◌/◌, ◌%◌, ◌<◌, ◌≤◌, List, set, get_or, length, arith, sym, ap, ◌∙◌, true, false, max, min, ◌⊎◌, inl, inr, ⊎_elim, refl, ◌^◌, ◌≢◌, eqb}
 use Rattle.std.specs.Prelude.{bit_or, bit_and}
 use Rattle.std.specs.Int.{bit_at, bit_not}
@@ -55,7 +55,7 @@ without_other w k i h hi d =
     let c : bit_at (bit_not w64 (2 ^ k)) i ≡ 1 = bit_at_not w64 (2 ^ k) i (power_below k h) hi ∙ rw (bit_at-pow_other k i d) refl in
     ap (λ b. eqb b 1) (bit_at_and w (bit_not w64 (2 ^ k)) i ∙ rw c (omega (arith, bit_at-lt w i)))
 
--- a number is told by its word and its place in it
+-- a number is determined by its word and its place in it
 pub same-index : (x p : ℕ) → x / 64 ≡ p / 64 → x % 64 ≡ p % 64 → x ≡ p
 same-index x p e f = omega arith
 
@@ -74,7 +74,7 @@ bit-here ws b v x h e = rw (← e) (rw (get_or-set_same ws b v 0 h) refl)
 pub bit-there : (ws : List ℕ) (b v x : ℕ) → x / 64 ≢ b → cell_bit (set ws b v) x ≡ cell_bit ws x
 bit-there ws b v x n = ap (λ w. has_bit w (x % 64)) (get_or-set_other ws b (x / 64) v 0 n)
 
--- no bit is lost where the new word has those of the old one
+-- no bit is lost if the new word has those of the old one
 pub bits-grow : (ws : List ℕ) (b v x : ℕ) → (b ≡ x / 64 → has_bit (get_or ws b 0) (x % 64) ≡ true → has_bit v (x % 64) ≡ true) → cell_bit ws x ≡ true → cell_bit (set ws b v) x ≡ true
 bits-grow ws b v x f e =
     ⊎_elim

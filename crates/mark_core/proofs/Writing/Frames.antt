@@ -227,7 +227,7 @@ readings-kept sh s NextOfCards old e = absurd (true≢false e)
 readings-kept sh s (ReadStat which) old e = absurd (true≢false e)
 readings-kept sh s step old e = refl
 
--- a list of what is read of each seat stays, where one seat changes in nothing of this
+-- a list of what is read of each seat stays, if one seat changes in nothing of this
 pub projection-kept : {Y : Type 0} (f : SeatState → Y) (seats : List SeatState) (i : ℕ) (s t : SeatState) → i < length seats → get_or seats i s ≡ s → f t ≡ f s → map f (set seats i t) ≡ map f seats
 projection-kept {Y} f seats i s t hi is e =
     let old : get_or (map f seats) i (f s) ≡ f s = get_or-map f seats i s (f s) hi ∙ ap f is in

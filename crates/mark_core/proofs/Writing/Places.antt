@@ -6,7 +6,7 @@ use Rattle.mark_core.specs.Layout.{words_of, address, put_word, region_base, reg
 use Rattle.mark_core.proofs.Writing.Regions.{words-set_same, words-set_other}
 use Rattle.mark_core.specs.declared.kinds.Shape.{Shape}
 
--- the words of region k, where word i of region r is written
+-- the words of region k, when word i of region r is written
 pub region-put : (ns : List ℕ) (r k : ℕ) (ws : List ℕ) (i v : ℕ) → i < get_or ns r 0 → region_words ns k (set ws (region_base ns r + i) v) ≡ cond (eqb r k) (set (region_words ns k ws) i v) (region_words ns k ws)
 region-put ns r k ws i v h =
     ⊎_elim
@@ -14,7 +14,7 @@ region-put ns r k ws i v h =
     (λ (n : r ≡ k → ⊥). rw (ne_eqb r k n) (words-set_other ns r k ws i v h (λ e. n (sym e))))
     (cases_eq r k)
 
--- a single word, where one is written
+-- a single word, when one is written
 single-put : (ws : List ℕ) (i k v : ℕ) → i < length ws → get_or (set ws i v) k 0 ≡ cond (eqb i k) v (get_or ws k 0)
 single-put ws i k v h =
     ⊎_elim
@@ -22,7 +22,7 @@ single-put ws i k v h =
     (λ (n : i ≡ k → ⊥). rw (ne_eqb i k n) (get_or-set_other ws i k v 0 (λ e. n (sym e))))
     (cases_eq i k)
 
--- word k of the last region, where word i of region r is written
+-- word k of the last region, when word i of region r is written
 last-put : (ns : List ℕ) (r k : ℕ) (ws : List ℕ) (i v : ℕ) → i < get_or ns r 0 → get_or ns r 0 ≤ length (region_words ns r ws) → get_or (region_words ns 13 (set ws (region_base ns r + i) v)) k 0 ≡ cond (eqb r 13) (cond (eqb i k) v (get_or (region_words ns 13 ws) k 0)) (get_or (region_words ns 13 ws) k 0)
 last-put ns r k ws i v h l =
     ⊎_elim
@@ -79,7 +79,7 @@ singles-put s ws i v h l =
     let g = λ (k : ℕ). single-put ws i k v inside in
     rw (zero-add, g 0, g 1, g 2, g 3, g 4, g 5, g 6, g 7, g 8, g 9, g 10, o 1, o 2, o 3, o 4, o 5, o 6, o 7, o 8, o 9, o 10, o 11, o 12, o 13) refl
 
--- a region has its length, where all words are there
+-- a region has its length, if all words are there
 pub region-length : (ns : List ℕ) (r : ℕ) (ws : List ℕ) → total_words ns ≤ length ws → length (region_words ns r ws) ≡ get_or ns r 0
 region-length [] r ws h = refl
 region-length (n ∷ ns) zero ws h = length-take-le n ws (omega (arith, h))

@@ -24,7 +24,7 @@ use Rattle.mark_core.specs.declared.seat.SeatState.{SeatState}
 use Rattle.mark_core.specs.declared.seat.BlockState.{BlockState}
 use Rattle.mark_core.specs.Numbers.{done_count, first_position, last_count, named_number, free_count}
 
--- column l of row p, where there are n rows of e columns
+-- column l of row p, if there are n rows of e columns
 pub in-row : (p n e l : ℕ) → p < n → l < e → p * e + l < n * e
 in-row p n e l hp hl = grind (arith, mul-add-lt)
 
@@ -59,7 +59,7 @@ pub record InRange (sh : Shape) (s : SeatState) : Type 0 where
   pub cache : cached_block s < block_count sh
   pub block : own_block s < block_count sh
 
--- what this step needs of InRange: a variable has to name a cell only where the step stores in its object
+-- what this step needs of InRange: a variable has to name a cell only if the step stores in its object
 pub record Reaches (sh : Shape) (s : SeatState) (step : Step) : Type 0 where
   pub shaped : IsShape sh
   pub section : unwrap_or s.section 0 < sh.sections

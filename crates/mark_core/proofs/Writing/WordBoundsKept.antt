@@ -25,7 +25,7 @@ use Rattle.mark_core.specs.declared.kinds.Step.{Step}
 use Rattle.mark_core.specs.declared.kinds.Step.TheVariants.{ReadField, ReadRoot, ReadOwn, ReadCat, StoreField, StoreRoot, StoreNew, Reset, AddStat, ReadStat, StoreLength, ReadLength, ExchangeField, LoadSlot, StoreSlot, ReadSlot}
 use Rattle.mark_core.specs.declared.seat.SeatState.{SeatState}
 
--- a word of a region where all are in range
+-- a word of a region if all are in range
 read_fits : (sh : Shape) (ws : List ℕ) (r i n : ℕ) → All (λ x. x ≤ n) (region_words (region_sizes sh) r ws) → i < get_or (region_sizes sh) r 0 → length ws ≡ total_words (region_sizes sh) → get_or ws (address sh (r, i)) 0 ≤ n
 read_fits sh ws r i n a h l =
     let long : i < length (region_words (region_sizes sh) r ws) = omega (arith, h, region-length (region_sizes sh) r ws (omega (arith, l))) in

@@ -57,10 +57,10 @@ pub record IsCalm (s : SeatState) : Type 0 where
 
 -- who is inside the world, who stopped it, and who helps
 pub record World (sh : Shape) (world help : ℕ) (ss : List Standing) (seats : List SeatState) : Type 0 where
-  -- the world's number is that of the counted seats, and its flag is set where a seat is raised
+  -- the world's number is that of the counted seats, and its flag is set if a seat is raised
   pub world_word : world ≡ count_by is_in_world ss + flag_where (list_any is_raised ss)
   pub one_raised : count_by is_raised ss ≤ 1
-  -- the number of help is that of the helping seats, and its flag is set where a seat has opened
+  -- the number of help is that of the helping seats, and its flag is set if a seat has opened
   pub help_word : help ≡ count_by is_helping ss + flag_where (list_any is_opened ss)
   pub opened_knows : All (λ (s : Standing). IsTrue s.opened → IsTrue s.knows × IsFalse s.alone) ss
   pub active_counted : All (λ (s : Standing). IsTrue s.active → IsTrue s.counted) ss

@@ -13,12 +13,12 @@ use Rattle.mark_core.specs.declared.seat.BlockState.{BlockState}
 use Rattle.mark_core.specs.Cards.{block_cells, block_of_card, card_bits, card_of}
 use Rattle.mark_core.specs.Numbers.{section_variables}
 
--- a popped cell of block b, once the block's allocation bits were read: it stays only where its bit is clear
+-- a popped cell of block b, once the block's allocation bits were read: it stays only if its bit is clear
 abbrev pub popped_after : Option (ℕ × Bool) → ℕ → ℕ → Option (ℕ × Bool)
 popped_after None b word = None
 popped_after (Some x) b word = if x.0 / block_cells == b then if has_bit word (x.0 % block_cells) then None else Some (x.0, true) else Some x
 
--- a popped cell of block b is scanned from its first field on, where its bit is set
+-- a popped cell of block b is scanned from its first field on, if its bit is set
 abbrev pub scan_after : Option (ℕ × Bool) → Option (ℕ × ℕ) → ℕ → ℕ → Option (ℕ × ℕ)
 scan_after None scan b word = scan
 scan_after (Some x) scan b word = if (x.0 / block_cells == b) && has_bit word (x.0 % block_cells) then Some (x.0, 0) else scan
@@ -42,7 +42,7 @@ with_alloc_word (Some x) b word = Some (if x.block == b then record x { alloc_wo
 abbrev pub read_alloc_parts : Shape → SeatState → ℕ → List Bool
 read_alloc_parts sh s b = (nat_lt b (block_count sh) && takes_part s) ∷ []
 
--- 9: a popped cell of the block comes into scan where its bit is set; a cleaning loses its unpublished cells; a block in hand keeps the word
+-- 9: a popped cell of the block comes into scan if its bit is set; a cleaning loses its unpublished cells; a block in hand keeps the word
 abbrev pub read_alloc_effect : SeatState → ℕ → Effect
 read_alloc_effect s b =
     reads
@@ -92,7 +92,7 @@ load_slot_parts sh phase s section k =
 abbrev pub load_slot_effect : Shape → SeatState → ℕ → ℕ → Effect
 load_slot_effect sh s section k = reads (slot_at sh section k) (λ old. record s { value = cell_named old })
 
--- 11: a tracer marks the cell that it loaded, which is fresh where it was white
+-- 11: a tracer marks the cell that it loaded, which is fresh if it was white
 abbrev pub set_mark_parts : Shape → ℕ → SeatState → ℕ → List Bool
 set_mark_parts sh phase s c = (nat_lt c sh.cells && is_the s.value c) ∷ may_trace phase s ∷ []
 
@@ -140,7 +140,7 @@ dirty_card_effect s card =
 abbrev pub clear_card_parts : Shape → ℕ → SeatState → ℕ → List Bool
 clear_card_parts sh phase s card = (nat_lt card (card_count sh) && may_trace phase s && holds_any s.held) ∷ not (work_in_hand sh.fields s) ∷ []
 
--- 13: the card is clean; where it was dirty, its cleaning begins
+-- 13: the card is clean; if it was dirty, its cleaning begins
 abbrev pub clear_card_effect : SeatState → ℕ → Effect
 clear_card_effect s card =
     changes

@@ -53,7 +53,7 @@ seat_variable s v = slice_index s.env v
 abbrev pub has_own : List ℕ → SeatState → ℕ → Bool
 has_own identities s v = not (seat_variable s v == 0) && is_the s.section (slice_index identities (seat_variable s v - 1) / section_span)
 
--- a mutator may store in what variable v names: an object of its section, or any object where the heap shares them
+-- a mutator may store in what variable v names: an object of its section, or any object if the heap shares them
 abbrev pub may_change : Shape → List ℕ → SeatState → ℕ → Bool
 may_change sh identities s v = not (seat_variable s v == 0) && (sh.sharing || is_the s.section (slice_index identities (seat_variable s v - 1) / section_span))
 
@@ -62,7 +62,7 @@ abbrev pub in_variables : Option ℕ → Bool
 in_variables None = true
 in_variables (Some w) = nat_lt w section_variables
 
--- what variable w holds, or nil where none is named
+-- what variable w holds, or nil if none is named
 abbrev pub variable_or_nil : SeatState → Option ℕ → ℕ
 variable_or_nil s None = 0
 variable_or_nil s (Some w) = seat_variable s w
@@ -102,12 +102,12 @@ store_root_parts s v r = (nat_lt v section_variables && may_mutate s) ∷ has_re
 abbrev pub store_root_effect : SeatState → ℕ → ℕ → Effect
 store_root_effect s v r = stores (root_at (unwrap_or s.section 0) v) r (record s { env = slice_set s.env v (reference_in r); got = 0 })
 
--- 50: where objects are shared a mutator compares a field of one with what a variable holds, and stores what another holds where they are equal; it owes no card
+-- 50: if objects are shared, a mutator compares a field of one with what a variable holds, and stores what another holds if they are equal; it owes no card
 abbrev pub exchange_field_parts : Shape → SeatState → ℕ → ℕ → Option ℕ → Option ℕ → List Bool
 exchange_field_parts sh s v i x y =
     (nat_lt v section_variables && nat_lt i sh.fields && (in_variables x && in_variables y) && may_mutate s) ∷ (not (seat_variable s v == 0) && sh.sharing) ∷ is_none s.owes ∷ []
 
--- 50: where the field was what x holds it is what y holds, and the seat owes the card as after a store; else nothing changes
+-- 50: if the field was what x holds, it is what y holds, and the seat owes the card as after a store; else nothing changes
 abbrev pub exchange_field_effect : Shape → SeatState → ℕ → ℕ → Option ℕ → Option ℕ → Effect
 exchange_field_effect sh s v i x y =
     let c = cell_of (seat_variable s v) in
@@ -116,11 +116,11 @@ exchange_field_effect sh s v i x y =
     (λ old. if old == variable_or_nil s x then variable_or_nil s y else old)
     (λ old. record s { owes = if old == variable_or_nil s x then (if used_in s.cache c then s.owes else Some (card_of c)) else s.owes })
 
--- 51: where objects are shared a mutator compares the value of one with a number, and stores another where they are equal
+-- 51: if objects are shared, a mutator compares the value of one with a number, and stores another if they are equal
 abbrev pub exchange_value_parts : Shape → SeatState → ℕ → ℕ → List Bool
 exchange_value_parts sh s v n = (nat_lt v section_variables && nat_lt n value_bound && may_mutate s) ∷ (not (seat_variable s v == 0) && sh.sharing) ∷ is_none s.owes ∷ []
 
--- 51: where the value was m it is n
+-- 51: if the value was m, it is n
 abbrev pub exchange_value_effect : SeatState → ℕ → ℕ → ℕ → Effect
 exchange_value_effect s v m n = changes (value_at (cell_of (seat_variable s v))) (λ old. if old == m then n else old) (λ old. s)
 
@@ -145,7 +145,7 @@ abbrev pub claim_block_parts : Shape → ℕ → SeatState → ℕ → List Bool
 claim_block_parts sh phase s b =
     (nat_lt b (block_count sh) && is_none s.cache) ∷ ((s.active || s.knows) && is_some s.section) ∷ (not s.knows || is_phase phase Idle) ∷ []
 
--- 20: where the block had no owner it is the seat's cache, unread
+-- 20: if the block had no owner, it is the seat's cache, unread
 abbrev pub claim_block_effect : SeatState → ℕ → Effect
 claim_block_effect s b =
     changes
@@ -156,7 +156,7 @@ claim_block_effect s b =
       cache = if old == 0 then Some (record { block = b; unread = true; free = 0; used = 0; making = None; last = None }) else s.cache;
     })
 
--- the block of the cache, where there is one
+-- the block of the cache, if there is one
 abbrev pub cached_block : SeatState → ℕ
 cached_block s = unwrap_or (cache_block s.cache) 0
 

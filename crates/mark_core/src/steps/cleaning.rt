@@ -1,4 +1,4 @@
-//! A card that a seat cleared, and what becomes of its cells as the seat reads their bits.
+//! What becomes of a cleaning as the seat reads bits.
 ghost use Rattle.std.specs.Prelude.{◌≡◌};
 ghost use Rattle.mark_core.specs.Steps.ColourSteps.{seen_in as seen_in_of, cleaning_after as cleaning_after_of, without_cell as without_cell_of, redirty_off as redirty_off_of, known_in as known_in_of};
 
@@ -7,7 +7,7 @@ use crate::cards::{BLOCK_CELLS, block_of_card, card_bits};
 use crate::cell::Cell;
 use crate::seat::Cleaning;
 
-/// The cells left whose bit is set may be scanned, and the others leave the list, so that their card must be dirty again.
+/// Cells whose bit is set may be scanned; the others leave the list, so their card must be dirty again.
 fn see(x: &mut Cleaning, word: u64)
     ensures { x.new ≡ seen_in_of x.old word }
 {
@@ -29,7 +29,7 @@ pub fn cleaning_after(cleaning: &mut Option<Cleaning>, b: u32, word: u64)
     }
 }
 
-/// The cell is no longer left.
+/// Drops the cell from those that are left.
 pub fn without_cell(cleaning: &mut Option<Cleaning>, c: Cell)
     ensures { cleaning.new ≡ without_cell_of cleaning.old c }
 {

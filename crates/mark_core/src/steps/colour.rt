@@ -1,4 +1,4 @@
-//! The steps of tracing. They turn white cells grey and grey cells black, and clean cards.
+//! The steps of tracing: white cells turn grey and grey cells black, and cards are cleaned.
 ghost use Rattle.std.specs.Prelude.{◌≡◌, ◌<◌, ◌+◌, if◌then◌else◌};
 ghost use Rattle.mark_core.specs.Bits.{cell_named};
 ghost use Rattle.mark_core.specs.Steps.ColourSteps.{without_cell, redirty_off, popped_after as popped_after_of, scan_after as scan_after_of, with_alloc_word as with_alloc_word_of, fresh_off as fresh_off_of, popped_off as popped_off_of, read_alloc_parts, read_alloc_effect, read_field_parts, read_root_parts, load_slot_parts, set_mark_parts, set_mark_effect, dirty_card_parts, clear_card_parts, clear_card_effect, read_marks_parts, read_marks_effect, read_card_parts, read_phase_effect};
@@ -16,7 +16,7 @@ use crate::standing::{is_the, may_trace, phase_of};
 use crate::steps::cleaning;
 use crate::{bits, hand, slots};
 
-/// A popped cell of block b, once the block's allocation bits were read: where its bit is set it is scanned from its first field on.
+/// Scans a popped cell of block b, if its allocation bit is set in this word.
 fn scan_popped(popped: &mut Option<(Cell, bool)>, scan: &mut Option<(Cell, u8)>, b: u32, word: u64)
     ensures popped { popped.new ≡ popped_after_of popped.old b word }
     ensures scan { scan.new ≡ scan_after_of popped.old scan.old b word }
@@ -50,8 +50,8 @@ pub fn check_read_alloc(shape: &Shape, s: &SeatState, b: u32) -> Option<u8>
     first_false(&[b < block_count(shape) && s.takes_part()])
 }
 
-/// Kind 9: a popped cell of the block is in scan where its bit is set, and else known to be unpublished; of a cleaning the published cells alone are left; a
-/// block in hand keeps the word.
+/// Kind 9: a popped cell of the block is in scan if its bit is set, else known to be unpublished; of a cleaning
+/// only the published cells are left.
 pub fn read_alloc(s: &mut SeatState, b: u32, old: u64) -> u64
     ensures word { result ≡ (read_alloc_effect s.old b).written old }
     ensures seat { s.new ≡ (read_alloc_effect s.old b).seat old }
@@ -62,7 +62,7 @@ pub fn read_alloc(s: &mut SeatState, b: u32, old: u64) -> u64
     old
 }
 
-/// Kind 10: a field that was passed over could hide a white cell, and a cell that isn't published is still being written.
+/// Kind 10: a field passed over could hide a white cell, and a cell that isn't published is still being written.
 pub fn check_read_field(shape: &Shape, s: &SeatState, c: Cell, i: u8) -> Option<u8>
     ensures { result ≡ first_false_of 1 (read_field_parts shape.now s.now c i) }
 {
@@ -75,7 +75,6 @@ pub fn check_read_field(shape: &Shape, s: &SeatState, c: Cell, i: u8) -> Option<
     ])
 }
 
-/// What the word names is loaded.
 fn load(value: &mut Option<Cell>, word: u64)
     ensures { value.new ≡ cell_named word }
 {
@@ -86,7 +85,7 @@ fn load(value: &mut Option<Cell>, word: u64)
     }
 }
 
-/// Kind 10: the next field is due, the cell is no longer left in the cleaning, and what the field names is the value in hand.
+/// Kind 10: what the field names is the value in hand.
 pub fn read_field(s: &mut SeatState, c: Cell, i: u8, old: u64) -> u64
     requires { i < 255 }
     ensures word { result ≡ old }
@@ -98,7 +97,7 @@ pub fn read_field(s: &mut SeatState, c: Cell, i: u8, old: u64) -> u64
     old
 }
 
-/// Kind 10: what a root names is work, which shows in the count only where the seat holds a packet.
+/// Kind 10: what a root names is work, which shows in the count only if a packet is held.
 pub fn check_read_root(shape: &Shape, phase: u64, s: &SeatState, section: u32, v: u8) -> Option<u8>
     ensures { result ≡ first_false_of 1 (read_root_parts shape.now phase s.now section v) }
 {
@@ -111,7 +110,7 @@ pub fn check_read_root(shape: &Shape, phase: u64, s: &SeatState, section: u32, v
     ])
 }
 
-/// Kind 10: as a root that is a variable.
+/// Kind 10: as for a variable.
 pub fn check_load_slot(shape: &Shape, phase: u64, s: &SeatState, section: u32, k: u16) -> Option<u8>
     ensures { result ≡ first_false_of 1 (load_slot_parts shape.now phase s.now section k) }
 {
@@ -133,7 +132,7 @@ pub fn read_root(s: &mut SeatState, old: u64) -> u64
     old
 }
 
-/// Kind 11: outside Marking and Drain a marked cell would never be scanned, and one to which nothing refers would be kept.
+/// Kind 11: outside Marking and Drain a marked cell isn't scanned, and one to which nothing refers would be kept.
 pub fn check_set_mark(shape: &Shape, phase: u64, s: &SeatState, c: Cell) -> Option<u8>
     ensures { result ≡ first_false_of 1 (set_mark_parts shape.now phase s.now c) }
 {
@@ -143,7 +142,7 @@ pub fn check_set_mark(shape: &Shape, phase: u64, s: &SeatState, c: Cell) -> Opti
     ])
 }
 
-/// Kind 11: the value is gone, and the cell is fresh where its bit was clear. The bit is set.
+/// Kind 11: the cell is fresh if its bit was clear.
 pub fn set_mark(s: &mut SeatState, c: Cell, old: u64) -> u64
     ensures word { result ≡ (set_mark_effect s.old c).written old }
     ensures seat { s.new ≡ (set_mark_effect s.old c).seat old }
@@ -184,7 +183,7 @@ pub fn check_dirty_card(shape: &Shape, s: &SeatState, card: u32) -> Option<u8>
     first_false(&[card < card_count(shape) && s.takes_part()])
 }
 
-/// The dirty card answers for all that the seat owes it.
+/// Kind 12: the dirty card answers for all that the seat owes it.
 #[inline(always)]
 pub fn dirty_card(s: &mut SeatState, card: u32) -> u64
     ensures word { result ≡ 1 }
@@ -199,7 +198,7 @@ pub fn dirty_card(s: &mut SeatState, card: u32) -> u64
     1
 }
 
-/// Kind 13: the cells of a cleared card are work, which shows in the count only where the seat holds a packet.
+/// Kind 13: the cells of a cleared card are work, which shows in the count only if a packet is held.
 pub fn check_clear_card(shape: &Shape, phase: u64, s: &SeatState, card: u32) -> Option<u8>
     ensures { result ≡ first_false_of 1 (clear_card_parts shape.now phase s.now card) }
 {
@@ -209,7 +208,7 @@ pub fn check_clear_card(shape: &Shape, phase: u64, s: &SeatState, card: u32) -> 
     ])
 }
 
-/// Kind 13: where the card was dirty the seat cleans it, and doesn't know its marked cells yet. The card is clean.
+/// Kind 13: if the card was dirty the seat cleans it.
 pub fn clear_card(s: &mut SeatState, card: u32, old: u64) -> u64
     ensures word { result ≡ (clear_card_effect s.old card).written old }
     ensures seat { s.new ≡ (clear_card_effect s.old card).seat old }
@@ -233,7 +232,7 @@ pub fn check_read_marks(shape: &Shape, s: &SeatState, b: u32) -> Option<u8>
     first_false(&[b < block_count(shape) && s.takes_part()])
 }
 
-/// Kind 14: a cleaning of a card of this block, whose cells weren't known, has the marked ones left to scan.
+/// Kind 14: if the seat cleans a card of this block, its marked cells are left to scan.
 pub fn read_marks(s: &mut SeatState, b: u32, old: u64) -> u64
     ensures word { result ≡ (read_marks_effect s.old b).written old }
     ensures seat { s.new ≡ (read_marks_effect s.old b).seat old }

@@ -1,4 +1,4 @@
-//! The steps by which the seat that stopped the world admits helpers.
+//! The steps of help: the seat that stopped the world admits helpers.
 ghost use Rattle.std.specs.Prelude.{◌≡◌};
 ghost use Rattle.mark_core.specs.Steps.HelpSteps.{open_parts, open_effect, join_help_parts, join_help_effect, leave_help_parts, leave_help_effect, close_parts, close_effect, see_help_effect};
 ghost use Rattle.mark_core.specs.Steps.{first_false as first_false_of};
@@ -9,7 +9,7 @@ use crate::seat::SeatState;
 use crate::standing::is_phase;
 use crate::{bits, hand};
 
-/// Kind 43: one seat opens help, once, and in Drain and Sweep alone there is work to share.
+/// Kind 43: one seat opens help, once, and only Drain and Sweep have work to share.
 pub fn check_open(phase: u64, s: &SeatState) -> Option<u8>
     ensures { result ≡ first_false_of 1 (open_parts phase s.now) }
 {
@@ -29,14 +29,14 @@ pub fn open_help(s: &mut SeatState, old: u64) -> u64
     old | bits::FLAG
 }
 
-/// Kind 44: a seat that is in the world already, or in its own stop, or among the helpers, would be in two places.
+/// Kind 44: a seat in the world, in its own stop or among the helpers would be in two places.
 pub fn check_join_help(s: &SeatState) -> Option<u8>
     ensures { result ≡ first_false_of 1 (join_help_parts s.now) }
 {
     first_false(&[s.is_bare()])
 }
 
-/// Kind 44: the seat is counted among the helpers, and admitted where help was open.
+/// Kind 44: admitted if help was open.
 pub fn join_help(s: &mut SeatState, old: u64) -> u64
     ensures word { result ≡ (join_help_effect s.old).written old }
     ensures seat { s.new ≡ (join_help_effect s.old).seat old }
@@ -57,7 +57,7 @@ pub fn check_leave_help(shape: &Shape, s: &SeatState) -> Option<u8>
     ])
 }
 
-/// Kind 45: the seat is outside, and has read no phase.
+/// Kind 45: the seat forgets the phase.
 pub fn leave_help(s: &mut SeatState, old: u64) -> u64
     ensures word { result ≡ (leave_help_effect s.old).written old }
     ensures seat { s.new ≡ (leave_help_effect s.old).seat old }
@@ -84,7 +84,7 @@ pub fn close_help(s: &mut SeatState, old: u64) -> u64
     old.wrapping_sub(bits::FLAG)
 }
 
-/// The seat that stopped the world learns that no helper is left.
+/// Kind 47: the seat that stopped the world learns that no helper is left.
 pub fn see_help(s: &mut SeatState, old: u64) -> u64
     ensures word { result ≡ (see_help_effect s.old).written old }
     ensures seat { s.new ≡ (see_help_effect s.old).seat old }

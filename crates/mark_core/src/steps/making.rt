@@ -1,4 +1,4 @@
-//! The steps by which a seat makes cells: it takes a block, fills free cells of it, and publishes them.
+//! The steps by which a seat claims a block, fills free cells of it, and publishes them.
 ghost use Rattle.std.specs.Prelude.{◌≡◌, ◌<◌, ◌+◌, ◌*◌, nat_le, if◌then◌else◌};
 ghost use Rattle.mark_core.specs.Steps.MutatorSteps.{claim_block_parts, claim_block_effect, cached_block as cached_block_of, release_block_parts, with_free as with_free_of, read_free_parts, read_free_effect, is_next_part as is_next_part_of, fits_part as fits_part_of, with_making as with_making_of, with_made as with_made_of, store_new_parts, used_bits as used_bits_of, without_used as without_used_of, publish_cells_parts, publish_cells_effect};
 ghost use Rattle.mark_core.specs.Steps.{first_false as first_false_of};
@@ -25,7 +25,7 @@ pub fn check_claim_block(shape: &Shape, phase: u64, s: &SeatState, b: u32) -> Op
     ])
 }
 
-/// Kind 20: where nobody had the block it is the seat's cache, whose free cells weren't read yet, and the word says so.
+/// Kind 20: if nobody had the block it is the seat's cache.
 pub fn claim_block(s: &mut SeatState, b: u32, old: u64) -> u64
     ensures word { result ≡ (claim_block_effect s.old b).written old }
     ensures seat { s.new ≡ (claim_block_effect s.old b).seat old }
@@ -45,7 +45,7 @@ pub fn claim_block(s: &mut SeatState, b: u32, old: u64) -> u64
     }
 }
 
-/// The block of the cache, where there is one.
+/// The block of the cache, if there is one.
 pub fn cached_block(s: &SeatState) -> u32
     ensures { result ≡ cached_block_of s.now }
 {
@@ -74,7 +74,6 @@ pub fn release_block(s: &mut SeatState) -> u64
     0
 }
 
-/// The free cells of the cache are those whose bit is clear.
 fn with_free(cache: &mut Option<CacheState>, word: u64)
     ensures { cache.new ≡ with_free_of cache.old word }
 {
@@ -100,7 +99,7 @@ pub fn read_free(s: &mut SeatState, old: u64) -> u64
     old
 }
 
-/// The first word is stored in a free cell, and each further one in the cell being made.
+/// The first word goes into a free cell, each further one into the cell being made.
 fn is_next_part(s: &SeatState, c: Cell, part: u8) -> bool
     ensures { result ≡ is_next_part_of s.now c part }
 {
@@ -111,7 +110,7 @@ fn is_next_part(s: &SeatState, c: Cell, part: u8) -> bool
     }
 }
 
-/// The section and the number of the seat's next cell, where the seat has a section.
+/// The identity of the seat's next cell, if the seat has a section.
 fn identity_of(section: u32, number: u32) -> u64
     ensures { result ≡ section * section_span + number }
 {
@@ -142,7 +141,6 @@ fn with_making(cache: &mut Option<CacheState>, c: Cell, part: u8)
     }
 }
 
-/// The cell is made, and is used.
 #[inline(always)]
 fn with_made(cache: &mut Option<CacheState>, c: Cell)
     ensures { cache.new ≡ with_made_of cache.old c }
@@ -155,7 +153,8 @@ fn with_made(cache: &mut Option<CacheState>, c: Cell)
     }
 }
 
-/// Kind 23: an old reference would be left in a cell whose parts are stored out of order, and a number that is given twice would name two objects.
+/// Kind 23: if parts were stored out of order an old reference would be left in a cell, and a number given twice
+/// would name two objects.
 pub fn check_store_new(shape: &Shape, s: &SeatState, c: Cell, part: u8, word: u64) -> Option<u8>
     requires { shape.now.fields < 256 }
     ensures { result ≡ first_false_of 1 (store_new_parts shape.now s.now c part word) }
@@ -167,7 +166,7 @@ pub fn check_store_new(shape: &Shape, s: &SeatState, c: Cell, part: u8, word: u6
     ])
 }
 
-/// Kind 23: the next part is due; after the last one the cell is made, and the seat has made one more.
+/// Kind 23: after the last part the cell is made.
 #[inline(always)]
 pub fn store_new(shape: &Shape, s: &mut SeatState, c: Cell, part: u8, word: u64) -> u64
     requires part_counts { part < 255 }
@@ -203,14 +202,14 @@ fn without_used(cache: &mut Option<CacheState>)
     }
 }
 
-/// Kind 24: a published cell may be scanned at once, so none may be half made, and from then on a store in it owes its card.
+/// Kind 24: a published cell may be scanned at once, so none may be half made.
 pub fn check_publish_cells(s: &SeatState) -> Option<u8>
     ensures { result ≡ first_false_of 1 (publish_cells_parts s.now) }
 {
     first_false(&[s.cache.is_some(), s.owes.is_none() && !s.has_making()])
 }
 
-/// Kind 24: no cell is made and unpublished any more. The bits of those that were so are set.
+/// Kind 24: a store in these cells owes its card from now on.
 pub fn publish_cells(s: &mut SeatState, old: u64) -> u64
     ensures word { result ≡ (publish_cells_effect s.old).written old }
     ensures seat { s.new ≡ (publish_cells_effect s.old).seat old }

@@ -1,4 +1,4 @@
-//! The steps of a mutator. They read and change objects and roots, and make cells in a cached block.
+//! The steps of a mutator on objects and roots.
 ghost use Rattle.std.specs.Prelude.{◌≡◌, ◌<◌, ◌-◌, ◌/◌, ◌==◌, ℕ, List, if◌then◌else◌, slice_index, slice_set};
 ghost use Rattle.std.specs.List.{list_any};
 ghost use Rattle.mark_core.specs.Bits.{cell_of, reference_in};
@@ -18,7 +18,6 @@ use crate::seat::{CacheState, SeatState};
 use crate::standing::is_the;
 use crate::{bits, hand};
 
-/// A variable of the seat holds this reference.
 fn has_variable(s: &SeatState, reference: u64) -> bool
     ensures { result ≡ list_any (λ x. x == reference) s.now.env }
 {
@@ -33,14 +32,14 @@ fn knows_cell(s: &SeatState, c: Cell) -> bool
     u64::from(s.got) == reference || has_variable(s, reference)
 }
 
-/// Kind 17: a cell that neither the variables nor the register name could be freed before it is read.
+/// Kind 17: a cell that neither the variables nor the register name could be freed.
 pub fn check_read_object(shape: &Shape, s: &SeatState, c: Cell) -> Option<u8>
     ensures { result ≡ first_false_of 1 (read_object_parts shape.now s.now c) }
 {
     first_false(&[c.number() < shape.cells && s.may_mutate(), knows_cell(s, c)])
 }
 
-/// Kind 17: a cell that neither the variables nor the register name could be freed, and made anew, before its field is read.
+/// Kind 17: a cell that neither the variables nor the register name could be freed, and made anew.
 pub fn check_read_own(shape: &Shape, s: &SeatState, c: Cell, i: u8) -> Option<u8>
     ensures { result ≡ first_false_of 1 (read_own_parts shape.now s.now c i) }
 {
@@ -50,7 +49,7 @@ pub fn check_read_own(shape: &Shape, s: &SeatState, c: Cell, i: u8) -> Option<u8
     ])
 }
 
-/// What a mutator reads of an object or of the catalogue goes into its register.
+/// Kind 17: what was read goes into the register.
 pub fn read_reference(s: &mut SeatState, old: u64) -> u64
     ensures word { result ≡ old }
     ensures seat { s.new ≡ record s.old { got = reference_in old } }
@@ -80,7 +79,7 @@ pub fn variable_cell(s: &SeatState, v: u8) -> u32
     variable(s, v).saturating_sub(1)
 }
 
-/// The seat may store in the object that variable v names; its cell has this identity.
+/// The seat may store in variable v's object, whose cell has this identity.
 fn may_change(shape: &Shape, s: &SeatState, v: u8, identity: u64) -> bool
     ensures { (ids : List ℕ) → slice_index ids (variable_of s.now v - 1) ≡ identity → result ≡ may_change_of shape.now ids s.now v }
 {
@@ -96,7 +95,7 @@ fn in_variables(w: Option<u8>) -> bool
     }
 }
 
-/// What variable w of the seat refers to, or nil where none is named.
+/// What variable w of the seat refers to; nil if none is named.
 pub fn variable_or_nil(s: &SeatState, w: Option<u8>) -> u32
     ensures { result ≡ variable_or_nil_of s.now w }
 {
@@ -106,7 +105,8 @@ pub fn variable_or_nil(s: &SeatState, w: Option<u8>) -> u32
     }
 }
 
-/// Kind 18: where objects aren't shared another section's would be stored in by two seats, and a card that is still owed would be forgotten.
+/// Kind 18: if objects aren't shared, two seats would store in another section's; and a card still owed would be
+/// forgotten.
 pub fn check_store_field(
     shape: &Shape,
     identity: u64,
@@ -124,7 +124,7 @@ pub fn check_store_field(
     ])
 }
 
-/// Nobody else can know a cell that isn't published, so its card isn't owed.
+/// Kind 18: nobody scans a cell before it is published, so one of the seat's own cache owes no card.
 pub fn store_field(s: &mut SeatState, v: u8, w: Option<u8>) -> u64
     ensures word { result ≡ variable_or_nil_of s.old w }
     ensures seat { let c = cell_of (variable_of s.old v) in s.new ≡ record s.old { owes = if used_in s.old.cache c then s.old.owes else Some (card_of_cell c) } }
@@ -136,7 +136,8 @@ pub fn store_field(s: &mut SeatState, v: u8, w: Option<u8>) -> u64
     u64::from(variable_or_nil(s, w))
 }
 
-/// Kind 18: where objects aren't shared another section's would be stored in by two seats, and a store whose card is still owed ends first.
+/// Kind 18: if objects aren't shared, two seats would store in another section's; and a store whose card is owed
+/// ends first.
 pub fn check_store_value(shape: &Shape, identity: u64, s: &SeatState, v: u8) -> Option<u8>
     ensures { (ids : List ℕ) → slice_index ids (variable_of s.now v - 1) ≡ identity → result ≡ first_false_of 1 (store_value_parts shape.now ids s.now v) }
 {
@@ -147,7 +148,7 @@ pub fn check_store_value(shape: &Shape, identity: u64, s: &SeatState, v: u8) -> 
     ])
 }
 
-/// Kind 50: where objects aren't shared nobody else changes the field, and a card that is still owed would be forgotten.
+/// Kind 50: if objects aren't shared nobody else changes the field; and a card still owed would be forgotten.
 pub fn check_exchange_field(
     shape: &Shape,
     s: &SeatState,
@@ -168,7 +169,7 @@ pub fn check_exchange_field(
     ])
 }
 
-/// Where the field was the expected reference it is stored as by a store, and else the seat has done nothing.
+/// Kind 50: if the field was the expected reference this is a store; otherwise the seat has done nothing.
 pub fn exchange_field(
     s: &mut SeatState,
     v: u8,
@@ -197,7 +198,7 @@ pub fn check_exchange_value(shape: &Shape, s: &SeatState, v: u8, new: u32) -> Op
     ])
 }
 
-/// The new value where the present one was expected.
+/// Kind 51: the new value, if the present one was expected.
 pub fn exchange_value(expected: u32, new: u32, old: u64) -> u64
     ensures { result ≡ if old == expected then new else old }
 {
@@ -228,7 +229,7 @@ fn has_reference(s: &SeatState, r: u64) -> bool
     r == 0 || r == u64::from(s.got) || has_variable(s, r) || names_last(s.cache, r)
 }
 
-/// Kind 19: a root that names a free cell would dangle, and what was begun, a store or a new cell, ends first.
+/// Kind 19: a root that names a free cell would dangle; a store or a new cell that was begun ends first.
 pub fn check_store_root(s: &SeatState, v: u8, r: u64) -> Option<u8>
     ensures { result ≡ first_false_of 1 (store_root_parts s.now v r) }
 {
@@ -246,7 +247,7 @@ fn set_variable(env: &mut [u32; 32], v: u8, reference: u32)
     env[v as usize] = reference;
 }
 
-/// Kind 19: the seat's own copy of the variable is the same, and its register is nil.
+/// Kind 19: the seat's copy of the variable is the same, and its register is nil.
 pub fn store_root(s: &mut SeatState, v: u8, r: u64) -> u64
     requires { v < section_variables }
     ensures word { result ≡ r }

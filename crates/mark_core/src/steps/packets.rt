@@ -16,14 +16,14 @@ use crate::seat::SeatState;
 use crate::standing::may_trace;
 use crate::{bits, hand, slots};
 
-/// Kind 1: packets leave their pools only while cells are marked, and the record can't tell two reservations from one.
+/// Kind 1: packets leave their pools only while cells are marked, and the record has one reservation at most.
 pub fn check_reserve(phase: u64, s: &SeatState) -> Option<u8>
     ensures { result ≡ first_false_of 1 (reserve_parts phase s.now) }
 {
     first_false(&[may_trace(phase, s), !s.reserved && !s.credit])
 }
 
-/// Kind 1: a reservation is out, and the count is one less.
+/// Kind 1: the reservation is out before the packet is.
 pub fn reserve(s: &mut SeatState, old: u64) -> u64
     ensures word { result ≡ (reserve_effect s.old).written old }
     ensures seat { s.new ≡ (reserve_effect s.old).seat old }
@@ -32,7 +32,7 @@ pub fn reserve(s: &mut SeatState, old: u64) -> u64
     old.wrapping_sub(1)
 }
 
-/// Kind 2: were an empty packet taken without a reservation, the count would say that tracing is done while a seat has work.
+/// Kind 2: without a reservation the count would say that tracing is done while a seat has work.
 pub fn check_take(shape: &Shape, phase: u64, s: &SeatState, q: u8, p: u32) -> Option<u8>
     ensures { result ≡ first_false_of 1 (take_parts shape.now phase s.now q p) }
 {
@@ -44,7 +44,7 @@ pub fn check_take(shape: &Shape, phase: u64, s: &SeatState, q: u8, p: u32) -> Op
     ])
 }
 
-/// Kind 2: where the bit was set the packet is in hand, with its length unknown, and an empty one spends the reservation. The bit is clear.
+/// Kind 2: if the bit was set the packet is in hand, with its length unknown; an empty one spends the reservation.
 pub fn take(s: &mut SeatState, q: u8, p: u32, old: u64) -> u64
     ensures word { result ≡ without_bit old (p % word_bits) }
     ensures seat { let found = has_bit old (p % word_bits) in s.new ≡ record s.old { held = if found then put_packet s.old.held p else s.old.held; reserved = s.old.reserved && not ((q == empty_pool_number) && found) } }
@@ -73,7 +73,8 @@ pub fn pool_for(shape: &Shape, length: u32, deferred: bool) -> usize
     }
 }
 
-/// Kind 3: work without a packet in hand wouldn't show in the count, and a packet whose head is old, or whose pool is that of another length, would be misread.
+/// Kind 3: without a packet in hand work wouldn't show in the count; with an old head, or in the pool of another
+/// length, the packet would be misread.
 pub fn check_give(shape: &Shape, s: &SeatState, p: u32, deferred: bool) -> Option<u8>
     ensures { result ≡ first_false_of 1 (give_parts shape.now s.now p deferred) }
 {
@@ -86,7 +87,7 @@ pub fn check_give(shape: &Shape, s: &SeatState, p: u32, deferred: bool) -> Optio
     ])
 }
 
-/// Kind 3: the packet is out of hand, and an empty one leaves a credit. Its bit is set.
+/// Kind 3: an empty packet leaves a credit.
 pub fn give(s: &mut SeatState, p: u32, old: u64) -> u64
     ensures word { result ≡ with_bit old (p % word_bits) }
     ensures seat { s.new ≡ record s.old { held = drop_packet s.old.held p; credit = not (has_entry s.old.held p) } }
@@ -104,7 +105,7 @@ pub fn check_credit(s: &SeatState) -> Option<u8>
     first_false(&[s.credit || s.reserved])
 }
 
-/// Kind 4: nothing is reserved or credited any more, and the count is one more.
+/// Kind 4: nothing is reserved or credited any more.
 pub fn credit(s: &mut SeatState, old: u64) -> u64
     ensures word { result ≡ (credit_effect s.old).written old }
     ensures seat { s.new ≡ (credit_effect s.old).seat old }
@@ -114,7 +115,8 @@ pub fn credit(s: &mut SeatState, old: u64) -> u64
     old.wrapping_add(1)
 }
 
-/// Kind 5: entries name marked cells alone, so only a cell that the seat marked, or popped and may not scan yet, goes into its packet.
+/// Kind 5: entries name only marked cells, so only one that the seat marked, or popped and may not scan yet, goes
+/// in.
 pub fn check_push(shape: &Shape, s: &SeatState, p: u32, c: Cell) -> Option<u8>
     ensures { result ≡ first_false_of 1 (push_parts shape.now s.now p c) }
 {
@@ -125,7 +127,7 @@ pub fn check_push(shape: &Shape, s: &SeatState, p: u32, c: Cell) -> Option<u8>
     ])
 }
 
-/// What a push makes of the record, where the length of packet p is known.
+/// What a push makes of the record, if the length of packet p is known.
 #[inline(always)]
 pub fn push_at(s: &mut SeatState, p: u32, length: u32, c: Cell)
     requires known { length ≡ length_in_hand s.old.held p }
@@ -140,7 +142,7 @@ pub fn push_at(s: &mut SeatState, p: u32, length: u32, c: Cell)
     }
 }
 
-/// Kind 5: the packet is one cell longer, which its head doesn't say yet, and the cell is no longer in hand. The entry names the cell.
+/// Kind 5: the head doesn't say the new length yet.
 pub fn push(s: &mut SeatState, p: u32, c: Cell) -> u64
     requires { length_in_hand s.old.held p < 4294967295 }
     ensures word { result ≡ c + 1 }
@@ -151,7 +153,7 @@ pub fn push(s: &mut SeatState, p: u32, c: Cell) -> u64
     u64::from(c.number()) + 1
 }
 
-/// Kind 6: the record has one place for each sort of work, so what stood there would be lost.
+/// Kind 6: the record has one place for each sort of work.
 pub fn check_pop(shape: &Shape, phase: u64, s: &SeatState, p: u32) -> Option<u8>
     ensures { result ≡ first_false_of 1 (pop_parts shape.now phase s.now p) }
 {
@@ -163,7 +165,7 @@ pub fn check_pop(shape: &Shape, phase: u64, s: &SeatState, p: u32) -> Option<u8>
     ])
 }
 
-/// What a pop makes of the record, where the length of packet p is known.
+/// What a pop makes of the record, if the length of packet p is known.
 #[inline(always)]
 pub fn pop_at(s: &mut SeatState, p: u32, length: u32, c: Cell)
     requires known { length ≡ length_in_hand s.old.held p }
@@ -173,7 +175,7 @@ pub fn pop_at(s: &mut SeatState, p: u32, length: u32, c: Cell)
     s.popped = Some((c, false));
 }
 
-/// Kind 6: the packet is one cell shorter, which its head doesn't say yet, and the cell is popped.
+/// Kind 6: the head doesn't say the new length yet.
 pub fn pop(s: &mut SeatState, p: u32, old: u64) -> u64
     ensures word { result ≡ old }
     ensures seat { s.new ≡ record s.old { held = set_length s.old.held p (length_in_hand s.old.held p - 1) false; popped = Some (cell_of old, false) } }
@@ -191,7 +193,7 @@ pub fn check_look(shape: &Shape, q: u8, g: u32) -> Option<u8>
     first_false(&[q < POOLS && (g as usize) < pool_words(shape)])
 }
 
-/// Kind 41: the head is its holder's alone to write, and an unknown length would be stored as 0.
+/// Kind 41: only its holder writes the head, and an unknown length would be stored as 0.
 pub fn check_store_length(shape: &Shape, s: &SeatState, p: u32) -> Option<u8>
     ensures { result ≡ first_false_of 1 (store_length_parts shape.now s.now p) }
 {

@@ -23,7 +23,7 @@ pub fn all_are(words: &[u64], word: u64) -> bool
     words.iter().all(|x| *x == word)
 }
 
-/// The bit of the cell that isn't nil, in these mark bits.
+/// The mark bit of the cell that this reference, not nil, names.
 fn is_marked(marks: &[u64], reference: u64) -> bool
     ensures { result ≡ nil_or (cell_bit_of marks.now) reference }
 {
@@ -92,7 +92,6 @@ fn may_sweep_now(shape: &Shape, words: &[u64], s: &SeatState) -> bool
         && read(words, layout::NEXT_BLOCK) == 0
 }
 
-/// What each move asks.
 fn may_move(shape: &Shape, words: &[u64], s: &SeatState, to: Phase) -> bool
     requires shaped { IsShape shape.now }
     requires whole { length words.now ≡ total_words_of (region_sizes shape.now) }
@@ -112,7 +111,7 @@ fn may_move(shape: &Shape, words: &[u64], s: &SeatState, to: Phase) -> bool
     }
 }
 
-/// Kind 30: a sweep that began before all was marked would free reachable cells, and helpers act by the phase that they read.
+/// Kind 30: a sweep before all was marked would free reachable cells, and helpers act by the phase that they read.
 pub fn check_store_phase(shape: &Shape, words: &[u64], s: &SeatState, to: Phase) -> Option<u8>
     requires shaped { IsShape shape.now }
     requires whole { length words.now ≡ total_words_of (region_sizes shape.now) }
@@ -125,7 +124,7 @@ pub fn check_store_phase(shape: &Shape, words: &[u64], s: &SeatState, to: Phase)
     ])
 }
 
-/// The phase after a move; a try finds another phase and leaves it.
+/// The phase after a move. One to Marking leaves any phase but Idle.
 fn phase_after(old: u64, to: Phase) -> u64
     ensures { result ≡ phase_after_of old to }
 {
@@ -139,7 +138,6 @@ fn phase_after(old: u64, to: Phase) -> u64
     }
 }
 
-/// The drain begins with no cell marked.
 fn begins_exact(old: u64, to: Phase) -> bool
     ensures { result ≡ begins_exact_of old to }
 {
@@ -149,7 +147,7 @@ fn begins_exact(old: u64, to: Phase) -> bool
     }
 }
 
-/// Kind 30: the phase is moved, and a drain from Idle or Clear is exact.
+/// Kind 30: a drain from Idle or Clear is exact.
 pub fn store_phase(s: &mut SeatState, to: Phase, old: u64) -> u64
     ensures word { result ≡ (store_phase_effect s.old to).written old }
     ensures seat { s.new ≡ (store_phase_effect s.old to).seat old }

@@ -1,4 +1,4 @@
-//! The steps of the season, which says whose turn it is: the catalogue's or that of the warehouses.
+//! The steps of the season, which says whose turn it is: the catalogue's or the warehouses'.
 ghost use Rattle.std.specs.Prelude.{◌≡◌};
 ghost use Rattle.mark_core.specs.Bits.{wrapped_sum};
 ghost use Rattle.mark_core.specs.Steps.HelpSteps.{read_season_parts, read_season_effect, next_season_parts};

@@ -13,7 +13,7 @@ use crate::numbers::{BLOCK_COUNTER, CARD_COUNTER, DONE, FIRST_POSITION, FREE, LA
 use crate::seat::{BlockState, SeatState};
 use crate::standing::{is_phase, may_clear, may_sweep, may_trace};
 
-/// Kind 33: a block that is in hand already would be left unswept, and a counter that is raised unread would run away past its end.
+/// Kind 33: a block in hand would be left unswept, and a counter raised unread would run away.
 pub fn check_next_block(phase: u64, s: &SeatState) -> Option<u8>
     ensures { result ≡ first_false_of 1 (next_block_parts phase s.now) }
 {
@@ -24,7 +24,7 @@ pub fn check_next_block(phase: u64, s: &SeatState) -> Option<u8>
     ])
 }
 
-/// Kind 33: the blocks that were handed out are in hand, where there are any. The seat has to read the counter again before it raises it again.
+/// Kind 33: the blocks are in hand, if there are any. The counter has to be read before it is raised again.
 pub fn next_block(shape: &Shape, s: &mut SeatState, old: u64) -> u64
     ensures word { result ≡ (next_block_effect shape.now s.old).written old }
     ensures seat { s.new ≡ (next_block_effect shape.now s.old).seat old }
@@ -37,7 +37,6 @@ pub fn next_block(shape: &Shape, s: &mut SeatState, old: u64) -> u64
     old.wrapping_add(u64::from(shape.stretch))
 }
 
-/// A block of which no word was read yet, with the blocks behind it up to `until`.
 fn untouched(block: u32, until: u32) -> BlockState
     ensures { result ≡ untouched_of block until }
 {
@@ -50,14 +49,14 @@ fn untouched(block: u32, until: u32) -> BlockState
     }
 }
 
-/// Kind 33: a counter that is raised unread would run away past its end.
+/// Kind 33: a counter raised unread would run away.
 pub fn check_next_of_cards(phase: u64, s: &SeatState) -> Option<u8>
     ensures { result ≡ first_false_of 1 (next_of_cards_parts phase s.now) }
 {
     first_false(&[may_trace(phase, s), s.below_card])
 }
 
-/// Kind 33: the card is handed out. The seat has to read the counter again before it raises it again.
+/// Kind 33: the counter has to be read before it is raised again.
 pub fn next_of_cards(s: &mut SeatState, old: u64) -> u64
     ensures word { result ≡ (next_of_cards_effect s.old).written old }
     ensures seat { s.new ≡ (next_of_cards_effect s.old).seat old }
@@ -66,7 +65,7 @@ pub fn next_of_cards(s: &mut SeatState, old: u64) -> u64
     old.wrapping_add(1)
 }
 
-/// The block in hand, where there is one.
+/// The block in hand, if there is one.
 pub fn own_block(s: &SeatState) -> u32
     ensures { result ≡ own_block_of s.now }
 {
@@ -100,7 +99,6 @@ pub fn read_block_marks(s: &mut SeatState, old: u64) -> u64
     old
 }
 
-/// The allocated cells of the block that are marked.
 fn survivors(block: Option<BlockState>) -> u64
     ensures { result ≡ survivors_of block }
 {
@@ -118,14 +116,14 @@ fn with_stored(block: &mut Option<BlockState>)
     }
 }
 
-/// Kind 35: where a word of the block wasn't read, marked cells would be freed.
+/// Kind 35: if a word of the block wasn't read, marked cells would be freed.
 pub fn check_store_alloc(phase: u64, s: &SeatState) -> Option<u8>
     ensures { result ≡ first_false_of 1 (store_alloc_parts phase s.now) }
 {
     first_false(&[may_sweep(phase, s), hand::may_store(s.block)])
 }
 
-/// Kind 35: the allocated cells that are marked stay, the others are free, and the block is swept.
+/// Kind 35: the allocated cells that are marked stay.
 pub fn store_alloc(s: &mut SeatState) -> u64
     ensures word { result ≡ survivors_of s.old.block }
     ensures seat { s.new ≡ record s.old { block = with_stored_of s.old.block } }
@@ -143,7 +141,6 @@ pub fn check_clear_marks(phase: u64, s: &SeatState) -> Option<u8>
     first_false(&[s.block.is_some(), s.block.is_some() && swept])
 }
 
-/// The next block of the stretch, where there is one.
 fn next_in_stretch(block: Option<BlockState>) -> Option<BlockState>
     ensures { result ≡ next_in_stretch_of block }
 {
@@ -163,7 +160,7 @@ fn next_in_stretch(block: Option<BlockState>) -> Option<BlockState>
     }
 }
 
-/// Kind 36: the block has no mark, and isn't in hand any more. The next one of its stretch is, where there is one.
+/// Kind 36: the next block of the stretch is in hand, if there is one.
 pub fn clear_marks(s: &mut SeatState) -> u64
     ensures word { result ≡ 0 }
     ensures seat { s.new ≡ record s.old { block = next_in_stretch_of s.old.block } }
@@ -179,14 +176,14 @@ pub fn check_wipe_card(shape: &Shape, phase: u64, s: &SeatState, card: u32) -> O
     first_false(&[card < card_count(shape) && (may_sweep(phase, s) || may_clear(phase, s))])
 }
 
-/// Kind 38: a position is its section's alone, and stays as it is while another seat has stopped the world.
+/// Kind 38: only its section stores a position, and not while another seat has stopped the world.
 pub fn check_store_position(s: &SeatState) -> Option<u8>
     ensures { result ≡ first_false_of 1 (store_position_parts s.now) }
 {
     first_false(&[s.section.is_some(), s.active || s.knows])
 }
 
-/// Kind 38: only the seat that is about to find the heap full names itself, so that one name stands there.
+/// Kind 38: only the seat that is about to find the heap full names itself.
 pub fn check_store_named(phase: u64, s: &SeatState) -> Option<u8>
     ensures { result ≡ first_false_of 1 (store_named_parts phase s.now) }
 {
@@ -201,7 +198,7 @@ pub fn check_reset(phase: u64, s: &SeatState, which: u8) -> Option<u8>
     first_false(&[which <= FREE && s.alone && in_time])
 }
 
-/// Kind 39: a statistic would change under the seat that has stopped the world, and DONE counts parts, which end one at a time.
+/// Kind 39: a statistic would change under the seat that has stopped the world; DONE counts parts one at a time.
 pub fn check_add_stat(s: &SeatState, which: u8, by: u32, down: bool) -> Option<u8>
     ensures { result ≡ first_false_of 1 (add_stat_parts s.now which by down) }
 {

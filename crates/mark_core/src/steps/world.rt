@@ -1,4 +1,4 @@
-//! The steps that stop and resume the world, move the phase, and split and join seats.
+//! The steps that stop and resume the world, and split and join seats.
 ghost use Rattle.std.specs.Prelude.{◌≡◌, ◌==◌, slice_get};
 ghost use Rattle.std.specs.List.{list_all};
 ghost use Rattle.mark_core.specs.Steps.WorldSteps.{enter_parts, enter_effect, leave_parts, leave_effect, raise_parts, raise_effect, observe_effect, drop_parts, drop_effect, split_parts, join_parts};
@@ -12,14 +12,14 @@ use crate::seat::SeatState;
 use crate::standing::is_phase;
 use crate::{bits, hand};
 
-/// Kind 25: a seat that is in the world already, or in its own stop, or among the helpers, would be in two places.
+/// Kind 25: a seat in the world, in its own stop or among the helpers would be in two places.
 pub fn check_enter(s: &SeatState) -> Option<u8>
     ensures { result ≡ first_false_of 1 (enter_parts s.now) }
 {
     first_false(&[s.is_bare()])
 }
 
-/// Kind 25: the seat is counted, and active where no flag was up.
+/// Kind 25: active if no flag was up.
 pub fn enter(s: &mut SeatState, old: u64) -> u64
     ensures word { result ≡ (enter_effect s.old).written old }
     ensures seat { s.new ≡ (enter_effect s.old).seat old }
@@ -42,7 +42,7 @@ pub fn check_leave(shape: &Shape, s: &SeatState) -> Option<u8>
     ])
 }
 
-/// Kind 26: the seat is outside, and has read no phase and no season.
+/// Kind 26: the seat forgets the phase and the season.
 pub fn leave(s: &mut SeatState, old: u64) -> u64
     ensures word { result ≡ (leave_effect s.old).written old }
     ensures seat { s.new ≡ (leave_effect s.old).seat old }
@@ -61,7 +61,7 @@ pub fn check_raise(s: &SeatState) -> Option<u8>
     first_false(&[s.is_bare()])
 }
 
-/// Kind 27: the flag is up, and the seat's own where it was down.
+/// Kind 27: the flag is the seat's own if it was down.
 pub fn raise(s: &mut SeatState, old: u64) -> u64
     ensures word { result ≡ (raise_effect s.old).written old }
     ensures seat { s.new ≡ (raise_effect s.old).seat old }
@@ -77,7 +77,7 @@ fn is_stopped(word: u64) -> bool
     word == bits::FLAG
 }
 
-/// Kind 28: the seat whose flag it is, and that finds no seat counted, knows that the world is stopped, and is alone.
+/// Kind 28: the seat whose flag it is, if no seat is counted, knows that the world is stopped, and is alone.
 pub fn observe(s: &mut SeatState, old: u64) -> u64
     ensures word { result ≡ (observe_effect s.old).written old }
     ensures seat { s.new ≡ (observe_effect s.old).seat old }
@@ -100,7 +100,8 @@ pub fn check_drop(shape: &Shape, phase: u64, s: &SeatState) -> Option<u8>
     ])
 }
 
-/// Kind 29: the flag is down and the seat is counted and active, in one step, so no other stop comes between. It has read no phase and no season.
+/// Kind 29: the seat is active in the same step, so that no other stop comes between. It forgets the phase and the
+/// season.
 pub fn drop_flag(s: &mut SeatState, old: u64) -> u64
     ensures word { result ≡ (drop_effect s.old).written old }
     ensures seat { s.new ≡ (drop_effect s.old).seat old }
@@ -129,7 +130,6 @@ fn is_plain_standing(s: &SeatState) -> bool
         && !s.spent
 }
 
-/// No packet, reservation, credit, work, card, cache or block, and no reference in the register.
 fn has_nothing(shape: &Shape, s: &SeatState) -> bool
     ensures { result ≡ has_nothing_of shape.now s.now }
 {
@@ -147,7 +147,6 @@ fn is_nil_throughout(env: &[u32]) -> bool
     env.iter().all(|x| *x == 0)
 }
 
-/// The seat has its start record.
 fn is_new(shape: &Shape, s: &SeatState) -> bool
     ensures { result ≡ is_new_of shape.now s.now }
 {
@@ -163,14 +162,14 @@ fn is_new(shape: &Shape, s: &SeatState) -> bool
         && !s.below_block
 }
 
-/// Kind 31: there is room for [`SEATS`](crate::SEATS) records, and all seats are made before the first one does anything.
+/// Kind 31: there is room for [`SEATS`](crate::SEATS) records, and all seats are made before the first does
+/// anything.
 pub fn check_split(shape: &Shape, seats: &[SeatState], s: &SeatState) -> Option<u8>
     ensures { result ≡ first_false_of 1 (split_parts shape.now seats.now s.now) }
 {
     first_false(&[s.number == 0 && is_new(shape, s) && seats.len() < SEATS as usize])
 }
 
-/// The other seat exists and is outside.
 fn may_be_joined(seats: &[SeatState], other: u32) -> bool
     ensures { result ≡ may_be_joined_of (slice_get seats.now other) }
 {

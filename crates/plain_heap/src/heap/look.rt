@@ -20,7 +20,6 @@ fn lent(reference: Ref) -> Ref
     }
 }
 
-/// What variable `c` of the catalogue holds, as a warehouse sees it.
 pub(super) fn lent_variable(cat: Option<&PlainHeap>, c: u8) -> Ref
     requires { c < heap_variables }
     ensures { result ≡ lent_variable (option_copied cat.entry) c }
@@ -31,7 +30,6 @@ pub(super) fn lent_variable(cat: Option<&PlainHeap>, c: u8) -> Ref
     }
 }
 
-/// What field `i` of an object holds, as the object's own section sees it.
 fn field_of(object: Option<&Object>, i: u8) -> Ref
     requires { i < 16 }
     ensures { result ≡ field_of (option_copied object.entry) i }
@@ -43,7 +41,6 @@ fn field_of(object: Option<&Object>, i: u8) -> Ref
 }
 
 impl PlainHeap {
-    /// The object that a reference of this heap names.
     fn object<'a>(&'a self, cat: Option<&'a PlainHeap>, reference: Ref) -> Option<&'a Object>
         ensures { option_copied result ≡ object_of self.now (option_copied cat.entry) reference }
     {
@@ -57,7 +54,7 @@ impl PlainHeap {
         }
     }
 
-    /// What field `i` of the object holds that a reference names, as this heap sees it.
+    /// Field `i` of the object that the reference names, as this heap sees it.
     pub(super) fn follow(&self, cat: Option<&PlainHeap>, reference: Ref, i: u8) -> Ref
         requires { i < 16 }
         ensures { result ≡ followed self.now (option_copied cat.entry) reference i }
@@ -69,7 +66,6 @@ impl PlainHeap {
         }
     }
 
-    /// The value of the object that variable `v` refers to, as a line.
     pub(super) fn value_line(&self, cat: Option<&PlainHeap>, v: u8) -> Line
         requires { v < heap_variables }
         ensures { result ≡ value_line
@@ -81,7 +77,7 @@ impl PlainHeap {
         }
     }
 
-    /// The value of the object that a reference names, or 0 where it names none.
+    /// The value of the object that a reference names, or 0 if it names none.
     fn value(&self, cat: Option<&PlainHeap>, reference: Ref) -> u32
         ensures { result ≡ value_of (object_of self.now (option_copied cat.entry) reference) }
     {

@@ -1,4 +1,4 @@
-//! Marks on objects by their numbers. An object that was just marked waits until its fields are read.
+//! Marks on objects by their numbers. A marked object waits until its fields are read.
 ghost use Rattle.std.specs.Prelude.{◌≡◌, ◌≤◌, length, replicate, false, Contains, IfOk, OnOk};
 ghost use Rattle.plain_heap.specs.declared.object.Ref.TheVariants as refs;
 ghost use Rattle.plain_heap.specs.Marking.{AreMarked, Marks};
@@ -7,7 +7,6 @@ use crate::memory::OutOfMemory;
 use crate::object::Ref;
 use std::alloc::Global;
 
-/// No marks on so many objects.
 pub(super) fn no_marks(alloc: Global, count: usize) -> Result<Vec<bool>, OutOfMemory>
     requires { count ≤ 2000000 }
     ensures { IfOk result (λ marks. marks.items ≡ replicate count false) }
@@ -37,7 +36,6 @@ fn mark(reference: Ref, marks: &mut Vec<bool>, waiting: &mut Vec<u32>) -> Result
     Ok(())
 }
 
-/// Marks the own objects that these references name.
 pub(super) fn mark_all(
     references: &[Ref],
     marks: &mut Vec<bool>,
@@ -55,7 +53,6 @@ pub(super) fn mark_all(
     Ok(())
 }
 
-/// The numbers of the marked objects, in order.
 pub(super) fn marked_numbers(alloc: Global, marks: &Vec<bool>) -> Result<Vec<u32>, OutOfMemory>
     requires { length marks.now.items ≤ 2000000 }
     ensures { IfOk result (λ numbers.

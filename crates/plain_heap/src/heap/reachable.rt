@@ -1,4 +1,4 @@
-//! Which objects of its own a heap can still reach. It serves tests; no collection asks it.
+//! Which objects of its own a heap can still reach. Only tests ask; no collection does.
 ghost use Rattle.std.specs.Prelude.{◌≡◌, ◌≤◌, [], length, replicate, false, Contains, IfOk, OnOk};
 ghost use Rattle.plain_heap.specs.declared.object.Ref.TheVariants as refs;
 ghost use Rattle.plain_heap.specs.Paths.{AreOwnReachable};
@@ -10,10 +10,8 @@ use crate::memory::OutOfMemory;
 use std::alloc::Global;
 
 impl PlainHeap {
-    /// The numbers of the own objects that own references reach from a variable, in order.
-    ///
-    /// It takes memory for a mark on each object, for the numbers that wait and for the answer;
-    /// `OutOfMemory` says that there was none.
+    /// The numbers of the own objects that own references reach from a variable, in order. `OutOfMemory`: there was
+    /// none for a mark on each object, the numbers that wait, or the answer.
     pub fn reachable(&self, alloc: Global) -> Result<Vec<u32>, OutOfMemory>
         ensures { IfOk result (λ numbers. AreOwnReachable self.now numbers.items) }
     {
@@ -22,7 +20,6 @@ impl PlainHeap {
         marked_numbers(alloc, &marks)
     }
 
-    /// Marks on exactly the reachable objects.
     fn marks(&self, alloc: Global) -> Result<Vec<bool>, OutOfMemory>
         ensures { IfOk result (λ marks. Reaches self.now marks.items []) }
     {
@@ -32,7 +29,7 @@ impl PlainHeap {
         }
     }
 
-    /// Marks on exactly the reachable objects, where there were none.
+    /// Sets marks on exactly the reachable objects, from none.
     fn marks_on(&self, alloc: Global, none: Vec<bool>) -> Result<Vec<bool>, OutOfMemory>
         requires { none.items ≡ replicate (length self.now.objects) false }
         ensures { IfOk result (λ marks. Reaches self.now marks.items []) }
@@ -50,7 +47,6 @@ impl PlainHeap {
         Ok(marks)
     }
 
-    /// Marks what variables hold.
     fn mark_held(&self, marks: &mut Vec<bool>, waiting: &mut Vec<u32>) -> Result<(), OutOfMemory>
         ensures { OnOk result (Marks (λ m. Contains self.now.variables (refs.Own m)) marks.old.items
             marks.new.items waiting.old.items waiting.new.items) }
@@ -58,7 +54,6 @@ impl PlainHeap {
         mark_all(&self.variables, marks, waiting)
     }
 
-    /// Marks what object `n` refers to.
     fn mark_next(
         &self,
         n: u32,

@@ -9,7 +9,6 @@ use crate::object::{Object, Ref};
 use crate::operation::Line;
 
 impl PlainHeap {
-    /// Makes an object with value `n` and nil fields, to which variable `v` refers from then on.
     pub(super) fn make(&mut self, v: u8, n: u32) -> Result<Option<Line>, OutOfMemory>
         requires name { v < heap_variables }
         requires room { length self.old.objects < 2000000 }
@@ -29,7 +28,6 @@ impl PlainHeap {
         Ok(None)
     }
 
-    /// Makes variable `v` hold this reference.
     pub(super) fn assign(&mut self, v: u8, reference: Ref)
         requires { v < heap_variables }
         ensures { self.new ≡ assigned self.old v reference }
@@ -37,7 +35,6 @@ impl PlainHeap {
         self.variables[v as usize] = reference;
     }
 
-    /// Makes field `i` of the object that `v` refers to hold what `w` does.
     pub(super) fn store_field(&mut self, v: u8, i: u8, w: u8)
         requires v { v < heap_variables }
         requires i { i < 16 }
@@ -58,7 +55,6 @@ impl PlainHeap {
         }
     }
 
-    /// Makes `n` the value of the object that `v` refers to.
     pub(super) fn store_value(&mut self, v: u8, n: u32)
         requires v { v < heap_variables }
         requires drops { self.old.dropped < 2000000 }

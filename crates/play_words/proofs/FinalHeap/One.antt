@@ -17,7 +17,7 @@ use Rattle.play_words.specs.Final.{name_in, survivor_in, IsNumberOf, IsFinalHeap
 use Rattle.play_words.specs.Laws.{OneFinalHeap}
 use Rattle.play_words.proofs.FinalHeap.Legal.{record-value, record-object, records-apart, name-at}
 
--- a reference has one number where no name stands twice
+-- a reference has one number if no name stands twice
 number-one : (a b : DumpedHeap) (section : ℕ) (ref : Ref) (m n : ℕ) → IsNumberOf a section ref m → IsNumberOf b section ref n → length a.records ≡ length b.records
     → ((k : ℕ) → k < length b.records → name_in (object a k) ≡ name_in (object b k)) → ((j k : ℕ) → j < length b.records → k < length b.records → name_in (object b j) ≡ name_in (object b k) → j ≡ k) → m ≡ n
 number-one a b section ref m n (inl x) (inl y) long same apart = x.1 ∙ sym y.1

@@ -1,4 +1,4 @@
--- Where a variable or a field of the plain heaps refers to the object of a record, that of the final heap refers to the record.
+-- If a variable or a field of the plain heaps refers to the object of a record, that of the final heap refers to the record.
 use Rattle.std.proofs.Common.{◌≡◌, ◌⊎◌, inl, inr, ℕ, suc, ◌+◌, ◌-◌, ◌*◌, ◌<◌, ◌≤◌, refl, ap, sym, ◌∙◌, subst, arith, List, [], ◌∷◌, length, get_or}
 use Rattle.std.specs.Prelude.{Option, Some, None, slice_get, slice_index_or}
 use Rattle.std.proofs.lemmas.Bool.{cases_lt}

@@ -106,7 +106,7 @@ module _ (s : Sections) (r : Report) (w : Words) (e : IsEndOf s r w) where
       (subst (λ (t : ℕ). WordAgrees (the_words x).identities (object_count (meanings_of x.sections)) i t (variable m.heap v)) word ((e.closed.end.whole.stands o.heap.owned).roots_agree i m there v low)))
       (λ c goes. root-reaches (32 * i + v) c inside goes)
 
-  -- so many fields
+  -- this many fields
   field-shape : (end_state s r w e).core.shape.fields ≡ s.fields
   field-shape = ap (λ (h : Shape). h.fields) e.closed.end.shape ∙ e.closed.made.fields
 

@@ -1,6 +1,4 @@
 //! The command `batch`: plays the scripts of a batch, several at a time, each as `run` does.
-//!
-//! - `player`: plays one script over memory. - `text`: the jobs' results, and the faults of a batch.
 ghost use Rattle.std.specs.Prelude.{◌≢◌, ◌≤◌, IfSome, Ok};
 ghost use Rattle.job_pool.specs.Batch.{batch_fault_of};
 ghost use Rattle.command_words.specs.Commands.{options_of};
@@ -24,7 +22,6 @@ use std::sync::Wait;
 use std::thread::Threads;
 use text::{write_batch_fault, write_jobs};
 
-/// Plays the jobs, and writes their results.
 fn play_jobs<R: Threads + Wait + Sync, K: Sink>(
     rt: &R,
     alloc: Global,
@@ -72,7 +69,7 @@ fn batch_bytes<R: Threads + Wait + Sync, K: Sink>(
     }
 }
 
-/// Plays the batch of the source, each script as the options say, on so many runners.
+/// Plays the batch of the source, each script as the options say, on this many runners.
 pub fn play_batch<R: Threads + Wait + Sync, S: Source, K: Sink>(
     rt: &R,
     alloc: Global,

@@ -14,7 +14,6 @@ use play_run::{DUMP, Status, Unread, read_source};
 use std::alloc::Global;
 use std::thread::Threads;
 
-/// Counts the records, and writes the census.
 fn count_records<R: Threads + Sync, K: Sink>(
     rt: &R,
     alloc: Global,
@@ -29,7 +28,6 @@ fn count_records<R: Threads + Sync, K: Sink>(
     }
 }
 
-/// Writes the census of a dump, or its fault.
 fn census_bytes<R: Threads + Sync, K: Sink>(
     rt: &R,
     alloc: Global,

@@ -24,7 +24,6 @@ fn write_added<K: Sink>(added: bool, sink: &mut K) -> Result<(), Failed>
     }
 }
 
-/// Writes a conversion line by line: the lines that are added, and the rest as it stands.
 fn write_converted<K: Sink>(converted: &Converted<'_>, sink: &mut K) -> Result<(), Failed>
     ensures { WritesTo K.written K.faults result sink.old sink.new (converted_text (conversion_of converted.now)) }
 {
@@ -34,7 +33,6 @@ fn write_converted<K: Sink>(converted: &Converted<'_>, sink: &mut K) -> Result<(
     }
 }
 
-/// Converts a script, and writes it or its fault.
 fn convert_bytes<K: Sink>(alloc: Global, bytes: &[u8], sink: &mut K) -> Status
     ensures { AcrossSink K.written K.faults (TextEnds (IsConvertAnswer bytes.now) result) sink.old sink.new }
 {

@@ -1,6 +1,4 @@
-//! The command `dump`: plays the script of the source, and writes the heap at its end.
-//!
-//! - `ending`: the heap that is written, of what a play answers. `numbers` and `telling`: its records and references.
+//! The command `dump`: plays the script of the source and writes the heap at its end.
 ghost use Rattle.std.specs.Prelude.{IfSome};
 ghost use Rattle.command_words.specs.Commands.{options_of};
 ghost use Rattle.play_end.specs.Answers.{AreInRange};
@@ -27,7 +25,6 @@ use std::alloc::Global;
 use std::sync::Wait;
 use std::thread::Threads;
 
-/// Writes the heap at the end of a play.
 fn write_end<K: Sink>(
     alloc: Global,
     script: &Script<'_>,
@@ -43,7 +40,6 @@ fn write_end<K: Sink>(
     }
 }
 
-/// Plays a script, and writes the heap at its end or how far it came.
 fn dump_script<R: Threads + Wait + Sync, K: Sink, G: Gate + Sync>(
     rt: &R,
     alloc: Global,
@@ -61,7 +57,6 @@ fn dump_script<R: Threads + Wait + Sync, K: Sink, G: Gate + Sync>(
     }
 }
 
-/// Reads and plays a script, and writes the heap at its end or its fault.
 fn dump_bytes<R: Threads + Wait + Sync, K: Sink, G: Gate + Sync>(
     rt: &R,
     alloc: Global,

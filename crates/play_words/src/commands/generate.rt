@@ -10,7 +10,7 @@ use play_report::Sink;
 use play_run::Status;
 use std::alloc::Global;
 
-/// Writes the generated script of this number, with so many lines a warehouse, each line as one piece.
+/// Writes the generated script of this number, with this many lines a warehouse, each line as one piece.
 pub fn write_generated<K: Sink>(alloc: Global, number: u32, size: u32, sink: &mut K) -> Status
     requires least { 1 ≤ size }
     requires most { size ≤ 20000 }

@@ -18,7 +18,6 @@ use std::alloc::Global;
 use std::sync::Wait;
 use std::thread::Threads;
 
-/// Plays a script, and writes five lines of it or how far it came.
 fn load_script<R: Threads + Wait + Sync, K: Sink, G: Gate + Sync>(
     rt: &R,
     alloc: Global,
@@ -38,7 +37,7 @@ fn load_script<R: Threads + Wait + Sync, K: Sink, G: Gate + Sync>(
     }
 }
 
-/// Reads and plays a script of four warehouses. It has no fault, so it is refused where memory runs out, and nowhere else.
+/// Reads and plays a script of four warehouses. It has no fault, so it is refused only if memory runs out.
 fn load_bytes<R: Threads + Wait + Sync, K: Sink, G: Gate + Sync>(
     rt: &R,
     alloc: Global,
@@ -58,7 +57,7 @@ fn load_bytes<R: Threads + Wait + Sync, K: Sink, G: Gate + Sync>(
     }
 }
 
-/// Plays the generated script of this number and size, as the options say, and writes five lines of it.
+/// Plays the generated script of this number and size, and writes five lines of it.
 pub fn load_generated<R: Threads + Wait + Sync, K: Sink, G: Gate + Sync>(
     rt: &R,
     alloc: Global,

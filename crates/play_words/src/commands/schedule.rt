@@ -1,4 +1,3 @@
-//! The command `schedule`: checks the schedule of the source.
 ghost use Rattle.std.specs.Prelude.{IfSome};
 ghost use Rattle.schedule_check.specs.Telling.{IsScheduleAnswer};
 ghost use Rattle.play_run.specs.Ending.{CommandEnds, TextEnds, number_of_status};
@@ -11,7 +10,6 @@ use play_run::{SCHEDULE, Status, Unread, read_source};
 use schedule_check::{Told, Untold, tell_schedule};
 use std::alloc::Global;
 
-/// Writes the verdict on a schedule, or its fault.
 fn check_bytes<K: Sink>(alloc: Global, bytes: &[u8], sink: &mut K) -> Status
     ensures { AcrossSink K.written K.faults (TextEnds (IsScheduleAnswer bytes.now) result) sink.old sink.new }
 {

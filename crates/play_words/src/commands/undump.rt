@@ -11,7 +11,6 @@ use play_report::{Sink, Source};
 use play_run::{DUMP, Status, Unread, read_source};
 use std::alloc::Global;
 
-/// Writes the records of a dump, or its fault.
 fn undump_bytes<K: Sink>(bytes: &[u8], sink: &mut K) -> Status
     ensures { AcrossSink K.written K.faults (TextEnds (IsUndumpAnswer bytes.now) result) sink.old sink.new }
 {

@@ -10,7 +10,6 @@ use gc_table::{Heap, HeapSeat};
 use mark_core::Phase;
 use test_heaps::{empty_handed, has_making, is_bare, work_in_hand};
 
-/// The seat has nothing in hand, but perhaps a cache.
 fn is_at_rest(heap: &Heap, seat: &HeapSeat) -> bool
     requires { Sits heap.now seat.now }
     ensures { result ≡ is_at_rest_of heap.now.shape (state_of seat.now) }
@@ -24,7 +23,6 @@ fn is_at_rest(heap: &Heap, seat: &HeapSeat) -> bool
         && !has_making(seat)
 }
 
-/// The seat has nothing in hand.
 fn has_nothing(heap: &Heap, seat: &HeapSeat) -> bool
     requires { Sits heap.now seat.now }
     ensures { result ≡ has_nothing_of heap.now.shape (state_of seat.now) }

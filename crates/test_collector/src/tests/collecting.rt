@@ -1,4 +1,4 @@
-//! A mutator that finds no block collects: what it doesn't reach is free again, and where it reaches all the heap is full.
+//! A mutator that finds no block collects: what it doesn't reach is freed, and if it reaches all, the heap is full.
 ghost use Rattle.std.specs.Prelude.{IfNone, IfSome};
 ghost use Rattle.test_heaps.specs.Seats.{HasEachObject, IsReadyWithCache};
 
@@ -40,7 +40,6 @@ pub fn refills<R: Wait>(
     }
 }
 
-/// Whether the heap is full for a mutator that has done `done` commands.
 fn finds_full<R: Wait>(rt: &R, heap: &Heap, seat: &mut HeapSeat, done: u32) -> bool
     requires { HasEachObject heap.now seat.old }
     ensures { HasEachObject heap.now seat.new }
@@ -57,7 +56,7 @@ fn finds_full<R: Wait>(rt: &R, heap: &Heap, seat: &mut HeapSeat, done: u32) -> b
     }
 }
 
-/// A collection: true where the mutator goes on.
+/// A collection: true if the mutator goes on.
 pub fn collects<R: Wait>(rt: &R, heap: &Heap, seat: &mut HeapSeat) -> bool
     requires { HasEachObject heap.now seat.old }
     ensures { HasEachObject heap.now seat.new }
@@ -75,7 +74,6 @@ pub fn collects<R: Wait>(rt: &R, heap: &Heap, seat: &mut HeapSeat) -> bool
     }
 }
 
-/// Makes 64 objects, each stored in variable 0: how many were made.
 fn fill(heap: &Heap, seat: &mut HeapSeat, cache: &mut Cache) -> u32
     requires { IsReadyWithCache heap.now seat.old cache.old }
     ensures { IsReadyWithCache heap.now seat.new cache.new }
@@ -89,7 +87,7 @@ fn fill(heap: &Heap, seat: &mut HeapSeat, cache: &mut Cache) -> u32
     made
 }
 
-/// The free cells of the cache that a mutator gets when all but one object of the block are garbage.
+/// The free cells of the next cache when all but one object of the block are garbage.
 fn refills_after_garbage<R: Wait>(rt: &R, heap: &Heap, seat: &mut HeapSeat) -> Option<u32>
     requires { HasEachObject heap.now seat.old }
 {
@@ -105,7 +103,7 @@ fn refills_after_garbage<R: Wait>(rt: &R, heap: &Heap, seat: &mut HeapSeat) -> O
     Some(free)
 }
 
-/// The phase, the section that is named, and its position, once all 64 objects of a chain fill the heap.
+/// The phase, the named section and its position, once a chain of 64 objects fills the heap.
 fn fills_up<R: Wait>(rt: &R, heap: &Heap, seat: &mut HeapSeat) -> Option<(Phase, u64, u64)>
     requires { HasEachObject heap.now seat.old }
 {

@@ -23,7 +23,7 @@ use test_heaps::{
     SMALL, begins_sweep, drained, drains, is_bare, leaves, raises_own, resets, scans_all,
 };
 
-/// What a seat did that was let in to help: nothing where help was closed.
+/// What a seat did that was let in to help; nothing if help was closed.
 pub fn helps(heap: &Heap, seat: &mut HeapSeat, quota: u32) -> Option<Helped>
     requires seat { Sits heap.now seat.old }
     ensures { Sits heap.now seat.new }
@@ -39,7 +39,6 @@ pub fn helps(heap: &Heap, seat: &mut HeapSeat, quota: u32) -> Option<Helped>
     Some(helped)
 }
 
-/// Makes a chain of ten objects, begins marking, and leaves.
 fn leaves_marking(heap: &Heap, seat: &mut HeapSeat) -> bool
     requires { HasEachObject heap.now seat.old }
     ensures { Sits heap.now seat.new }
@@ -50,7 +49,6 @@ fn leaves_marking(heap: &Heap, seat: &mut HeapSeat) -> bool
     leaves(heap, seat)
 }
 
-/// Waits for the stop: true where a cycle was marking.
 fn stops_marking<R: Wait>(rt: &R, heap: &Heap, seat: &mut HeapSeat) -> bool
     requires { At heap.now flagged 0 seat.old × IsFalse (has_moved (view_of seat.old).log) }
     ensures { OnTrue result (Sits heap.now seat.new × Alone Marking (view_of seat.new)) }
@@ -62,7 +60,6 @@ fn stops_marking<R: Wait>(rt: &R, heap: &Heap, seat: &mut HeapSeat) -> bool
     }
 }
 
-/// Lets others help in the drain.
 fn opens(heap: &Heap, seat: &mut HeapSeat)
     requires seat { Sits heap.now seat.old × Alone Drain (view_of seat.old) }
     requires closed { IsFalse (state_of seat.old).opened }
@@ -71,7 +68,6 @@ fn opens(heap: &Heap, seat: &mut HeapSeat)
     open_help(heap, seat);
 }
 
-/// Begins the drain, scans all roots, and lets others help.
 fn opens_drain(heap: &Heap, seat: &mut HeapSeat) -> bool
     requires { Sits heap.now seat.old × Alone Marking (view_of seat.old) }
     ensures { OnTrue result (Sits heap.now seat.new × Known (view_of seat.new) the_phase 2) }
@@ -85,7 +81,6 @@ fn opens_drain(heap: &Heap, seat: &mut HeapSeat) -> bool
     true
 }
 
-/// Closes the drain to others. No block was handed out in it.
 fn closes<R: Wait>(rt: &R, heap: &Heap, seat: &mut HeapSeat)
     requires seat { Sits heap.now seat.old × Known (view_of seat.old) the_phase 2 }
     requires opened { IsTrue (state_of seat.old).opened }
@@ -94,7 +89,6 @@ fn closes<R: Wait>(rt: &R, heap: &Heap, seat: &mut HeapSeat)
     close_help(rt, heap, seat);
 }
 
-/// Lets others help in the sweep.
 fn opens_blocks(heap: &Heap, seat: &mut HeapSeat)
     requires seat { Sits heap.now seat.old × Alone Sweep (view_of seat.old) }
     requires closed { IsFalse (state_of seat.old).opened }
@@ -102,7 +96,6 @@ fn opens_blocks(heap: &Heap, seat: &mut HeapSeat)
     open_help(heap, seat);
 }
 
-/// Closes the drain to others, and begins the sweep, which it opens to them.
 fn opens_sweep<R: Wait>(rt: &R, heap: &Heap, seat: &mut HeapSeat) -> bool
     requires { Sits heap.now seat.old × Known (view_of seat.old) the_phase 2 }
 {
@@ -122,7 +115,6 @@ fn opens_sweep<R: Wait>(rt: &R, heap: &Heap, seat: &mut HeapSeat) -> bool
     true
 }
 
-/// What seat 1 does as a helper of seat 0's stop, in its drain and in its sweep.
 fn shares<R: Wait>(
     rt: &R,
     heap: &Heap,

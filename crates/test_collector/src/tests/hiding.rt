@@ -1,4 +1,4 @@
-//! A store hides an unmarked object behind a clean card, while a cycle is marking: the end of the cycle keeps it.
+//! A store hides an unmarked object behind a clean card while a cycle is marking: the end of the cycle keeps it.
 ghost use Rattle.test_heaps.specs.Seats.{HasEachObject, IsReadyWithCache};
 
 use super::collecting::refills;
@@ -13,7 +13,6 @@ use std::sync::Wait;
 use test_heaps::{SMALL, forget, make, marks_as_mutator, take};
 use tracer::{scan_roots, trace};
 
-/// Makes an object with value 7 in variable 0.
 fn make_first(heap: &Heap, seat: &mut HeapSeat) -> bool
     requires { HasEachObject heap.now seat.old }
     ensures { HasEachObject heap.now seat.new }
@@ -26,7 +25,6 @@ fn make_first(heap: &Heap, seat: &mut HeapSeat) -> bool
     made
 }
 
-/// Marks the roots and traces: how many objects were scanned.
 fn traces(heap: &Heap, seat: &mut HeapSeat) -> Option<u32>
     requires { HasEachObject heap.now seat.old }
     ensures { HasEachObject heap.now seat.new }
@@ -41,7 +39,6 @@ fn traces(heap: &Heap, seat: &mut HeapSeat) -> Option<u32>
     Some(trace(heap, seat, 100).done)
 }
 
-/// The next card of the pass.
 fn draws(heap: &Heap, seat: &mut HeapSeat) -> Option<u32>
     requires { HasEachObject heap.now seat.old }
     ensures { HasEachObject heap.now seat.new }
@@ -64,7 +61,6 @@ pub fn passes(heap: &Heap, seat: &mut HeapSeat) -> bool
         && draws(heap, seat).is_none()
 }
 
-/// Whether the first card is dirty.
 fn is_dirty(heap: &Heap, seat: &mut HeapSeat) -> bool
     requires { HasEachObject heap.now seat.old }
     ensures { HasEachObject heap.now seat.new }
@@ -84,7 +80,7 @@ fn hide(heap: &Heap, seat: &mut HeapSeat, cache: &mut Cache) -> bool
     garbage && hidden
 }
 
-/// In a block of its own, makes a garbage object, and one with value 9 that only a field of the first object leads to.
+/// Does so in a block of its own.
 fn hides(heap: &Heap, seat: &mut HeapSeat) -> bool
     requires { HasEachObject heap.now seat.old }
     ensures { HasEachObject heap.now seat.new }
@@ -97,7 +93,7 @@ fn hides(heap: &Heap, seat: &mut HeapSeat) -> bool
     hidden
 }
 
-/// Whether the first object was scanned, no card was dirty after that, and the store of the second one dirtied its card.
+/// Whether the first object was scanned, no card was dirty then, and the store of the second dirtied its card.
 fn hides_behind(heap: &Heap, seat: &mut HeapSeat) -> bool
     requires { HasEachObject heap.now seat.old }
     ensures { HasEachObject heap.now seat.new }
@@ -111,7 +107,8 @@ fn hides_behind(heap: &Heap, seat: &mut HeapSeat) -> bool
         && is_dirty(heap, seat)
 }
 
-/// The free cells of the cache with which the cycle ends, the phase then, and the objects that are left with the sum of their values.
+/// The free cells of the cache with which the cycle ends, the phase then, and the objects that are left with the
+/// sum of their values.
 fn keeps<R: Wait>(rt: &R, heap: &Heap, seat: &mut HeapSeat) -> Option<(u32, Phase, u32, u64)>
     requires { HasEachObject heap.now seat.old }
 {

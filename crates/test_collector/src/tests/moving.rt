@@ -1,5 +1,5 @@
-//! While one thread marks, another moves the only reference to an object from one that waits for its scan to one that was scanned. This is the order in which a
-//! collector without a barrier loses an object:
+//! While one thread marks, another moves the only reference to an object from one that waits for its scan to one
+//! that was scanned. This is the order in which a collector without a barrier loses an object:
 //!
 //! ```text
 //! a thread marks                    a thread stores
@@ -11,7 +11,8 @@
 //! ends the cycle
 //! ```
 //!
-//! Now B alone refers to C, and was scanned before it did. The store dirtied the card of B, so that it is scanned once more before the cycle ends.
+//! Now only B refers to C, and was scanned before it did. The store dirtied the card of B, so that it is scanned
+//! once more before the cycle ends.
 ghost use Rattle.std.specs.Prelude.{◌<◌, IsTrue};
 ghost use Rattle.test_collector.specs.Seats.{IsSharerWithCache};
 ghost use Rattle.test_heaps.specs.Seats.{HasEachObject};
@@ -39,7 +40,8 @@ const SHARED: Shape = Shape {
     ..SMALL
 };
 
-/// The variables of A, of B, of C, and of nothing. Of the first two the roots' scan finds A before B, and a packet is a stack: so B is scanned first.
+/// The variables of A, B, C and nothing. The roots' scan finds A before B, and a packet is a stack: so B is scanned
+/// first.
 const A: u8 = 0;
 
 const B: u8 = 1;
@@ -48,7 +50,7 @@ const C: u8 = 2;
 
 const NIL: u8 = 3;
 
-/// Waits until so many steps were done: whether they were. It gives up after some seconds.
+/// Waits until this many steps were done: whether they were. It gives up after some seconds.
 fn comes_to(done: &AtomicU64, steps: u64) -> bool {
     for _look in 0..10_000_000u32 {
         if done.load(Ordering::SeqCst) >= steps {
@@ -59,7 +61,8 @@ fn comes_to(done: &AtomicU64, steps: u64) -> bool {
     false
 }
 
-/// Makes A with value 7, B with value 8, and C with value 9, to which field 0 of A alone refers. No card is dirtied, since none of them was published.
+/// Makes A with value 7, B with value 8, and C with value 9, to which only A's field 0 refers. None is published,
+/// so no card is dirtied.
 fn make_three(heap: &Heap, seat: &mut HeapSeat, cache: &mut Cache) -> bool
     requires cache { IsSharerWithCache heap.now seat.old cache.old }
     requires fields { 0 < heap.now.shape.fields }
@@ -73,7 +76,6 @@ fn make_three(heap: &Heap, seat: &mut HeapSeat, cache: &mut Cache) -> bool
     a && b && c
 }
 
-/// Makes the three in a block, which is published: whether they were made.
 fn makes_three(heap: &Heap, seat: &mut HeapSeat) -> bool
     requires { HasEachObject heap.now seat.old }
     ensures { HasEachObject heap.now seat.new }
@@ -89,7 +91,6 @@ fn makes_three(heap: &Heap, seat: &mut HeapSeat) -> bool
     made
 }
 
-/// Scans the roots of section 1: whether the seat marks.
 fn scans(heap: &Heap, seat: &mut HeapSeat) -> bool
     requires { HasEachObject heap.now seat.old }
     ensures { HasEachObject heap.now seat.new }
@@ -101,7 +102,6 @@ fn scans(heap: &Heap, seat: &mut HeapSeat) -> bool
     true
 }
 
-/// Scans so many objects at most: how many it scanned.
 fn traces(heap: &Heap, seat: &mut HeapSeat, most: u32) -> u32
     requires { HasEachObject heap.now seat.old }
     ensures { HasEachObject heap.now seat.new }
@@ -127,7 +127,7 @@ fn move_reference(heap: &Heap, seat: &mut HeapSeat) -> bool
     true
 }
 
-/// Once the other thread has scanned B, moves the reference, and leaves: whether it was moved.
+/// Once the other thread has scanned B, moves the reference, and leaves.
 fn stores(heap: &Heap, seat: &mut HeapSeat, done: &AtomicU64) -> bool
     requires { HasEachObject heap.now seat.old }
     ensures { HasEachObject heap.now seat.new }
@@ -140,7 +140,7 @@ fn stores(heap: &Heap, seat: &mut HeapSeat, done: &AtomicU64) -> bool
     moved
 }
 
-/// Begins a cycle, passes over the cards, which are clean, and scans the roots and one object: whether that was so.
+/// Begins a cycle, passes over the clean cards, and scans the roots and one object.
 fn scans_one(heap: &Heap, seat: &mut HeapSeat) -> bool
     requires { HasEachObject heap.now seat.old }
     ensures { HasEachObject heap.now seat.new }
@@ -148,7 +148,6 @@ fn scans_one(heap: &Heap, seat: &mut HeapSeat) -> bool
     marks(heap, seat) && passes(heap, seat) && scans(heap, seat) && traces(heap, seat, 1) == 1
 }
 
-/// Fills the cache with objects of value 1: how many these were.
 fn fill(heap: &Heap, seat: &mut HeapSeat, cache: &mut Cache) -> u32
     requires { IsSharerWithCache heap.now seat.old cache.old }
     ensures { IsSharerWithCache heap.now seat.new cache.new }
@@ -162,7 +161,7 @@ fn fill(heap: &Heap, seat: &mut HeapSeat, cache: &mut Cache) -> u32
     made
 }
 
-/// Ends the cycle, since nothing is left to trace, and makes objects in all cells that are free then: how many these are.
+/// Ends the cycle, and fills all cells that are free then: how many these are.
 fn ends_cycle<R: Wait>(rt: &R, heap: &Heap, seat: &mut HeapSeat) -> Option<u32>
     requires { HasEachObject heap.now seat.old }
     ensures { HasEachObject heap.now seat.new }
@@ -177,7 +176,8 @@ fn ends_cycle<R: Wait>(rt: &R, heap: &Heap, seat: &mut HeapSeat) -> Option<u32>
     }
 }
 
-/// Scans B, waits until the other thread has moved the reference, scans A, and ends the cycle: how many cells were free then.
+/// Scans B, waits until the other thread has moved the reference, scans A, and ends the cycle: how many cells were
+/// free then.
 fn marks_beside<R: Wait>(rt: &R, heap: &Heap, seat: &mut HeapSeat, done: &AtomicU64) -> Option<u32>
     requires { HasEachObject heap.now seat.old }
     ensures { HasEachObject heap.now seat.new }
@@ -190,7 +190,6 @@ fn marks_beside<R: Wait>(rt: &R, heap: &Heap, seat: &mut HeapSeat, done: &Atomic
     ends_cycle(rt, heap, seat)
 }
 
-/// The value of the object that field 0 of B refers to, for a mutator that comes back.
 fn finds_moved<R: Wait>(rt: &R, heap: &Heap, seat: &mut HeapSeat) -> Option<u64>
     requires { HasEachObject heap.now seat.old }
 {

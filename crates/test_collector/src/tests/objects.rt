@@ -1,4 +1,3 @@
-//! A mutator makes objects in a cache, and stores in them.
 ghost use Rattle.std.specs.Prelude.{◌<◌};
 ghost use Rattle.mark_core.specs.Numbers.{section_variables};
 ghost use Rattle.test_heaps.specs.Seats.{HasEachObject, IsReadyWithCache};
@@ -42,7 +41,7 @@ pub fn put_before(heap: &Heap, seat: &mut HeapSeat, cache: &mut Cache, n: u32) -
     true
 }
 
-/// Puts so many objects before the chain: how many were made.
+/// Puts this many objects before the chain: how many were made.
 pub fn lengthen(heap: &Heap, seat: &mut HeapSeat, cache: &mut Cache, count: u32) -> u32
     requires { IsReadyWithCache heap.now seat.old cache.old }
     ensures { IsReadyWithCache heap.now seat.new cache.new }
@@ -56,7 +55,7 @@ pub fn lengthen(heap: &Heap, seat: &mut HeapSeat, cache: &mut Cache, count: u32)
     made
 }
 
-/// Makes so many objects of the chain in a block of its own: how many were made.
+/// Makes this many objects of the chain in a block of its own: how many were made.
 pub fn chain(heap: &Heap, seat: &mut HeapSeat, count: u32) -> u32
     requires { HasEachObject heap.now seat.old }
     ensures { HasEachObject heap.now seat.new }

@@ -1,4 +1,3 @@
-//! A heap in which the warehouses' first season has begun.
 ghost use Rattle.std.specs.Prelude.{◌<◌};
 ghost use Rattle.mark_core.specs.Shapes.{IsShape};
 ghost use Rattle.gc_table.specs.SeatRecords.{At, resting};
@@ -11,7 +10,7 @@ use std::process::Abort;
 use std::sync::Wait;
 use test_heaps::{next_seat, open};
 
-/// A heap, the catalogue's seat, which is outside, that of a warehouse, which is active, and one more seat, which has done nothing.
+/// A heap, the catalogue's seat outside, a warehouse's active one, and one more that has done nothing.
 pub fn begun<R: Abort + AllocGlobal + Wait>(
     rt: &R,
     shape: Shape,

@@ -1,4 +1,3 @@
-//! A mutator that takes the last block of a heap begins a cycle, and traces in it.
 ghost use Rattle.test_heaps.specs.Seats.{HasEachObject};
 
 use super::LARGE;
@@ -34,7 +33,6 @@ pub fn make_chain(heap: &Heap, seat: &mut HeapSeat) -> bool
     true
 }
 
-/// What the refill after a collection comes to.
 fn refills_last<R: Wait>(rt: &R, heap: &Heap, seat: &mut HeapSeat) -> Option<Came>
     requires { HasEachObject heap.now seat.old }
 {

@@ -1,4 +1,3 @@
-//! The quota of a cache: the work that is left, shared among the free cells.
 use cache_refills::quota_of;
 
 #[test]

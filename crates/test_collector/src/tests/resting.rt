@@ -1,4 +1,4 @@
-//! A thread that rests while no cycle marks is woken where one begins.
+//! A thread that rests while no cycle marks is woken when one begins.
 ghost use Rattle.test_heaps.specs.Seats.{HasEachObject};
 
 use super::LARGE;
@@ -24,7 +24,6 @@ struct Signs {
     is_woken: AtomicU64,
 }
 
-/// Waits for a sign, so many times a millisecond: whether it came.
 fn sees<R: Wait>(rt: &R, sign: &AtomicU64, looks: u32) -> bool {
     for _look in 0..looks {
         if sign.load(SeqCst) == 1 {
@@ -35,7 +34,7 @@ fn sees<R: Wait>(rt: &R, sign: &AtomicU64, looks: u32) -> bool {
     false
 }
 
-/// Rests until the other thread begins a cycle, and ten seconds where nobody wakes it.
+/// Rests until the other thread begins a cycle, ten seconds if nobody wakes it.
 fn rests_until_then<R: Wait>(rt: &R, heap: &Heap, signs: &Signs) {
     signs.rests.store(1, SeqCst);
     for _turn in 0..LOOKS {
@@ -47,7 +46,8 @@ fn rests_until_then<R: Wait>(rt: &R, heap: &Heap, signs: &Signs) {
     signs.is_woken.store(1, SeqCst);
 }
 
-/// Begins a cycle a tenth of a second after the other thread came to rest: whether that is woken within five seconds. So it isn't where it sleeps to its end.
+/// Begins a cycle a tenth of a second after the other thread came to rest: whether that is woken within five
+/// seconds, not by its own end.
 fn begins_and_sees<R: Wait>(rt: &R, heap: &Heap, seat: &mut HeapSeat, signs: &Signs) -> bool
     requires { HasEachObject heap.now seat.old }
 {
@@ -61,7 +61,6 @@ fn begins_and_sees<R: Wait>(rt: &R, heap: &Heap, seat: &mut HeapSeat, signs: &Si
     rests && sees(rt, &signs.is_woken, LOOKS)
 }
 
-/// Whether a thread that rests is woken by the refill with which a cycle begins.
 fn wakes<R: Threads + Wait + Sync>(rt: &R, heap: &Heap, seat: &mut HeapSeat) -> bool
     requires { HasEachObject heap.now seat.old }
 {

@@ -1,4 +1,3 @@
-//! The first season of the warehouses begins, and a cycle in it.
 ghost use Rattle.std.specs.Prelude.{◌<◌, IsTrue};
 ghost use Rattle.std.specs.Bool.{OnTrue};
 ghost use Rattle.gc_table.specs.Seats.{Across, state_of};
@@ -12,7 +11,6 @@ use mark_core::Phase;
 use std::sync::Wait;
 use test_heaps::{enters, next_turn};
 
-/// Whether the seat finds that no cycle is under way.
 fn sees_idle(heap: &Heap, seat: &mut HeapSeat, k: u32) -> bool
     requires { At heap.now entered k seat.old }
     ensures sees { OnTrue result (At heap.now waiting k seat.new) }
@@ -24,7 +22,6 @@ fn sees_idle(heap: &Heap, seat: &mut HeapSeat, k: u32) -> bool
     }
 }
 
-/// Whether the seat finds that the first season of the warehouses has begun.
 fn sees_turn(heap: &Heap, seat: &mut HeapSeat, k: u32) -> bool
     requires { At heap.now waiting k seat.old }
     ensures sees { OnTrue result (At heap.now playing k seat.new) }
@@ -33,7 +30,7 @@ fn sees_turn(heap: &Heap, seat: &mut HeapSeat, k: u32) -> bool
     heap.read_season(seat) == 1
 }
 
-/// The seat of a warehouse enters, as a mutator that has done nothing.
+/// A warehouse's seat enters, as a mutator that has done nothing.
 pub fn joins(heap: &Heap, seat: &mut HeapSeat, k: u32) -> bool
     requires { New heap.now resting k seat.old }
     ensures { OnTrue result (HasEachObject heap.now seat.new) }
@@ -41,7 +38,7 @@ pub fn joins(heap: &Heap, seat: &mut HeapSeat, k: u32) -> bool
     enters(heap, seat, k) && sees_idle(heap, seat, k) && sees_turn(heap, seat, k)
 }
 
-/// The warehouses' first season has begun, the seat of one is active in it, and the catalogue's is outside.
+/// Ends the catalogue's turn: a warehouse's seat is active in the first season, the catalogue's outside.
 pub fn begin<R: Wait>(rt: &R, heap: &Heap, zero: &mut HeapSeat, one: &mut HeapSeat) -> bool
     requires shape { 1 < heap.now.shape.sections }
     requires seats { New heap.now resting 0 zero.old × New heap.now resting 1 one.old }

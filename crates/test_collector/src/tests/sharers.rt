@@ -1,4 +1,3 @@
-//! Mutators of a heap whose objects are shared, between two commands.
 ghost use Rattle.std.specs.Prelude.{◌<◌, IfNone, IfSome};
 ghost use Rattle.std.specs.Bool.{OnTrue};
 ghost use Rattle.mark_core.specs.Numbers.{section_variables};
@@ -16,7 +15,6 @@ use mutator_ops::share_create;
 use std::sync::Wait;
 use test_heaps::{has_making, has_seen_phase, may_mutate, work_in_hand};
 
-/// The seat may act on shared objects in its section's turn.
 fn is_sharer(heap: &Heap, seat: &HeapSeat) -> bool
     requires { HasEachObject heap.now seat.now }
     ensures { OnTrue result (SharesReady (view_of seat.now)) }
@@ -43,7 +41,7 @@ pub fn may_share(heap: &Heap, seat: &mut HeapSeat) -> bool
     is_sharer(heap, seat)
 }
 
-/// A block of the seat's own, where it may act on shared objects and has none.
+/// A block of the seat's own, if it may act on shared objects and has none.
 pub fn takes_block(heap: &Heap, seat: &mut HeapSeat) -> Option<Cache>
     requires { HasEachObject heap.now seat.old }
     ensures some { IfSome result (λ cache. IsSharerWithCache heap.now seat.new cache) }

@@ -17,7 +17,6 @@ use std::sync::atomic::{AtomicBool, Ordering};
 use std::thread::{Threads, join_mut, yield_now};
 use test_heaps::{make, take};
 
-/// Puts a new object with value n before the chain from variable v along field 0.
 fn grow(heap: &Heap, seat: &mut HeapSeat, cache: &mut Cache, v: u8, n: u32) -> bool
     requires range { v < section_variables }
     requires fills { IsReadyWithCache heap.now seat.old cache.old }
@@ -31,7 +30,6 @@ fn grow(heap: &Heap, seat: &mut HeapSeat, cache: &mut Cache, v: u8, n: u32) -> b
     true
 }
 
-/// Puts four objects before each of the chains of variables 0 to 15: how many were made.
 fn grow_all(heap: &Heap, seat: &mut HeapSeat, cache: &mut Cache) -> u32
     requires { IsReadyWithCache heap.now seat.old cache.old }
     ensures { IsReadyWithCache heap.now seat.new cache.new }
@@ -45,7 +43,6 @@ fn grow_all(heap: &Heap, seat: &mut HeapSeat, cache: &mut Cache) -> u32
     made
 }
 
-/// Grows all chains in a block of its own: whether all objects were made.
 fn grow_block(heap: &Heap, seat: &mut HeapSeat) -> bool
     requires { HasEachObject heap.now seat.old }
     ensures { HasEachObject heap.now seat.new }
@@ -58,7 +55,6 @@ fn grow_block(heap: &Heap, seat: &mut HeapSeat) -> bool
     made == 64
 }
 
-/// Makes sixteen chains of 36 objects: whether all were made.
 fn make_chains(heap: &Heap, seat: &mut HeapSeat) -> bool
     requires { HasEachObject heap.now seat.old }
     ensures { HasEachObject heap.now seat.new }
@@ -71,7 +67,7 @@ fn make_chains(heap: &Heap, seat: &mut HeapSeat) -> bool
     true
 }
 
-/// Collects until it is over, but at most 20,000 times: whether the mutator went on each time.
+/// Collects until it is over, at most 20,000 times: whether the mutator always went on.
 fn collects_on<R: Wait>(rt: &R, heap: &Heap, seat: &mut HeapSeat, over: &AtomicBool) -> bool
     requires { HasEachObject heap.now seat.old }
     ensures { HasEachObject heap.now seat.new }
@@ -86,7 +82,7 @@ fn collects_on<R: Wait>(rt: &R, heap: &Heap, seat: &mut HeapSeat, over: &AtomicB
     goes_on
 }
 
-/// Collects until it is over or a collection fails, 20,000 times at most, and then tells the other threads that it is over.
+/// `collects_on`, then tells the other threads that it is over.
 fn collects_last<R: Wait>(rt: &R, heap: &Heap, seat: &mut HeapSeat, over: &AtomicBool) -> bool
     requires { HasEachObject heap.now seat.old }
     ensures { HasEachObject heap.now seat.new }
@@ -96,7 +92,7 @@ fn collects_last<R: Wait>(rt: &R, heap: &Heap, seat: &mut HeapSeat, over: &Atomi
     goes_on
 }
 
-/// Waits and helps until it has traced and swept, or it is over: whether it has done both.
+/// Helps until it has traced and swept, or it is over: whether it has done both.
 fn helps_on(heap: &Heap, seat: &mut HeapSeat, over: &AtomicBool) -> bool
     requires { Sits heap.now seat.old }
     ensures { Sits heap.now seat.new }
@@ -116,7 +112,7 @@ fn helps_on(heap: &Heap, seat: &mut HeapSeat, over: &AtomicBool) -> bool
     false
 }
 
-/// Helps until it has traced and swept, or it is over, and then tells the other threads that it is over.
+/// `helps_on`, then tells the other threads that it is over.
 fn helps_last(heap: &Heap, seat: &mut HeapSeat, over: &AtomicBool) -> bool
     requires { Sits heap.now seat.old }
     ensures { Sits heap.now seat.new }
@@ -126,7 +122,6 @@ fn helps_last(heap: &Heap, seat: &mut HeapSeat, over: &AtomicBool) -> bool
     has_helped
 }
 
-/// What is left after the stops of one thread in which another helps.
 #[derive(PartialEq, Drop)]
 struct Left {
     goes_on: bool,
@@ -135,7 +130,6 @@ struct Left {
     free: u64,
 }
 
-/// One thread collects until another has traced and swept in its stops.
 fn shares<R: Threads + Wait + Sync>(
     rt: &R,
     heap: &Heap,

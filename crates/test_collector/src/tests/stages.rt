@@ -1,5 +1,5 @@
-//! The stages of a collection in steps, each in pieces of so many. A stage tells how many of its pieces were full: after them came one that was less, as nothing
-//! was left.
+//! The stages of a collection in steps, in pieces of so many. A stage tells how many of its pieces were full,
+//! before one that was less.
 ghost use Rattle.std.specs.Prelude.{◌≢◌, ◌+◌, IfNone, IfSome};
 ghost use Rattle.std.specs.Bool.{OnFalse, OnTrue};
 ghost use Rattle.gc_table.specs.Seats.{view_of};
@@ -36,7 +36,6 @@ pub struct Swept {
     pub freed: u32,
 }
 
-/// Sees to the roots, so many at a time.
 fn sees_roots(heap: &Heap, seat: &mut HeapSeat, most: u32) -> Option<u32>
     requires { HasEachObject heap.now seat.old × IsAtRoots (view_of seat.old) }
     ensures { IfSome result (λ _. HasEachObject heap.now seat.new × Drains (view_of seat.new)) }
@@ -52,7 +51,6 @@ fn sees_roots(heap: &Heap, seat: &mut HeapSeat, most: u32) -> Option<u32>
     None
 }
 
-/// Traces, so many objects at a time, until there is none: how many it popped.
 fn traces(heap: &Heap, seat: &mut HeapSeat, most: u32) -> u32
     requires { HasEachObject heap.now seat.old × Drains (view_of seat.old) }
     ensures { HasEachObject heap.now seat.new × Drains (view_of seat.new) }
@@ -68,7 +66,7 @@ fn traces(heap: &Heap, seat: &mut HeapSeat, most: u32) -> u32
     popped
 }
 
-/// Looks at the cards from this one on, at most so many: how many they were. None where one is dirty.
+/// Looks at most at so many cards from this one on: how many. None if one is dirty.
 fn looks_at_some(heap: &Heap, seat: &mut HeapSeat, from: u32, most: u32) -> Option<u32>
     requires { HasEachObject heap.now seat.old × LooksFrom from (view_of seat.old) }
     ensures some { IfSome result (λ n. HasEachObject heap.now seat.new × LooksFrom (from + n) (view_of seat.new)) }
@@ -81,7 +79,6 @@ fn looks_at_some(heap: &Heap, seat: &mut HeapSeat, from: u32, most: u32) -> Opti
     }
 }
 
-/// Looks at all cards, so many at a time. None where one is dirty.
 fn looks_at_all(heap: &Heap, seat: &mut HeapSeat, most: u32) -> Option<u32>
     requires { HasEachObject heap.now seat.old × Drains (view_of seat.old) }
     ensures some { IfSome result (λ _. HasEachObject heap.now seat.new × HasLooked (view_of seat.new)) }
@@ -98,7 +95,7 @@ fn looks_at_all(heap: &Heap, seat: &mut HeapSeat, most: u32) -> Option<u32>
     None
 }
 
-/// Cleans the cards, so many at a time: how many were dirty.
+/// Cleans the cards, this many at a time: how many were dirty.
 fn cleans(heap: &Heap, seat: &mut HeapSeat, most: u32) -> u32
     requires { HasEachObject heap.now seat.old × Drains (view_of seat.old) }
     ensures { HasEachObject heap.now seat.new × Drains (view_of seat.new) }
@@ -118,7 +115,7 @@ fn cleans(heap: &Heap, seat: &mut HeapSeat, most: u32) -> u32
     cleaned
 }
 
-/// Traces what there is and looks at all cards: whether all is marked. Where a card is dirty it cleans.
+/// Traces what there is and looks at all cards: whether all is marked. If a card is dirty, it cleans.
 fn makes_round(heap: &Heap, seat: &mut HeapSeat, most: u32, drained: &mut Drained) -> bool
     requires { HasEachObject heap.now seat.old × Drains (view_of seat.old) }
     ensures yes { OnTrue result (HasEachObject heap.now seat.new × HasMarkedAll (view_of seat.new)) }
@@ -139,7 +136,6 @@ fn makes_round(heap: &Heap, seat: &mut HeapSeat, most: u32, drained: &mut Draine
     }
 }
 
-/// Marks all, in at most 100 rounds.
 fn drains(heap: &Heap, seat: &mut HeapSeat, most: u32) -> Option<Drained>
     requires { HasEachObject heap.now seat.old × Drains (view_of seat.old) }
     ensures { IfSome result (λ _. HasEachObject heap.now seat.new × HasMarkedAll (view_of seat.new)) }
@@ -157,7 +153,7 @@ fn drains(heap: &Heap, seat: &mut HeapSeat, most: u32) -> Option<Drained>
     None
 }
 
-/// Takes all marks away, of so many stretches of blocks at a time, to mark once more.
+/// Takes all marks away, to mark once more.
 fn clears(heap: &Heap, seat: &mut HeapSeat, most: u32) -> Option<u32>
     requires { HasEachObject heap.now seat.old × HasMarkedAll (view_of seat.old) }
     ensures { IfSome result (λ _. HasEachObject heap.now seat.new × IsAtRoots (view_of seat.new)) }
@@ -172,7 +168,6 @@ fn clears(heap: &Heap, seat: &mut HeapSeat, most: u32) -> Option<u32>
     None
 }
 
-/// Sweeps all blocks, so many stretches of them at a time.
 fn sweeps(heap: &Heap, seat: &mut HeapSeat, most: u32) -> Option<Swept>
     requires { HasEachObject heap.now seat.old × HasMarkedAll (view_of seat.old) }
     ensures { IfSome result (λ _. HasEachObject heap.now seat.new × HasSwept (view_of seat.new)) }
@@ -189,7 +184,7 @@ fn sweeps(heap: &Heap, seat: &mut HeapSeat, most: u32) -> Option<Swept>
     None
 }
 
-/// Ends the cycle, and counts the cells in use, so many blocks at a time; then the seat runs again.
+/// Ends the cycle and counts the cells in use; then the seat runs again.
 fn counts(heap: &Heap, seat: &mut HeapSeat, most: u32, freed: u32) -> Option<(u32, Counts)>
     requires { HasEachObject heap.now seat.old × HasSwept (view_of seat.old) }
     ensures { IfSome result (λ _. HasEachObject heap.now seat.new) }
@@ -208,7 +203,6 @@ fn counts(heap: &Heap, seat: &mut HeapSeat, most: u32, freed: u32) -> Option<(u3
     None
 }
 
-/// Begins to mark: false where the heap is full.
 fn begins(heap: &Heap, seat: &mut HeapSeat) -> bool
     requires { HasEachObject heap.now seat.old × HoldsWorld (view_of seat.old) }
     ensures { OnTrue result (HasEachObject heap.now seat.new × IsAtRoots (view_of seat.new)) }
@@ -223,7 +217,6 @@ pub struct Marked {
     pub drained: Drained,
 }
 
-/// Marks from the roots, in pieces of so many.
 fn marks(heap: &Heap, seat: &mut HeapSeat, most: u32) -> Option<Marked>
     requires { HasEachObject heap.now seat.old × IsAtRoots (view_of seat.old) }
     ensures { IfSome result (λ _. HasEachObject heap.now seat.new × HasMarkedAll (view_of seat.new)) }
@@ -233,8 +226,8 @@ fn marks(heap: &Heap, seat: &mut HeapSeat, most: u32) -> Option<Marked>
     Some(Marked { roots, drained })
 }
 
-/// What a collection in steps did: what was marked, and once more after the marks were taken away; how many pieces were full that cleared, swept and
-/// counted; and what was found.
+/// What a collection in steps did: what was marked, twice; how many full pieces cleared, swept and counted; and
+/// what was found.
 #[derive(Clone, Copy, Debug, PartialEq, Eq, Drop)]
 pub struct Collected {
     pub first: Marked,
@@ -245,7 +238,7 @@ pub struct Collected {
     pub found: Counts,
 }
 
-/// Collects in the stop, in pieces of so many, and marks twice.
+/// Collects in the stop, in pieces of this many, and marks twice.
 pub fn collects_in_steps(heap: &Heap, seat: &mut HeapSeat, most: u32) -> Option<Collected>
     requires { HasEachObject heap.now seat.old × HoldsWorld (view_of seat.old) }
     ensures { IfSome result (λ _. HasEachObject heap.now seat.new) }

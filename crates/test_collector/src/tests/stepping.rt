@@ -1,5 +1,5 @@
-//! A mutator collects in steps, beside another: neither of them waits. What the first doesn't reach is free again, and what it reaches is kept, whatever the
-//! size of a piece.
+//! A mutator collects in steps, beside another, and neither waits. What the first doesn't reach is freed, and what
+//! it reaches is kept, whatever the size of a piece.
 ghost use Rattle.std.specs.Prelude.{◌≡◌, None};
 ghost use Rattle.std.specs.Bool.{OnFalse, OnTrue};
 ghost use Rattle.gc_table.specs.Seats.{Sits, view_of};
@@ -21,7 +21,6 @@ use gc_table::{Heap, HeapSeat};
 use mutator_ops::set;
 use test_heaps::{SMALL, take};
 
-/// What a seat outside is told that tries once to enter.
 fn tries_entering(heap: &Heap, seat: &mut HeapSeat) -> Option<Pass>
     requires { Sits heap.now seat.old }
     ensures { Sits heap.now seat.new }
@@ -32,7 +31,6 @@ fn tries_entering(heap: &Heap, seat: &mut HeapSeat) -> Option<Pass>
     Some(try_enter(heap, seat))
 }
 
-/// There is no cache to give up.
 fn spends_none(cache: Option<Cache>)
     requires { cache ≡ None }
 {
@@ -42,7 +40,6 @@ fn spends_none(cache: Option<Cache>)
     }
 }
 
-/// What a mutator without a cache is told at a safe point.
 fn passes_point(heap: &Heap, seat: &mut HeapSeat) -> Option<Pass>
     requires { Sits heap.now seat.old }
     ensures { Sits heap.now seat.new }
@@ -56,7 +53,6 @@ fn passes_point(heap: &Heap, seat: &mut HeapSeat) -> Option<Pass>
     Some(pass)
 }
 
-/// Asks for a stop: true where the flag is the mutator's own.
 fn asks(heap: &Heap, seat: &mut HeapSeat) -> bool
     requires { HasEachObject heap.now seat.old }
     ensures { OnTrue result (HasEachObject heap.now seat.new × AwaitsStop (view_of seat.new)) }
@@ -76,7 +72,6 @@ fn stops(heap: &Heap, seat: &mut HeapSeat) -> bool
     finds_stopped(heap, seat)
 }
 
-/// Reads the phase, as a mutator does before it stores.
 fn looks(heap: &Heap, seat: &mut HeapSeat)
     requires { HasEachObject heap.now seat.old }
     ensures { HasEachObject heap.now seat.new }
@@ -84,7 +79,6 @@ fn looks(heap: &Heap, seat: &mut HeapSeat)
     heap.read_phase(seat);
 }
 
-/// The head of the chain refers to itself by field 1, too.
 fn ties_head(heap: &Heap, seat: &mut HeapSeat, cache: &Cache)
     requires fills { IsReadyWithCache heap.now seat.old cache.now }
     ensures { IsReadyWithCache heap.now seat.new cache.now }
@@ -94,7 +88,8 @@ fn ties_head(heap: &Heap, seat: &mut HeapSeat, cache: &Cache)
     }
 }
 
-/// Makes a ring that no variable names and a chain of three objects, of which the first was stored in last, so that its card is dirty.
+/// Makes a ring that no variable names and a chain of three objects, whose first was stored in last, so its card is
+/// dirty.
 fn makes_objects(heap: &Heap, seat: &mut HeapSeat) -> bool
     requires { HasEachObject heap.now seat.old }
     ensures { HasEachObject heap.now seat.new }
@@ -122,7 +117,7 @@ struct Told {
     free: u32,
 }
 
-/// One seat collects in pieces of so many, while the other comes to a safe point, and tries to enter.
+/// One seat collects in pieces of this many, while the other comes to a safe point, and tries to enter.
 fn collects_beside(heap: &Heap, zero: &mut HeapSeat, one: &mut HeapSeat, most: u32) -> Option<Told>
     requires { Sits heap.now zero.old × HasEachObject heap.now one.old }
 {
@@ -154,8 +149,9 @@ fn collects_beside(heap: &Heap, zero: &mut HeapSeat, one: &mut HeapSeat, most: u
     })
 }
 
-/// What a collection in pieces of so many did: how many pieces that saw to roots were full, how many of each last look at the cards, and how many that cleared.
-/// As many swept, and as many counted. Each of three objects was popped once, the first one's card was dirty, and two cells were freed.
+/// What a collection in pieces of so many did: the full pieces that saw to roots, of each last look at the cards,
+/// and that cleared; as many swept, and as many counted. Each of three objects was popped once, the first one's
+/// card was dirty, and two cells were freed.
 fn wanted(roots: u32, looks: u32, full: u32) -> Collected {
     let drained = Drained {
         popped: 3,

@@ -1,4 +1,4 @@
-//! Two mutators play in two threads: each makes objects and garbage, and collects where it finds no block.
+//! Two mutators play in two threads: each makes objects and garbage, and collects if it finds no block.
 ghost use Rattle.test_heaps.specs.Seats.{HasEachObject, IsReadyWithCache};
 
 use super::THREE;
@@ -14,7 +14,6 @@ use std::sync::Wait;
 use std::thread::{Threads, join_mut};
 use test_heaps::{forget, make};
 
-/// Comes to a safe point: true where the mutator goes on.
 fn passes<R: Wait>(rt: &R, heap: &Heap, seat: &mut HeapSeat) -> bool
     requires { HasEachObject heap.now seat.old }
     ensures { HasEachObject heap.now seat.new }
@@ -32,7 +31,6 @@ fn passes<R: Wait>(rt: &R, heap: &Heap, seat: &mut HeapSeat) -> bool
     }
 }
 
-/// Fills what is left of the cache with garbage.
 fn litter(heap: &Heap, seat: &mut HeapSeat, cache: &mut Cache)
     requires { IsReadyWithCache heap.now seat.old cache.old }
     ensures { IsReadyWithCache heap.now seat.new cache.new }
@@ -43,7 +41,6 @@ fn litter(heap: &Heap, seat: &mut HeapSeat, cache: &mut Cache)
     forget(heap, seat, cache, 2);
 }
 
-/// Ends the chain in each twelfth round, so that it begins again.
 fn end_chain(heap: &Heap, seat: &mut HeapSeat, cache: &Cache, round: u32)
     requires { IsReadyWithCache heap.now seat.old cache.now }
     ensures { IsReadyWithCache heap.now seat.new cache.now }
@@ -55,7 +52,7 @@ fn end_chain(heap: &Heap, seat: &mut HeapSeat, cache: &Cache, round: u32)
     forget(heap, seat, cache, 1);
 }
 
-/// Puts 16 objects before the chain, which begins again in each twelfth round, and makes garbage.
+/// Puts 16 objects before the chain, and makes garbage.
 fn plays_round<R: Wait>(rt: &R, heap: &Heap, seat: &mut HeapSeat, round: u32) -> bool
     requires { HasEachObject heap.now seat.old }
     ensures { HasEachObject heap.now seat.new }
@@ -70,7 +67,6 @@ fn plays_round<R: Wait>(rt: &R, heap: &Heap, seat: &mut HeapSeat, round: u32) ->
     made == 16 && passes(rt, heap, seat)
 }
 
-/// Plays 120 rounds: how many went well.
 fn plays_on<R: Wait>(rt: &R, heap: &Heap, seat: &mut HeapSeat) -> u32
     requires { HasEachObject heap.now seat.old }
     ensures { HasEachObject heap.now seat.new }
@@ -84,7 +80,7 @@ fn plays_on<R: Wait>(rt: &R, heap: &Heap, seat: &mut HeapSeat) -> u32
     done
 }
 
-/// Plays 120 rounds, and then leaves the world, so that the other thread isn't kept waiting: how many rounds went well.
+/// Plays 120 rounds, then leaves, so that the other thread isn't kept waiting: how many rounds went well.
 fn plays_and_leaves<R: Wait>(rt: &R, heap: &Heap, seat: &mut HeapSeat) -> u32
     requires { HasEachObject heap.now seat.old }
     ensures { HasEachObject heap.now seat.new }
@@ -97,7 +93,6 @@ fn plays_and_leaves<R: Wait>(rt: &R, heap: &Heap, seat: &mut HeapSeat) -> u32
     done
 }
 
-/// Two mutators play, each in a thread of its own.
 fn both_play<R: Threads + Wait + Sync>(
     rt: &R,
     heap: &Heap,
@@ -114,7 +109,6 @@ fn both_play<R: Threads + Wait + Sync>(
     )
 }
 
-/// The chain of a mutator that comes back.
 fn comes_back<R: Wait>(rt: &R, heap: &Heap, seat: &mut HeapSeat) -> Option<(u32, u64)>
     requires { HasEachObject heap.now seat.old }
     ensures { HasEachObject heap.now seat.new }
@@ -127,7 +121,6 @@ fn comes_back<R: Wait>(rt: &R, heap: &Heap, seat: &mut HeapSeat) -> Option<(u32,
     walk(heap, seat)
 }
 
-/// How many rounds went well of each, and the chains that are left.
 fn plays_together<R: Threads + Wait + Sync>(
     rt: &R,
     heap: &Heap,

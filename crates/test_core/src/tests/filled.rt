@@ -1,4 +1,3 @@
-//! Every cell is reachable: a precise collection finds the heap full.
 use mark_core::SECTION_SPAN;
 use std::alloc::{AllocError, Global};
 
@@ -36,7 +35,7 @@ words alloc 18446744073709551615, mark 0, empty 66
 seat 1 saw_full 1
 ";
 
-/// Makes each cell, whose field names the cell of variable 0, which then names this cell.
+/// Makes each cell, whose field names the one before it.
 fn chain(alloc: Global) -> Result<String, AllocError> {
     let mut lines = String::new(alloc);
     for c in 0..64u32 {
@@ -49,7 +48,6 @@ fn chain(alloc: Global) -> Result<String, AllocError> {
     Ok(lines)
 }
 
-/// Marks and scans each cell, from the last one on.
 fn traced(alloc: Global) -> Result<String, AllocError> {
     let mut lines = String::new(alloc);
     for k in 0..64u32 {

@@ -1,5 +1,5 @@
-//! Packets, phases and one cell, on a heap of one block with four references an object. Word 350 is the one of help, and 664 the second one of the empty pool, where there are 65
-//! packets.
+//! Packets, phases and one cell, on a heap of one block with four references an object. Word 350 is the one of
+//! help, and 664 the second one of the empty pool, if there are 65 packets.
 
 pub const FIRST: &str = "
 $ a reservation lowers the count of empty packets, and a credit raises it

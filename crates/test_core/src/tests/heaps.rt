@@ -1,4 +1,3 @@
-//! The heaps on which runs are played, by their names, and their words.
 ghost use Rattle.std.specs.Prelude.{IfSome};
 ghost use Rattle.mark_core.specs.Shapes.{IsShape};
 
@@ -61,8 +60,9 @@ pub fn shape_of(name: &str) -> Option<Shape>
     }
 }
 
-/// The index of the word of that name: of each heap, and behind `named` of the heap `one`. There 11 single words come before 2 positions, 64 roots, and then a word
-/// for the one block each time, four cards, two heads, four entries, 64 identities, 64 values, 64 fields, four pools, the word of help and the season.
+/// The index of the word of that name: of each heap, and behind `named` of the heap `one`. There 11 single words
+/// come before 2 positions, 64 roots, then a word each time for the one block, four cards, two heads, four entries,
+/// 64 identities, 64 values, 64 fields, four pools, the word of help and the season.
 pub fn index_of(name: &str) -> Option<u32> {
     match name {
         "world" => Some(0),

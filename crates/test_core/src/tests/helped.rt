@@ -1,7 +1,7 @@
 //! A stop in which two seats without a section help: they trace and sweep, each a block of its own.
 //!
-//! Words 79 and 80 are allocation bits, 81 and 82 mark bits; 483 is the high pool and 485 the word of help: 4,294,967,296 says that it is open, and to it is added
-//! how many help.
+//! Words 79 and 80 are allocation bits, 81 and 82 mark bits; 483 is the high pool and 485 the word of help:
+//! 4,294,967,296 and how many help, if it is open.
 
 pub const HELPED: &str = "
 $ two helpers trace and sweep in one stop, each a block of its own

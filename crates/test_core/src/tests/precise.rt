@@ -1,5 +1,5 @@
-//! A cell that lost its last name after it was marked floats through an ordinary cycle, and not through a precise one, which clears all marks in the stop and marks
-//! once more.
+//! A cell that lost its last name after it was marked floats through an ordinary cycle, but not through a precise
+//! one, which clears all marks in the stop and marks once more.
 
 pub const PRECISE: &str = "
 $ an ordinary cycle keeps what floats

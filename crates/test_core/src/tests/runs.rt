@@ -1,6 +1,7 @@
 //! Runs, written down as texts, and how they are judged.
 //!
-//! A run is `$ ` and what it shows; in the next line `heap`, the name of a shape and how many seats there are; and lines of these forms:
+//! A run is `$ ` and what it shows; in the next line `heap`, the name of a shape and how many seats there are; and
+//! lines of these forms:
 //!
 //! ```text
 //! # a comment
@@ -10,8 +11,9 @@
 //! seat 1 owes -
 //! ```
 //!
-//! The first events are allowed, each in its turn, and the next is refused by that part of that rule, and changes nothing. Then the words have these values, and this
-//! stands in the seat's record: a number, 1 for yes, or `-` for nothing.
+//! The first events are allowed, each in its turn, and the next is refused by that part of that rule, and changes
+//! nothing. Then the words have these values, and this stands in the seat's record: a number, 1 for yes, or `-` for
+//! nothing.
 use super::events::applied;
 use super::heaps::{index_of, shape_of};
 use mark_core::{Cell, CoreState, Phase, SEATS, SeatState};
@@ -29,7 +31,6 @@ fn start(alloc: Global, heap: &str) -> Option<CoreState> {
     CoreState::start(alloc, shape, seats).ok()
 }
 
-/// Whether the events are allowed, each in its turn.
 fn allows(core: &mut CoreState, events: &str) -> bool {
     for told in events.split(", ") {
         if applied(core, told) != Some(Ok(())) {
@@ -39,7 +40,6 @@ fn allows(core: &mut CoreState, events: &str) -> bool {
     true
 }
 
-/// Whether the event is refused by this rule and part.
 fn refuses(core: &mut CoreState, told: &str, broken: &str) -> Option<bool> {
     let (kind, part) = broken.split_once(' ')?;
     let kind = kind.parse::<u8>().ok()?;
@@ -57,7 +57,6 @@ fn has_word(core: &CoreState, told: &str) -> Option<bool> {
     Some(core.word(index_of(name)?)? == value)
 }
 
-/// Whether the words have these values.
 fn has_words(core: &CoreState, words: &str) -> bool {
     for told in words.split(", ") {
         if has_word(core, told) != Some(true) {
@@ -88,7 +87,6 @@ fn in_hand(s: &SeatState, what: &str) -> Option<Option<u32>> {
     }
 }
 
-/// What stands in the seat's record under this name.
 fn in_record(s: &SeatState, what: &str) -> Option<Option<u32>> {
     match what {
         "number" => Some(Some(s.number)),
@@ -104,7 +102,7 @@ fn in_record(s: &SeatState, what: &str) -> Option<Option<u32>> {
     }
 }
 
-/// Whether this stands in the seat's record, or nothing, also where there is no such seat.
+/// Whether this stands in the seat's record; nothing also stands for no such seat.
 fn has_record(core: &CoreState, told: &str) -> Option<bool> {
     let (seat, rest) = told.split_once(' ')?;
     let (what, wanted) = rest.split_once(' ')?;
@@ -154,7 +152,7 @@ fn first_wrong<'a>(alloc: Global, run: &'a str) -> Option<&'a str> {
     None
 }
 
-/// Fails where a line of one of the runs doesn't hold.
+/// Fails if a line of one of the runs doesn't hold.
 pub fn all_hold<R: Abort + AllocGlobal>(rt: &R, runs: &str) {
     for run in runs.split("$ ").skip(1) {
         let wrong = first_wrong(rt.alloc(), run).unwrap_or("");

@@ -1,4 +1,5 @@
-//! Steps on a heap that sections share, and on slots, which no schedule names: each part of their conditions is broken once. A section makes two objects at most.
+//! Steps on a heap that sections share, and on slots: each part of their conditions is broken once. A section makes
+//! two objects at most.
 
 pub const SHARED: &str = "
 $ each part of a step on shared objects is told

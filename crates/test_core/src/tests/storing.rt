@@ -1,4 +1,5 @@
-//! Three seats store in each other's objects: seat 0 has the catalogue, seats 1 and 2 a section each. Words 258 and 322 are the values of cells 0 and 64.
+//! Three seats store in each other's objects: seat 0 has the catalogue, seats 1 and 2 a section each. Words 258 and
+//! 322 are the values of cells 0 and 64.
 
 pub const STORING: &str = "
 $ seats store in each other's objects

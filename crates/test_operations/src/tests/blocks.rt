@@ -1,4 +1,4 @@
-//! A block has one owner, has room for its cells, and the barrier dirties the cards of published objects alone.
+//! A block has one owner and room for its cells, and the barrier dirties only the cards of published objects.
 ghost use Rattle.std.specs.Prelude.{◌<◌};
 ghost use Rattle.gc_table.specs.SeatRecords.{At, inside};
 ghost use Rattle.test_operations.specs.Seats.{IsReadyMutator};
@@ -38,7 +38,7 @@ fn claims(heap: &Heap, zero: &mut HeapSeat, one: &mut HeapSeat) -> Option<(u32, 
     Some((block, free, none))
 }
 
-/// Makes 65 objects, one after another, each in variable 0: how many were made.
+/// Makes 65 objects in variable 0: how many were made.
 fn fill(heap: &Heap, seat: &mut HeapSeat, cache: &mut Cache) -> u32
     requires { IsReadyWithCache heap.now seat.old cache.old }
     ensures { IsReadyWithCache heap.now seat.new cache.new }
@@ -61,7 +61,6 @@ fn fills(heap: &Heap, seat: &mut HeapSeat) -> Option<u32>
     Some(made)
 }
 
-/// How many cells are free in a block that was given up with two objects in it.
 fn claims_rest(heap: &Heap, seat: &mut HeapSeat) -> Option<(u32, u32)>
     requires { IsReadyMutator heap.now seat.old }
 {
@@ -75,7 +74,6 @@ fn claims_rest(heap: &Heap, seat: &mut HeapSeat) -> Option<(u32, u32)>
     Some(rest)
 }
 
-/// Stores variable 1 in field 0 of variable 0's object: whether the first card is dirty after that.
 fn dirties(heap: &Heap, seat: &mut HeapSeat, cache: &Cache) -> bool
     requires fields { 0 < heap.now.shape.fields }
     requires fills { IsReadyWithCache heap.now seat.old cache.now }
@@ -85,7 +83,6 @@ fn dirties(heap: &Heap, seat: &mut HeapSeat, cache: &Cache) -> bool
     heap.read_card(seat, 0)
 }
 
-/// The card of an object that isn't published, and of one that is, after a store in it.
 fn links(heap: &Heap, seat: &mut HeapSeat) -> Option<(bool, bool)>
     requires { IsReadyMutator heap.now seat.old }
 {

@@ -1,4 +1,5 @@
-//! Clean cards stay clean, the pass gives out each card once, and the marked objects of a dirty card are scanned again.
+//! Clean cards stay clean, the pass gives out each card once, and the marked objects of a dirty card are scanned
+//! again.
 ghost use Rattle.std.specs.Prelude.{◌<◌};
 ghost use Rattle.std.specs.Bool.{OnTrue};
 ghost use Rattle.gc_table.specs.SeatRecords.{At};
@@ -19,7 +20,6 @@ fn draw(heap: &Heap, seat: &mut HeapSeat) -> Option<u32>
     next_card(heap, seat)
 }
 
-/// The first five cards of the pass.
 fn five_cards(heap: &Heap, seat: &mut HeapSeat) -> [Option<u32>; 5]
     requires { At heap.now playing 1 seat.old }
 {
@@ -31,7 +31,6 @@ fn five_cards(heap: &Heap, seat: &mut HeapSeat) -> [Option<u32>; 5]
     [a, b, c, d, e]
 }
 
-/// What cleaning card 3 comes to.
 fn clean_third(heap: &Heap, seat: &mut HeapSeat) -> Option<Cleaned>
     requires { At heap.now playing 1 seat.old }
 {
@@ -44,7 +43,7 @@ fn clean_third(heap: &Heap, seat: &mut HeapSeat) -> Option<Cleaned>
     Some(cleaned)
 }
 
-/// Three objects on card 0 are marked, and then one of them is stored in: whether a block was had for them.
+/// Three objects on card 0 are marked, then one is stored in.
 fn dirties(heap: &Heap, seat: &mut HeapSeat) -> bool
     requires { IsReadyMutator heap.now seat.old × (1 < heap.now.shape.fields) }
     ensures { OnTrue result (IsReadyMutator heap.now seat.new) }
@@ -61,7 +60,6 @@ fn dirties(heap: &Heap, seat: &mut HeapSeat) -> bool
     true
 }
 
-/// What cleaning card 0 comes to, and then how many objects a pass over the dirty cards scans again.
 fn cleans_one(heap: &Heap, seat: &mut HeapSeat) -> Option<(Option<Cleaned>, u32)>
     requires { IsReadyMutator heap.now seat.old }
 {
@@ -76,7 +74,6 @@ fn cleans_one(heap: &Heap, seat: &mut HeapSeat) -> Option<(Option<Cleaned>, u32)
     Some((cleaned, more))
 }
 
-/// How many objects one pass over the dirty cards scans again, and a second.
 fn cleans_dirty(heap: &Heap, seat: &mut HeapSeat) -> Option<(u32, u32)>
     requires { IsReadyMutator heap.now seat.old }
 {

@@ -1,13 +1,13 @@
-//! Threads that wait for each other, so that they run at the same time. A thread that waits in vain gives up after some seconds.
+//! Threads that wait for each other, so that they run at the same time; in vain, they give up after some seconds.
 use std::sync::Wait;
 use std::sync::atomic::AtomicU64;
 use std::sync::atomic::Ordering::SeqCst;
 use std::time::Duration;
 
-/// How many times a thread looks whether the others came. Between two looks it sleeps, for a millisecond at most.
+/// How many times a thread looks whether the others came. In between it sleeps, for a millisecond at most.
 const LOOKS: u32 = 5_000;
 
-/// Where so many threads meet.
+/// Where this many threads meet.
 #[derive(Drop)]
 pub struct Meeting {
     wanted: u64,
@@ -16,7 +16,7 @@ pub struct Meeting {
 }
 
 impl Meeting {
-    /// A meeting of so many threads.
+    /// A meeting of this many threads.
     pub fn of(wanted: u64) -> Meeting {
         Meeting {
             wanted,
@@ -41,7 +41,7 @@ impl Meeting {
         self.missed.fetch_add(1, SeqCst);
     }
 
-    /// Whether all have come while those that were there before waited.
+    /// Whether all came while the first ones waited.
     pub fn is_met(&self) -> bool {
         self.come.load(SeqCst) >= self.wanted && self.missed.load(SeqCst) == 0
     }

@@ -1,4 +1,4 @@
-//! The commands of a mutator on objects that it made, and what they print.
+//! A mutator's commands on objects that it made, and what they print.
 ghost use Rattle.std.specs.Prelude.{◌≢◌, ◌<◌, Some};
 ghost use Rattle.std.specs.Bool.{OnTrue};
 ghost use Rattle.gc_table.specs.Seats.{state_of};
@@ -11,7 +11,6 @@ use mutator_ops::{assign, clear, command, follow, lend, put, say, set, sum};
 use plain_heap::{Line, Op};
 use test_heaps::{SMALL, make};
 
-/// Whether the seat is a warehouse's.
 fn is_warehouse(seat: &HeapSeat) -> bool
     ensures { OnTrue result ((state_of seat.now).section ≢ Some 0) }
 {
@@ -36,7 +35,7 @@ fn makes_two(heap: &Heap, seat: &mut HeapSeat) -> bool
     !dropped
 }
 
-/// A second variable leads to the same object, and a value that is stored by one way is read by the other.
+/// A value stored by one variable is read by another that leads to the same object.
 fn stores_by_another_way(heap: &Heap, seat: &mut HeapSeat) -> bool
     requires { IsReadyMutator heap.now seat.old × (0 < heap.now.shape.fields) }
     ensures { IsReadyMutator heap.now seat.new }
@@ -47,7 +46,7 @@ fn stores_by_another_way(heap: &Heap, seat: &mut HeapSeat) -> bool
     !dropped && say(heap, seat, 1) == Line::Value(9)
 }
 
-/// A walk visits both objects, or as many as it may, and a variable of the catalogue that is nil is nil here.
+/// A walk visits both objects, or as many as it may; a catalogue's variable that is nil is nil here.
 fn reads(heap: &Heap, seat: &mut HeapSeat) -> [Line; 4]
     requires { IsReadyMutator heap.now seat.old × (0 < heap.now.shape.fields) × ((state_of seat.old).section ≢ Some 0) }
 {
@@ -73,7 +72,7 @@ fn plays(heap: &Heap, seat: &mut HeapSeat) -> Option<[Line; 4]>
     }
 }
 
-/// A store and a walk, each as a command of a script: whether the store was dropped, and what the walk printed.
+/// A store and a walk, as commands of a script: whether the store was dropped, and what the walk printed.
 fn commands(heap: &Heap, seat: &mut HeapSeat) -> Option<(bool, Option<Line>)>
     requires { IsReadyMutator heap.now seat.old }
 {

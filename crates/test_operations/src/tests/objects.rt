@@ -1,4 +1,3 @@
-//! A mutator makes objects in a cache and stores in them.
 ghost use Rattle.std.specs.Prelude.{◌<◌, IfSome};
 ghost use Rattle.mark_core.specs.Numbers.{section_variables};
 ghost use Rattle.test_operations.specs.Seats.{IsReadyMutator};

@@ -1,4 +1,3 @@
-//! A heap that was just made, with its three seats; and one in whose first season two of them mark.
 ghost use Rattle.std.specs.Prelude.{◌≡◌, ◌<◌};
 ghost use Rattle.mark_core.specs.Shapes.{IsShape};
 ghost use Rattle.gc_table.specs.SeatRecords.{At, inside, resting};

@@ -1,4 +1,4 @@
-//! Packets of four entries lie in two pools: one with a single object is low, and one with two is high.
+//! Packets of four entries lie in two pools: one with a single object is low, one with two is high.
 ghost use Rattle.std.specs.Prelude.{◌<◌};
 ghost use Rattle.std.specs.Bool.{OnTrue};
 ghost use Rattle.gc_table.specs.SeatRecords.{At, inside};
@@ -12,7 +12,6 @@ use gc_table::{Heap, HeapSeat};
 use packet_pools::{give, take_input, take_output};
 use test_heaps::make;
 
-/// Two objects are put in one packet, and a third in the other.
 fn fills_both(heap: &Heap, seat: &mut HeapSeat) -> bool
     requires { IsReadyMutator heap.now seat.old × (1 < heap.now.shape.fields) }
     ensures { OnTrue result (IsReadyMutator heap.now seat.new) }
@@ -30,7 +29,7 @@ fn fills_both(heap: &Heap, seat: &mut HeapSeat) -> bool
     true
 }
 
-/// The lengths of the two packets, in the order in which they are taken to read from.
+/// The lengths of the two packets, in the order in which they are taken to be read.
 fn read_in_order(heap: &Heap, seat: &mut HeapSeat, k: u32) -> Option<(u32, u32)>
     requires { At heap.now inside k seat.old }
 {
@@ -60,7 +59,7 @@ fn filled_in_order(heap: &Heap, seat: &mut HeapSeat, k: u32) -> Option<(u32, u32
     Some(lengths)
 }
 
-/// The lengths of the two packets, in the order in which they are taken to read from, or to be filled.
+/// The lengths of the two packets, in the order in which they are taken, either way.
 fn taken_in_order(
     heap: &Heap,
     zero: &mut HeapSeat,

@@ -1,4 +1,3 @@
-//! Threads that take and give packets of one heap, and the answers at the start of marking.
 ghost use Rattle.std.specs.Prelude.{◌≡◌, IsTrue, IsFalse};
 ghost use Rattle.std.specs.Bool.{OnTrue};
 ghost use Rattle.mark_core.specs.Held.{has_free_slot};
@@ -27,8 +26,7 @@ fn begin(heap: &Heap, seat: &mut HeapSeat, k: u32) -> bool
     sees_marking(heap, seat, k)
 }
 
-/// The length of a packet that a seat takes when it begins, and whether all are empty while it has it and after it is
-/// given back.
+/// The length of the first packet, and whether all are empty while a seat has it and after it is given back.
 fn one_packet(heap: &Heap, seat: &mut HeapSeat, k: u32) -> Option<(u32, bool, bool)>
     requires { At heap.now resting k seat.old }
 {
@@ -43,7 +41,7 @@ fn one_packet(heap: &Heap, seat: &mut HeapSeat, k: u32) -> Option<(u32, bool, bo
     Some((length, before, after))
 }
 
-/// Takes a packet with room and gives it back. False where none was found.
+/// Takes a packet with room and gives it back.
 fn exchange(heap: &Heap, seat: &mut HeapSeat) -> bool
     requires seat { IsTracer heap.now seat.old }
     requires free { IsTrue (has_free_slot (state_of seat.old).held) }
@@ -61,7 +59,6 @@ fn exchange(heap: &Heap, seat: &mut HeapSeat) -> bool
     }
 }
 
-/// Whether a third packet is found after a seat that begins took two.
 fn third_packet(heap: &Heap, seat: &mut HeapSeat, k: u32) -> Option<bool>
     requires { At heap.now resting k seat.old }
 {
@@ -95,7 +92,6 @@ fn finds_work(heap: &Heap, seat: &mut HeapSeat, k: u32) -> bool
     false
 }
 
-/// Whether nothing comes out of an empty packet.
 fn pops_nothing(heap: &Heap, seat: &mut HeapSeat, k: u32) -> Option<bool>
     requires { At heap.now inside k seat.old }
 {
@@ -109,7 +105,7 @@ fn pops_nothing(heap: &Heap, seat: &mut HeapSeat, k: u32) -> Option<bool>
     Some(popped.is_none())
 }
 
-/// Takes a packet and gives it back, by a seat that has no packet: whether there was one.
+/// Takes a packet and gives it back: whether there was one.
 fn round(heap: &Heap, seat: &mut HeapSeat, k: u32) -> bool
     requires { At heap.now inside k seat.old }
     ensures { At heap.now inside k seat.new }
@@ -117,7 +113,6 @@ fn round(heap: &Heap, seat: &mut HeapSeat, k: u32) -> bool
     exchange(heap, seat)
 }
 
-/// Takes and gives so many packets: how many it got.
 fn rounds(heap: &Heap, seat: &mut HeapSeat, k: u32, count: u32) -> u32
     requires { At heap.now resting k seat.old }
 {
@@ -136,7 +131,7 @@ fn rounds(heap: &Heap, seat: &mut HeapSeat, k: u32, count: u32) -> u32
     done
 }
 
-/// Takes and gives 1,000 packets, once the other thread was there: how many it got.
+/// Takes and gives 1,000 packets, once the other thread is there: how many it got.
 fn meets_and_exchanges<R: Wait>(
     rt: &R,
     heap: &Heap,
@@ -150,7 +145,7 @@ fn meets_and_exchanges<R: Wait>(
     rounds(heap, seat, k, 1000)
 }
 
-/// The rounds of two seats, each in a thread of its own, which begin together.
+/// The rounds of two seats in two threads, which begin together.
 fn both<R: Threads + Wait + Sync>(
     rt: &R,
     heap: &Heap,
@@ -170,7 +165,6 @@ fn both<R: Threads + Wait + Sync>(
     a.saturating_add(b)
 }
 
-// The answers of one seat at the start of marking.
 fn first_answers(heap: &Heap, seat: &mut HeapSeat) -> Option<(bool, bool)>
     requires { At heap.now resting 0 seat.old }
 {

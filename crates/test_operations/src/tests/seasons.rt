@@ -1,4 +1,3 @@
-//! The first season of the warehouses begins, and marking in it.
 ghost use Rattle.std.specs.Prelude.{◌≡◌, ◌<◌, length};
 ghost use Rattle.std.specs.Bool.{OnTrue};
 ghost use Rattle.gc_table.specs.Seats.{Across, view_of};
@@ -12,7 +11,6 @@ use mark_core::Phase;
 use std::sync::Wait;
 use test_heaps::{enters, next_turn, sees_marking, try_marking};
 
-/// Whether the seat finds that the first season of the warehouses has begun.
 fn sees_turn(heap: &Heap, seat: &mut HeapSeat, k: u32) -> bool
     requires { At heap.now inside k seat.old }
     ensures sees { OnTrue result (At heap.now playing k seat.new) }
@@ -21,7 +19,6 @@ fn sees_turn(heap: &Heap, seat: &mut HeapSeat, k: u32) -> bool
     heap.read_season(seat) == 1
 }
 
-/// The warehouse's seat marks in its turn, as a mutator.
 fn plays(heap: &Heap, seat: &mut HeapSeat) -> bool
     requires seat { At heap.now entered 1 seat.old × (1 < heap.now.shape.sections) }
     requires blank { length (view_of seat.old).own.meaning.heap.objects ≡ 0 }
@@ -30,7 +27,6 @@ fn plays(heap: &Heap, seat: &mut HeapSeat) -> bool
     !heap.shape().sharing && sees_marking(heap, seat, 1) && sees_turn(heap, seat, 1)
 }
 
-/// Whether the seat finds that no cycle is under way.
 fn sees_idle(heap: &Heap, seat: &mut HeapSeat, k: u32) -> bool
     requires { At heap.now entered k seat.old }
     ensures sees { OnTrue result (At heap.now waiting k seat.new) }
@@ -42,7 +38,7 @@ fn sees_idle(heap: &Heap, seat: &mut HeapSeat, k: u32) -> bool
     }
 }
 
-/// The warehouse's seat enters, where no cycle is under way.
+/// The warehouse's seat enters, if no cycle is under way.
 pub fn joins(heap: &Heap, seat: &mut HeapSeat) -> bool
     requires { New heap.now resting 1 seat.old }
     ensures { OnTrue result (HasEachObject heap.now seat.new) }

@@ -35,7 +35,6 @@ fn finds_stop(heap: &Heap, seat: &mut HeapSeat) -> Option<(bool, bool)>
     Some((seen, raises(heap, seat)))
 }
 
-/// A whole stop: true where the seat made it.
 fn stops<R: Wait>(rt: &R, heap: &Heap, seat: &mut HeapSeat, k: u32) -> bool
     requires { At heap.now resting k seat.old }
 {
@@ -55,7 +54,6 @@ fn begins_drain(heap: &Heap, seat: &mut HeapSeat, k: u32)
     drains(heap, seat);
 }
 
-/// Whether the seat is let in to help, by its record.
 fn helps(heap: &Heap, seat: &mut HeapSeat, k: u32) -> bool
     requires { At heap.now resting k seat.old }
 {
@@ -70,7 +68,6 @@ fn helps(heap: &Heap, seat: &mut HeapSeat, k: u32) -> bool
     drains
 }
 
-/// A stop that is opened to another seat, and closed again: whether that seat helped.
 fn shares<R: Wait>(
     rt: &R,
     heap: &Heap,

@@ -34,7 +34,6 @@ fn begins_clear(heap: &Heap, seat: &mut HeapSeat)
     heap.store_phase(seat, Phase::Clear);
 }
 
-/// The first block, how many they are, and how many of their cells were freed.
 fn told(swept: Option<Swept>) -> Option<(u32, u32, u32)> {
     match swept {
         Some(swept) => Some((swept.block, swept.blocks, swept.freed)),
@@ -42,7 +41,7 @@ fn told(swept: Option<Swept>) -> Option<(u32, u32, u32)> {
     }
 }
 
-/// The next stretch of the sweep: its first block, how many they are, and how many of their cells it freed.
+/// The next stretch of the sweep, so told.
 fn sweeps(heap: &Heap, seat: &mut HeapSeat) -> Option<(u32, u32, u32)>
     requires { Sits heap.now seat.old × Sweeps (view_of seat.old) × Alone Sweep (view_of seat.old) }
     ensures { Sits heap.now seat.new × Sweeps (view_of seat.new) × Alone Sweep (view_of seat.new) }
@@ -51,7 +50,6 @@ fn sweeps(heap: &Heap, seat: &mut HeapSeat) -> Option<(u32, u32, u32)>
     told(swept)
 }
 
-/// What two calls sweep, and how many cells are freed of what they leave.
 fn sweeps_all(
     heap: &Heap,
     seat: &mut HeapSeat,
@@ -68,7 +66,6 @@ fn sweeps_all(
     Some((first, second, rest))
 }
 
-/// The first of the next blocks that are cleared of their marks.
 fn clears(heap: &Heap, seat: &mut HeapSeat) -> Option<u32>
     requires { Sits heap.now seat.old × Clears (view_of seat.old) × Alone Clear (view_of seat.old) }
     ensures { Sits heap.now seat.new × Clears (view_of seat.new) × Alone Clear (view_of seat.new) }
@@ -76,7 +73,7 @@ fn clears(heap: &Heap, seat: &mut HeapSeat) -> Option<u32>
     clear_marks_next(heap, seat)
 }
 
-/// The first blocks of those that two calls clear of their marks.
+/// The first blocks of two calls.
 fn clears_all(heap: &Heap, seat: &mut HeapSeat) -> Option<(Option<u32>, Option<u32>)>
     requires { Sits heap.now seat.old × Alone Clear (view_of seat.old) }
 {
@@ -90,7 +87,7 @@ fn clears_all(heap: &Heap, seat: &mut HeapSeat) -> Option<(Option<u32>, Option<u
     Some((first, second))
 }
 
-/// Makes an object that leads to two more, and two that no variable names in the end.
+/// Makes an object that leads to two more, and two that become garbage.
 fn make_five(heap: &Heap, seat: &mut HeapSeat, cache: &mut Cache)
     requires fields { 1 < heap.now.shape.fields }
     requires fills { IsReadyWithCache heap.now seat.old cache.old }
@@ -102,7 +99,6 @@ fn make_five(heap: &Heap, seat: &mut HeapSeat, cache: &mut Cache)
     forget(heap, seat, cache, 3);
 }
 
-/// A mutator enters, makes five objects of which three stay reachable, and leaves.
 fn plays(heap: &Heap, seat: &mut HeapSeat) -> bool
     requires { New heap.now resting 1 seat.old }
 {
@@ -117,7 +113,6 @@ fn plays(heap: &Heap, seat: &mut HeapSeat) -> bool
     leaves(heap, seat)
 }
 
-/// Traces what the roots lead to, in a stop: false where something is in hand.
 fn traces_in_stop(heap: &Heap, seat: &mut HeapSeat) -> bool
     requires { Sits heap.now seat.old × IsRooted (view_of seat.old) }
     ensures { Sits heap.now seat.new × IsBeforeSweep (view_of seat.new) }
@@ -129,7 +124,8 @@ fn traces_in_stop(heap: &Heap, seat: &mut HeapSeat) -> bool
     true
 }
 
-/// Whether the drain ends there: nothing is in hand, all roots are seen to, every card is clean, and every packet is empty.
+/// Whether the drain ends: nothing is in hand, all roots are seen to, every card is clean, and every packet is
+/// empty.
 fn drained_after_tracing(heap: &Heap, seat: &mut HeapSeat) -> bool
     requires { Sits heap.now seat.old × IsBeforeSweep (view_of seat.old) }
     ensures { OnTrue result (Sits heap.now seat.new × IsDrained (view_of seat.new)) }
@@ -142,7 +138,6 @@ fn drained_after_tracing(heap: &Heap, seat: &mut HeapSeat) -> bool
         && is_drained(heap, seat)
 }
 
-/// A stop by seat k, in which a drain ends.
 fn ends_drain<R: Wait>(rt: &R, heap: &Heap, seat: &mut HeapSeat, k: u32) -> bool
     requires { At heap.now resting k seat.old }
     ensures { OnTrue result (Sits heap.now seat.new × IsDrained (view_of seat.new)) }
@@ -155,14 +150,12 @@ fn ends_drain<R: Wait>(rt: &R, heap: &Heap, seat: &mut HeapSeat, k: u32) -> bool
     scans_all(heap, seat) && traces_in_stop(heap, seat) && drained_after_tracing(heap, seat)
 }
 
-/// Five blocks, of which two are handed out at a time.
 const STRETCHES: Shape = Shape {
     cells: 320,
     stretch: 2,
     ..SMALL
 };
 
-/// Of five objects three stay: two cells of the block are freed.
 #[test]
 fn each_block_is_swept_once(rt: HostRuntime) {
     let (heap, mut zero, mut one, mut two) = opened(&rt, FOUR);
@@ -176,7 +169,7 @@ fn each_block_is_swept_once(rt: HostRuntime) {
     assert!(&rt; sweeps_all(&heap, &mut two) == Some((Some((0, 1, 2)), None, 0)));
 }
 
-/// A heap in which nothing was made, and the seat that ended a drain in it.
+/// A new heap, and the seat that ended a drain in it.
 fn drained<R: Abort + AllocGlobal + Wait>(rt: &R, shape: Shape) -> (Heap, HeapSeat)
     requires { IsShape shape × (0 < shape.sections) }
     ensures { Sits result.0 result.1 × IsDrained (view_of result.1) }

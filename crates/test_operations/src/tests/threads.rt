@@ -21,7 +21,6 @@ use std::thread::{Threads, join_mut};
 use test_heaps::{enters, sees_marking};
 use tracer::trace;
 
-/// A tracer's seat enters, and sees that marking is under way.
 fn joins(heap: &Heap, seat: &mut HeapSeat, k: u32) -> bool
     requires { At heap.now resting k seat.old }
     ensures { OnTrue result (At heap.now inside k seat.new) }
@@ -29,7 +28,7 @@ fn joins(heap: &Heap, seat: &mut HeapSeat, k: u32) -> bool
     enters(heap, seat, k) && sees_marking(heap, seat, k)
 }
 
-/// Traces in 200 turns of at most 4 objects each: how many objects that were.
+/// Traces in 200 turns of at most 4 objects each: how many.
 fn traces_on(heap: &Heap, seat: &mut HeapSeat) -> u32
     requires { Sits heap.now seat.old × Traces (view_of seat.old) × IsIdle (view_of seat.old) }
     ensures { Sits heap.now seat.new × Traces (view_of seat.new) × IsIdle (view_of seat.new) }
@@ -41,7 +40,7 @@ fn traces_on(heap: &Heap, seat: &mut HeapSeat) -> u32
     done
 }
 
-/// Traces in 200 turns of at most 4 objects each, by a seat that has just begun, once the other threads are there: how many objects that were.
+/// Traces so by a seat that has just begun, once the other threads are there: how many objects.
 fn begins_tracing<R: Wait>(
     rt: &R,
     heap: &Heap,
@@ -56,7 +55,6 @@ fn begins_tracing<R: Wait>(
     traces_on(heap, seat)
 }
 
-/// Stores in a published object, 200 times each of two fields.
 fn stores_on(heap: &Heap, seat: &mut HeapSeat, cache: &Cache)
     requires { IsReadyWithCache heap.now seat.old cache.now × (1 < heap.now.shape.fields) }
     ensures { IsReadyWithCache heap.now seat.new cache.now }
@@ -67,7 +65,7 @@ fn stores_on(heap: &Heap, seat: &mut HeapSeat, cache: &Cache)
     }
 }
 
-/// Stores in a published object, once the other threads are there.
+/// `stores_on`, once the other threads are there.
 fn meets_and_stores<R: Wait>(
     rt: &R,
     heap: &Heap,
@@ -82,7 +80,6 @@ fn meets_and_stores<R: Wait>(
     stores_on(heap, seat, cache);
 }
 
-/// Two seats trace, each in a thread of its own.
 fn both_trace<R: Threads + Wait + Sync>(
     rt: &R,
     heap: &Heap,
@@ -100,7 +97,7 @@ fn both_trace<R: Threads + Wait + Sync>(
     );
 }
 
-/// One thread stores while two others trace: all three begin together.
+/// One thread stores while two others trace: all begin together.
 fn three_threads<R: Threads + Wait + Sync>(
     rt: &R,
     heap: &Heap,
@@ -124,7 +121,6 @@ fn three_threads<R: Threads + Wait + Sync>(
     );
 }
 
-/// What was left is traced by one seat.
 fn settles(heap: &Heap, seat: &mut HeapSeat, cache: &Cache)
     requires { IsReadyWithCache heap.now seat.old cache.now }
     ensures { IsReadyWithCache heap.now seat.new cache.now }
@@ -134,7 +130,7 @@ fn settles(heap: &Heap, seat: &mut HeapSeat, cache: &Cache)
     traces(heap, seat, cache, 100);
 }
 
-/// Whether each seat finds all packets empty, once the threads are joined and what they left was traced.
+/// Whether each seat finds all packets empty, once what the threads left was traced.
 fn ends_empty<R: Threads + Wait + Sync>(
     rt: &R,
     heap: &Heap,
@@ -164,7 +160,7 @@ fn ends_empty<R: Threads + Wait + Sync>(
     Some(answers)
 }
 
-/// The roots are scanned, and the thread stays until another has traced what they lead to.
+/// Scans the roots, and stays until another thread has traced what they lead to.
 fn scans_and_waits<R: Wait>(
     rt: &R,
     heap: &Heap,
@@ -196,7 +192,7 @@ fn waits_and_traces<R: Wait>(
     done
 }
 
-/// The roots are scanned in one thread, and what they lead to is traced in another while the first still runs: how many objects were.
+/// One thread scans the roots and another traces while the first still runs: how many objects.
 fn hands_over<R: Threads + Wait + Sync>(
     rt: &R,
     heap: &Heap,

@@ -1,4 +1,3 @@
-//! A warehouse's seat scans its roots and traces what they lead to.
 ghost use Rattle.std.specs.Bool.{OnTrue};
 ghost use Rattle.gc_table.specs.Seats.{state_of};
 ghost use Rattle.test_operations.specs.Seats.{IsReadyMutator, MayTrace};
@@ -32,7 +31,7 @@ pub fn scans(heap: &Heap, seat: &mut HeapSeat, cache: &Cache) -> Option<RootScan
     Some(scan_roots(heap, seat, 1))
 }
 
-/// What a trace of so many objects came to.
+/// What a trace of this many objects came to.
 pub fn traces(heap: &Heap, seat: &mut HeapSeat, cache: &Cache, quota: u32) -> Option<Traced>
     requires { IsReadyWithCache heap.now seat.old cache.now }
     ensures { IsReadyWithCache heap.now seat.new cache.now }
@@ -54,7 +53,7 @@ pub fn recycles(heap: &Heap, seat: &mut HeapSeat, cache: &Cache) -> Option<u32>
     Some(recycle_deferred(heap, seat))
 }
 
-/// The number and the length of the packet that was put off. It goes back to where it was.
+/// The number and the length of the packet that was put off, which goes back.
 fn finds_deferred(heap: &Heap, seat: &mut HeapSeat, cache: &Cache) -> Option<(u32, u32)>
     requires { IsReadyWithCache heap.now seat.old cache.now }
     ensures { IsReadyWithCache heap.now seat.new cache.now }
@@ -88,7 +87,6 @@ fn traces_all(heap: &Heap, seat: &mut HeapSeat, cache: &mut Cache) -> bool
     scanned == Some(RootScan::Done { marked: 1 }) && traced == done(3, 0, Stopped::NoWork)
 }
 
-/// None is published: one is put off, and traced later with the others.
 fn puts_off(heap: &Heap, seat: &mut HeapSeat, cache: &mut Cache) -> bool
     requires { IsReadyWithCache heap.now seat.old cache.old }
     ensures { IsReadyWithCache heap.now seat.new cache.new }

@@ -60,7 +60,8 @@ fn leave(heap: &Heap, seat: &mut HeapSeat, k: u32)
     heap.leave_step(seat);
 }
 
-/// Takes packet 0 and gives it back, or finds it taken. False where the world is stopped, marking isn't under way or the packet isn't empty.
+/// Takes packet 0 and gives it back, or finds it taken. False if the world is stopped, marking isn't under way or
+/// the packet isn't empty.
 fn round(heap: &Heap, seat: &mut HeapSeat, k: u32) -> bool
     requires { At heap.now resting k seat.old }
     ensures { OnTrue result (At heap.now resting k seat.new) }
@@ -86,7 +87,6 @@ fn round(heap: &Heap, seat: &mut HeapSeat, k: u32) -> bool
     true
 }
 
-/// How many of so many rounds were done.
 fn rounds(heap: &Heap, seat: &mut HeapSeat, k: u32, count: u32) -> u32
     requires { At heap.now resting k seat.old }
 {
@@ -112,7 +112,7 @@ fn meets_and_trades<R: Wait>(
     rounds(heap, seat, k, 1000)
 }
 
-/// The rounds of two seats, each in a thread of its own, which begin together.
+/// The rounds of two seats in two threads, which begin together.
 fn both<R: Threads + Wait + Sync>(
     rt: &R,
     heap: &Heap,

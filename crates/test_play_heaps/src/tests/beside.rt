@@ -1,6 +1,7 @@
 //! Threads that run side by side: a gate holds sections in their first command until other threads came so far.
 //!
-//! A play that starts no tracer, or that plays its workers one after another, would never come out of such a gate before it gives up.
+//! A play that starts no tracer, or plays its workers one after another, would not come out of such a gate before
+//! it gives up.
 use crate::tests::signal::Signal;
 use gc_play::{Gate, play};
 use gc_script::{Section, read};
@@ -22,7 +23,6 @@ struct Holding<'a, R: Wait + Sync> {
     awaited: &'a [(u32, u64)],
     passed: Signal,
     turned: Signal,
-    /// How many commands were passed with an active seat of their section.
     own: AtomicU64,
 }
 
@@ -71,7 +71,8 @@ new a 3
 say a a
 ";
 
-/// A script, how many commands it has, the workers, which sections are held, for which commands, and for how many turns of the tracer.
+/// A script, how many commands it has, the workers, which sections are held, for which commands, and for how many
+/// turns of the tracer.
 type Row = (
     &'static [u8],
     u64,
@@ -91,7 +92,7 @@ const ROWS: [Row; 4] = [
     (THREE, 6, 3, &[1, 2, 3], &[(1, 0), (2, 0), (3, 0)], 1),
 ];
 
-/// Whether the script is played on so many threads and one tracer, and nothing that is waited for was given up.
+/// Whether the script is played so, and nothing waited for was given up.
 fn meets<R: Abort + AllocGlobal + Threads + Wait + Sync>(rt: &R, row: &Row) -> Result<bool, Fail> {
     let (script, commands, workers, held, awaited, turns) = *row;
     assert!(rt; 1 <= workers && workers <= 32);

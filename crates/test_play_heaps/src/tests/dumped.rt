@@ -1,4 +1,4 @@
-//! What `dump`, `undump`, `census` and `load` write of the examples and of generated scripts, beside heaps that forget nothing.
+//! What `dump`, `undump`, `census` and `load` write, beside heaps that forget nothing.
 use crate::tests::graph::{Graph, graph_of};
 use gc_script::read;
 use load_gen::generate;
@@ -9,7 +9,6 @@ use std::test::Fail;
 use std::thread::Threads;
 use test_cases::{answer_of, sure};
 
-/// Numbers as a dump has them.
 fn push_numbers(dump: &mut Vec<u8>, numbers: &[u32]) -> Result<(), AllocError> {
     for number in numbers {
         dump.extend_from_slice(&number.to_be_bytes())?;
@@ -17,7 +16,7 @@ fn push_numbers(dump: &mut Vec<u8>, numbers: &[u32]) -> Result<(), AllocError> {
     Ok(())
 }
 
-/// References as a dump has them: the numbers of records, from 1 on.
+/// References as in a dump: the numbers of records, from 1 on.
 fn push_references(dump: &mut Vec<u8>, graph: &Graph, places: &[usize]) -> Result<(), AllocError> {
     for place in places {
         let record = match graph.nodes.get(place.wrapping_sub(1)) {
@@ -54,7 +53,7 @@ fn undump_of(alloc: Global, graph: &Graph) -> Result<String, AllocError> {
     Ok(text)
 }
 
-/// How many are reached of this level, this section and this value, where one is named, and the sum of their values.
+/// How many of this level, section and value, if named, are reached, and the sum of their values.
 fn count_of(
     graph: &Graph,
     level: Option<u32>,
@@ -90,7 +89,6 @@ fn levels_of(alloc: Global, graph: &Graph) -> Result<String, AllocError> {
     format!(in alloc; "levels {depth}\n{lines}")
 }
 
-/// The census, where no value is above 999.
 fn census_of(alloc: Global, graph: &Graph) -> Result<String, AllocError> {
     let mut text = levels_of(alloc, graph)?;
     text.push_str("unreached 0\n")?;
@@ -109,7 +107,7 @@ fn census_of(alloc: Global, graph: &Graph) -> Result<String, AllocError> {
     Ok(text)
 }
 
-/// Fails where the words with this source don't write this text.
+/// Fails if the words with this source don't write this text.
 fn writes<R: Abort + AllocGlobal + Threads + Wait + Sync>(
     rt: &R,
     words: &str,
@@ -121,13 +119,12 @@ fn writes<R: Abort + AllocGlobal + Threads + Wait + Sync>(
     Ok(())
 }
 
-/// The options of dumps, a line each.
 const OPTIONS: &str = "
 --workers 1 --tracers 0
 --cells=256 --workers=32 --tracers=8 --packets=2 --entries=2
 ";
 
-/// Fails where the three commands don't write what the heaps say of a script.
+/// Fails if the three commands don't write what the heaps say of a script.
 fn is_dumped<R: Abort + AllocGlobal + Threads + Wait + Sync>(
     rt: &R,
     source: &[u8],
@@ -225,7 +222,6 @@ fn dumps_as_heaps_that_forget_nothing(rt: HostRuntime) -> Result<(), Fail> {
     Ok(())
 }
 
-/// The options of loads, a line each.
 const LOADS: &str = "
 --workers=1 --tracers=0
 --cells=256 --tracers=8

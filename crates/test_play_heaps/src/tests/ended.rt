@@ -1,4 +1,3 @@
-//! The words at the end of a play.
 use gc_play::{OpenGate, play_final};
 use gc_script::read;
 use mark_core::Phase;
@@ -18,7 +17,7 @@ fn cell_of(word: u64) -> usize {
     word.saturating_sub(1) as usize
 }
 
-/// The cells of 64 that are allocated stand in one word. A section has 32 variables, and a cell 4 fields.
+/// 64 cells' allocation bits stand in one word. A section has 32 variables, and a cell 4 fields.
 #[test]
 fn words_at_the_end(rt: HostRuntime) -> Result<(), Fail> {
     let options = Options {

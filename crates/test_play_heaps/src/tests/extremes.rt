@@ -2,8 +2,8 @@
 use crate::tests::holding::all_hold_with;
 use std::test::Fail;
 
-/// Warehouses that keep two objects beside a thousand of which the last stays; a catalogue's old chain and its new one, to both of which
-/// objects refer; and chains that are kept by their last leaf alone.
+/// Warehouses that keep two objects beside a thousand of which the last stays; a catalogue's old chain and its new
+/// one, to both of which objects refer; and chains that are kept only by their last leaf.
 const EXTREMES: &str = "$ run --cells=64
 gcscript 1
 {8*warehouse

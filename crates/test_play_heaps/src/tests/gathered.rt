@@ -1,4 +1,4 @@
-//! Runs through a sink that gathers what is written, as the program's own do, over one that fails.
+//! Runs through a sink that gathers what is written, as the program's own does, over one that fails.
 ghost use Rattle.std.specs.Prelude.{◌≡◌, IfOk};
 
 use gc_play::OpenGate;
@@ -11,7 +11,7 @@ use std::test::Fail;
 use std::thread::Threads;
 use test_cases::expanded;
 
-/// A sink that gathers over one that has room, takes so many bytes a call and fails in this call.
+/// A gathering sink over one that has room, takes so many bytes a call and fails in this call.
 fn gathering(alloc: Global, per_call: usize, failing: u32) -> Result<GatheredSink<MemorySink>, Fail>
     ensures { IfOk result (λ sink. sink.faults ≡ 0) }
 {
@@ -27,7 +27,7 @@ fn gathering(alloc: Global, per_call: usize, failing: u32) -> Result<GatheredSin
     }
 }
 
-/// What is gathered at the end goes on, and where that fails the status is 5. After status 5 nothing goes on.
+/// What is gathered at the end goes on; if that fails the status is 5. After status 5 nothing goes on.
 #[test]
 fn what_is_left_is_handed_on_at_the_end(rt: HostRuntime) -> Result<(), Fail> {
     for (status, failing, settled, written) in [
@@ -65,7 +65,7 @@ survivors 1
 1 0 4294967295
 ";
 
-/// The status of a run over a sink that takes 30,000 bytes a call and fails in this call, and what that sink has.
+/// The status of a run over a sink that takes 30,000 bytes a call and fails in this call, and what the sink has.
 fn ends<R: Abort + AllocGlobal + Threads + Wait + Sync>(
     rt: &R,
     failing: u32,
@@ -77,7 +77,7 @@ fn ends<R: Abort + AllocGlobal + Threads + Wait + Sync>(
     Ok(settle(status, sink))
 }
 
-/// The text has 80,129 bytes. The first 65,536 or a few more go on in three calls, and the rest at the end.
+/// Of 80,129 bytes the first 65,536 or a few more go on in three calls, and the rest at the end.
 #[test]
 fn a_gathered_text_is_written_up_to_the_fault(rt: HostRuntime) -> Result<(), Fail> {
     let text = expanded(rt.alloc(), TEXT)?;

@@ -7,8 +7,8 @@ use plain_heap::{Op, PlainHeap, Ref};
 use std::alloc::{AllocError, Global};
 use std::test::Fail;
 
-/// An object: its section, number and value, the places of what its fields refer to, and, where it is reached, the least number
-/// of references to it from a variable and its place among those that are reached.
+/// An object: its section, number and value, the places of what its fields refer to, and if it is reached, the
+/// least number of references to it from a variable and its place among the reached.
 #[derive(Drop)]
 pub struct Node {
     pub section: u32,
@@ -19,8 +19,8 @@ pub struct Node {
     pub record: u32,
 }
 
-/// The objects of all sections, how many of them are reached, and the places of what the variables refer to. A place is 0, or
-/// that of an object and 1.
+/// The objects of all sections, how many are reached, and the places of what the variables refer to: 0, or an
+/// object's place and 1.
 #[derive(Drop)]
 pub struct Graph {
     pub fields: u32,
@@ -30,7 +30,6 @@ pub struct Graph {
     pub roots: Vec<usize>,
 }
 
-/// Whether the operation names only variables and fields that there are.
 fn is_in_range(op: Op, fields: u32) -> bool
     ensures { IsTrue result → IsInRange fields op }
 {
@@ -48,7 +47,6 @@ fn is_in_range(op: Op, fields: u32) -> bool
     }
 }
 
-/// Does a command beside this catalogue.
 fn step_once(heap: &mut PlainHeap, cat: Option<&PlainHeap>, op: Op) -> Result<(), Fail> {
     let has_room = heap.objects().len() < 2_000_000 && heap.dropped() < 2_000_000;
     if !has_room || !is_in_range(op, heap.fields()) {
@@ -60,7 +58,7 @@ fn step_once(heap: &mut PlainHeap, cat: Option<&PlainHeap>, op: Op) -> Result<()
     }
 }
 
-/// The heap of a section after all commands of a script; of the catalogue where no section is given.
+/// The heap of a section, or of the catalogue if none is given, after all commands of a script.
 fn heap_of(
     alloc: Global,
     script: &Script<'_>,
@@ -88,7 +86,8 @@ fn heap_of(
     Ok(if section.is_some() { heap } else { catalogue })
 }
 
-/// The place of what a reference names, where the section's objects begin at this place and the catalogue's at the first.
+/// The place of what a reference names, if the section's objects begin at this place and the catalogue's at the
+/// first.
 fn place_of(reference: Ref, start: usize) -> usize {
     match reference {
         Ref::Nil => 0,
@@ -122,7 +121,6 @@ fn add_heap(alloc: Global, graph: &mut Graph, heap: &PlainHeap) -> Result<(), Al
     Ok(())
 }
 
-/// Finds the levels, each from the one before.
 fn find_levels(alloc: Global, graph: &mut Graph) -> Result<(), AllocError> {
     let mut places = graph.roots.as_slice().to_vec(alloc)?;
     for level in 0..2_000_000u32 {
@@ -155,7 +153,7 @@ fn number_records(graph: &mut Graph) {
     graph.records = count;
 }
 
-/// The objects that the script leaves, with those that nothing reaches.
+/// The objects that the script leaves, reached or not.
 pub fn graph_of(alloc: Global, script: &Script<'_>) -> Result<Graph, Fail> {
     let mut graph = Graph {
         fields: script.fields(),

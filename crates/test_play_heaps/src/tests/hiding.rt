@@ -1,10 +1,11 @@
 //! An object that a store hides from a tracer, in a play whose threads are held around that store.
 //!
-//! The first warehouse has a chain of 890 objects, and behind the last one an object that nothing else leads to. It leaves 8 cells of a block of 64 free, so
-//! that it traces fewer than 128 objects for the cache with which a cycle begins. Then it is held until the tracer, which is held until then, has had two turns
-//! of 64 objects, and the tracer is held in its third one: the head of the chain was scanned, and its end wasn't. Now the warehouse walks to the end, stores the
-//! last object in the head, and takes it off the end. So nothing leads to it but a field that was scanned before the store: it is kept by the card that the store
-//! dirtied, and else its cell is freed and used again.
+//! The first warehouse has a chain of 890 objects, and behind the last an object that nothing else leads to. It
+//! leaves 8 cells of a block of 64 free, so it traces fewer than 128 objects for the cache with which a cycle
+//! begins. Then it is held until the tracer, held until then, has had two turns of 64 objects, and the tracer is
+//! held in its third: the head of the chain was scanned, and its end wasn't. Now the warehouse walks to the end,
+//! stores the last object in the head, and takes it off the end. So nothing leads to it but a field that was
+//! scanned before the store: only the card that the store dirtied keeps it.
 use crate::tests::marking::{CHAIN, is_marking};
 use crate::tests::signal::Signal;
 use gc_play::{Gate, OpenGate, play};
@@ -62,7 +63,8 @@ survivors 2
 1 1017 9
 ";
 
-/// The first command of the walk, by section and number: 2,803 make the chain and collect, and 28 more objects begin a cycle.
+/// The first command of the walk, by section and number: 2,803 make the chain and collect, and 28 more objects
+/// begin a cycle.
 const WALK: (u32, u64) = (1, 2_831);
 
 /// The command behind the stores.
@@ -71,7 +73,6 @@ const HIDDEN: (u32, u64) = (1, 3_725);
 /// The first command of the other warehouse, which is held until then.
 const OTHER: (u32, u64) = (2, 0);
 
-/// Holds the threads around the stores.
 #[derive(Drop)]
 struct Hiding<'a, R: Wait + Sync> {
     rt: &'a R,
@@ -83,7 +84,6 @@ struct Hiding<'a, R: Wait + Sync> {
     marking: AtomicU64,
 }
 
-/// Counts that a cycle was marking.
 fn look(marking: &AtomicU64, seat: &HeapSeat) {
     if is_marking(seat) {
         marking.fetch_add(1, SeqCst);
@@ -117,7 +117,6 @@ impl<R: Wait + Sync> Gate for Hiding<'_, R> {
     }
 }
 
-/// Whether a play under this gate writes the text.
 fn is_written<R: Abort + AllocGlobal + Threads + Wait + Sync, G: Gate + Sync>(
     rt: &R,
     workers: u32,
@@ -159,7 +158,7 @@ fn what_is_hidden_from_a_tracer_is_kept(rt: HostRuntime) -> Result<(), Fail> {
     Ok(())
 }
 
-/// Without a tracer the warehouse itself has scanned the head.
+/// Without a tracer the warehouse itself scans the head.
 #[test]
 fn what_is_hidden_without_a_tracer_is_kept(rt: HostRuntime) -> Result<(), Fail> {
     assert!(&rt; is_written(&rt, 1, 0, &OpenGate)?);

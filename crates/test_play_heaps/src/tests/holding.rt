@@ -5,7 +5,7 @@ use std::test::Fail;
 use std::thread::Threads;
 use test_cases::first_unlike;
 
-/// Fails where one of the cases isn't answered so, with these words behind its own.
+/// Fails if one of the cases isn't answered so, with these words behind its own.
 pub fn all_hold_with<R: Abort + AllocGlobal + Threads + Wait + Sync>(
     rt: &R,
     cases: &str,

@@ -1,9 +1,10 @@
 //! A tracer that traces while a warehouse is held: the chain of the warehouse is traced without it.
 //!
-//! A warehouse makes a chain of 890 objects, which leaves 8 cells of a block of 64 free, and collects. Four caches later a cycle begins, and for the fourth
-//! cache the warehouse traces fewer than 128 objects. It is held at the next command until the tracer, which is held until then, has had twenty turns, each of 64
-//! objects or of the cards. So nothing is left to trace when it takes its fifth cache, and the cycle ends there: a tracer that finds no work holds no packet.
-//! Where the tracer traces nothing, the warehouse goes on in the cycle for some nine caches.
+//! A warehouse makes a chain of 890 objects, which leaves 8 cells of a block of 64 free, and collects. Four caches
+//! later a cycle begins, and for the fourth the warehouse traces fewer than 128 objects. It is held at the next
+//! command until the tracer, held until then, has had twenty turns, each of 64 objects or of the cards. So nothing
+//! is left to trace when it takes its fifth cache, and the cycle ends there. If the tracer traced nothing, the
+//! warehouse would go on in the cycle for some nine caches.
 use crate::tests::signal::Signal;
 use gc_play::{Gate, play};
 use gc_script::{Section, read};
@@ -16,7 +17,7 @@ use std::sync::atomic::Ordering::SeqCst;
 use std::test::Fail;
 use test_cases::expanded;
 
-/// A chain whose objects fill seven cells of eight, with an object behind it, and a collection.
+/// A chain whose objects fill seven cells of eight, an object behind it, and a collection.
 pub const CHAIN: &str = "gcscript 3
 fields 4
 warehouse
@@ -54,7 +55,6 @@ struct Tracing<'a, R: Wait + Sync> {
     rt: &'a R,
     held: Signal,
     turns: Signal,
-    /// How many commands were passed in the first cycle.
     marking: AtomicU64,
     /// How many came after it.
     after: AtomicU64,
@@ -79,7 +79,7 @@ impl<R: Wait + Sync> Gate for Tracing<'_, R> {
     }
 }
 
-/// The warehouse passes the eight commands of its fourth cache in the cycle, and no more.
+/// The warehouse passes only the eight commands of its fourth cache in the cycle.
 #[test]
 fn a_tracer_traces_while_a_warehouse_is_held(rt: HostRuntime) -> Result<(), Fail> {
     let options = Options {

@@ -1,16 +1,18 @@
-//! The narrowest heaps: few cells, few and short packets, many workers and tracers, on scripts that are hard on marking.
+//! The narrowest heaps: few cells, few and short packets, many workers and tracers, on scripts that are hard on
+//! marking.
 //!
-//! Of the 72 shapes with 64 or 128 cells, 2 or 3 packets, 2 or 3 entries, 1, 2 or 32 workers, and no, one or 8 tracers, 18 are played, in
-//! which any two of these values come together.
+//! Of the 72 shapes with 64 or 128 cells, 2 or 3 packets, 2 or 3 entries, 1, 2 or 32 workers, and no, one or 8
+//! tracers, 18 are played, so that any two of these values come together.
 use crate::tests::holding::all_hold_with;
 use std::process::Abort;
 use std::sync::Wait;
 use std::test::Fail;
 use std::thread::Threads;
 
-/// Objects that are stored again and again while marking runs, so that one path alone leads to what was stored last; chains beside
-/// objects that are lost at once; objects with sixteen leaves; a collection after each object of a chain; a catalogue that makes its chain
-/// anew in its second season; and two chains that fill 64 cells between them, each made anew once it is dropped.
+/// Objects stored again and again while marking runs, so that only one path leads to what was stored last; chains
+/// beside objects that are lost at once; objects with sixteen leaves; a collection after each object of a chain; a
+/// catalogue that makes its chain anew in its second season; and two chains that fill 64 cells between them, each
+/// made anew once it is dropped.
 const NARROW: &str = "$ run
 gcscript 1
 {3*warehouse
@@ -234,7 +236,7 @@ dropped 0
 }survivors 0
 ";
 
-/// A chain of more objects than there are cells. Each takes three commands, behind a first one. The last number is left out.
+/// A chain of more objects than cells. Each takes three commands, behind a first one. The last number is left out.
 const FULL: &str = "$ run
 gcscript 1
 warehouse
@@ -261,7 +263,8 @@ const SHAPES: &str = "--workers 1 --tracers 0 --packets 2 --entries 2
 --workers 32 --tracers 8 --packets 2 --entries 2
 ";
 
-/// Fails where a shape of a heap with so many cells changes what is written, or where that heap isn't full after so many commands.
+/// Fails if a shape of a heap with so many cells changes what is written, or that heap isn't full after so many
+/// commands.
 fn is_narrow<R: Abort + AllocGlobal + Threads + Wait + Sync>(
     rt: &R,
     cells: &str,

@@ -47,7 +47,7 @@ survivors 3
 placed 130
 ";
 
-/// The cells of the objects, in order, from the lines that name them.
+/// The cells of the objects, in order.
 fn cells_of(alloc: Global, lines: &str) -> Result<Vec<u32>, Fail> {
     let mut cells = Vec::new(alloc);
     for line in lines.lines() {
@@ -58,7 +58,7 @@ fn cells_of(alloc: Global, lines: &str) -> Result<Vec<u32>, Fail> {
     Ok(cells)
 }
 
-/// Whether no cell lies past the heap, is used by two objects in turn, or is that of one of the first `kept` objects.
+/// Whether no cell lies past the heap, is used twice in a row, or is that of one of the first `kept` objects.
 fn may_lie(cells: &[u32], kept: usize) -> bool {
     let mut last = 64;
     let mut may = cells.len() == 130;

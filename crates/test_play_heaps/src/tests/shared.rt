@@ -1,4 +1,3 @@
-//! One heap that eight warehouses share.
 use gc_play::{OpenGate, play};
 use gc_script::read;
 use play_end::{Options, USUAL};
@@ -6,7 +5,7 @@ use play_report::{MemorySink, write_report};
 use std::test::Fail;
 use test_cases::expanded;
 
-/// Each warehouse keeps its first two objects and the last of fifty more, so most of the 64 cells are used again and again.
+/// Each warehouse keeps its first two objects and the last of fifty more.
 const WAREHOUSE: &str = "warehouse
 new a 1
 new b 2

@@ -1,4 +1,4 @@
-//! A script of one object from sources and to sinks of several kinds, with the usual options.
+//! A script of one object from sources and to sinks of several kinds.
 use gc_play::OpenGate;
 use play_report::{CountSink, SureSource};
 use play_words::play_words;
@@ -21,7 +21,7 @@ fn plays_from_a_sure_source_to_a_counting_sink(rt: HostRuntime) -> Result<(), Fa
     Ok(())
 }
 
-/// The script has 37 bytes, so there are five reads: four with bytes, and one that finds none.
+/// The script has 37 bytes: five reads, four with bytes and one that finds none.
 #[test]
 fn reads_ten_bytes_at_a_time(rt: HostRuntime) -> Result<(), Fail> {
     for read in 1..=6u32 {

@@ -1,6 +1,6 @@
 //! The command `batch`.
 
-/// The last batch has a job too many, behind the first line and 64 lines of jobs.
+/// The last batch has a job too many, behind 64 lines of jobs.
 pub const BATCHES: &str = "$ batch
 gcbatch 1
 => 0

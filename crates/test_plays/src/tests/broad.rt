@@ -1,7 +1,8 @@
 //! Long plays of many sections: a catalogue that grows anew, and many warehouses beside one another.
 
-/// The catalogue grows anew in each of three seasons; each of 31 warehouses has a worker, and all share one block of cells, which are few more than may be
-/// reachable; and eight warehouses, each with 5,000 orders of ten lines, beside a catalogue of 200 items.
+/// The catalogue grows anew in each of three seasons; each of 31 warehouses has a worker, and all share one block
+/// of cells, few more than may be reachable; and eight warehouses, each with 5,000 orders of ten lines, beside a
+/// catalogue of 200 items.
 pub const BROAD: &str = "$ run --cells 64
 gcscript 3
 fields 4

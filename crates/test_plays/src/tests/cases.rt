@@ -1,6 +1,4 @@
-//! The cases that are judged as they stand: those of `played`, `long`, `broad`, `converts`, `batches` and `others`.
-//!
-//! The head of `src/cases.rt` in `test_cases` has the form of a case.
+//! The cases that are judged as they stand. The head of `src/cases.rt` in `test_cases` has their form.
 use crate::tests::batches::BATCHES;
 use crate::tests::broad::BROAD;
 use crate::tests::converts::CONVERTS;
@@ -13,7 +11,7 @@ use std::test::Fail;
 use std::thread::Threads;
 use test_cases::first_unlike;
 
-/// Fails where one of the cases isn't answered so.
+/// Fails if one of the cases isn't answered so.
 pub fn all_hold<R: Abort + AllocGlobal + Threads + Wait + Sync>(
     rt: &R,
     cases: &str,

@@ -1,6 +1,6 @@
 //! A small input of each command, and of each fault.
 
-/// The size of each piece stands behind the status of a dump, whose bytes are no lines.
+/// The sizes of pieces stand behind a dump's status, whose bytes are no lines.
 pub const COMMANDS: &str = "$ run --cells=64 --workers=1 --tracers=0 --packets=2 --entries=2
 gcscript 1
 warehouse

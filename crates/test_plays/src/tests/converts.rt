@@ -1,6 +1,6 @@
-//! The command `convert`, and the longest source: a conversion adds 9 bytes, and may have as many as a source.
+//! The command `convert`, and the longest source: a conversion adds 9 bytes, and may be as long as a source.
 
-/// Words of `convert` with their source, and the text and the status that must come.
+/// Words of `convert` with their source, and the text and status that must come.
 pub const CONVERTS: &str = "$ convert
 gcscript 1
 warehouse

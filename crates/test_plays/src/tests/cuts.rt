@@ -20,8 +20,8 @@ get j o 2
 say b j
 ";
 
-/// The first and the last cut, and the fault of the script so cut, or what its play writes. Line 3 may end in another number, and line 5
-/// in a name that the catalogue does not have.
+/// The first and the last cut, and the fault of the script so cut, or what its play writes. Line 3 may end in
+/// another number, line 5 in a name that the catalogue doesn't have.
 const CUTS: &str = "$ 0 9
 2 BadHeader
 $ 10 11
@@ -115,7 +115,7 @@ survivors 2
 1 0 1
 ";
 
-/// Fails where the script that ends there isn't judged so.
+/// Fails if the script that ends there isn't judged so.
 fn is_cut<R: Abort + AllocGlobal + Threads + Wait + Sync>(
     rt: &R,
     end: usize,

@@ -1,4 +1,5 @@
-//! Each command under every disturbance: each read and each write that fails, reads and writes in parts, sinks with every room.
+//! Each command under every disturbance: each read and each write that fails, reads and writes in parts, sinks with
+//! every room.
 use crate::tests::commands::COMMANDS;
 use crate::tests::faults::FAULTS;
 use std::alloc::Global;
@@ -8,7 +9,6 @@ use std::test::Fail;
 use std::thread::Threads;
 use test_cases::{Case, Outside, answer_of, case_of, sure};
 
-/// The sizes of the pieces of the text.
 fn sizes_of(alloc: Global, case: &Case<'_>) -> Result<Vec<usize>, Fail> {
     let mut sizes = Vec::new(alloc);
     if case.sizes.is_empty() {
@@ -23,7 +23,7 @@ fn sizes_of(alloc: Global, case: &Case<'_>) -> Result<Vec<usize>, Fail> {
     Ok(sizes)
 }
 
-/// How many bytes are written before each write and after the last, where a write takes at most `part`.
+/// How many bytes are written before each write and after the last, if a write takes at most `part`.
 fn ends_of(alloc: Global, case: &Case<'_>, part: usize) -> Result<Vec<usize>, Fail> {
     let mut ends = [0usize].to_vec(alloc)?;
     let mut end = 0usize;
@@ -39,7 +39,7 @@ fn ends_of(alloc: Global, case: &Case<'_>, part: usize) -> Result<Vec<usize>, Fa
     Ok(ends)
 }
 
-/// Fails where the case so disturbed doesn't end with this status and this prefix of its text.
+/// Fails if the case so disturbed doesn't end with this status and this prefix of its text.
 fn ends_with<R: Abort + AllocGlobal + Threads + Wait + Sync>(
     rt: &R,
     case: &Case<'_>,
@@ -56,7 +56,7 @@ fn ends_with<R: Abort + AllocGlobal + Threads + Wait + Sync>(
     Ok(())
 }
 
-/// A read that fails is told, and nothing is written. One more read than there are fails nowhere.
+/// A read that fails is told, and nothing is written. One read more than there are fails nowhere.
 fn fails_to_read<R: Abort + AllocGlobal + Threads + Wait + Sync>(
     rt: &R,
     case: &Case<'_>,
@@ -87,7 +87,7 @@ fn fails_to_read<R: Abort + AllocGlobal + Threads + Wait + Sync>(
     Ok(())
 }
 
-/// A write that fails is told, and what the writes before it took is written. One more write than there are fails nowhere.
+/// A write that fails is told, and what came before it is written. One write more than there are fails nowhere.
 fn fails_to_write<R: Abort + AllocGlobal + Threads + Wait + Sync>(
     rt: &R,
     case: &Case<'_>,
@@ -113,7 +113,7 @@ fn fails_to_write<R: Abort + AllocGlobal + Threads + Wait + Sync>(
     Ok(())
 }
 
-/// A sink without room for the whole text has as much of it as there is room for.
+/// A sink with too little room has as much of the text as fits.
 fn lacks_room<R: Abort + AllocGlobal + Threads + Wait + Sync>(
     rt: &R,
     case: &Case<'_>,

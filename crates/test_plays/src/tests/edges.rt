@@ -1,8 +1,9 @@
-//! Scripts at the limits of the language, and just past them. A script of version 2 or 3 without a fault converts to itself.
+//! Scripts at the limits of the language, and just past them. One of version 2 or 3 without a fault converts to
+//! itself.
 use crate::tests::faults::all_are_judged;
 use std::test::Fail;
 
-/// Lines of a warehouse, which begins in line 3, and its fault, where it has one.
+/// Lines of a warehouse, from line 3 on, and its fault, if any.
 const LINES: &str = "$ nil abcdefghijklmno_
 => itself
 $ nil abcdefghijklmno_7
@@ -105,7 +106,8 @@ $ let x x
 => 4 UnknownName line 4
 ";
 
-/// Lines of a script, from the third on. In the script with 2,148 lines in a `repeat`, 2,000,000 times 2,148 is past 2^32.
+/// Lines of a script, from the third on. In the script with 2,148 lines in a `repeat`, 2,000,000 times 2,148 is
+/// past 2^32.
 const SECTIONS: &str = "$ {32*warehouse
 }=> itself
 $ {33*warehouse

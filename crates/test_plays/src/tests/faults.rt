@@ -1,12 +1,12 @@
-//! Scripts with a fault: a source has one, which `run` and `convert` both tell.
+//! Scripts with a fault, which `run` and `convert` both tell.
 use crate::tests::cases::all_hold;
 use std::process::Abort;
 use std::sync::Wait;
 use std::test::Fail;
 use std::thread::Threads;
 
-/// Scripts, each with its fault. In one line a number that is too large comes before a name that isn't known, and a `repeat` that is
-/// open comes before everything else of a section line.
+/// Scripts, each with its fault. A number too large comes before an unknown name in the same line, an open `repeat`
+/// before everything else of a section line.
 pub const FAULTS: &str = "$ => 2 BadHeader
 $ 
 => 2 BadHeader
@@ -209,7 +209,8 @@ catalogue
 => 7 RepeatOpen line 3
 ";
 
-/// Fails where a script behind this head isn't judged so: its fault is told, or, as `itself` says, it converts to itself.
+/// Fails if a script behind this head isn't judged so: its fault is told, or, as `itself` says, it converts to
+/// itself.
 pub fn all_are_judged<R: Abort + AllocGlobal + Threads + Wait + Sync>(
     rt: &R,
     rows: &str,

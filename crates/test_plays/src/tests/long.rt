@@ -1,7 +1,8 @@
 //! Long plays of one warehouse: full heaps, deep chains, cells that are used again and again.
 
-/// All cells are reachable, in two ways; a chain grows among objects that nothing reaches, nine or two a turn; each of 1,000 objects of a chain has three
-/// leaves, and packets are as few and as short as may be; a chain of 65,000 objects; and as many objects as a script may make.
+/// All cells are reachable, in two ways; a chain grows among objects that nothing reaches, nine or two a turn; each
+/// of 1,000 objects of a chain has three leaves, and packets are as few and short as may be; a chain of 65,000
+/// objects; and as many objects as a script may make.
 pub const LONG: &str = "$ run --cells 64
 gcscript 1
 warehouse

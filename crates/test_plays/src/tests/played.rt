@@ -1,6 +1,6 @@
 //! What a play writes.
 
-/// Words of `run` and its like with their source, and the text and the status that must come.
+/// Words of `run` and its like with their source, and the text and status that must come.
 pub const PLAYED: &str = "$ run
 gcscript 1
 warehouse

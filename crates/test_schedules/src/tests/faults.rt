@@ -1,4 +1,3 @@
-//! Each fault, and which of several comes first.
 use super::{fault, says};
 use schedule_check::{ScheduleFault, Told};
 use std::alloc::Global;

@@ -37,20 +37,18 @@ fn step(n: u32) -> (Step, &'static [u8]) {
     }
 }
 
-/// The next number of the sequence.
 fn next(n: u32) -> u32 {
     n.wrapping_mul(1_664_525).wrapping_add(1_013_904_223)
 }
 
-/// Adds the event's line to the source.
 fn put(source: &mut Vec<u8>, seat: u32, words: &[u8]) -> Result<(), AllocError> {
     source.extend_from_slice(if seat == 0 { b"0 " } else { b"1 " })?;
     source.extend_from_slice(words)?;
     source.extend_from_slice(b"\n")
 }
 
-/// What the core answers to events made from this number, and the schedule of the same events: those that are allowed
-/// among 200, or all up to the first that isn't.
+/// What the core answers to events made from this number, and the schedule of the same events: those allowed among
+/// 200, or all up to the first that isn't.
 fn folded(alloc: Global, number: u32, stops: bool) -> Option<(Vec<u8>, Verdict)> {
     let mut source = Vec::new(alloc);
     source

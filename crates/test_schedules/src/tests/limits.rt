@@ -3,7 +3,6 @@ use super::fault;
 use schedule_check::{ScheduleFault, read_schedule};
 use std::alloc::{AllocError, Global};
 
-/// The header with this line after it.
 fn with_line(alloc: Global, line: &[u8]) -> Option<ScheduleFault> {
     let mut source = Vec::new(alloc);
     let whole = source.extend_from_slice(b"gcschedule 1\n").is_ok()

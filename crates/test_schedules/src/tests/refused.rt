@@ -1,13 +1,16 @@
 //! Each part of each condition of docs/STEPS.md that a schedule can break, broken once.
 //!
-//! A table is a schedule behind its first line. A line `EVENT => RULE PART` isn't one of its events: it is tried where it stands, after the events before it, and
-//! is refused by that part of that rule. All other lines are allowed. What each is refused for stands in STEPS beside the part.
+//! A table is a schedule behind its first line. A line `EVENT => RULE PART` isn't one of its events: it is tried
+//! after the events before it, and refused by that part of that rule. All other lines are allowed.
 //!
 //! These parts aren't here:
-//! - Kinds 50 to 53 and the slots of kind 10 have no name in a schedule. They are tried in `test_core`, as is a section that has made all that it may.
-//! - Kinds 6 part 4, 11 part 2 and 26 part 3 fail of no seat that has come so far: what such a seat has in hand it gives up before it stops to be a tracer, and
-//!   there is no work in hand without a packet. They stand in the conditions so that each is complete in itself.
-//! - Kind 29 part 4: in Idle and Full a seat that has stopped the world is alone, since a move of the phase asks that.
+//! - Kinds 50 to 53 and the slots of kind 10 have no name in a schedule. They are tried in `test_core`, as is a
+//!   section that has made all that it may.
+//! - Kinds 6 part 4, 11 part 2 and 26 part 3 fail of no seat that has come so far: what such a seat has in hand it
+//!   gives up before it stops to be a tracer, and there is no work in hand without a packet. They stand in the
+//!   conditions so that each is complete in itself.
+//! - Kind 29 part 4: in Idle and Full a seat that has stopped the world is alone, since a move of the phase asks
+//!   that.
 //! - Kind 32 part 2: a seat outside has nothing.
 //! - Kinds 8, 16, 28 and 47 ask nothing.
 mod making;
@@ -30,13 +33,12 @@ fn told(alloc: Global, source: &str) -> Result<(Told, String), Fail> {
     Ok((told, text))
 }
 
-/// Adds a line to a source.
 fn add(source: &mut String, line: &str) -> Result<(), AllocError> {
     source.push_str(line)?;
     source.push('\n')
 }
 
-/// Whether the event behind the source, in this line, is refused by the rule and the part.
+/// Whether the event behind the source is refused by the rule and the part.
 fn is_refused(
     alloc: Global,
     source: &str,

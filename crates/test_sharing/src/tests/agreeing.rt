@@ -4,7 +4,7 @@ use super::logs::{Entry, FIELDS, NEVER, NOTHING};
 use super::players::{Player, ROOTED};
 use std::alloc::Global;
 
-/// How many of what the threads read no thread had stored there. None where there is no memory.
+/// How many of the threads' reads found what no thread had stored there.
 fn not_stored(alloc: Global, players: &[Player]) -> Option<u64> {
     let mut all = Vec::new(alloc);
     for player in players {
@@ -24,7 +24,8 @@ fn not_stored(alloc: Global, players: &[Player]) -> Option<u64> {
     Some(wrong)
 }
 
-/// What the exchanges of a field of the root leave in it. Each goes on from what another left: so all that came went again, but the last.
+/// What the exchanges of a field of the root leave in it. Each goes on from what another left, so all that came
+/// went again, but the last.
 fn left_in_root(players: &[Player], i: u32) -> u32 {
     let mut left = NOTHING;
     for player in players {
@@ -33,7 +34,8 @@ fn left_in_root(players: &[Player], i: u32) -> u32 {
     left
 }
 
-/// Whether a field may have this at the end: what some thread stored there last, or nothing where none stored. A field of the root has what the exchanges left.
+/// Whether a field may have this at the end: what some thread stored there last, or nothing. A field of the root
+/// has what the exchanges left.
 fn may_have(players: &[Player], entry: Entry) -> bool {
     if entry.field / FIELDS == ROOTED {
         return entry.what == left_in_root(players, entry.field % FIELDS);
@@ -49,7 +51,7 @@ fn may_have(players: &[Player], entry: Entry) -> bool {
     is_never && entry.what == NOTHING
 }
 
-/// How many answers and fields were other than they ought to be in a round.
+/// How many answers and fields were wrong in a round.
 pub fn wrongs(alloc: Global, players: &[Player]) -> Option<u64> {
     let mut wrong = not_stored(alloc, players)?;
     for player in players {

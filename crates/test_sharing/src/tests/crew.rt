@@ -23,7 +23,7 @@ pub struct Tally {
     pub count: u64,
     /// The sum of what it counted.
     pub sum: u64,
-    /// How many answers were other than they ought to be.
+    /// How many answers were wrong.
     pub wrong: u64,
 }
 
@@ -43,7 +43,7 @@ impl Tally {
         self.sum = self.sum.wrapping_add(number);
     }
 
-    /// Notes an answer: whether it is as it ought to be.
+    /// Notes whether an answer is right.
     pub fn expect(&mut self, right: bool) {
         if !right {
             self.wrong = self.wrong.wrapping_add(1);
@@ -72,7 +72,7 @@ pub struct Worker {
 }
 
 impl Worker {
-    /// It has done what it was to do, or was refused, which counts as a wrong answer. It leaves, so that no other waits for it.
+    /// It has ended, or was refused, which counts as a wrong answer. It leaves, so that no other waits for it.
     pub fn end(&mut self, ended: Result<(), Refused>) {
         self.tally.expect(ended.is_ok());
         self.mutator.leave();
@@ -100,7 +100,7 @@ pub fn come<R: Wait>(rt: &R, m: &mut SharedMutator) -> Result<(), Refused> {
     m.get(SHARED, ROOT, 0)
 }
 
-/// Raises a variable's value by one, once it is found below a bound. False where it wasn't in all the looks that a thread takes.
+/// Raises a variable's value by one, once it is below a bound; false if it wasn't in all its looks.
 pub fn raise_below<R: Wait>(
     rt: &R,
     m: &mut SharedMutator,
@@ -130,7 +130,7 @@ pub fn lower<R: Wait>(rt: &R, m: &mut SharedMutator, v: u8) -> Result<(), Refuse
     Ok(())
 }
 
-/// How many objects a mutator has made: the number of the next one tells.
+/// How many objects a mutator has made, as the number of the next one tells.
 fn made<R: Wait>(rt: &R, m: &mut SharedMutator) -> Result<u64, Refused> {
     m.enter(rt)?;
     m.make(rt, MADE, 0)?;
@@ -139,7 +139,7 @@ fn made<R: Wait>(rt: &R, m: &mut SharedMutator) -> Result<u64, Refused> {
     Ok(number % 4_294_967_296)
 }
 
-/// What all workers counted, and how many objects they made. A refusal is a wrong answer.
+/// What all workers counted, and how many objects they made.
 pub fn gather<R: Wait>(rt: &R, workers: &mut Vec<Worker>) -> (Tally, u64) {
     let mut all = Tally::new();
     let mut objects = 0u64;

@@ -5,7 +5,7 @@ use std::alloc::Global;
 /// How many references an object has.
 pub const FIELDS: u32 = 3;
 
-/// What stands for nothing. An object stands for its value and one.
+/// Stands for nothing. An object stands for its value and one.
 pub const NOTHING: u32 = 0;
 
 /// What a field has in which nothing was stored.
@@ -34,12 +34,12 @@ pub struct Log {
     pub ends: Vec<Entry>,
     /// What it stored in each field last.
     pub last: Vec<u32>,
-    /// What its exchanges of the root's fields leave there: what came and what went, each as often as it did.
+    /// What its exchanges of the root's fields leave there: what came and what went.
     pub left: [u32; 3],
 }
 
 impl Log {
-    /// Nothing was done, with objects that stand for less than a number. None where there is no memory.
+    /// A log of nothing, with objects that stand for less than a number.
     pub fn new(alloc: Global, objects: u32) -> Option<Log> {
         let mut last = Vec::new(alloc);
         for _ in 0..objects.wrapping_mul(FIELDS) {
@@ -70,7 +70,7 @@ impl Log {
         self.stores.push(Entry { field, what }).ok()
     }
 
-    /// Notes an exchange of a field of the root that was won.
+    /// Notes a won exchange of a field of the root.
     pub fn exchanged(&mut self, root: u32, i: u8, from: u32, what: u32) -> Option<()> {
         let left = self.left.get_mut(usize::from(i))?;
         *left = *left ^ from ^ what;

@@ -1,6 +1,5 @@
-//! Three threads that fill, change and empty one map.
-//!
-//! Each has keys of its own, in chains that have those of the others too, and all have some keys in common, under which they count together.
+//! Three threads that fill, change and empty one map. Each has keys of its own, in chains with those of the others,
+//! and all have some keys in common, under which they count together.
 
 use super::crew::{FOUND, MADE, ROOT, SHARED, Tally, Worker, come, gather, hire, trace};
 use example_structures::SharedMap;
@@ -20,10 +19,8 @@ const COMMON: u32 = 1_000;
 
 const COUNTERS: u32 = 3;
 
-/// How often each thread fills, changes and empties.
 const ROUNDS: u32 = 4_000;
 
-/// Makes the map, and lets the root's first field refer to it.
 fn make_map<R: Wait>(rt: &R, m: &mut SharedMutator, map: SharedMap) -> Result<(), Refused> {
     m.enter(rt)?;
     m.root(ROOT)?;
@@ -43,7 +40,7 @@ fn number_of(key: u32, round: u32) -> u32 {
     key.wrapping_mul(10_000).wrapping_add(round)
 }
 
-/// Keeps a number under a key: whether something was kept there before is as expected.
+/// Keeps a number under a key: whether what was there before is as expected.
 fn fills<R: Wait>(
     rt: &R,
     m: &mut SharedMutator,
@@ -56,7 +53,6 @@ fn fills<R: Wait>(
     Ok(map.put(rt, m, key, MADE)? == was)
 }
 
-/// Whether this number is kept under a key.
 fn finds<R: Wait>(
     rt: &R,
     m: &mut SharedMutator,
@@ -68,7 +64,7 @@ fn finds<R: Wait>(
     Ok(found && m.value(FOUND)? == u64::from(number))
 }
 
-/// Whether an exchange of what is kept under a key for the next number is won, as nobody else changes the key, and the same exchange isn't won again.
+/// Whether an exchange for the next number is won, as nobody else changes the key, and isn't won again.
 fn exchanges<R: Wait>(
     rt: &R,
     m: &mut SharedMutator,
@@ -83,7 +79,7 @@ fn exchanges<R: Wait>(
     Ok(was && first && !second)
 }
 
-/// Whether this number is taken out from under a key, and nothing a second time.
+/// Whether this number is taken out, and nothing a second time.
 fn takes<R: Wait>(
     rt: &R,
     m: &mut SharedMutator,
@@ -96,7 +92,7 @@ fn takes<R: Wait>(
     Ok(first && !second)
 }
 
-/// Raises the number under a key of all by one, or begins with 1.
+/// Raises the number under a common key, or begins with 1.
 fn raises<R: Wait>(rt: &R, m: &mut SharedMutator, map: SharedMap, key: u32) -> Result<(), Refused> {
     for _ in rt.forever() {
         let was = map.find(rt, m, key, FOUND)?;
@@ -110,7 +106,7 @@ fn raises<R: Wait>(rt: &R, m: &mut SharedMutator, map: SharedMap, key: u32) -> R
     Ok(())
 }
 
-/// Fills a key of the thread's own, finds it and changes it.
+/// Fills a key of its own, finds it and changes it.
 fn fills_and_changes<R: Wait>(
     rt: &R,
     m: &mut SharedMutator,
@@ -127,7 +123,7 @@ fn fills_and_changes<R: Wait>(
     Ok(())
 }
 
-/// One round of thread k: it fills and changes all its keys, raises those of all, and takes its odd keys out.
+/// One round of thread k: it fills and changes all its keys, raises the common ones, and takes its odd keys out.
 fn plays_round<R: Wait>(
     rt: &R,
     m: &mut SharedMutator,
@@ -167,7 +163,7 @@ fn plays<R: Wait>(
     Ok(())
 }
 
-/// Counts what is kept under the keys from one number on and below another.
+/// Counts what is kept under a range of keys.
 fn counts<R: Wait>(
     rt: &R,
     m: &mut SharedMutator,
@@ -186,7 +182,7 @@ fn counts<R: Wait>(
     Ok(tally)
 }
 
-/// What came of the threads, what the map has under their own keys and under those of all, and how many objects they made.
+/// What came of the threads, what the map has under their own and the common keys, and how many objects they made.
 #[derive(PartialEq, Drop)]
 struct Left {
     came: Tally,
@@ -194,7 +190,6 @@ struct Left {
     common: Tally,
 }
 
-/// All threads play, and then the tracer is dismissed.
 fn play_all<R: Threads + Wait + Sync>(
     rt: &R,
     world: &mut SharedWorld,
@@ -217,7 +212,7 @@ fn play_all<R: Threads + Wait + Sync>(
     world.dismiss_tracers(rt);
 }
 
-/// What three threads leave in a map, with a tracer beside them, in a heap of so many cells, and how many objects they made.
+/// What three threads leave in a map, with a tracer, in a heap of so many cells, and how many objects they made.
 fn leaves<R: Threads + Wait + Sync>(rt: &R, alloc: Global, cells: u32) -> Option<(Left, u64)> {
     let sizes = SharedSizes::of_cells(cells)
         .fields(4)
@@ -260,7 +255,8 @@ fn threads_fill_change_and_empty_one_map(rt: HostRuntime) {
         },
     };
     assert!(&rt; left == wanted);
-    // A round makes 54 objects at least, four for each key of the thread's own and two for each of all, so 12,000 rounds make 648,000. A cell is used again only
-    // once a collection has freed it. So there were 648,000 / 320 - 1 collections at least, which are 2,024.
+    // A round makes at least 54 objects, four for each own key and two for each common one: 648,000 in 12,000
+    // rounds. A cell is used again only once a collection has freed it, so there were at least 648,000 / 320 - 1 =
+    // 2,024 collections.
     assert!(&rt; objects >= 648_000);
 }

@@ -29,10 +29,10 @@ pub const FOUND: u8 = 12;
 
 pub const OTHER: u8 = 13;
 
-/// How many slots the thread keeps something in. In those from there on objects wait that are still to be looked at.
+/// How many slots the thread keeps something in. In those behind them objects wait to be looked at.
 pub const SLOTS: u16 = 4;
 
-/// How many objects there are in a round at most, with the root, and how many slots each thread wants.
+/// How many objects there are at most in a round, with the root, and how many slots each thread needs.
 pub const OBJECTS: u32 = THREADS * MOST + 2;
 
 pub const PLACES: u32 = 4 + OBJECTS;
@@ -44,7 +44,7 @@ pub struct Player {
     pub mutator: SharedMutator,
     /// Which thread it is.
     thread: u32,
-    /// How many objects it has made in this round, and how many each thread had made before.
+    /// How many objects it has made in this round, and each thread before.
     pub made: u32,
     before: [u64; 3],
     /// What was drawn last.
@@ -54,14 +54,14 @@ pub struct Player {
     slots: [u32; 4],
     /// What it stored and read.
     pub log: Log,
-    /// How many answers were other than they ought to be.
+    /// How many answers were wrong.
     pub wrong: u64,
     /// Whether it did all of its rounds.
     pub ended: bool,
 }
 
 impl Player {
-    /// A thread that has done nothing. None where there is no memory.
+    /// A thread that has done nothing. None if there is no memory.
     pub fn new(alloc: Global, mutator: SharedMutator, thread: u32) -> Option<Player> {
         Some(Player {
             mutator,
@@ -77,7 +77,7 @@ impl Player {
         })
     }
 
-    /// Notes an answer: whether it is as it ought to be.
+    /// Notes whether an answer is right.
     pub fn expect(&mut self, right: bool) {
         if !right {
             self.wrong = self.wrong.wrapping_add(1);
@@ -133,7 +133,7 @@ impl Player {
             .wrapping_add(u64::from((value - 1) / THREADS))
     }
 
-    /// What a variable refers to, by the object's value, of which the object's number tells the same.
+    /// What a variable refers to, by the object's value, with which its number agrees.
     pub fn which(&mut self, v: u8) -> Option<u32> {
         if self.mutator.is_nil(v).ok()? {
             return Some(NOTHING);
@@ -161,7 +161,6 @@ impl Player {
         Some(())
     }
 
-    /// Field i of variable v's object becomes what variable w refers to.
     fn link(&mut self, v: u8, i: u8, w: u8) -> Option<()> {
         let (object, what) = (self.kept(v), self.kept(w));
         self.mutator.set(v, i, w).ok()?;
@@ -171,7 +170,6 @@ impl Player {
         self.log.stored(object, i, what)
     }
 
-    /// Variable w becomes what field i of variable v's object is.
     fn follow(&mut self, w: u8, v: u8, i: u8) -> Option<u32> {
         let object = self.kept(v);
         self.mutator.get(w, v, i).ok()?;
@@ -182,7 +180,7 @@ impl Player {
         Some(what)
     }
 
-    /// Hands variable v's object over in field i of the root, and takes what was there, if no other was faster.
+    /// Hands variable v's object over in field i of the root, and takes what was there, if no other is faster.
     fn hand_over(&mut self, w: u8, v: u8, i: u8) -> Option<()> {
         let (from, what) = (self.follow(FOUND, ROOT, i)?, self.kept(v));
         if self.mutator.exchange(ROOT, i, FOUND, v).ok()? {
@@ -193,7 +191,7 @@ impl Player {
         Some(())
     }
 
-    /// The same in a field of any object, which others only store in.
+    /// The same in a field of any object, in which others only store.
     fn swap(&mut self, w: u8, v: u8, i: u8) -> Option<()> {
         let (object, what) = (self.kept(v), self.kept(w));
         if object == NOTHING {
@@ -206,7 +204,6 @@ impl Player {
         Some(())
     }
 
-    /// Puts variable v's object into a slot.
     fn spill(&mut self, v: u8, k: u16) -> Option<()> {
         self.mutator.spill(v, k).ok()?;
         let what = self.kept(v);
@@ -224,7 +221,6 @@ impl Player {
         Some(())
     }
 
-    /// Variable w becomes what variable v is.
     fn copy(&mut self, w: u8, v: u8) -> Option<()> {
         self.mutator.copy(w, v).ok()?;
         let what = self.kept(v);
@@ -232,7 +228,6 @@ impl Player {
         Some(())
     }
 
-    /// One step: what was drawn says which.
     fn step<R: Wait>(&mut self, rt: &R) -> Option<()> {
         let what = self.draw(100);
         let v = OWN + self.draw(FOUND - OWN);
@@ -272,7 +267,7 @@ impl Player {
         self.ended = self.ended && self.steps(rt).is_some();
     }
 
-    /// Begins a round, before which the threads had made so many.
+    /// Begins a round, before which the threads had made this many.
     pub fn begin(&mut self, before: [u64; 3]) {
         self.before = before;
         self.made = 0;

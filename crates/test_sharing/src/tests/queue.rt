@@ -27,7 +27,7 @@ pub fn make_queue<R: Wait>(
     Ok(())
 }
 
-/// The least number of each thread that may come next: a thread's numbers are its own number, that and four, and so on.
+/// The least number of each thread that may come next: its numbers go in steps of four.
 #[derive(Clone, Copy)]
 pub struct Next {
     least: [u64; 4],
@@ -39,7 +39,7 @@ impl Next {
         Next { least: [0; 4] }
     }
 
-    /// Whether a number comes behind those of its thread that came before.
+    /// Whether a number comes behind its thread's earlier ones.
     pub fn comes(&mut self, number: u64) -> bool {
         match self.least.get_mut((number % 4) as usize) {
             None => false,
@@ -64,7 +64,7 @@ pub fn give<R: Wait>(
     m.forget(MADE)
 }
 
-/// Takes one out, if there is one: its object has the number that came with it, and comes behind those of its thread that came before.
+/// Takes one out, if any: its object has the number that came with it, behind its thread's earlier ones.
 pub fn take<R: Wait>(
     rt: &R,
     m: &mut SharedMutator,
@@ -82,7 +82,8 @@ pub fn take<R: Wait>(
     Ok(true)
 }
 
-/// What thread k does: it puts some in and takes as many out, again and again. There is always one to take, since no thread has taken more than it put in.
+/// What thread k does: it puts some in and takes as many out, again and again. There is always one to take, since
+/// no thread has taken more than it put in.
 fn trades<R: Wait>(
     rt: &R,
     m: &mut SharedMutator,
@@ -104,7 +105,6 @@ fn trades<R: Wait>(
     Ok(())
 }
 
-/// All threads trade, and then the tracer is dismissed.
 fn trade_all<R: Threads + Wait + Sync>(
     rt: &R,
     world: &mut SharedWorld,
@@ -127,7 +127,8 @@ fn trade_all<R: Threads + Wait + Sync>(
     world.dismiss_tracers(rt);
 }
 
-/// What four threads take out of a queue, with a tracer beside them, in a heap of so many cells, and how many objects they made.
+/// What four threads take out of a queue, with a tracer, in a heap of so many cells, and how many objects they
+/// made.
 fn plays<R: Threads + Wait + Sync>(rt: &R, alloc: Global, cells: u32) -> Option<(Tally, u64)> {
     let sizes = SharedSizes::of_cells(cells)
         .fields(2)
@@ -158,6 +159,7 @@ fn what_goes_into_a_queue_comes_out_once(rt: HostRuntime) {
         wrong: 0,
     };
     assert!(&rt; tally == wanted);
-    // A cell is used again only once a collection has freed it. So there were 3,200,000 / 128 - 1 collections at least, which are 24,999.
+    // A cell is used again only once a collection has freed it, so there were at least 3,200,000 / 128 - 1 = 24,999
+    // collections.
     assert!(&rt; objects == 3_200_000);
 }

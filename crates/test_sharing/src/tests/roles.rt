@@ -10,13 +10,12 @@ use std::alloc::Global;
 use std::sync::Wait;
 use std::thread::{Threads, for_each_mut, join_mut, yield_now};
 
-/// How many objects each producer puts in.
 const COUNT: u32 = 20_000;
 
 /// How many objects are in the queue at most: the queue's own value counts them.
 const PLACES: u32 = 64;
 
-/// Puts in COUNT objects of producer p, 0 or 1, each once there is a place for it, and raises the root's value at the end.
+/// Puts in COUNT objects of producer p, 0 or 1, each once there is a place for it, then raises the root's value.
 fn produce<R: Wait>(
     rt: &R,
     m: &mut SharedMutator,
@@ -37,7 +36,6 @@ fn produce<R: Wait>(
     Ok(())
 }
 
-/// Takes one out, if there is one, and gives its place back.
 fn takes<R: Wait>(
     rt: &R,
     m: &mut SharedMutator,
@@ -52,7 +50,6 @@ fn takes<R: Wait>(
     Ok(taken)
 }
 
-/// Takes out what comes, until both producers have ended and nothing is left.
 fn consume<R: Wait>(
     rt: &R,
     m: &mut SharedMutator,
@@ -76,7 +73,6 @@ fn consume<R: Wait>(
     Ok(())
 }
 
-/// What thread k does: two produce, and the others consume.
 fn act<R: Wait>(rt: &R, k: usize, queue: SharedQueue, worker: &mut Worker) {
     let m = &mut worker.mutator;
     let tally = &mut worker.tally;
@@ -88,7 +84,6 @@ fn act<R: Wait>(rt: &R, k: usize, queue: SharedQueue, worker: &mut Worker) {
     worker.end(ended);
 }
 
-/// All threads act, and then the tracer is dismissed.
 fn act_all<R: Threads + Wait + Sync>(
     rt: &R,
     world: &mut SharedWorld,
@@ -137,6 +132,6 @@ fn producers_and_consumers_need_not_be_the_same(rt: HostRuntime) {
         wrong: 0,
     };
     assert!(&rt; tally == wanted);
-    // Each was put in with an object of its own, so there were 80,000 / 512 - 1 collections at least, which are 155.
+    // Each was put in with an object of its own, so there were at least 80,000 / 512 - 1 = 155 collections.
     assert!(&rt; objects == 80_000);
 }

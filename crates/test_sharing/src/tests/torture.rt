@@ -1,8 +1,9 @@
 //! Threads that link, unlink, hand over and drop random graphs through the fields of objects that they share.
 //!
-//! In each round they make fewer objects than the heap has cells, and drop all at its end; so the heap is never full, and is collected again and again while they
-//! change it. An object's value says who made it, and which of its maker's it is in this round, and so does its number. Each thread logs its stores and its reads.
-//! Once all are joined, each read is one of the stores, and what a walk finds in each field that is reachable agrees with what was stored there last.
+//! In each round they make fewer objects than the heap has cells, and drop all at its end; so the heap is never
+//! full, and is collected again and again while they change it. An object's value and its number say who made it,
+//! and which of its maker's it is in this round. Each thread logs its stores and reads. Once all are joined, each
+//! read is one of the stores, and what a walk finds in each reachable field agrees with what was stored there last.
 
 use super::agreeing::wrongs;
 use super::crew::trace;
@@ -25,7 +26,6 @@ fn hire(alloc: Global, world: &mut SharedWorld) -> Option<Vec<Player>> {
     Some(players)
 }
 
-/// How many objects each thread had made, once this round is over.
 fn made_after(players: &[Player], before: [u64; 3]) -> [u64; 3] {
     let mut after = before;
     for (made, player) in after.iter_mut().zip(players) {
@@ -34,7 +34,7 @@ fn made_after(players: &[Player], before: [u64; 3]) -> [u64; 3] {
     after
 }
 
-/// A round, before which the threads had made so many objects: how many answers and fields were wrong.
+/// A round, after the threads had made so many objects: how many answers and fields were wrong.
 fn round<R: Threads + Wait + Sync>(
     rt: &R,
     alloc: Global,
@@ -64,7 +64,6 @@ fn round<R: Threads + Wait + Sync>(
     Some(wrong)
 }
 
-/// All rounds: how many objects were made, and how many answers and fields were wrong.
 fn rounds<R: Threads + Wait + Sync>(
     rt: &R,
     alloc: Global,
@@ -85,7 +84,7 @@ fn rounds<R: Threads + Wait + Sync>(
     Some((first.wrapping_add(second).wrapping_add(third), wrong))
 }
 
-/// What comes of three threads in a heap of so many cells, with a tracer beside them.
+/// What comes of three threads, with a tracer, in a heap of so many cells.
 fn tortures<R: Threads + Wait + Sync>(rt: &R, alloc: Global, cells: u32) -> Option<(u64, u64)> {
     let sizes = SharedSizes::of_cells(cells)
         .fields(3)
@@ -113,7 +112,7 @@ fn random_graphs_are_what_was_stored(rt: HostRuntime) {
         panic!(&rt; "refused")
     };
     assert!(&rt; wrong == 0);
-    // What is drawn says how many objects are made, whatever the schedule. A cell is used again only once a collection has freed it. So there were
-    // 826,678 / 256 - 1 collections at least, which are 3,228.
+    // The draws say how many objects are made, whatever the schedule. A cell is used again only once a collection
+    // has freed it, so there were at least 826,678 / 256 - 1 = 3,228 collections.
     assert!(&rt; objects == 826_678);
 }

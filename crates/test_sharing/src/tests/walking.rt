@@ -4,7 +4,6 @@ use super::logs::{FIELDS, NOTHING};
 use super::players::{FOUND, OTHER, OWN, Player, ROOT, SLOTS};
 use std::sync::Wait;
 
-/// The objects that wait in slots to be looked at.
 #[derive(Drop)]
 struct Waiting {
     next: u16,
@@ -12,7 +11,7 @@ struct Waiting {
 }
 
 impl Player {
-    /// What a variable refers to waits, if it wasn't seen before.
+    /// What a variable refers to waits, if not seen before.
     fn wait_for(&mut self, v: u8, waiting: &mut Waiting) -> Option<u32> {
         let what = self.which(v)?;
         let seen = waiting.seen.get_mut(what as usize)?;
@@ -24,7 +23,7 @@ impl Player {
         Some(what)
     }
 
-    /// The variables and slots have what the thread keeps, and wait.
+    /// Checks that variables and slots have what the thread keeps, and lets it wait.
     fn look_at_own(&mut self, waiting: &mut Waiting) -> Option<()> {
         for v in ROOT..FOUND {
             let what = self.wait_for(v, waiting)?;
@@ -40,7 +39,7 @@ impl Player {
         Some(())
     }
 
-    /// Notes what the fields of the next object have, which wait then.
+    /// Notes what the fields of the next object refer to, and lets that wait.
     fn look_at_next(&mut self, waiting: &mut Waiting) -> Option<()> {
         waiting.next = waiting.next.wrapping_sub(1);
         self.mutator.fill(OTHER, waiting.next).ok()?;

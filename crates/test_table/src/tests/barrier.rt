@@ -1,4 +1,5 @@
-//! A mutator stores a reference in an object, and then dirties the object's card, unless nobody else can know the object.
+//! A mutator stores a reference in an object, and then dirties the object's card, unless nobody else can know the
+//! object.
 ghost use Rattle.std.specs.Prelude.{◌≡◌, ◌<◌, is_none, true};
 ghost use Rattle.std.specs.Bool.{OnTrue};
 ghost use Rattle.gc_table.specs.Seats.{state_of};
@@ -28,7 +29,8 @@ fn may_link(shape: &Shape, seat: &HeapSeat, v: u8, i: u8, w: u8) -> bool
         && (s.owes.is_none() && !s.spent && !shape.sharing)
 }
 
-/// Stores variable w in field i of variable 0's object: true where the seat owed no card, and has read that marking is under way.
+/// Stores variable w in field i of variable 0's object: true if the seat owed no card, and has read that marking is
+/// under way.
 fn link(heap: &Heap, seat: &mut HeapSeat, i: u8, w: u8) -> bool
     requires { Ready heap.now seat.old × SeatHasOwn seat.old 0 }
     ensures { Ready heap.now seat.new × SeatHasOwn seat.new 0 }
@@ -42,14 +44,13 @@ fn link(heap: &Heap, seat: &mut HeapSeat, i: u8, w: u8) -> bool
     }
 }
 
-/// The card that the seat owes.
 fn owed(seat: &HeapSeat) -> Option<u32>
     ensures { result ≡ (state_of seat.now).owes }
 {
     seat.state().owes
 }
 
-/// Dirties the card that the seat owes: true where it owed one, and owes none now.
+/// Dirties the card that the seat owes: true if it owed one, and owes none now.
 fn dirty_owed(heap: &Heap, seat: &mut HeapSeat) -> bool
     requires { Ready heap.now seat.old × SeatHasOwn seat.old 0 }
     ensures ready { Ready heap.now seat.new × SeatHasOwn seat.new 0 }
@@ -66,7 +67,6 @@ fn dirty_owed(heap: &Heap, seat: &mut HeapSeat) -> bool
     }
 }
 
-/// Whether the first card is dirty.
 fn is_dirty(heap: &Heap, seat: &mut HeapSeat) -> Option<bool>
     requires { Ready heap.now seat.old × SeatHasOwn seat.old 0 }
     ensures { Ready heap.now seat.new × SeatHasOwn seat.new 0 }
@@ -78,7 +78,7 @@ fn is_dirty(heap: &Heap, seat: &mut HeapSeat) -> Option<bool>
     }
 }
 
-/// The whole barrier: the field is stored, and then its card is dirtied, so that no card is owed.
+/// The whole barrier: the field is stored, then its card is dirtied.
 fn store(heap: &Heap, seat: &mut HeapSeat, i: u8, w: u8) -> bool
     requires { Ready heap.now seat.old × SeatHasOwn seat.old 0 }
     ensures ready { Ready heap.now seat.new × SeatHasOwn seat.new 0 }
@@ -103,7 +103,6 @@ fn publish_both(heap: &Heap, seat: &mut HeapSeat) -> bool
     publish(heap, seat) == Some(0)
 }
 
-/// One that is published owes its card, which is clean until it is dirtied.
 fn links_published(heap: &Heap, seat: &mut HeapSeat) -> bool
     requires { Ready heap.now seat.old × SeatHasOwn seat.old 0 }
     ensures { Ready heap.now seat.new × SeatHasOwn seat.new 0 }

@@ -1,4 +1,3 @@
-//! All cells of a block are made, and published.
 ghost use Rattle.std.specs.Prelude.{◌≡◌, ◌<◌};
 ghost use Rattle.std.specs.Bool.{OnTrue};
 ghost use Rattle.gc_table.specs.Seats.{view_of};
@@ -30,7 +29,8 @@ fn fill(heap: &Heap, seat: &mut HeapSeat) -> bool
     true
 }
 
-/// Publishes the cells that the seat made, and answers the allocation bits before: nothing where it has no block, owes a card, or has a cell half made.
+/// Publishes the cells that the seat made, and answers the allocation bits before; nothing if it has no block, owes
+/// a card, or has a cell half made.
 pub fn publish(heap: &Heap, seat: &mut HeapSeat) -> Option<u64>
     requires ready { Ready heap.now seat.old }
     ensures ready { Ready heap.now seat.new }
@@ -51,7 +51,6 @@ pub fn take_block(heap: &Heap, seat: &mut HeapSeat, bits: u64) -> bool
     claim(heap, seat) == Some(true) && read_free(heap, seat) == Some(bits)
 }
 
-/// After the block is published it has no free cell.
 fn publishes(heap: &Heap, seat: &mut HeapSeat) -> bool
     requires { Ready heap.now seat.old }
     ensures { Ready heap.now seat.new }
@@ -85,7 +84,6 @@ fn filled<R: Wait>(rt: &R, alloc: Global) -> Option<Words> {
     }
 }
 
-// The words are so many numbers that follow one another.
 fn count_from(words: &[u64], first: u64, count: usize) -> bool {
     let mut next = first;
     for word in words {

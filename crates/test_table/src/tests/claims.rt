@@ -18,7 +18,7 @@ use std::alloc::Global;
 use std::sync::Wait;
 use test_heaps::{SMALL, has_making};
 
-/// Claims the first block, where the seat may claim one: true where nobody had it.
+/// Claims the first block, if the seat may claim one: whether nobody had it.
 pub fn claim(heap: &Heap, seat: &mut HeapSeat) -> Option<bool>
     requires { Ready heap.now seat.old }
     ensures { Ready heap.now seat.new }
@@ -43,7 +43,7 @@ fn is_unread(seat: &HeapSeat) -> bool
     }
 }
 
-/// The allocation bits of the seat's block, where it hasn't read them yet.
+/// The allocation bits of the seat's block, if not read yet.
 pub fn read_free(heap: &Heap, seat: &mut HeapSeat) -> Option<u64>
     requires { Ready heap.now seat.old }
     ensures { Ready heap.now seat.new }
@@ -64,7 +64,7 @@ fn has_used(seat: &HeapSeat) -> bool
     }
 }
 
-/// Gives the block up: true where the seat had one, and no cell that isn't published.
+/// Gives the block up: true if the seat had one, and no unpublished cell.
 pub fn release(heap: &Heap, seat: &mut HeapSeat) -> bool
     requires { Ready heap.now seat.old }
     ensures { Ready heap.now seat.new }
@@ -77,7 +77,7 @@ pub fn release(heap: &Heap, seat: &mut HeapSeat) -> bool
     }
 }
 
-/// The seat's block, its free cells and its used cells, where it has one.
+/// The seat's block, its free cells and its used cells, if it has one.
 pub fn cached(seat: &HeapSeat) -> Option<(u32, u64, u64)> {
     match seat.state().cache {
         None => None,
@@ -85,7 +85,7 @@ pub fn cached(seat: &HeapSeat) -> Option<(u32, u64, u64)> {
     }
 }
 
-/// The second seat claims the block, in which all cells are free, and the first one doesn't get it.
+/// The second seat claims the free block, and the first doesn't get it.
 fn claims<R: Wait>(rt: &R, heap: &Heap, zero: &mut HeapSeat, one: &mut HeapSeat) -> bool
     requires zero { New heap.now resting 0 zero.old × (0 < heap.now.shape.sections) }
     requires one { Ready heap.now one.old }

@@ -14,7 +14,6 @@ const WIDE: Shape = Shape {
     ..SMALL
 };
 
-/// The second word of the empty pool.
 fn second_word(heap: &Heap, seat: &mut HeapSeat) -> Option<u64>
     requires { Ready heap.now seat.old }
     ensures { Ready heap.now seat.new }
@@ -26,7 +25,7 @@ fn second_word(heap: &Heap, seat: &mut HeapSeat) -> Option<u64>
     }
 }
 
-/// Reserves an empty packet: true where the seat marks.
+/// Reserves an empty packet: true if the seat marks.
 fn reserve(heap: &Heap, seat: &mut HeapSeat) -> bool
     requires { Ready heap.now seat.old }
     ensures { Ready heap.now seat.new }
@@ -39,7 +38,7 @@ fn reserve(heap: &Heap, seat: &mut HeapSeat) -> bool
     }
 }
 
-/// Takes the last packet: true where it was there.
+/// Takes the last packet: whether it was there.
 fn take_last(heap: &Heap, seat: &mut HeapSeat) -> bool
     requires { Ready heap.now seat.old }
     ensures { Ready heap.now seat.new }
@@ -56,7 +55,6 @@ fn take_last(heap: &Heap, seat: &mut HeapSeat) -> bool
     }
 }
 
-/// Whether the last packet, which the seat took, is empty.
 fn is_empty(heap: &Heap, seat: &mut HeapSeat) -> bool
     requires { Ready heap.now seat.old }
     ensures { Ready heap.now seat.new }
@@ -67,7 +65,7 @@ fn is_empty(heap: &Heap, seat: &mut HeapSeat) -> bool
         && heap.read_length(seat, 64) == 0
 }
 
-/// Gives the last packet back, and counts it: true where the seat had it, and no work in hand.
+/// Gives the last packet back, and counts it: true if the seat had it, and no work in hand.
 fn give_last(heap: &Heap, seat: &mut HeapSeat) -> bool
     requires { Ready heap.now seat.old }
     ensures { Ready heap.now seat.new }
@@ -87,7 +85,6 @@ fn give_last(heap: &Heap, seat: &mut HeapSeat) -> bool
     }
 }
 
-/// Counts the packet that the seat gave back.
 fn credit(heap: &Heap, seat: &mut HeapSeat) -> bool
     requires { Ready heap.now seat.old }
     ensures { Ready heap.now seat.new }
@@ -100,7 +97,7 @@ fn credit(heap: &Heap, seat: &mut HeapSeat) -> bool
     }
 }
 
-/// Packet 64 is the one bit of the second word, until it is taken and when it is back.
+/// Packet 64 is the only bit of the second word, until it is taken and when it is back.
 fn takes(heap: &Heap, zero: &mut HeapSeat, one: &mut HeapSeat) -> bool
     requires zero { Ready heap.now zero.old }
     requires one { Ready heap.now one.old }

@@ -1,4 +1,3 @@
-//! The catalogue's seat ends its turn, and the warehouses' begins.
 ghost use Rattle.std.specs.Prelude.{◌<◌};
 ghost use Rattle.std.specs.Bool.{OnTrue};
 ghost use Rattle.gc_table.specs.SeatRecords.{resting};
@@ -10,7 +9,7 @@ use gc_table::{Heap, HeapSeat};
 use std::sync::Wait;
 use test_heaps::next_turn;
 
-/// The season turns: true where the catalogue's seat made that stop.
+/// The season turns: whether the catalogue's seat made that stop.
 fn turns<R: Wait>(rt: &R, heap: &Heap, seat: &mut HeapSeat) -> bool
     requires { New heap.now resting 0 seat.old × (0 < heap.now.shape.sections) }
     ensures { OnTrue result (Ready heap.now seat.new) }
@@ -21,7 +20,8 @@ fn turns<R: Wait>(rt: &R, heap: &Heap, seat: &mut HeapSeat) -> bool
     true
 }
 
-/// The first season begins, and marking in it: then both seats are active, and the warehouse's knows that it has its turn.
+/// The first season begins, and marking in it: both seats are active, and the warehouse's knows that it has its
+/// turn.
 pub fn begin<R: Wait>(rt: &R, heap: &Heap, zero: &mut HeapSeat, one: &mut HeapSeat) -> bool
     requires zero { New heap.now resting 0 zero.old × (0 < heap.now.shape.sections) }
     requires one { Ready heap.now one.old }

@@ -1,4 +1,3 @@
-//! A heap with two seats, made and closed.
 ghost use Rattle.std.specs.Prelude.{◌≡◌, IfSome};
 ghost use Rattle.gc_table.specs.SeatRecords.{resting};
 ghost use Rattle.mark_core.specs.Shapes.{IsShape};
@@ -23,7 +22,7 @@ pub fn open_two(alloc: Global, shape: Shape) -> Option<(Heap, HeapSeat, HeapSeat
     Some((heap, zero, one))
 }
 
-/// Closes the heap with its seats, where both are outside.
+/// Closes the heap with its seats, if both are outside.
 pub fn close(alloc: Global, heap: Heap, zero: HeapSeat, one: HeapSeat) -> Option<Words>
     requires zero { Ready heap zero }
     requires one { Ready heap one }

@@ -6,7 +6,7 @@ use gc_table::{Heap, HeapSeat};
 use mark_core::Phase;
 use test_heaps::{is_bare, leaves};
 
-/// Enters: true where the seat was outside, and is active now.
+/// Enters: true if the seat was outside, and is active now.
 pub fn enter(heap: &Heap, seat: &mut HeapSeat) -> bool
     requires { Ready heap.now seat.old }
     ensures { Ready heap.now seat.new }
@@ -14,7 +14,7 @@ pub fn enter(heap: &Heap, seat: &mut HeapSeat) -> bool
     is_bare(seat) && heap.enter_step(seat)
 }
 
-/// Leaves: true where the seat had nothing in hand.
+/// Leaves: true if the seat had nothing in hand.
 pub fn leave(heap: &Heap, seat: &mut HeapSeat) -> bool
     requires { Ready heap.now seat.old }
     ensures { Ready heap.now seat.new }
@@ -38,7 +38,7 @@ pub fn sees_season(heap: &Heap, seat: &mut HeapSeat, season: u64) -> bool
     is_running(seat) && heap.read_season(seat) == season
 }
 
-/// Begins marking: true where the seat is active, and the phase was idle.
+/// Begins marking: true if the seat is active, and the phase was idle.
 pub fn try_marking(heap: &Heap, seat: &mut HeapSeat) -> bool
     requires { Ready heap.now seat.old }
     ensures { Ready heap.now seat.new }
@@ -46,7 +46,7 @@ pub fn try_marking(heap: &Heap, seat: &mut HeapSeat) -> bool
     is_running(seat) && heap.store_phase(seat, Phase::Marking)
 }
 
-/// Both seats enter, the second begins marking, and both see that it is under way.
+/// Both seats enter, the second begins marking, and both see it.
 pub fn both_mark(heap: &Heap, zero: &mut HeapSeat, one: &mut HeapSeat) -> bool
     requires zero { Ready heap.now zero.old }
     requires one { Ready heap.now one.old }

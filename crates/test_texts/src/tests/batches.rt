@@ -10,11 +10,11 @@ use std::test::*;
 use std::thread::Threads;
 use std::time::Duration;
 
-/// How many times a held job looks before it gives up. Between two looks its thread sleeps, for a millisecond at most.
+/// How many times a held job looks before it gives up. In between its thread sleeps, for a millisecond at most.
 const LOOKS: u64 = 5_000;
 
-/// Answers with the script itself, counts how often jobs were played, and adds up their numbers. It holds a job whose script is `0` until one whose script is
-/// `1` was played.
+/// Answers with the script itself, counts how often jobs were played, and adds up their numbers. It holds a job
+/// whose script is `0` until one whose script is `1` was played.
 #[derive(Drop)]
 struct Watching {
     plays: AtomicU64,
@@ -78,8 +78,8 @@ impl Watching {
     }
 }
 
-/// How many results there are of the batch, how many of them are of the job of their place, and its own script, how often jobs were played, and the sum of their
-/// numbers. A play spends its job, so the scripts are those of a second reading.
+/// How many results there are of the batch, how many of them belong to the job of their place, how often jobs were
+/// played, and the sum of their numbers. A play spends its job, so the scripts are those of a second reading.
 fn echoed<R: AllocGlobal + Threads + Wait + Sync>(
     rt: &R,
     source: &[u8],
@@ -165,7 +165,6 @@ pub fn said(alloc: Global, source: &[u8]) -> Result<String, Fail> {
     Ok(text)
 }
 
-/// Batches, and the jobs of each, or its fault.
 const BATCHES: &str = "$ gcbatch 1
 => 0 jobs:
 $ gcbatch 1
@@ -200,7 +199,7 @@ fn batches_are_read(rt: HostRuntime) -> Result<(), Fail> {
     all_hold(&rt, Kind::Batch, BATCHES)
 }
 
-/// What is said of a batch with so many jobs of no bytes, and what comes behind them.
+/// What is said of a batch with this many jobs of no bytes, and what comes behind them.
 pub fn said_of_many(alloc: Global, told: &str) -> Result<String, Fail> {
     let (count, rest) = told.split_once(' ').ok_or("count")?;
     let mut batch = String::new(alloc);
@@ -212,7 +211,7 @@ pub fn said_of_many(alloc: Global, told: &str) -> Result<String, Fail> {
     said(alloc, batch.as_bytes())
 }
 
-/// 64 jobs are read, and the fault of one more is told where it begins, whatever comes behind.
+/// 64 jobs are read, and one more is a fault where it begins, whatever comes behind.
 const LONG: &str =
     "$ 64 => 64 jobs: [] [] [] [] [] [] [] [] [] [] [] [] [] [] [] [] [] [] [] [] [] [] [] [] [] [] [] [] [] [] [] [] [] [] [] [] [] [] [] [] [] [] [] [] [] [] [] [] [] [] [] [] [] [] [] [] [] [] [] [] [] [] [] []
 $ 64 job 5

@@ -26,7 +26,6 @@ use std::test::Fail;
 pub enum Kind {
     /// Words of the command line.
     Words,
-    /// A number of zeros, and digits behind them.
     Number,
     /// A script.
     Script,
@@ -59,7 +58,7 @@ fn found(alloc: Global, kind: Kind, read: &str) -> Result<String, Fail> {
     }
 }
 
-/// Fails where one of the cases doesn't come to what is told of it.
+/// Fails if one of the cases doesn't come to what is told of it.
 pub fn all_hold<R: Abort + AllocGlobal>(rt: &R, kind: Kind, cases: &str) -> Result<(), Fail> {
     for case in cases.split("$ ").skip(1) {
         let (read, rest) = case.split_once("=> ").ok_or("case")?;

@@ -1,4 +1,4 @@
-//! Censuses of small dumps as text, of a long chain and of the greatest number of records. The dumps are written number by number.
+//! Censuses of small dumps as text, of a long chain and of the greatest number of records.
 ghost use Rattle.std.specs.Prelude.{◌≤◌};
 
 use dump_census::{Census, census, write_census};
@@ -11,7 +11,6 @@ fn push(bytes: &mut Vec<u8>, n: u32) -> Result<(), AllocError> {
     bytes.extend_from_slice(&n.to_be_bytes())
 }
 
-/// The head of a dump with two sections, in which variable 0 of section 1 refers to record 0.
 fn head(alloc: Global, fields: u32, records: u32) -> Result<Vec<u8>, AllocError> {
     let mut bytes = Vec::new(alloc);
     bytes.extend_from_slice(b"gcdump 1")?;
@@ -24,7 +23,6 @@ fn head(alloc: Global, fields: u32, records: u32) -> Result<Vec<u8>, AllocError>
     Ok(bytes)
 }
 
-/// A dump of these numbers after the head.
 fn listed(
     alloc: Global,
     fields: u32,
@@ -38,7 +36,6 @@ fn listed(
     Ok(bytes)
 }
 
-/// Objects of one field, each of which refers to the next.
 fn chain(alloc: Global, records: u32) -> Result<Vec<u8>, AllocError>
     requires { records ≤ 65536 }
 {
@@ -52,7 +49,6 @@ fn chain(alloc: Global, records: u32) -> Result<Vec<u8>, AllocError>
     Ok(bytes)
 }
 
-/// Objects of two fields: object k refers to objects 2 k + 1 and 2 k + 2, where they are.
 fn tree(alloc: Global, records: u32) -> Result<Vec<u8>, AllocError>
     requires { records ≤ 65536 }
 {

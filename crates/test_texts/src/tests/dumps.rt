@@ -1,4 +1,4 @@
-//! The dump of one object, read, written, cut, overlong and with faults. It is written out byte by byte.
+//! The dump of one object, written out byte by byte: read, written, cut, overlong and with faults.
 use super::cases::{Kind, all_hold};
 use heap_dump::{DumpError, FinalHeap, FinalRecord, read_dump, write_dump};
 use plain_heap::OutOfMemory;
@@ -61,7 +61,6 @@ fn reference(bytes: &[u8], k: u32, i: u32) -> Option<u32> {
     read_dump(bytes).ok()?.nth(k)?.reference(i)
 }
 
-/// The bytes of a record, which outlive the dump that was asked for it.
 fn record(bytes: &[u8], k: u32) -> Option<&[u8]> {
     Some(read_dump(bytes).ok()?.nth(k)?.bytes())
 }
@@ -103,7 +102,6 @@ fn each_cut_is_told(rt: HostRuntime) {
     }
 }
 
-/// Changes the bytes that are told, each by its place and what it is to be.
 fn change(bytes: &mut [u8; 305], changes: &str) -> Result<(), Fail> {
     for told in changes.split_whitespace() {
         let (at, to) = told.split_once('=').ok_or("change")?;
@@ -112,7 +110,7 @@ fn change(bytes: &mut [u8; 305], changes: &str) -> Result<(), Fail> {
     Ok(())
 }
 
-/// How many bytes there are of the dump of one object, which of them are changed, and the fault that is told.
+/// How many bytes there are of the dump of one object, which of them are changed, and the fault.
 #[derive(Clone, Copy)]
 struct Faulty<'a> {
     length: usize,
@@ -130,7 +128,7 @@ fn faulty_of(line: &str) -> Result<Faulty<'_>, Fail> {
     })
 }
 
-/// The fault of so many of these bytes.
+/// The fault of this many of these bytes.
 fn fault_of(alloc: Global, bytes: &[u8], length: usize) -> Result<String, Fail> {
     Ok(match read_dump(front(bytes, length)) {
         Ok(_) => format!(in alloc; "none")?,
@@ -138,7 +136,7 @@ fn fault_of(alloc: Global, bytes: &[u8], length: usize) -> Result<String, Fail> 
     })
 }
 
-/// The fault of the dump of one object that has this length and these changes.
+/// The fault of the dump of one object with this length and these changes.
 pub fn first_fault(alloc: Global, told: &str) -> Result<String, Fail> {
     let (length, changes) = told.trim().split_once(' ').unwrap_or((told.trim(), ""));
     let mut bytes = row();
@@ -146,7 +144,8 @@ pub fn first_fault(alloc: Global, told: &str) -> Result<String, Fail> {
     fault_of(alloc, &bytes, length.parse::<usize>()?)
 }
 
-/// Dumps with faults. 16 fields and 33 sections are in range, and want more bytes: 20 + 128 * 2 + 76, and 20 + 128 * 33 + 28.
+/// Dumps with faults. 16 fields and 33 sections are in range, and want more bytes: 20 + 128 * 2 + 76, and 20 + 128
+/// * 33 + 28.
 const FAULTS: &str = "$ 303 => Cut { needed: 304 }
 $ 305 => TooMuch
 $ 19 => Cut { needed: 20 }
@@ -180,7 +179,6 @@ const ORDER: &str = "19 => Cut { needed: 20 }
 304 151=2 => BadRoot { index: 32 }
 304 303=2 => BadRef { k: 0, field: 3 }";
 
-/// The fault of the dump of one object with both of these faults; a cut comes before further bytes.
 fn both(alloc: Global, one: &Faulty<'_>, other: &Faulty<'_>) -> Result<String, Fail> {
     let mut bytes = row();
     change(&mut bytes, one.changes)?;

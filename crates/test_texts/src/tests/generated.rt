@@ -4,7 +4,7 @@ use load_gen::generate;
 use std::alloc::Global;
 use std::test::Fail;
 
-/// The line with that number, counted from 0, of the script of number 1 and that size.
+/// That line, counted from 0, of the script of number 1 and that size.
 pub fn line_of(alloc: Global, told: &str) -> Result<String, Fail> {
     let (size, line) = told.trim().split_once(' ').ok_or("size")?;
     let size = size.parse::<u32>()?;

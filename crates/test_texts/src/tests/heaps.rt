@@ -1,4 +1,4 @@
-//! Small scripts, played operation by operation on heaps that forget nothing. What they print was worked out by hand.
+//! Small scripts, played operation by operation on heaps that forget nothing.
 ghost use Rattle.std.specs.Prelude.{IsTrue};
 ghost use Rattle.plain_heap.specs.PlainStep.{IsInRange};
 
@@ -8,7 +8,6 @@ use plain_heap::{Line, Op, PlainHeap};
 use std::alloc::Global;
 use std::test::Fail;
 
-/// Whether a heap of four fields may do this.
 fn is_in_range(op: Op) -> bool
     ensures { IsTrue result → IsInRange 4 op }
 {
@@ -22,7 +21,6 @@ fn is_in_range(op: Op) -> bool
     }
 }
 
-/// Does an operation: what it prints.
 fn step(heap: &mut PlainHeap, cat: Option<&PlainHeap>, op: Op) -> Result<Option<Line>, Fail> {
     let has_room = heap.objects().len() < 2_000_000 && heap.dropped() < 2_000_000;
     if !has_room || heap.fields() != 4 || !is_in_range(op) {
@@ -34,7 +32,6 @@ fn step(heap: &mut PlainHeap, cat: Option<&PlainHeap>, op: Op) -> Result<Option<
     }
 }
 
-/// Plays these commands: what they print.
 fn play(
     alloc: Global,
     heap: &mut PlainHeap,
@@ -50,7 +47,8 @@ fn play(
     Ok(text)
 }
 
-/// How many objects a heap has, how many stores were dropped, what the first two variables refer to, and which objects are reached.
+/// How many objects a heap has, how many stores were dropped, what the first two variables refer to, and which
+/// objects are reached.
 fn left(alloc: Global, heap: &PlainHeap) -> Result<String, Fail> {
     let reached = heap.reachable(alloc).ok().ok_or("memory")?;
     let (objects, dropped) = (heap.objects().len(), heap.dropped());
@@ -90,8 +88,8 @@ fn one_object(rt: HostRuntime) -> Result<(), Fail> {
     all_hold(&rt, Kind::Heap, ONE)
 }
 
-/// On nil nothing is stored, what is read is nil, and no object is met. Then object 1 refers to object 2, and each to the other. Where a variable is read and
-/// assigned, it is read first.
+/// On nil nothing is stored, what is read is nil, and no object is met. Then object 1 refers to object 2, and each
+/// to the other. A variable that is read and assigned is read first.
 const OWN: &str = "$ gcscript 1
 warehouse
 nil a

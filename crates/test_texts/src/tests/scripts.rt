@@ -7,7 +7,6 @@ use std::test::Fail;
 const SEASONS: &[u8] =
     b"gcscript 3\nfields 2\n# note\ncatalogue\nnew a 7\nseason\nput a 8\nwarehouse\ncat x a\nrepeat 3\nsay hello x\nset x 1 x\nend\nrepeat 0\ncollect\nend\nseason\nsum s x 1 5\n";
 
-/// The lines of the commands that are left, and the bytes of their labels.
 fn lines_of(commands: Commands<'_, '_>) -> (u32, u32) {
     let mut lines = 0u32;
     let mut bytes = 0u32;
@@ -57,7 +56,6 @@ pub fn fault_of(alloc: Global, source: &[u8]) -> Result<String, Fail> {
     }
 }
 
-/// Sources, and the name of the fault of each.
 const FAULTS: &str = "$ => BadHeader
 $ gcscript 2
 

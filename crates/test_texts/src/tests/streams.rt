@@ -167,7 +167,6 @@ fn sources_in_memory_give_their_bytes(rt: HostRuntime) -> Result<(), Fail> {
     Ok(())
 }
 
-/// So many bytes, each with the number of its thousand.
 fn thousands(alloc: Global, count: u8) -> Result<Vec<u8>, Fail> {
     let mut bytes = Vec::new(alloc);
     for k in 0..count {
@@ -176,12 +175,13 @@ fn thousands(alloc: Global, count: u8) -> Result<Vec<u8>, Fail> {
     Ok(bytes)
 }
 
-/// The call that fails of a sink behind one that gathers; whether more bytes are taken then, and how many were handed on; whether the end goes well after that, and
-/// how many were handed on in the end.
+/// The call that fails of a sink behind one that gathers; whether more bytes are taken then, and how many were
+/// handed on; whether the end goes well, and how many were handed on in the end.
 type Gathered = (u32, bool, usize, bool, usize);
 
-/// 60,000 bytes are gathered, and 10,000 more have no room beside them. So the first go on in three calls, of 25,000 bytes at most, and the others in a fourth
-/// one at the end. Nothing is lost where a call fails: what is written again goes where it belongs.
+/// 60,000 bytes are gathered, and 10,000 more have no room beside them. So the first go on in three calls, of
+/// 25,000 bytes at most, and the others in a fourth at the end. Nothing is lost if a call fails: what is written
+/// again goes where it belongs.
 const GATHERED: [Gathered; 5] = [
     (1, false, 0, true, 70_000),
     (2, false, 25_000, true, 70_000),
@@ -198,7 +198,6 @@ fn gathering(alloc: Global, failing: u32, bytes: &[u8]) -> Result<GatheredSink<M
     Ok(sink)
 }
 
-/// Whether so much is handed on when more is written.
 fn hands_on(alloc: Global, whole: &[u8], row: &Gathered) -> Result<bool, Fail> {
     let (failing, is_taken, handed, _, _) = *row;
     let first = whole.get(..60_000).ok_or("first")?;
@@ -208,7 +207,7 @@ fn hands_on(alloc: Global, whole: &[u8], row: &Gathered) -> Result<bool, Fail> {
     Ok(is_so && Some(sink.abandon().bytes()) == whole.get(..handed))
 }
 
-/// Whether so much is handed on in the end, where what wasn't taken is written again.
+/// Whether so much is handed on in the end, if what wasn't taken is written again.
 fn ends_with(alloc: Global, whole: &[u8], row: &Gathered) -> Result<bool, Fail> {
     let (failing, _, _, ends_well, handed) = *row;
     let first = whole.get(..60_000).ok_or("first")?;

@@ -1,4 +1,3 @@
-//! Each text, over a sink in memory.
 ghost use Rattle.std.specs.Prelude.{◌≡◌, ◌<◌, ◌^◌, IfOk, map, length};
 ghost use Rattle.play_report.specs.Report.{outcome_of};
 ghost use Rattle.play_report.specs.Text.{placed_count, printed_count};
@@ -69,9 +68,9 @@ fn report(alloc: Global) -> Result<Report<'static>, AllocError>
     })
 }
 
-/// Texts. Behind a `$ ` stand which it is, the room of the sink, how much it takes in a call, the call that fails, and whether all is done; in the
-/// next lines stands what the sink has. `ends` and `placed` are the report, without places and with them, and `load` its five lines: 4,294,967,295 and 5
-/// survive.
+/// Texts. Behind a `$ ` stand which it is, the room of the sink, how much it takes in a call, the call that fails,
+/// and whether all is done; then what the sink has. `ends` and `placed` are the report, without places and with
+/// them, and `load` its five lines: 4,294,967,295 and 5 survive.
 const TEXTS: &str = "$ ends 200 200 0 done
 warehouse 1
 a 5
@@ -161,7 +160,6 @@ fn sink_of(alloc: Global, words: &mut SplitWhitespace<'_>) -> Result<MemorySink,
     Ok(MemorySink::make(alloc, room, per_call, &[failing])?)
 }
 
-/// Writes the text of this form.
 fn write(
     form: &str,
     report: &Report<'_>,
@@ -244,7 +242,7 @@ pub fn fault_text(alloc: Global, told: &str) -> Result<String, Fail> {
     Ok(line.ok_or("line")?.to_string(alloc)?)
 }
 
-/// Faults of scripts and their places, of those that have one.
+/// Faults of scripts, with the places of those that have one.
 const FAULTS: &str = "$ NotAscii 7 => 1 NotAscii offset 7
 $ BadHeader 0 => 2 BadHeader
 $ BadLine 2 => 3 BadLine line 2

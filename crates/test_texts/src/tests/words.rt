@@ -1,8 +1,4 @@
-//! Words and what they ask for, worked by hand. In a case a `|` stands behind each word.
-//!
-//! - `taken`: each command, each option at the ends of its range, in both forms and in any order.
-//! - `refused`: what is no command, no option or no value, and what is there too often or not at all.
-//! - `numbers`: values of any length.
+//! Words and what they ask for. In a case a `|` stands behind each word.
 pub mod numbers;
 mod refused;
 mod taken;

@@ -25,7 +25,7 @@ use Rattle.card_clean.proofs.Owned.{may-exchange_field, may-dirty_owed}
 use Rattle.card_clean.proofs.sharing.exchange_ref.Goals as goal
 use Rattle.card_clean.proofs.sharing.exchange_ref.Goals.{in-Some, in_default}
 
--- An exchange with its barrier: it was won where the seat owes a card afterwards or the object isn't published.
+-- An exchange with its barrier: it was won if the seat owes a card afterwards or the object isn't published.
 none_some : (o : Option ℕ) (k : ℕ) (P : Type 0) → o ≡ None → o ≡ Some k → P
 none_some o k P e f = absurd (true≢false (ap is_none (sym e ∙ f)))
 
@@ -39,7 +39,7 @@ Dirtied card won used = cond won (cond used [] (event (DirtyCard card) 1 ∷ [])
 abbrev Left : SeatState → ℕ → Bool → Bool → SeatState
 Left s card won used = cond won (cond used s ((dirty_card_effect s card).seat 0)) s
 
--- where nothing is owed no card has to be dirtied
+-- if nothing is owed, no card has to be dirtied
 clean_case : (s : SeatState) (card : ℕ) (won used : Bool) → Owed s card won used ≡ None → ([] ≡ Dirtied card won used) × (record s { owes = Owed s card won used } ≡ Left s card won used)
 clean_case s card false used e = (refl, refl)
 clean_case s card true true e = (refl, refl)

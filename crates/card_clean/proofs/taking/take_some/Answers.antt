@@ -28,7 +28,7 @@ widened es m = moves-more input_pools output_pools (λ x e. turned x (eqb 2 x) (
     turned x false true e = or_right (eqb 0 x) _ refl
     turned x false false e = absurd (false≢true e)
 
--- the search moved packets alone, whether it found one or not
+-- the search moved only packets, whether it found one or not
 input-moves : (sh : Shape) (o : Option Held) (v w : View) → IfSome o (λ h. Takes input_pools h v w × (0 < h.length)) → IfNone o ((w.state ≡ v.state) × NoInput sh (events v w) × IsTrue (only_moves input_pools (events v w))) → IsTrue (only_moves output_pools (events v w))
 input-moves sh None v w s n = widened (events v w) n.2
 input-moves sh (Some h) v w s n = widened (events v w) s.0.moves

@@ -29,7 +29,7 @@ use Rattle.gc_cycle.specs.CardLooks.{looks_at_card}
 use Rattle.gc_cycle.proofs.CardLooks.{draws-unlooked}
 use Rattle.gc_cycle.proofs.cards.next_card.Goals as goal
 
--- a draw reads the counter of cards alone
+-- a draw reads only the counter of cards
 draws-only : (r : Option ℕ) (v w : View) → DrawsCard r v w → Only traces_or_cleans v w
 draws-only r v w (inl over) = ap (all_steps traces_or_cleans) over.0.events_are
 draws-only r v w (inr gives) = ap (all_steps traces_or_cleans) gives.1.events_are

@@ -29,7 +29,7 @@ abbrev is_none : Stopped → Bool
 is_none NoPacket = true
 is_none step = false
 
--- a trace ends at its quota, or where there is nothing to read from
+-- a trace ends at its quota, or when there is nothing to read from
 ends : (quota : ℕ) (r : Traced) (v w : View) → ((r.stopped ≡ Quota) × (r.done ≡ quota)) ⊎ ((r.stopped ≡ NoWork) × (r.done < quota) × FoundNoWork v w) → Tally r.done r.deferred r.overflowed v w → EndsTrace quota r v w
 ends quota r v w s t =
     ⊎_elim

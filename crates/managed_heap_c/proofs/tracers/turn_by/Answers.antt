@@ -6,7 +6,7 @@ use Rattle.managed_heap_c.specs.Tracers.{AnswersTurn, GivesTracerBack, TriesTrac
 use Rattle.managed_heap_c.specs.declared.hands.AnyWorld.{AnyWorld}
 use Rattle.managed_heap_c.proofs.tracers.turn_by.Goals as goal
 
--- What the tracer behind a handle came to, where there is one.
+-- What the tracer behind a handle came to, if there is one.
 turned : (n : ℕ) (x : Option Tracer) (s t : Tracer) (tried : TryTurn) → x ≡ Some s → n ≡ status_of_turn tried → TriesTracerTurn tried s t → AnswersTurn n x (Some t)
 turned n x s t tried e k p = subst (λ q. AnswersTurn n q (Some t)) (sym e) (tried, t, k, refl, p)
 

@@ -21,7 +21,7 @@ use Rattle.packet_pools.proofs.Pushed.{dirtied, pushed, pushes-from}
 use Rattle.mark_core.specs.Cards.{card_of}
 use Rattle.packet_pools.proofs.marking.push_marked.Goals as goal
 
--- the hand is as before where nothing but slots changed
+-- the hand is as before if nothing but slots changed
 same-hand : (v w : View) (c : ℕ) → w.state ≡ record v.state { held = w.state.held } → InHand None (Some c) v.state → InHand None (Some c) w.state
 same-hand v w c e h = record { popped = ap (λ (s : SeatState). s.popped) e ∙ h.popped; value = ap (λ (s : SeatState). s.value) e ∙ h.value; fresh = ap (λ (s : SeatState). s.fresh) e ∙ h.fresh }
 

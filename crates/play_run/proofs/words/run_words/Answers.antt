@@ -13,7 +13,7 @@ use Rattle.command_words.specs.declared.asked.Asked.TheVariants as asks
 use Rattle.play_run.proofs.words.run_words.Goals as goal
 
 -- Which words ask for `run`.
--- where `run` is asked for, with its options
+-- if `run` is asked for, with its options
 asks_run : (a : Option Asked) (o : Options) → Some o ≡ run_of a → option_map command_of a ≡ Some (Run (options_of o))
 asks_run None o e = absurd cc
 asks_run (Some (asks.Run p)) o e = let same : p ≡ o = cc in cc
@@ -26,7 +26,7 @@ asks_run (Some asks.Undump) o e = absurd cc
 asks_run (Some asks.Census) o e = absurd cc
 asks_run (Some (asks.Batch p runners)) o e = absurd cc
 
--- where it isn't, the usage answers
+-- if it isn't, the usage answers
 usage_answers : (a : Option Asked) → None ≡ run_of a → (left : Option (List ℕ)) (status : ℕ) (text : List ℕ) → IsUsageAnswer status text
     → IsRunOrUsage (option_map command_of a) left status text
 usage_answers None e left status text u = u

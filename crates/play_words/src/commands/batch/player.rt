@@ -1,4 +1,3 @@
-//! Plays a job of a batch: its script, as `run` plays one, with the text in memory.
 ghost use Rattle.play_end.specs.Answers.{AreInRange};
 
 use gc_play::OpenGate;
@@ -10,7 +9,7 @@ use std::alloc::Global;
 use std::sync::Wait;
 use std::thread::Threads;
 
-/// Keeps what is written as a text. It fails only where memory runs out.
+/// Keeps what is written as a text; fails only if memory runs out.
 #[derive(Drop)]
 struct TextSink {
     text: Text,
@@ -48,7 +47,7 @@ impl Player for ScriptPlayer {
 
     ghost fits = { λ player script status text. FitsJob (options_of player.options) script status text };
 
-    /// Plays the script as `run` does. Where memory runs out, the status is 6 and the text empty.
+    /// Plays the script as `run` does. If memory runs out, the status is 6 and the text empty.
     fn play_job<R: Threads + Wait + Sync>(
         &self,
         rt: &R,

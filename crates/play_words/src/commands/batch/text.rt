@@ -1,4 +1,3 @@
-//! What is written of a batch.
 ghost use Rattle.std.specs.Prelude.{◌≢◌};
 ghost use Rattle.std.specs.List.{flat_map};
 ghost use Rattle.play_report.specs.Causes.{WritesTo};
@@ -35,7 +34,8 @@ fn write_job<K: Sink>(done: &JobDone, sink: &mut K) -> Result<(), Failed>
     }
 }
 
-/// The results of jobs, in the order given. Failed only where the sink's count of faults rose in this call, and a prefix of the text was then written.
+/// Writes the results of jobs, in the order given. If it fails, the sink's count of faults rose and a prefix was
+/// written.
 pub fn write_jobs<K: Sink>(done: &[JobDone], sink: &mut K) -> Result<(), Failed>
     ensures { WritesTo K.written K.faults result sink.old sink.new (flat_map job_text done.now) }
 {

@@ -1,27 +1,26 @@
 //! The heap at the end of a play, made ready to be written as a dump.
 //!
-//! [`final_heap`] takes what a play answers, the report and the words of its closed heap, and gives the heap that a dump tells: a record
-//! for each object that is reachable at the end, its references as numbers of records, and the variables of all sections likewise. Its
-//! contract speaks of the script alone. `IsFinalHeap` (`specs/Final.antt`) says which heap it is by the plain runs of the sections, and no
-//! script has two such heaps (`one_final_heap`): so the dump is the same whatever the cells in which the objects lay, and whichever
-//! threads played.
+//! [`final_heap`] takes the report and the words of the closed heap, and gives the heap that a dump tells. Its
+//! contract speaks only of the script: `IsFinalHeap` (`specs/Final.antt`) says which heap it is by the plain runs
+//! of the sections, and no script has two such heaps (`one_final_heap`). So the dump is the same whatever the cells
+//! and threads.
 //!
 //! # How it is made
 //!
-//! 1. The report lists the survivors in the order in which the dump has them, and for each object the cell in which it lies. `numbers`
-//!    makes of this a table with a number for each cell: 0, or one more than the number of the record of the object in it.
-//! 2. A word of the heap is 0 or a cell's number and 1, and so the table tells each root and each field at once (`telling`).
-//! 3. The roots and the records are handed on as a heap that has a dump (`ending`).
+//! 1. The report lists the survivors in the order of the dump, and the cell of each. `numbers` makes of this a
+//!    table with a number for each cell: 0, or one more than the number of the record of the object in it.
+//! 2. A word of the heap is 0 or a cell's number and 1, so the table tells each root and each field at once
+//!    (`telling`).
 //!
-//! It takes time linear in the cells and in the fields of the survivors, and memory for the table (4 bytes a cell), and twice for the
-//! records (76 bytes each) and the roots (4 bytes each), since a heap to be written has copies of its own.
+//! It takes memory for the table (4 bytes a cell), and twice for the records (76 bytes each) and the roots (4 bytes
+//! each), since a heap to be written has copies of its own.
 //!
 //! # Why it is the final heap
 //!
-//! The words stand for the plain heaps of all sections, and at the end these are the last of the plain runs, apart from their counts of
-//! dropped stores. A cell that a root names, or a field of a reachable cell, is reachable, so it has an object that is reachable too and is
-//! therefore a survivor. Its place in the report is a cell in use with the same identity, and no two cells in use have one identity: so it
-//! is that very cell, where the table has the survivor's number.
+//! The words stand for the plain heaps of all sections, which at the end are the last of the plain runs, apart from
+//! dropped stores. A cell that a root or a field of a reachable cell names is reachable, so its object is a
+//! survivor. Its place in the report is a cell in use with the same identity, and no two cells in use have one
+//! identity: so it is that very cell, and the table has the survivor's number for it.
 ghost use Rattle.std.specs.Prelude.{◌≡◌, ◌+◌, ◌≤◌, IfOk, length};
 ghost use Rattle.plain_heap.specs.Sections.{section_numbers};
 ghost use Rattle.heap_dump.specs.Final.{HasDump};
@@ -45,11 +44,10 @@ fn count_sections(script: &Script<'_>) -> u32
     script.warehouses().len() as u32 + 1
 }
 
-/// The heap at the end of a play, from its report and from the words of its closed heap: each object that is reachable, by section and
-/// number, with its value and its references, and the variables of each section. It is that of the plain runs of the script, whatever the
-/// cells in which the objects lay.
+/// The heap at the end of a play, from its report and the words of its closed heap: that of the plain runs of the
+/// script, in whatever cells the objects lay.
 ///
-/// It takes time linear in the cells and in the fields of the survivors. `OutOfMemory` says that there was no memory for it.
+/// It takes time linear in the cells and in the fields of the survivors.
 pub fn final_heap(
     alloc: Global,
     script: &Script<'_>,

@@ -1,4 +1,3 @@
-//! For each cell the number of the record of the object in it.
 ghost use Rattle.std.specs.Prelude.{◌≡◌, ◌<◌, ◌≤◌, IfOk, length, vec_len};
 ghost use Rattle.plain_heap.specs.Placement.{cells_of};
 ghost use Rattle.play_end.specs.Answers.{places_of};

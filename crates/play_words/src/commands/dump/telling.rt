@@ -1,4 +1,3 @@
-//! Words and survivors as a dump tells them.
 ghost use Rattle.std.specs.Prelude.{◌≡◌, ◌<◌, ◌≤◌, ◌+◌, ◌*◌, ℕ, All, IfOk, length, map};
 ghost use Rattle.play_words.specs.DumpTelling.{ArePlaced, AreRecords, AreRefs, HasFields, HasPlace, IsRecord, IsSurvivor, cell_of_survivor, dumped_word as number_told};
 
@@ -8,7 +7,6 @@ use heap_dump::FinalRecord;
 use play_report::{Report, Survivor};
 use std::alloc::{AllocError, Global};
 
-/// The reference that a word is.
 fn number_of(numbers: &[u32], word: u64) -> u32
     requires { word ≤ length numbers.now }
     ensures { result ≡ number_told numbers.now word }

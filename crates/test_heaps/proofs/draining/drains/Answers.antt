@@ -17,7 +17,7 @@ use Rattle.test_heaps.specs.Seats.{MayBeginDrain}
 use Rattle.gc_table.specs.Seats.{view_of}
 use Rattle.test_heaps.proofs.draining.drains.Goals as goal
 
--- A drain begins where no cycle is under way, or where marking is.
+-- A drain begins if no cycle is under way, or if marking is.
 drain-from : (v : View) (p : Phase) → Alone p v → (is_phase (phase_number p) Idle || is_phase (phase_number p) Marking || is_phase (phase_number p) Clear) ≡ true → is_phase (phase_number p) Clear ≡ false → May (StorePhase Drain) v
 drain-from v p l some none x i k a =
     let phase = phase-is x i v (phase_number p) a l.phase in (

@@ -1,6 +1,6 @@
 //! A warehouse makes cells and stores in them.
 
-/// Seat 1 enters, makes two cells in block 0, and stores in one of them once they are published.
+/// Seat 1 enters, makes two cells in block 0, and stores in one once they are published.
 pub const TABLE: &str = "shape 128 6 2 2 2 4
 1 enter_step
 1 read_season
@@ -78,7 +78,8 @@ pub const TABLE: &str = "shape 128 6 2 2 2 4
 1 leave_step
 ";
 
-/// In its own turn the catalogue reads no variable as another section does. In the other turn no warehouse stores in the object that it made.
+/// In its own turn the catalogue reads no variable as another section does. In the other turn no warehouse stores
+/// in the object that it made.
 pub const CATALOGUE: &str = "shape 64 2 2 2 1 2
 0 enter_step
 0 read_season

@@ -1,6 +1,7 @@
 //! A seat stops the world, drains, sweeps and clears, and another helps it.
 
-/// Seat 1 stops the world. In the drain it makes a card dirty and cleans it; seat 2 helps in the drain and in the sweep.
+/// Seat 1 stops the world. In the drain it makes a card dirty and cleans it; seat 2 helps in the drain and in the
+/// sweep.
 pub const TABLE: &str = "shape 128 6 2 2 2 4
 1 raise_step
 1 observe

@@ -1,10 +1,9 @@
-//! Values of any length: leading zeros are allowed, and a number past the range is refused however long it is.
+//! Values of any length: leading zeros are allowed, and a number past the range is refused.
 use super::asked_by;
 use crate::tests::cases::{Kind, all_hold};
 use std::alloc::{AllocError, Global};
 use std::test::Fail;
 
-/// So many zeros, and then the digits.
 fn with_zeros(alloc: Global, zeros: usize, digits: &str) -> Result<String, AllocError> {
     let mut number = String::new(alloc);
     for _ in 0..zeros {
@@ -14,7 +13,7 @@ fn with_zeros(alloc: Global, zeros: usize, digits: &str) -> Result<String, Alloc
     Ok(number)
 }
 
-/// What is asked for with the number that has so many zeros, and the digits behind them.
+/// What is asked for with the number that has this many zeros, and the digits behind them.
 pub fn asked_with(alloc: Global, told: &str) -> Result<String, Fail> {
     let (zeros, digits) = told.trim().split_once(' ').ok_or("number")?;
     let number = with_zeros(alloc, zeros.parse::<usize>()?, digits)?;

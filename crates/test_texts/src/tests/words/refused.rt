@@ -58,7 +58,7 @@ $ batch|--place| => None
 $ batch|--number|1| => None
 $ run|--runners|2| => None";
 
-/// An option that is there twice, without its value, with one that it doesn't take, or not at all.
+/// An option given twice, without its value, with one that it doesn't take, or not at all.
 const TIMES: &str = "$ run|--cells|64|--cells|64| => None
 $ run|--cells=64|--workers|4|--cells|128| => None
 $ run|--place|--place| => None

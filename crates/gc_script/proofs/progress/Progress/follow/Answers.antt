@@ -16,7 +16,7 @@ use Rattle.gc_script.proofs.Clear.{is_clear}
 use Rattle.gc_script.specs.declared.script.ScriptError.TheVariants as errors
 use Rattle.gc_script.proofs.progress.Progress.follow.Goals as goal
 
--- A capped number is past each greatest value where the number is.
+-- A capped number is past each greatest value if the number is.
 cap_above : (b n : ℕ) → b < 4294967296 → nat_lt b (min n 4294967296) ≡ nat_lt b n
 cap_above b n h = grind (arith, nat_tests)
 

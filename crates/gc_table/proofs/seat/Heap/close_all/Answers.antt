@@ -30,7 +30,7 @@ use Rattle.gc_table.proofs.Closing.{closes}
 use Rattle.gc_table.proofs.seat.Heap.close_all.Goals as goal
 
 -- A closed heap is in a state in which each section is as its own seat left it, and of the seats with sections only the first is left.
--- the section of seat j, where there are n sections
+-- the section of seat j, if there are n sections
 abbrev numbered : ℕ → ℕ → Option ℕ
 numbered j n = if nat_lt j n then Some j else None
 
@@ -56,7 +56,7 @@ HasLogs seats v = (i : ℕ) (s : HeapSeat) → slice_get seats i ≡ Some s → 
 abbrev pub TellsFull : List HeapSeat → View → Type 0
 TellsFull seats v = (i : ℕ) (s : HeapSeat) → slice_get seats i ≡ Some s → KnowsFull (view_of s) → KnowsFull v
 
--- where the last seat knows that the heap was found full, it is
+-- if the last seat knows that the heap was found full, it is
 found_full : (sh : Shape) (v : View) (ws : List ℕ) (w : Words) (f : IsFinal v ws) → f.state.core.shape ≡ sh → AreWords sh f.state.core.words w → KnowsFull v → w.phase ≡ Full
 found_full sh v ws w f same words k =
     let c = f.state.core in
