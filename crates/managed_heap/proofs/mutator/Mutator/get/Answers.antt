@@ -6,10 +6,10 @@ use Rattle.managed_heap.proofs.Doing.{done, ready}
 use Rattle.managed_heap.proofs.mutator.Mutator.get.Goals as goal
 
 pub follow-requires-clause-seat : goal.follow-requires-clause-seat
-follow-requires-clause-seat c = ready c.args.self.now c.deref-2.result.now c.deref-2.ensures c.in-Inside.is
+follow-requires-clause-seat c = ready c.args.self.now c.deref-in-Inside.result.now c.deref-in-Inside.ensures c.in-Inside.is
 
-pub invariant_of-self-clause-inside : goal.invariant_of-self-clause-inside
-invariant_of-self-clause-inside c = λ _. (done (ops.Get c.args.w c.args.v c.args.i) 0 c.args.self.now c.deref-2.result.now c.follow.new.seat refl c.deref-2.ensures c.in-Inside.is c.follow.ensures.seat c.follow.ensures.does).turn
+pub invariant_of-self-in-Inside-clause-inside : goal.invariant_of-self-in-Inside-clause-inside
+invariant_of-self-in-Inside-clause-inside c = λ _. (done (ops.Get c.args.w c.args.v c.args.i) 0 c.args.self.now c.deref-in-Inside.result.now c.follow.new.seat refl c.deref-in-Inside.ensures c.in-Inside.is c.follow.ensures.seat c.follow.ensures.does).turn
 
 pub returns-in-Inside-clause-done : goal.returns-in-Inside-clause-done
 returns-in-Inside-clause-done c =
@@ -17,7 +17,7 @@ returns-in-Inside-clause-done c =
       range = search rules;
       was = c.in-Inside.is;
       inside = c.in-Inside.is;
-      steps = (done (ops.Get c.args.w c.args.v c.args.i) 0 c.args.self.now c.deref-2.result.now c.follow.new.seat refl c.deref-2.ensures c.in-Inside.is c.follow.ensures.seat c.follow.ensures.does).steps;
+      steps = (done (ops.Get c.args.w c.args.v c.args.i) 0 c.args.self.now c.deref-in-Inside.result.now c.follow.new.seat refl c.deref-in-Inside.ensures c.in-Inside.is c.follow.ensures.seat c.follow.ensures.does).steps;
       world = refl;
       name_is = refl;
       stops = refl;

@@ -6,10 +6,10 @@ use Rattle.managed_heap.proofs.Doing.{done, ready}
 use Rattle.managed_heap.proofs.mutator.Mutator.set.Goals as goal
 
 pub set-requires-clause-seat : goal.set-requires-clause-seat
-set-requires-clause-seat c = ready c.args.self.now c.deref-2.result.now c.deref-2.ensures c.in-Inside.is
+set-requires-clause-seat c = ready c.args.self.now c.deref-in-Inside.result.now c.deref-in-Inside.ensures c.in-Inside.is
 
-pub invariant_of-self-clause-inside : goal.invariant_of-self-clause-inside
-invariant_of-self-clause-inside c = λ _. (done (ops.Set c.args.v c.args.i c.args.w) _ c.args.self.now c.deref-2.result.now c.set.new.seat refl c.deref-2.ensures c.in-Inside.is c.set.ensures.seat c.set.ensures.does).turn
+pub invariant_of-self-in-Inside-clause-inside : goal.invariant_of-self-in-Inside-clause-inside
+invariant_of-self-in-Inside-clause-inside c = λ _. (done (ops.Set c.args.v c.args.i c.args.w) _ c.args.self.now c.deref-in-Inside.result.now c.set.new.seat refl c.deref-in-Inside.ensures c.in-Inside.is c.set.ensures.seat c.set.ensures.does).turn
 
 pub returns-in-Inside-clause-done : goal.returns-in-Inside-clause-done
 returns-in-Inside-clause-done c =
@@ -17,7 +17,7 @@ returns-in-Inside-clause-done c =
       range = search rules;
       was = c.in-Inside.is;
       inside = c.in-Inside.is;
-      steps = (done (ops.Set c.args.v c.args.i c.args.w) _ c.args.self.now c.deref-2.result.now c.set.new.seat refl c.deref-2.ensures c.in-Inside.is c.set.ensures.seat c.set.ensures.does).steps;
+      steps = (done (ops.Set c.args.v c.args.i c.args.w) _ c.args.self.now c.deref-in-Inside.result.now c.set.new.seat refl c.deref-in-Inside.ensures c.in-Inside.is c.set.ensures.seat c.set.ensures.does).steps;
       world = refl;
       name_is = refl;
       stops = refl;
