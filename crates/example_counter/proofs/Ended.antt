@@ -12,7 +12,7 @@ use Rattle.gc_table.specs.Seats.{view_of}
 use Rattle.gc_table.specs.declared.seat.Heap.{Heap}
 use Rattle.gc_table.specs.declared.view.Entry.{Entry}
 use Rattle.gc_table.specs.declared.words.Words.{Words}
-use Rattle.heap_runs.specs.Single.{raises, takes_turns}
+use Rattle.gc_table.specs.Single.{raises, takes_turns}
 use Rattle.shared_heap.specs.Closing.{IsSharedEnd}
 use Rattle.shared_heap.specs.Counting.{CounterRead, EachLog, LockClosed, OnlyExchanges, root_value_of}
 use Rattle.shared_heap.specs.Lending.{IsFreshSharer, IsSharedOpened, KeepsRest}

@@ -5,7 +5,7 @@ use Rattle.mark_core.specs.declared.kinds.Event.{Event}
 use Rattle.gc_table.specs.Past.{log_of}
 use Rattle.gc_table.specs.Seats.{view_of}
 use Rattle.gc_table.specs.declared.words.Words.{Words}
-use Rattle.heap_runs.specs.Single.{is_inside, won_count}
+use Rattle.gc_table.specs.Single.{is_inside, won_count}
 use Rattle.shared_heap.specs.Closing.{IsSharedEnd, all_seats}
 use Rattle.shared_heap.specs.Threads.{IsWhole}
 use Rattle.shared_heap.specs.declared.mutator.SharedMutator.{SharedMutator}

@@ -18,3 +18,14 @@ pub mod Reads
 pub mod Ends
 pub mod Log
 pub mod Running
+pub mod RunWorlds
+pub mod Agreement
+pub mod AgreementLaws
+pub mod Runs
+pub mod Threads
+pub mod Sharing
+pub mod Finding
+pub mod Lending
+pub mod Rooted
+pub mod Single
+pub mod Counting

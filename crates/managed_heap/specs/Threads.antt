@@ -8,7 +8,7 @@ use Rattle.gc_table.specs.Laws.{IsRunOf}
 use Rattle.gc_table.specs.Past.{log_of}
 use Rattle.gc_table.specs.declared.seat.HeapSeat.{HeapSeat}
 use Rattle.gc_table.specs.declared.words.Words.{Words}
-use Rattle.heap_runs.specs.Runs.{core_after}
+use Rattle.gc_table.specs.Runs.{core_after}
 use Rattle.seat_turns.specs.declared.background.Tracer.{Tracer}
 use Rattle.managed_heap.specs.Closing.{IsWorldEnd, all_seats}
 use Rattle.managed_heap.specs.declared.mutator.Mutator.{Mutator}

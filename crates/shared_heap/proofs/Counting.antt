@@ -16,9 +16,9 @@ use Rattle.gc_table.specs.declared.view.View.{View}
 use Rattle.gc_table.specs.declared.words.Words.{Words}
 use Rattle.gc_table.proofs.History.Log.{events-of}
 use Rattle.gc_table.proofs.Running.{ran-grows}
-use Rattle.heap_runs.specs.Single.{HasOne, all_won, exchanges_value, leaves_values, made_count, raises, spares_values, takes_turn, takes_turns, turned, won_count}
-use Rattle.heap_runs.proofs.Counted.{counter-told, won_join}
-use Rattle.heap_runs.proofs.Locked.{lock-held}
+use Rattle.gc_table.specs.Single.{HasOne, all_won, exchanges_value, leaves_values, made_count, raises, spares_values, takes_turn, takes_turns, turned, won_count}
+use Rattle.gc_table.proofs.Counted.{counter-told, won_join}
+use Rattle.gc_table.proofs.Locked.{lock-held}
 use Rattle.seat_turns.specs.Sharing.{spares_heap}
 use Rattle.seat_turns.specs.declared.background.Tracer.{Tracer}
 use Rattle.shared_heap.specs.Closing.{HasLeft, IsSharedEnd, all_seats}

@@ -11,7 +11,7 @@ use Rattle.gc_table.specs.Seats.{did, state_of, view_of}
 use Rattle.gc_table.specs.Taking.{Finds, after}
 use Rattle.gc_table.specs.declared.view.Entry.{Entry}
 use Rattle.gc_table.specs.declared.view.View.{View}
-use Rattle.heap_runs.proofs.Finding.{steps-find}
+use Rattle.gc_table.proofs.Finding.{steps-find}
 use Rattle.shared_heap.specs.Finding.{AllFindHeap, CallsFind, FieldFound, FindsHeap, ValueFound}
 
 found-heap : (step : Step) (n : ℕ) (v : View) → Finds step n v → FindsHeap step n v

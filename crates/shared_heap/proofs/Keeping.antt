@@ -21,11 +21,11 @@ use Rattle.gc_table.specs.declared.view.SectionState.{SectionState}
 use Rattle.gc_table.specs.declared.view.View.{View}
 use Rattle.gc_table.proofs.History.Log.{events-of}
 use Rattle.gc_table.proofs.Running.{ran-grows, ran-keeps, ran-number, ran-section, ran-shape}
-use Rattle.heap_runs.specs.Lending.{leaves_variable, stores_once}
-use Rattle.heap_runs.specs.Rooted.{fills_first, fills_variable, moves_season, season_count}
-use Rattle.heap_runs.specs.Single.{MakesOne, made_count, makes_object, spares_values}
-use Rattle.heap_runs.proofs.Counted.{made_join}
-use Rattle.heap_runs.proofs.SeasonMoves.{count-join}
+use Rattle.gc_table.specs.Lending.{leaves_variable, stores_once}
+use Rattle.gc_table.specs.Rooted.{fills_first, fills_variable, moves_season, season_count}
+use Rattle.gc_table.specs.Single.{MakesOne, made_count, makes_object, spares_values}
+use Rattle.gc_table.proofs.Counted.{made_join}
+use Rattle.gc_table.proofs.SeasonMoves.{count-join}
 use Rattle.mutator_ops.specs.Sharing.{next_word}
 use Rattle.seat_turns.specs.Sharing.{spares_heap}
 use Rattle.shared_heap.specs.Opening.{IsNewSeat}

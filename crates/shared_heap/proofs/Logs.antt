@@ -14,8 +14,8 @@ use Rattle.gc_table.specs.declared.view.Entry.{Entry}
 use Rattle.gc_table.specs.declared.view.View.{View}
 use Rattle.gc_table.proofs.History.Log.{events-of}
 use Rattle.gc_table.proofs.Running.{ran-grows}
-use Rattle.heap_runs.specs.Single.{exchanges_value, is_inside, leaves_values, made_count, makes_object, raises, takes_turn, takes_turns, turned, won_count}
-use Rattle.heap_runs.proofs.Counted.{made_join, won_join}
+use Rattle.gc_table.specs.Single.{exchanges_value, is_inside, leaves_values, made_count, makes_object, raises, takes_turn, takes_turns, turned, won_count}
+use Rattle.gc_table.proofs.Counted.{made_join, won_join}
 use Rattle.mutator_ops.specs.Sharing.{LendsFound, SetsVariable, TakesSteps, setting_steps}
 use Rattle.seat_turns.specs.Exchanging.{ExchangesValue}
 use Rattle.seat_turns.specs.Sharing.{FollowsField, spares_heap}

@@ -10,7 +10,7 @@ use Rattle.gc_table.specs.Log.{all_steps, events, steps_of}
 use Rattle.gc_table.specs.declared.view.Entry.{Entry}
 use Rattle.gc_table.specs.declared.view.View.{View}
 use Rattle.gc_table.proofs.Running.{ran-events, ran-join}
-use Rattle.heap_runs.specs.Lending.{leaves_variable, stores_once}
+use Rattle.gc_table.specs.Lending.{leaves_variable, stores_once}
 use Rattle.seat_turns.specs.Sharing.{spares_heap}
 use Rattle.shared_heap.specs.Rooting.{MakesRoot, spares_season}
 use Rattle.shared_heap.proofs.Rooted.{all-more}

@@ -17,11 +17,11 @@ use Rattle.mark_core.proofs.Consequences.Closing.{goes-to}
 use Rattle.mark_core.proofs.Pool.PoolsKept.{shape-kept}
 use Rattle.gc_table.specs.Ends.{AreWords}
 use Rattle.gc_table.specs.declared.words.Words.{Words}
-use Rattle.heap_runs.specs.Agreement.{AgreesWith}
-use Rattle.heap_runs.specs.World.{World, WorldObject, name_at, object_of, referred, variable_of}
-use Rattle.heap_runs.proofs.Stores.{values-length}
-use Rattle.heap_runs.specs.Runs.{core_after}
-use Rattle.heap_runs.specs.Sharing.{heap_after_events}
+use Rattle.gc_table.specs.Agreement.{AgreesWith}
+use Rattle.gc_table.specs.RunWorlds.{World, WorldObject, name_at, object_of, referred, variable_of}
+use Rattle.gc_table.proofs.Stores.{values-length}
+use Rattle.gc_table.specs.Runs.{core_after}
+use Rattle.gc_table.specs.Sharing.{heap_after_events}
 use Rattle.shared_heap.specs.Counting.{CounterRead, root_value_of, value_at}
 use Rattle.shared_heap.proofs.Counting.{counter-closed}
 use Rattle.shared_heap.proofs.Threads.{threads-run}

@@ -20,10 +20,10 @@ use Rattle.gc_table.specs.Log.{all_steps}
 use Rattle.gc_table.specs.Past.{adds, entries_of, log_from, log_of, word_told}
 use Rattle.gc_table.specs.declared.seat.HeapSeat.{HeapSeat}
 use Rattle.gc_table.specs.declared.words.Words.{Words}
-use Rattle.heap_runs.proofs.Seats.{mutates}
-use Rattle.heap_runs.specs.Runs.{AreAllowed}
-use Rattle.heap_runs.proofs.Sharing.{Sound, later-sound}
-use Rattle.heap_runs.proofs.Threads.{allowed}
+use Rattle.gc_table.proofs.Seats.{mutates}
+use Rattle.gc_table.specs.Runs.{AreAllowed}
+use Rattle.gc_table.proofs.Sharing.{Sound, later-sound}
+use Rattle.gc_table.proofs.Threads.{allowed}
 use Rattle.seat_turns.specs.Sharing.{spares_heap}
 use Rattle.shared_heap.proofs.Rooted.{all-join}
 

@@ -2,9 +2,9 @@
 use Rattle.std.proofs.Common.{◌∙◌, ap, arith, refl}
 use Rattle.std.specs.Arc.{arc_value}
 use Rattle.gc_table.specs.Log.{all_steps}
-use Rattle.heap_runs.proofs.Freeing.{stays}
-use Rattle.heap_runs.proofs.Rooted.{root-found}
-use Rattle.heap_runs.proofs.Threads.{allowed}
+use Rattle.gc_table.proofs.Freeing.{stays}
+use Rattle.gc_table.proofs.Rooted.{root-found}
+use Rattle.gc_table.proofs.Threads.{allowed}
 use Rattle.mark_core.specs.Steps.{start_core}
 use Rattle.seat_turns.specs.Sharing.{spares_heap}
 use Rattle.shared_heap.specs.Closing.{all_seats}

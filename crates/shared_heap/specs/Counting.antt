@@ -7,9 +7,9 @@ use Rattle.gc_table.specs.Past.{log_of}
 use Rattle.gc_table.specs.Seats.{view_of}
 use Rattle.gc_table.specs.declared.view.Entry.{Entry}
 use Rattle.gc_table.specs.declared.words.Words.{Words}
-use Rattle.heap_runs.specs.World.{WorldObject, object_of}
-use Rattle.heap_runs.specs.Sharing.{heap_after_events}
-use Rattle.heap_runs.specs.Single.{is_inside, leaves_values, made_count, raises, takes_turns, won_count}
+use Rattle.gc_table.specs.RunWorlds.{WorldObject, object_of}
+use Rattle.gc_table.specs.Sharing.{heap_after_events}
+use Rattle.gc_table.specs.Single.{is_inside, leaves_values, made_count, raises, takes_turns, won_count}
 use Rattle.seat_turns.specs.declared.background.Tracer.{Tracer}
 use Rattle.shared_heap.specs.Closing.{IsSharedEnd, all_seats}
 use Rattle.shared_heap.specs.Threads.{IsWhole}

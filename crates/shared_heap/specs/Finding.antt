@@ -10,9 +10,9 @@ use Rattle.gc_table.specs.Seats.{Across, did, state_of, view_of}
 use Rattle.gc_table.specs.Taking.{Finds, after}
 use Rattle.gc_table.specs.declared.view.Entry.{Entry}
 use Rattle.gc_table.specs.declared.view.View.{View}
-use Rattle.heap_runs.specs.Agreement.{AgreesWith}
-use Rattle.heap_runs.specs.Laws.{TellsIn}
-use Rattle.heap_runs.specs.Finding.{heap_found}
+use Rattle.gc_table.specs.Agreement.{AgreesWith}
+use Rattle.gc_table.specs.AgreementLaws.{TellsIn}
+use Rattle.gc_table.specs.Finding.{heap_found}
 use Rattle.mutator_ops.specs.Sharing.{FollowsFound}
 use Rattle.shared_heap.specs.Calls.{FindsValue, SharerDoes}
 use Rattle.shared_heap.specs.declared.mutator.SharedMutator.{SharedMutator}

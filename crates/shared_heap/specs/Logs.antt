@@ -6,7 +6,7 @@ use Rattle.mark_core.specs.declared.kinds.Step.TheVariants.{ExchangeValue, Store
 use Rattle.gc_table.specs.Log.{all_steps}
 use Rattle.gc_table.specs.Seats.{view_of}
 use Rattle.gc_table.specs.declared.view.Entry.{Entry}
-use Rattle.heap_runs.specs.Single.{is_inside, raises, takes_turns, won_count}
+use Rattle.gc_table.specs.Single.{is_inside, raises, takes_turns, won_count}
 use Rattle.shared_heap.specs.Calls.{field_count_of}
 use Rattle.shared_heap.specs.Counting.{OnlyExchanges}
 use Rattle.shared_heap.specs.declared.mutator.SharedMutator.{SharedMutator}

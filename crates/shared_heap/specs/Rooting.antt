@@ -8,8 +8,8 @@ use Rattle.gc_table.specs.Seats.{state_of, view_of}
 use Rattle.gc_table.specs.declared.seat.Heap.{Heap}
 use Rattle.gc_table.specs.declared.seat.HeapSeat.{HeapSeat}
 use Rattle.gc_table.specs.declared.view.View.{View}
-use Rattle.heap_runs.specs.Rooted.{KeepsRoot}
-use Rattle.heap_runs.specs.Single.{MakesOne}
+use Rattle.gc_table.specs.Rooted.{KeepsRoot}
+use Rattle.gc_table.specs.Single.{MakesOne}
 use Rattle.mutator_ops.specs.Sharing.{ShareCreates}
 use Rattle.seat_turns.specs.Sharing.{spares_heap}
 

@@ -11,11 +11,11 @@ use Rattle.gc_table.specs.Past.{log_of}
 use Rattle.gc_table.specs.Seats.{view_of}
 use Rattle.gc_table.specs.declared.seat.HeapSeat.{HeapSeat}
 use Rattle.gc_table.specs.declared.words.Words.{Words}
-use Rattle.heap_runs.specs.Agreement.{AgreesWith}
-use Rattle.heap_runs.specs.Laws.{TellsOf}
-use Rattle.heap_runs.specs.Rooted.{FindsSome, IsKept}
-use Rattle.heap_runs.specs.Runs.{core_after}
-use Rattle.heap_runs.specs.Sharing.{heap_after_events}
+use Rattle.gc_table.specs.Agreement.{AgreesWith}
+use Rattle.gc_table.specs.AgreementLaws.{TellsOf}
+use Rattle.gc_table.specs.Rooted.{FindsSome, IsKept}
+use Rattle.gc_table.specs.Runs.{core_after}
+use Rattle.gc_table.specs.Sharing.{heap_after_events}
 use Rattle.seat_turns.specs.Sharing.{spares_heap}
 use Rattle.seat_turns.specs.declared.background.Tracer.{Tracer}
 use Rattle.shared_heap.specs.Closing.{IsSharedEnd, all_seats}

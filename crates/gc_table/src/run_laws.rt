@@ -1,0 +1,137 @@
+ghost use Rattle.gc_table.specs.Counting.{RaisesCounted, WinsTold};
+ghost use Rattle.gc_table.specs.Finding.{StepsFind};
+ghost use Rattle.gc_table.specs.AgreementLaws.{StartAgrees, EventsAgree, RunsAgree, NoneForgotten, ReadsTell, ReachedHaveCells, SameWords, UnsharedStores, ObjectsStay, WonOnce, FieldWonOnce};
+ghost use Rattle.gc_table.specs.Lending.{OneObjectLent};
+ghost use Rattle.gc_table.specs.Rooted.{RootFound};
+ghost use Rattle.gc_table.specs.Runs.{NoneFreed};
+ghost use Rattle.gc_table.specs.Sharing.{ThreadsShareOneHeap};
+ghost use Rattle.gc_table.specs.Single.{CounterTold, LockHeld};
+ghost use Rattle.gc_table.specs.Threads.{ThreadsFreeNone};
+
+/// No event of a run of the core frees a cell that is reachable just before it.
+#[tactic(auto, using(crate::proofs::Freeing::none_freed))]
+pub fn none_freed()
+    ensures { NoneFreed }
+{}
+
+/// What threads did with the seats of a closed heap is one run of the core, and no event of it frees a cell that is
+/// reachable just before it.
+#[tactic(auto, using(crate::proofs::Threads::threads_free_none))]
+pub fn threads_free_none()
+    ensures { ThreadsFreeNone }
+{}
+
+/// What threads did with the seats of a closed heap is one run of the core, which keeps each thread's order. After
+/// each step the words agree with one plain heap that forgets nothing, and a step found what this heap had just
+/// before.
+#[tactic(auto, using(crate::proofs::Sharing::threads_share_one_heap))]
+pub fn threads_share_one_heap()
+    ensures { ThreadsShareOneHeap }
+{}
+
+/// What a step finds in an open heap: a run of the core, of which the seat's log is a part, led to words that agree
+/// with one plain heap that forgets nothing, and the step found what this heap had.
+pub fn steps_find()
+    ensures { StepsFind }
+{}
+
+/// If section 0's seat stores at most once in a variable, all who read it find the same object, or nil before that
+/// store.
+pub fn one_object_lent()
+    ensures { OneObjectLent }
+{}
+
+/// If section 0's seat stores an object in a variable before it moves the season on, and nothing there afterwards,
+/// no seat that reads it finds nil.
+pub fn root_found()
+    ensures { RootFound }
+{}
+
+/// The value of an object in which nobody stores but by exchanges of a number for the next has grown by the number
+/// of exchanges won.
+#[tactic(auto, using(crate::proofs::Counting::raises_counted))]
+pub fn raises_counted()
+    ensures { RaisesCounted }
+{}
+
+/// An exchange of a value was won, as its thread's log has it, exactly if the plain heap had the expected value
+/// just before.
+pub fn wins_told()
+    ensures { WinsTold }
+{}
+
+/// If threads share one object and only exchange its value for the next number, that value ends as the number of
+/// exchanges that their logs say were won.
+pub fn counter_told()
+    ensures { CounterTold }
+{}
+
+/// If threads share one object as a lock (who is outside only exchanges its value 0 for 1, who came in only 1 for
+/// 0), no two are inside at any moment.
+pub fn lock_held()
+    ensures { LockHeld }
+{}
+
+/// The state in which nothing has happened agrees with an empty heap.
+pub fn start_agrees()
+    ensures { StartAgrees }
+{}
+
+/// Each allowed event leads from a state that agrees with a heap to one that agrees with the heap after the event.
+pub fn events_agree()
+    ensures { EventsAgree }
+{}
+
+/// Every run leads to a state that agrees with the heap that its events make.
+#[tactic(auto, using(crate::proofs::Kept::runs_agree))]
+pub fn runs_agree()
+    ensures { RunsAgree }
+{}
+
+/// What a mutator reads of an object is what the heap has there at that moment, whoever stored it. The object is
+/// one to which its register or one of its variables refers.
+pub fn reads_tell()
+    ensures { ReadsTell }
+{}
+
+/// After every run each object that roots reach has a cell in use with its words, and this cell is reachable:
+/// nothing was swept that is missed.
+pub fn reached_have_cells()
+    ensures { ReachedHaveCells }
+{}
+
+/// No step forgets an object. Only a store in it, or an exchange that finds what it expects, changes one.
+#[tactic(auto, using(crate::proofs::Forgetting::none_forgotten))]
+pub fn none_forgotten()
+    ensures { NoneForgotten }
+{}
+
+/// An object stays as it is over events none of which stores in it or wins an exchange there.
+#[tactic(auto, using(crate::proofs::Winning::objects_stay))]
+pub fn objects_stay()
+    ensures { ObjectsStay }
+{}
+
+/// Once a seat has won an exchange of a value, every other that expects the same finds what this one stored, until
+/// somebody stores in the object.
+pub fn won_once()
+    ensures { WonOnce }
+{}
+
+/// Once a seat has won an exchange of a reference, every other in this field finds what this one stored, until
+/// somebody stores in the object.
+pub fn field_won_once()
+    ensures { FieldWonOnce }
+{}
+
+/// After every run two references to cells in use are one word exactly if they refer to one object: so a seat can
+/// compare them.
+#[tactic(auto, using(crate::proofs::SameCells::same_words))]
+pub fn same_words()
+    ensures { SameWords }
+{}
+
+/// If a heap isn't shared, no seat stores in another section's object.
+pub fn unshared_stores()
+    ensures { UnsharedStores }
+{}
