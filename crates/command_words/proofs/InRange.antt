@@ -3,7 +3,7 @@ use Rattle.std.proofs.Common.{◌≡◌, ◌≤◌, ◌%◌, ◌&&◌, ◌==◌,
 use Rattle.std.proofs.lemmas.Bool.Decides.{nat_tests}
 use Rattle.std.specs.Prelude.{Option, Some, None, IfSome, option_map, option_and_then, if◌then◌else◌, nat_le, codes}
 use Rattle.std.specs.Str.{bytes_eq}
-use Rattle.script_lines.specs.ScriptText.{number_of}
+use Rattle.gc_script.specs.ScriptText.{number_of}
 use Rattle.command_words.specs.Words.{Options, Setting, Command, Run, Gen, Load, Convert, Schedule, Dump, Undump, Census, Batch, command, by_name, settings, allowing, given, chosen, number_in, is_set, cells, workers, tracers, packets, entries, runners, options, number, size, run, gen, load, dump_command, batch_command, play_names, made_names}
 use Rattle.command_words.specs.Commands.{IsCommandInRange, command_of, options_of}
 use Rattle.play_end.specs.Answers.{AreInRange}

@@ -1,7 +1,7 @@
 ghost use Rattle.std.specs.Prelude.{◌≡◌};
 ghost use Rattle.command_words.specs.Words.{number_in};
 
-use script_lines::number_of;
+use gc_script::number_of;
 
 /// The number of a text of one or more digits, if it lies in the range.
 pub fn number_in(least: u32, greatest: u32, text: &str) -> Option<u32>

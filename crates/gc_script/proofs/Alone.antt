@@ -6,7 +6,7 @@ use Rattle.std.specs.Prelude.{Option, Some, is_some, unwrap_or, IsFalse}
 use Rattle.std.specs.Option.{option_or}
 use Rattle.std.specs.List.{All}
 use Rattle.plain_heap.specs.Sections.{Execution, lends}
-use Rattle.script_lines.specs.Statement.{Spoken, NewOf, LetOf, NilOf, SetOf, GetOf, CatOf, PutOf, SayOf, SumOf, CollectOf, Statement, Blank, Fields, Catalogue, Warehouse, Season, Repeat, End, Command, Wrong}
+use Rattle.gc_script.specs.Statement.{Spoken, NewOf, LetOf, NilOf, SetOf, GetOf, CatOf, PutOf, SayOf, SumOf, CollectOf, Statement, Blank, Fields, Catalogue, Warehouse, Season, Repeat, End, Command, Wrong}
 use Rattle.gc_script.specs.Earlier.{open_repeat, open_section, is_for_catalogue}
 use Rattle.gc_script.specs.Faults.{may_stand}
 use Rattle.gc_script.specs.Script.{repetitions, pending, executed, execution, ended_parts, parts_of_open_section, if_catalogue, closed_catalogue}

@@ -4,11 +4,11 @@ use Rattle.std.proofs.lemmas.Bool.Decides.{nat_tests}
 use Rattle.std.proofs.lemmas.List.{length-append}
 use Rattle.std.specs.Prelude.{not, nat_le, nat_lt, Option, Some, None, is_none, unwrap_or, ◌&&◌, ◌||◌, ◌^◌}
 use Rattle.plain_heap.specs.PlainStep.{IsInRange}
-use Rattle.script_lines.specs.Statement.{Spoken, NewOf, LetOf, NilOf, SetOf, GetOf, CatOf, PutOf, SayOf, SumOf, CollectOf, Statement, Blank, Fields, Catalogue, Warehouse, Season, Repeat, End, Command, Wrong}
+use Rattle.gc_script.specs.Statement.{Spoken, NewOf, LetOf, NilOf, SetOf, GetOf, CatOf, PutOf, SayOf, SumOf, CollectOf, Statement, Blank, Fields, Catalogue, Warehouse, Season, Repeat, End, Command, Wrong}
 use Rattle.gc_script.specs.Earlier.{place, has_name, with_name}
 use Rattle.gc_script.specs.Faults.{Fault, starts_section, unless_, cuts_repeat}
 use Rattle.gc_script.specs.Context.{Context, context_after, closing, placed_in, large_in, knows_in, names_after, warehouses_after, seasons_after, uncut_fault_in, fault_in, IsClear, IsSane, operation_in}
-use Rattle.script_lines.proofs.Positions.{within}
+use Rattle.gc_script.proofs.Positions.{within}
 
 test_of : (t : Bool) (f : Fault) (others : Option Fault) → unless_ t f others ≡ None → t ≡ true
 test_of true f others e = refl

@@ -1,7 +1,7 @@
 -- The context is that of the lines before.
 use Rattle.std.proofs.Common.{◌≡◌, ℕ, ◌+◌, List, ◌∷◌, refl, ap, ◌∙◌, cond, Bool, true, false, arith}
 use Rattle.std.specs.Prelude.{Option, Some, is_none, ◌&&◌, ◌==◌}
-use Rattle.script_lines.specs.Statement.{Statement, Blank, Fields, Catalogue, Warehouse, Season, Repeat, End, Command, Wrong}
+use Rattle.gc_script.specs.Statement.{Statement, Blank, Fields, Catalogue, Warehouse, Season, Repeat, End, Command, Wrong}
 use Rattle.gc_script.specs.Earlier.{next_line, known_fields, stated_fields}
 use Rattle.gc_script.specs.Faults.{line_fault}
 use Rattle.gc_script.specs.Context.{Context, context_of, context_after, closed_names, placed_in, fault_in, next}

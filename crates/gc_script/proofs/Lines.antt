@@ -1,15 +1,15 @@
 -- The loop over the lines.
 use Rattle.std.proofs.Common.{◌≡◌, ℕ, zero, suc, List, [], ◌∷◌, refl, ap, sym, ◌∙◌, Bool, true, false, add-one, length-drop, ◌+◌, ◌≤◌, ◌<◌, ◌++◌, length, take, drop, get_or, map, subst, cond, arith}
 use Rattle.std.specs.Prelude.{Option, Some, None, is_some, ◌&&◌, unwrap_or, ◌==◌}
-use Rattle.script_lines.specs.Statement.{Spoken, NewOf, LetOf, NilOf, SetOf, GetOf, CatOf, PutOf, SayOf, SumOf, CollectOf, Statement, Blank, Fields, Catalogue, Warehouse, Season, Repeat, End, Command, Wrong, statement}
+use Rattle.gc_script.specs.Statement.{Spoken, NewOf, LetOf, NilOf, SetOf, GetOf, CatOf, PutOf, SayOf, SumOf, CollectOf, Statement, Blank, Fields, Catalogue, Warehouse, Season, Repeat, End, Command, Wrong, statement}
 use Rattle.gc_script.specs.Earlier.{assigns, with_name, warehouse_count, known_fields, known_names, open_section, open_repeat, assigned_names, catalogue_names}
 use Rattle.gc_script.specs.Faults.{Fault, unless_, cuts_repeat, may_stand, line_fault, first_fault, end_fault, or_later}
 use Rattle.gc_script.specs.Context.{IsCatalogueKnown, context_of, closing, closed_names, IsClear, AreClear, Context, context_after, fault_in, IsSane}
 use Rattle.gc_script.proofs.History.{bare, none_is, content_step}
 use Rattle.std.proofs.lemmas.List.{nil_from_length, take_more, take_all, drop_all, drop_more, length-map, get_or-map}
-use Rattle.script_lines.specs.ScriptText.{words, lines}
-use Rattle.script_lines.specs.FirstLine.{first_line, after_line}
-use Rattle.script_lines.proofs.Cuts.{lines_step}
+use Rattle.gc_script.specs.ScriptText.{words, lines}
+use Rattle.gc_script.specs.FirstLine.{first_line, after_line}
+use Rattle.gc_script.proofs.Cuts.{lines_step}
 use Rattle.gc_script.specs.Script.{turned}
 use Rattle.gc_script.specs.Kept.{context_shown}
 use Rattle.gc_script.specs.Content.{Content, content_of, content_after, kept_shown}

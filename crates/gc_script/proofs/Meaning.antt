@@ -7,8 +7,8 @@ use Rattle.std.proofs.lemmas.List.Sums.{fails_before_first}
 use Rattle.std.proofs.lemmas.List.Splits.{slice_split_first, slice_split_none}
 use Rattle.std.specs.Prelude.{not, nat_lt, Option, Some, None, Result, Ok, Err, ◌==◌, ◌⊎◌}
 use Rattle.std.specs.List.{All, position_or_len, slice_split, onto_first, before_first, after_first}
-use Rattle.script_lines.specs.ScriptText.{is_allowed, first_foreign, lines, words, without_empty_last}
-use Rattle.script_lines.specs.Statement.{Fields, statement, header}
+use Rattle.gc_script.specs.ScriptText.{is_allowed, first_foreign, lines, words, without_empty_last}
+use Rattle.gc_script.specs.Statement.{Fields, statement, header}
 use Rattle.gc_script.specs.Faults.{Fault, TooLong}
 use Rattle.gc_script.specs.Script.{Script, script, of_text, of_lines, of_version, body}
 use Rattle.gc_script.specs.Convert.{Conversion, added_lines, converted_text, if_short, converted, without_lines, KeepsMeaning}

@@ -1,8 +1,8 @@
 -- A script without a fault means its sections.
 use Rattle.std.proofs.Common.{◌≡◌, ℕ, List, [], ◌∷◌, length, refl, ap, map}
 use Rattle.std.specs.Prelude.{Ok, nat_lt}
-use Rattle.script_lines.specs.ScriptText.{first_foreign, lines, words}
-use Rattle.script_lines.specs.Statement.{statement, header}
+use Rattle.gc_script.specs.ScriptText.{first_foreign, lines, words}
+use Rattle.gc_script.specs.Statement.{statement, header}
 use Rattle.gc_script.specs.Meaning.{Means}
 use Rattle.gc_script.specs.Script.{Script, ScriptsMean, of_lines}
 use Rattle.gc_script.proofs.SameMeaning.{body_ok, IsScript}

@@ -4,7 +4,7 @@ use Rattle.std.proofs.lemmas.List.{append-nil, map-append}
 use Rattle.std.specs.Prelude.{nat_lt, Option, Some, None, is_some, unwrap_or, option_map, Ok}
 use Rattle.std.specs.Option.{option_or}
 use Rattle.plain_heap.specs.Sections.{Execution}
-use Rattle.script_lines.specs.Statement.{Spoken, Statement, Blank, Fields, Catalogue, Warehouse, Season, Repeat, End, Command, Wrong}
+use Rattle.gc_script.specs.Statement.{Spoken, Statement, Blank, Fields, Catalogue, Warehouse, Season, Repeat, End, Command, Wrong}
 use Rattle.gc_script.specs.Earlier.{place, stated_fields, open_repeat, open_section, catalogue_names, is_printing}
 use Rattle.gc_script.specs.Faults.{Fault, first_fault, line_fault}
 use Rattle.gc_script.specs.Script.{Script, repeated, repetitions, pending, executed, execution, operation, label_of, ended_parts, parts_of_open_section, if_warehouse, if_catalogue, closed_warehouses, closed_catalogue, sections, executed_count, turned, limited, judged, body}

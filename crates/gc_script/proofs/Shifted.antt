@@ -2,7 +2,7 @@
 use Rattle.std.proofs.Common.{◌≡◌, ℕ, ◌+◌, ◌*◌, List, [], ◌∷◌, ◌++◌, refl, ap, sym, ◌∙◌, subst, cond, Bool, true, false, arith}
 use Rattle.std.proofs.lemmas.List.{length-append}
 use Rattle.std.specs.Prelude.{Option, Some, None, is_some, is_none, ◌&&◌, ◌==◌}
-use Rattle.script_lines.specs.Statement.{Spoken, Statement, Blank, Fields, Catalogue, Warehouse, Season, Repeat, End, Command, Wrong}
+use Rattle.gc_script.specs.Statement.{Spoken, Statement, Blank, Fields, Catalogue, Warehouse, Season, Repeat, End, Command, Wrong}
 use Rattle.gc_script.specs.Earlier.{next_line, assigns, with_name, stated_fields, known_names, open_repeat, open_section, warehouse_count, season_count}
 use Rattle.gc_script.specs.Faults.{Fault, BadHeader, unless_, left_open, line_fault, or_later, first_fault}
 use Rattle.gc_script.specs.Script.{repetitions, one_if, pending_count, executed_count, turned}

@@ -7,7 +7,7 @@ use Rattle.std.specs.Prelude.{Option, Some, None, is_none, is_some, ◌&&◌}
 use Rattle.std.specs.Option.{option_or}
 use Rattle.std.specs.List.{count_by}
 use Rattle.plain_heap.specs.Sections.{Execution, joined}
-use Rattle.script_lines.specs.Statement.{Spoken, Statement, Blank, Fields, Catalogue, Warehouse, Season, Repeat, End, Command, Wrong}
+use Rattle.gc_script.specs.Statement.{Spoken, Statement, Blank, Fields, Catalogue, Warehouse, Season, Repeat, End, Command, Wrong}
 use Rattle.gc_script.specs.Earlier.{known_fields, open_repeat, open_section}
 use Rattle.gc_script.specs.Script.{repeated, repetitions, pending, executed, execution, ended_parts, parts_of_open_section, if_warehouse, if_catalogue, closed_warehouses, closed_catalogue, one_if, pending_count, executed_count}
 use Rattle.gc_script.specs.Context.{AreClear}

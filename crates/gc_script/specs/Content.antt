@@ -2,7 +2,7 @@
 use Rattle.std.specs.Prelude.{ℕ, List, [], ◌∷◌, ◌++◌, map, Option, option_map}
 use Rattle.std.specs.Option.{option_or}
 use Rattle.plain_heap.specs.Sections.{Execution}
-use Rattle.script_lines.specs.Statement.{Statement, Catalogue, Warehouse, Season, Repeat, End, Command}
+use Rattle.gc_script.specs.Statement.{Statement, Catalogue, Warehouse, Season, Repeat, End, Command}
 use Rattle.gc_script.specs.Earlier.{open_repeat}
 use Rattle.gc_script.specs.Script.{repeated, repetitions, pending, ended_parts, if_warehouse, if_catalogue, closed_warehouses, closed_catalogue}
 use Rattle.gc_script.specs.Context.{Context, execution_in}

@@ -3,7 +3,7 @@ use Rattle.std.specs.Prelude.{ℕ, ◌≡◌, ◌≤◌, ◌+◌, zero, suc, Lis
 use Rattle.std.specs.List.{list_all}
 use Rattle.plain_heap.specs.declared.operation.Op.{Op}
 use Rattle.plain_heap.specs.Sections.{Execution}
-use Rattle.script_lines.specs.Statement.{Spoken, Statement, Blank, Fields, Catalogue, Warehouse, Season, Repeat, End, Command, Wrong}
+use Rattle.gc_script.specs.Statement.{Spoken, Statement, Blank, Fields, Catalogue, Warehouse, Season, Repeat, End, Command, Wrong}
 use Rattle.gc_script.specs.Earlier.{next_line, place, has_name, names_read, reads_of_catalogue, assigns, with_name, known_fields, known_names, open_repeat, warehouse_count, season_count, open_section}
 use Rattle.gc_script.specs.Faults.{Fault, BadHeader, BadLine, UnknownName, TooManyNames, NumberTooLarge, TooManySections, TooManySeasons, starts_section, may_stand, has_large_number, unless_, cuts_repeat, left_open}
 use Rattle.gc_script.specs.Script.{operation, label_of}

@@ -1,6 +1,6 @@
 -- Where the names of a line stand.
 use Rattle.std.specs.Prelude.{◌≡◌}
-use Rattle.script_lines.specs.Statement.{Spoken, NewOf, LetOf, NilOf, SetOf, GetOf, CatOf, PutOf, SayOf, SumOf, CollectOf, Statement, Command}
+use Rattle.gc_script.specs.Statement.{Spoken, NewOf, LetOf, NilOf, SetOf, GetOf, CatOf, PutOf, SayOf, SumOf, CollectOf, Statement, Command}
 use Rattle.gc_script.specs.Earlier.{place}
 use Rattle.gc_script.specs.Context.{Context}
 use Rattle.gc_script.specs.declared.found.Found.{Found}

@@ -4,8 +4,8 @@ use Rattle.std.specs.Option.{option_or}
 use Rattle.plain_heap.specs.declared.operation.Op.{Op}
 use Rattle.plain_heap.specs.declared.operation.Op.TheVariants as ops
 use Rattle.plain_heap.specs.Sections.{Execution, Sections}
-use Rattle.script_lines.specs.ScriptText.{lines, words}
-use Rattle.script_lines.specs.Statement.{Spoken, NewOf, LetOf, NilOf, SetOf, GetOf, CatOf, PutOf, SayOf, SumOf, CollectOf, Statement, Catalogue, Warehouse, Season, Repeat, End, Command, statement, header}
+use Rattle.gc_script.specs.ScriptText.{lines, words}
+use Rattle.gc_script.specs.Statement.{Spoken, NewOf, LetOf, NilOf, SetOf, GetOf, CatOf, PutOf, SayOf, SumOf, CollectOf, Statement, Catalogue, Warehouse, Season, Repeat, End, Command, statement, header}
 use Rattle.gc_script.specs.Known.{next_line, place, known_fields, known_names, open_repeat, open_section, catalogue_names}
 
 -- the operation of a command, with its names by their numbers

@@ -1,7 +1,7 @@
 -- What the reader answers, line by line.
 use Rattle.std.specs.Borrow.{Bor}
 use Rattle.std.specs.Prelude.{ℕ, ◌≡◌, List, [], Option, Some, None, Result, Ok, Err}
-use Rattle.script_lines.specs.Statement.{Statement}
+use Rattle.gc_script.specs.Statement.{Statement}
 use Rattle.gc_script.specs.Earlier.{catalogue_names}
 use Rattle.gc_script.specs.Faults.{Fault, first_fault, end_fault}
 use Rattle.gc_script.specs.Context.{Context, context_of, context_after, fault_in, IsClear, AreClear, IsCatalogueKnown, IsSane}

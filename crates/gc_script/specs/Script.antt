@@ -1,8 +1,8 @@
 -- A script: its version and its sections, or its first fault.
 use Rattle.std.specs.Prelude.{ℕ, ◌≡◌, ◌+◌, ◌*◌, List, [], ◌∷◌, length, Bool, true, false, nat_lt, if◌then◌else◌, Option, Some, None, Result, Ok, Err, is_some, map}
 use Rattle.plain_heap.specs.Sections.{Sections}
-use Rattle.script_lines.specs.ScriptText.{first_foreign, lines, words}
-use Rattle.script_lines.specs.Statement.{Spoken, Statement, Catalogue, Warehouse, Repeat, End, Command, statement, header}
+use Rattle.gc_script.specs.ScriptText.{first_foreign, lines, words}
+use Rattle.gc_script.specs.Statement.{Spoken, Statement, Catalogue, Warehouse, Repeat, End, Command, statement, header}
 use Rattle.gc_script.specs.Earlier.{open_repeat, catalogue_names, is_printing}
 use Rattle.gc_script.specs.Faults.{Fault, NotAscii, BadHeader, TooManyCommands, TooManyLines, TooLong, first_fault}
 use Rattle.gc_script.specs.Meaning.{Means}

@@ -1,9 +1,9 @@
 ghost use Rattle.std.specs.Prelude.{◌≡◌, ◌<◌, ◌≤◌, ◌^◌, ◌+◌, Some, OnOk, unwrap_or};
 ghost use Rattle.plain_heap.specs.PlainStep.{IsInRange};
-ghost use Rattle.script_lines.specs.Statement.{Warehouse, Command as Ordered};
+ghost use Rattle.gc_script.specs.Statement.{Warehouse, Command as Ordered};
 ghost use Rattle.gc_script.specs.Script.{label_of, repetitions};
 ghost use Rattle.gc_script.specs.Earlier.{place, with_name};
-ghost use Rattle.script_lines.specs.Said.{said, said_command};
+ghost use Rattle.gc_script.specs.Said.{said, said_command};
 ghost use Rattle.gc_script.specs.Context.{IsClear, IsSane, closing, in_section, context_after, operation_in, execution_in};
 ghost use Rattle.gc_script.specs.Kept.{context_shown};
 ghost use Rattle.gc_script.specs.Shown.{execution_of};
@@ -12,7 +12,8 @@ use crate::command::Command;
 use crate::context::{Context, Opened, assigned};
 use crate::found::Found;
 use plain_heap::{Op, OutOfMemory};
-use script_lines::{Label, Spoken, Statement};
+use crate::label::Label;
+use crate::statement::{Spoken, Statement};
 use std::alloc::Global;
 use std::mem;
 

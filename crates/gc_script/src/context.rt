@@ -1,12 +1,12 @@
 ghost use Rattle.std.specs.Prelude.{◌≡◌, ◌≤◌, ◌<◌, ◌+◌, length, unwrap_or, Some, option_map};
-ghost use Rattle.script_lines.specs.Statement.{Warehouse, Command};
+ghost use Rattle.gc_script.specs.Statement.{Warehouse, Command};
 ghost use Rattle.gc_script.specs.Earlier.{is_for_catalogue, is_too_large, assigns, with_name};
 ghost use Rattle.gc_script.specs.Faults.{starts_section, may_stand, has_large_number};
-ghost use Rattle.script_lines.specs.Said.{said, said_command};
+ghost use Rattle.gc_script.specs.Said.{said, said_command};
 
 use crate::found::Found;
 use crate::script::ScriptError;
-use script_lines::{Spoken, Statement};
+use crate::statement::{Spoken, Statement};
 
 const MOST_NAMES: usize = 32;
 

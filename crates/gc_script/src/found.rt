@@ -1,10 +1,10 @@
 ghost use Rattle.std.specs.Prelude.{◌≡◌, ◌≤◌, length, nat_lt};
 ghost use Rattle.gc_script.specs.Earlier.{place};
-ghost use Rattle.script_lines.specs.Said.{said, said_command};
+ghost use Rattle.gc_script.specs.Said.{said, said_command};
 
 use crate::context::Context;
 use crate::names::place_of;
-use script_lines::{Spoken, Statement};
+use crate::statement::{Spoken, Statement};
 
 /// The places of a line's first and second name among the names of the section; a `cat` has its second in the
 /// catalogue.

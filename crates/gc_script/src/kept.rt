@@ -1,5 +1,5 @@
 ghost use Rattle.std.specs.Prelude.{◌≡◌, ◌++◌, ◌∷◌, [], OnOk};
-ghost use Rattle.script_lines.specs.Said.{said};
+ghost use Rattle.gc_script.specs.Said.{said};
 ghost use Rattle.gc_script.specs.Context.{IsClear, IsSane};
 ghost use Rattle.gc_script.specs.Kept.{context_shown};
 ghost use Rattle.gc_script.specs.Shown.{execution_of};
@@ -9,7 +9,7 @@ use crate::command::Command;
 use crate::context::Context;
 use crate::found::Found;
 use plain_heap::OutOfMemory;
-use script_lines::Statement;
+use crate::statement::Statement;
 use std::alloc::Global;
 use std::mem;
 

@@ -3,7 +3,7 @@ ghost use Rattle.std.specs.List.{position};
 ghost use Rattle.std.specs.Str.{bytes_eq};
 ghost use Rattle.gc_script.specs.Earlier.{place};
 
-use script_lines::is_same;
+use crate::text::is_same;
 
 fn position_of(names: &[&str], name: &str) -> Option<usize>
     ensures { result ≡ position (λ other. bytes_eq other.now name.now) names.now }

@@ -1,7 +1,7 @@
 ghost use Rattle.std.specs.Prelude.{◌≡◌, ◌<◌, ◌^◌, [], None, Err, List, ℕ, map, length, OnOk, OnErr};
-ghost use Rattle.script_lines.specs.ScriptText.{words, lines};
-ghost use Rattle.script_lines.specs.Statement.{Statement as Said, statement};
-ghost use Rattle.script_lines.specs.Said.{said, capped};
+ghost use Rattle.gc_script.specs.ScriptText.{words, lines};
+ghost use Rattle.gc_script.specs.Statement.{Statement as Said, statement};
+ghost use Rattle.gc_script.specs.Said.{said, capped};
 ghost use Rattle.gc_script.specs.Context.{context_of, context_after, IsClear, IsSane};
 ghost use Rattle.gc_script.specs.Kept.{context_shown};
 ghost use Rattle.gc_script.specs.Content.{content_of, content_after, kept_shown};
@@ -11,7 +11,8 @@ use crate::context::Context;
 use crate::found::Found;
 use crate::kept::Kept;
 use crate::script::ScriptError;
-use script_lines::{Statement, statement_of, take_words};
+use crate::cutting::take_words;
+use crate::statement::{Statement, statement_of};
 use std::alloc::Global;
 
 /// What is kept of the lines so far.
@@ -52,7 +53,7 @@ fn nothing_kept<'a>(alloc: Global) -> Kept<'a>
 
 impl<'a> Progress<'a> {
     ghost use Rattle.gc_script.specs.Reading.{LineAnswers, FirstAnswers};
-    ghost use Rattle.script_lines.specs.FirstLine.{first_line, after_line};
+    ghost use Rattle.gc_script.specs.FirstLine.{first_line, after_line};
     ghost use Rattle.gc_script.specs.Found.{AreFound};
 
     fn take(

@@ -1,14 +1,16 @@
 //! Reads a script.
 ghost use Rattle.std.specs.Prelude.{◌≡◌, ◌<◌, ◌≤◌, ◌^◌, Err, map, length, IsOk};
-ghost use Rattle.script_lines.specs.ScriptText.{lines, words};
-ghost use Rattle.script_lines.specs.Statement.{statement};
+ghost use Rattle.gc_script.specs.ScriptText.{lines, words};
+ghost use Rattle.gc_script.specs.Statement.{statement};
 ghost use Rattle.gc_script.specs.Script.{script, body, of_lines};
 ghost use Rattle.gc_script.specs.Finished.{ReadAnswers};
 
 use crate::finish::script_of;
 use crate::progress::read_lines;
 use crate::script::{Script, ScriptError};
-use script_lines::{first_foreign, take_words, text_of, version};
+use crate::cutting::take_words;
+use crate::header::version;
+use crate::source::{first_foreign, text_of};
 use std::alloc::Global;
 
 /// The greatest number of bytes of a script.

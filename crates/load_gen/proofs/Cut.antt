@@ -4,8 +4,8 @@ use Rattle.std.proofs.lemmas.List.Elements.{All-nil, All-cons}
 use Rattle.std.proofs.lemmas.List.Splits.{slice_split_at, slice_split_none, length-slice_split}
 use Rattle.std.specs.Prelude.{not, ◌==◌, filter}
 use Rattle.std.specs.List.{All, list_all, slice_split}
-use Rattle.script_lines.specs.ScriptText.{without_empty_last, lines, is_word, words}
-use Rattle.script_lines.specs.Statement.{Statement, statement}
+use Rattle.gc_script.specs.ScriptText.{without_empty_last, lines, is_word, words}
+use Rattle.gc_script.specs.Statement.{Statement, statement}
 use Rattle.load_gen.proofs.Conjunction.{both}
 
 is_no : (test : Bool) → not test ≡ true → test ≡ false

@@ -5,8 +5,8 @@ use Rattle.std.proofs.lemmas.Fmt.{decimal_digit}
 use Rattle.std.specs.Prelude.{◌&&◌, ◌==◌, nat_le, nat_lt, Some}
 use Rattle.std.specs.List.{list_all}
 use Rattle.plain_heap.specs.declared.operation.Op.TheVariants as ops
-use Rattle.script_lines.specs.ScriptText.{words, number_of}
-use Rattle.script_lines.specs.Statement.{Spoken, NewOf, LetOf, NilOf, SetOf, GetOf, SayOf, Statement, Command, with_number, statement}
+use Rattle.gc_script.specs.ScriptText.{words, number_of}
+use Rattle.gc_script.specs.Statement.{Spoken, NewOf, LetOf, NilOf, SetOf, GetOf, SayOf, Statement, Command, with_number, statement}
 use Rattle.gc_script.specs.Earlier.{place, has_name, with_name, names_read, reads_of_catalogue, assigns, is_too_large, is_printing}
 use Rattle.gc_script.specs.Script.{operation}
 use Rattle.load_gen.proofs.Conjunction.{and_true}

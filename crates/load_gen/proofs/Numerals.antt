@@ -6,8 +6,8 @@ use Rattle.std.proofs.lemmas.Str.Parse.{IsNumeralModel, numerals_by_fold}
 use Rattle.std.specs.Prelude.{not, ◌&&◌, ◌==◌, nat_le, Option, Some, None}
 use Rattle.std.specs.Char.{is_ascii_digit}
 use Rattle.std.specs.List.{list_all}
-use Rattle.script_lines.specs.ScriptText.{is_name, decimal_value, number_of}
-use Rattle.script_lines.specs.Statement.{Statement, Wrong, named, with_number}
+use Rattle.gc_script.specs.ScriptText.{is_name, decimal_value, number_of}
+use Rattle.gc_script.specs.Statement.{Statement, Wrong, named, with_number}
 use Rattle.load_gen.proofs.Conjunction.{both, and_true}
 use Rattle.load_gen.specs.Generated.{letter}
 use Rattle.load_gen.proofs.Cut.{IsWord}

@@ -6,7 +6,7 @@ use Rattle.std.specs.Prelude.{Option, Some, None, IfSome, Result, Err}
 use Rattle.std.specs.Io.KnownBytes.{Consumes, IsAtEnd}
 use Rattle.gc_script.specs.Faults.{Fault, TooLong}
 use Rattle.gc_script.specs.Script.{Script, script, of_text}
-use Rattle.script_lines.specs.ScriptText.{first_foreign}
+use Rattle.gc_script.specs.ScriptText.{first_foreign}
 use Rattle.play_run.specs.RunAnswers.{IsRunAnswer, RunAnswersTo}
 use Rattle.play_run.specs.Ending.{TextEnds, CommandEnds}
 use Rattle.play_run.specs.Promise.{OfSource}

@@ -3,7 +3,7 @@ use Rattle.std.proofs.Common.{◌≡◌, ℕ, List, [], ◌∷◌, refl, sym, ap
 use Rattle.std.specs.Prelude.{Option, Some, Result, Ok, Err}
 use Rattle.plain_heap.specs.Sections.{Sections}
 use Rattle.gc_script.specs.Faults.{Fault}
-use Rattle.script_lines.specs.Statement.{statement, header}
+use Rattle.gc_script.specs.Statement.{statement, header}
 use Rattle.gc_script.specs.Earlier.{catalogue_names}
 use Rattle.gc_script.specs.Meaning.{Means, sections, turned}
 use Rattle.gc_script.specs.Script.{Script, script}

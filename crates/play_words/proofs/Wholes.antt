@@ -4,7 +4,7 @@ use Rattle.std.proofs.lemmas.Bool.Decides.{nat_tests}
 use Rattle.std.specs.Prelude.{Result, Err}
 use Rattle.gc_script.specs.Faults.{Fault, TooLong}
 use Rattle.gc_script.specs.Script.{Script, script}
-use Rattle.script_lines.specs.ScriptText.{first_foreign}
+use Rattle.gc_script.specs.ScriptText.{first_foreign}
 use Rattle.gc_script.specs.Convert.{Conversion, convert, converted}
 use Rattle.job_pool.specs.Batch as batches
 use Rattle.job_pool.specs.Batch.{batch, begins_with, jobs_from}

@@ -11,10 +11,10 @@ use Rattle.schedule_check.specs.Forms.{number_word}
 use Rattle.schedule_check.specs.Table.{all_three, triple}
 use Rattle.schedule_check.specs.Schedule.{Schedule, without_events, sized, objects_in_schedule, is_in_limits, is_skipped, shape_line, event_line, events_from, with_event, put_first, with_events, of_shape, schedule_body, is_header, of_schedule_lines}
 use Rattle.schedule_check.specs.Reading.{reading, and_then, after_words, with_more, begun_schedule, ended, after_schedule_line}
-use Rattle.script_lines.specs.ScriptText.{words, lines}
-use Rattle.script_lines.specs.FirstLine.{first_line, after_line as rest_after}
-use Rattle.script_lines.proofs.Bytes.{few_lines}
-use Rattle.script_lines.proofs.Cuts.{lines_step}
+use Rattle.gc_script.specs.ScriptText.{words, lines}
+use Rattle.gc_script.specs.FirstLine.{first_line, after_line as rest_after}
+use Rattle.gc_script.proofs.Bytes.{few_lines}
+use Rattle.gc_script.proofs.Cuts.{lines_step}
 use Rattle.schedule_check.specs.Shown.{is_schedule_refused}
 
 -- Reading line by line comes to what the definition says.

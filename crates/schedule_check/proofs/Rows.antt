@@ -4,7 +4,7 @@ use Rattle.std.specs.Prelude.{Err, Ok, Some, None, [], false}
 use Rattle.schedule_check.specs.Table.{step_of}
 use Rattle.schedule_check.specs.Faults.{NotAscii, BadHeader, BadShape, BadEvent, TooManyEvents}
 use Rattle.schedule_check.specs.Schedule.{schedule, events_from}
-use Rattle.script_lines.specs.ScriptText.{words}
+use Rattle.gc_script.specs.ScriptText.{words}
 use Rattle.mark_core.specs.declared.kinds.Step.TheVariants.{Take, StoreField, NextSeason, EnterStep, StorePhase, ReadPhase, Reserve, ReadCount}
 use Rattle.mark_core.specs.declared.kinds.Step.{Step}
 use Rattle.mark_core.specs.declared.kinds.Phase.TheVariants.{Marking}

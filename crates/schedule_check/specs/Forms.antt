@@ -1,7 +1,7 @@
 -- The forms of parameters: what a word says, if it has the form.
 use Rattle.std.specs.Prelude.{ℕ, List, Bool, true, false, ◌==◌, nat_lt, if◌then◌else◌, Option, Some, None, codes}
 use Rattle.std.specs.Str.{bytes_eq}
-use Rattle.script_lines.specs.ScriptText.{number_of}
+use Rattle.gc_script.specs.ScriptText.{number_of}
 use Rattle.mark_core.specs.declared.kinds.Phase.{Phase}
 use Rattle.mark_core.specs.declared.kinds.Phase.TheVariants.{Idle, Marking, Drain, Sweep, Clear, Full}
 

@@ -1,7 +1,7 @@
 -- Schedules, and what the bytes of one are.
 use Rattle.std.specs.Prelude.{ℕ, ◌+◌, ◌%◌, List, [], ◌∷◌, length, map, Bool, true, false, ◌&&◌, ◌==◌, nat_lt, nat_le, if◌then◌else◌, Option, Some, None, Result, Ok, Err, codes}
 use Rattle.std.specs.Str.{bytes_eq}
-use Rattle.script_lines.specs.ScriptText.{first_foreign, is_note, lines, words}
+use Rattle.gc_script.specs.ScriptText.{first_foreign, is_note, lines, words}
 use Rattle.mark_core.specs.Cards.{block_cells}
 use Rattle.mark_core.specs.declared.kinds.Shape.{Shape}
 use Rattle.mark_core.specs.declared.kinds.Event.{Event}

@@ -1,7 +1,7 @@
 use Rattle.std.proofs.Common.{◌≡◌, ◌<◌, length, rules, arith}
 use Rattle.std.proofs.lemmas.Bool.Decides.{nat_tests}
 use Rattle.gc_script.specs.Earlier.{catalogue_names}
-use Rattle.script_lines.proofs.Bytes.{few_lines}
+use Rattle.gc_script.proofs.Bytes.{few_lines}
 use Rattle.gc_script.proofs.Lines.{statements, up_to_start, up_to_next, up_to_refused, up_to_end}
 use Rattle.gc_script.proofs.progress.read_lines.Goals as goal
 

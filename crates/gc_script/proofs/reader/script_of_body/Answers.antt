@@ -2,7 +2,7 @@ use Rattle.std.proofs.Common.{◌≡◌, ℕ, ◌≤◌, List, [], ◌∷◌, su
 use Rattle.std.proofs.lemmas.Bool.Decides.{nat_tests}
 use Rattle.std.proofs.lemmas.Option.{same_Some}
 use Rattle.std.specs.Prelude.{Some, is_none, ◌&&◌, ◌==◌, not, nat_lt, Option, None, is_some, unwrap_or, Result, Ok, Err}
-use Rattle.script_lines.specs.Statement.{Statement, Blank, Fields, Catalogue, Warehouse, Season, Repeat, End, Command, Wrong, NewOf, LetOf, NilOf, SetOf, GetOf, CatOf, PutOf, SayOf, SumOf, CollectOf}
+use Rattle.gc_script.specs.Statement.{Statement, Blank, Fields, Catalogue, Warehouse, Season, Repeat, End, Command, Wrong, NewOf, LetOf, NilOf, SetOf, GetOf, CatOf, PutOf, SayOf, SumOf, CollectOf}
 use Rattle.gc_script.specs.Earlier.{known_fields, stated_fields, open_repeat, open_section, catalogue_names, is_printing}
 use Rattle.gc_script.specs.Context.{AreClear, Context, context_of, IsCatalogueKnown}
 use Rattle.std.specs.Option.{option_or}

@@ -1,4 +1,4 @@
-use Rattle.script_lines.specs.Said.{said_command}
+use Rattle.gc_script.specs.Said.{said_command}
 use Rattle.gc_script.specs.Kept.{context_shown}
 use Rattle.gc_script.proofs.Clear.{in_range}
 use Rattle.gc_script.proofs.kept.Kept.take.Goals as goal

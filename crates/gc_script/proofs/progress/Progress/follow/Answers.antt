@@ -1,10 +1,10 @@
 use Rattle.std.proofs.Common.{◌≡◌, ℕ, ◌<◌, zero, suc, length, refl, ap, ◌∙◌, Bool, true, false, arith, min, sym, subst}
 use Rattle.std.proofs.lemmas.Bool.Decides.{nat_tests}
 use Rattle.std.specs.Prelude.{not, nat_le, nat_lt, Option, Some, None, ◌==◌, ◌||◌, ◌&&◌, unwrap_or, is_none, Result, Ok, Err, OnOk, OnErr}
-use Rattle.script_lines.specs.Statement.{Spoken, NewOf, LetOf, NilOf, SetOf, GetOf, CatOf, PutOf, SayOf, SumOf, CollectOf, Statement, Blank, Fields, Catalogue, Warehouse, Season, Repeat, End, Command, Wrong}
+use Rattle.gc_script.specs.Statement.{Spoken, NewOf, LetOf, NilOf, SetOf, GetOf, CatOf, PutOf, SayOf, SumOf, CollectOf, Statement, Blank, Fields, Catalogue, Warehouse, Season, Repeat, End, Command, Wrong}
 use Rattle.gc_script.specs.Earlier.{is_too_large, is_for_catalogue}
 use Rattle.gc_script.specs.Faults.{Fault, BadLine, UnknownName, TooManyNames, NumberTooLarge, TooManySections, TooManySeasons, has_large_number, may_stand, starts_section, unless_, cuts_repeat}
-use Rattle.script_lines.specs.Said.{capped, capped_command, said}
+use Rattle.gc_script.specs.Said.{capped, capped_command, said}
 use Rattle.gc_script.specs.Context.{Context, fault_in, knows_in, names_after, warehouses_after, seasons_after, context_after, IsClear, IsSane}
 use Rattle.gc_script.specs.Content.{Content, content_after, kept_shown}
 use Rattle.gc_script.specs.Kept.{context_shown}

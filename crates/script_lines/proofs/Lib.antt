@@ -1,4 +1,0 @@
-pub mod Positions
-pub mod Bytes
-pub mod Cuts
-pub mod FirstLine

@@ -1,4 +1,0 @@
-pub mod ScriptText
-pub mod FirstLine
-pub mod Statement
-pub mod Said
