@@ -22,12 +22,12 @@ use Rattle.gc_cycle.specs.Answering.{retires}
 use Rattle.gc_cycle.specs.Courses.{TakesCourse, phase_stored}
 use Rattle.gc_cycle.specs.Events.{Sort, never}
 use Rattle.gc_cycle.specs.Finishing.{IsMove}
-use Rattle.cycle_steps.specs.Pieces.{LooksAt, ReadsCount}
+use Rattle.gc_cycle.specs.Pieces.{LooksAt, ReadsCount}
 use Rattle.gc_cycle.specs.Sorts.{draws_block, pops}
 use Rattle.gc_cycle.specs.Statistics.{changing_step}
-use Rattle.cycle_steps.specs.Stepping.{AsksOnce, FindsRunning, FindsStopped}
-use Rattle.cycle_steps.specs.declared.card_steps.Look.{Look}
-use Rattle.cycle_steps.specs.declared.card_steps.Look.TheVariants as looks
+use Rattle.gc_cycle.specs.Stepping.{AsksOnce, FindsRunning, FindsStopped}
+use Rattle.gc_cycle.specs.declared.card_steps.Look.{Look}
+use Rattle.gc_cycle.specs.declared.card_steps.Look.TheVariants as looks
 use Rattle.gc_cycle.proofs.Sequences.{count-none as count-missing, none-of-steps}
 use Rattle.gc_cycle.proofs.Stops.Admitted.{count-none, count-run}
 use Rattle.seat_turns.specs.Coming.{GivesCache, StepsOut, WithOwn}

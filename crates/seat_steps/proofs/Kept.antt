@@ -11,7 +11,7 @@ use Rattle.gc_table.specs.declared.seat.HeapSeat.{HeapSeat}
 use Rattle.gc_table.specs.declared.view.View.{View}
 use Rattle.gc_cycle.specs.Courses.{goes_on}
 use Rattle.gc_cycle.specs.Finishing.{IsMove, IsPart}
-use Rattle.cycle_steps.specs.Stepping.{FindsRunning, FindsStopped, Keeps, RunsAgain}
+use Rattle.gc_cycle.specs.Stepping.{FindsRunning, FindsStopped, Keeps, RunsAgain}
 use Rattle.seat_turns.specs.Sharing.{LeavesHeap}
 use Rattle.seat_turns.specs.Standing.{Halts, IsMutator, plain_of}
 use Rattle.seat_turns.proofs.Leaving.{leaves-join}

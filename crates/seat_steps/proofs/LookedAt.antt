@@ -11,8 +11,8 @@ use Rattle.gc_table.specs.Running.{Ran}
 use Rattle.gc_table.specs.declared.view.View.{View}
 use Rattle.gc_table.proofs.Running.{ran-events, ran-shape}
 use Rattle.card_clean.specs.Looking.{looks_clean}
-use Rattle.cycle_steps.specs.Pieces.{LooksAt, ReadsCount}
-use Rattle.cycle_steps.specs.declared.card_steps.Look.TheVariants as looks
+use Rattle.gc_cycle.specs.Pieces.{LooksAt, ReadsCount}
+use Rattle.gc_cycle.specs.declared.card_steps.Look.TheVariants as looks
 use Rattle.seat_steps.specs.Passes.{FindsPacketLeft, LooksToEnd}
 use Rattle.seat_steps.proofs.Passes.{all-left}
 

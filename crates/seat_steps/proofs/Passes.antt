@@ -23,9 +23,9 @@ use Rattle.gc_cycle.specs.Courses.{TakesCourse}
 use Rattle.gc_cycle.specs.Events.{never}
 use Rattle.gc_cycle.specs.Finishing.{IsPart}
 use Rattle.gc_cycle.specs.Sorts.{pops}
-use Rattle.cycle_steps.specs.Pieces.{CountsFrom, SeesRootsFrom}
-use Rattle.cycle_steps.specs.Stepping.{IsAtRoots, IsOwner}
-use Rattle.cycle_steps.proofs.Courses.{part-unpopped}
+use Rattle.gc_cycle.specs.Pieces.{CountsFrom, SeesRootsFrom}
+use Rattle.gc_cycle.specs.Stepping.{IsAtRoots, IsOwner}
+use Rattle.gc_cycle.proofs.CourseSteps.{part-unpopped}
 use Rattle.seat_steps.specs.Amounts.{DoesFew, DrawsNone}
 use Rattle.seat_steps.specs.Passes.{SeesRoots}
 use Rattle.seat_steps.proofs.Amounts.{unpopped}

@@ -28,7 +28,7 @@ use Rattle.packet_pools.proofs.Searches.{some-left, some-right}
 use Rattle.gc_cycle.specs.Courses.{TakesCourse, phase_stored}
 use Rattle.gc_cycle.specs.Polling.{saw_full}
 use Rattle.gc_cycle.specs.Sorts.{reads_phase}
-use Rattle.cycle_steps.specs.Stepping.{FindsStopped}
+use Rattle.gc_cycle.specs.Stepping.{FindsStopped}
 use Rattle.seat_steps.specs.Causes.{FoundFull}
 
 -- a note that was kept was there

@@ -26,9 +26,9 @@ use Rattle.gc_cycle.specs.Cycles.{collects_exactly}
 use Rattle.gc_cycle.specs.Events.{never}
 use Rattle.gc_cycle.specs.Finishing.{IsMove, IsPart, stays_in}
 use Rattle.gc_cycle.specs.Moments.{begins}
-use Rattle.cycle_steps.specs.Pieces.{HasCollectedSince}
+use Rattle.gc_cycle.specs.Pieces.{HasCollectedSince}
 use Rattle.gc_cycle.specs.Sorts.{raises_flag}
-use Rattle.cycle_steps.specs.Stepping.{AsksOnce, FindsRunning, FindsStopped, IsExactSince}
+use Rattle.gc_cycle.specs.Stepping.{AsksOnce, FindsRunning, FindsStopped, IsExactSince}
 use Rattle.gc_cycle.proofs.Ends.Completing.{part-exact}
 use Rattle.gc_cycle.proofs.Sequences.{none-of-steps, some-none}
 use Rattle.seat_steps.specs.Asked.{CountsSinceAsked, HasAsked, MarksSinceAsked, SweepsSinceAsked, WaitsSinceAsked}

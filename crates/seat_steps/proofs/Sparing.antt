@@ -13,7 +13,7 @@ use Rattle.gc_cycle.specs.Courses.{goes_on}
 use Rattle.gc_cycle.specs.Finishing.{IsMove, IsPart, stays_in}
 use Rattle.gc_cycle.specs.Sparing.{fills_part}
 use Rattle.gc_cycle.specs.Standing.{KeepsSeat}
-use Rattle.cycle_steps.specs.Stepping.{AsksOnce, FindsRunning, FindsStopped}
+use Rattle.gc_cycle.specs.Stepping.{AsksOnce, FindsRunning, FindsStopped}
 use Rattle.seat_turns.specs.Sharing.{LeavesHeap}
 use Rattle.seat_turns.proofs.Leaving.{leaves-filled}
 

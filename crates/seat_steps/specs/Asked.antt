@@ -4,9 +4,9 @@ use Rattle.gc_table.specs.Log.{events}
 use Rattle.gc_table.specs.Running.{Ran}
 use Rattle.gc_table.specs.declared.view.View.{View}
 use Rattle.gc_cycle.specs.Events.{never}
-use Rattle.cycle_steps.specs.Pieces.{HasCollectedSince}
+use Rattle.gc_cycle.specs.Pieces.{HasCollectedSince}
 use Rattle.gc_cycle.specs.Sorts.{raises_flag}
-use Rattle.cycle_steps.specs.Stepping.{AsksOnce, IsExactSince}
+use Rattle.gc_cycle.specs.Stepping.{AsksOnce, IsExactSince}
 
 -- the seat asked for its stop at that moment, and for none since
 pub record HasAsked (u v : View) : Type 0 where

@@ -13,7 +13,7 @@ use Rattle.card_clean.specs.Drained.{roots_read, sees_roots}
 use Rattle.card_clean.specs.Looking.{looks_clean}
 use Rattle.gc_cycle.specs.Courses.{TakesCourse}
 use Rattle.gc_cycle.specs.Finishing.{IsMove, IsPart}
-use Rattle.cycle_steps.specs.Pieces.{CleansCards}
+use Rattle.gc_cycle.specs.Pieces.{CleansCards}
 use Rattle.gc_cycle.specs.Sorts.{draws_block, pops}
 use Rattle.gc_cycle.specs.RoundParts.{BringsBack, LacksPacket}
 use Rattle.gc_cycle.specs.Turns.{DrainsFor}

@@ -10,12 +10,12 @@ use Rattle.gc_table.specs.Seats.{Across, did, view_of}
 use Rattle.packet_pools.specs.Counts.{count_of}
 use Rattle.sweeper.specs.Freeing.{freed_in}
 use Rattle.gc_cycle.specs.Finishing.{IsPart, most as greatest}
-use Rattle.cycle_steps.specs.Pieces.{CleansCards, LooksAt, stretches_in}
+use Rattle.gc_cycle.specs.Pieces.{CleansCards, LooksAt, stretches_in}
 use Rattle.gc_cycle.specs.Settling.{alloc_reads}
 use Rattle.gc_cycle.specs.Sorts.{clears, draws_block, pops}
 use Rattle.gc_cycle.specs.RoundParts.{LacksPacket}
-use Rattle.cycle_steps.specs.Stepping.{FindsRunning}
-use Rattle.cycle_steps.specs.declared.card_steps.Look.TheVariants as looks
+use Rattle.gc_cycle.specs.Stepping.{FindsRunning}
+use Rattle.gc_cycle.specs.declared.card_steps.Look.TheVariants as looks
 use Rattle.gc_cycle.specs.declared.counts.Counts.{Counts}
 use Rattle.seat_steps.specs.Course.{AsksForStop, BeginsMarking, EndsBy, FindsHeapFull}
 use Rattle.seat_steps.specs.Passes.{BeginsAgain, BeginsClear, BeginsSweep, EndsSweep, FindsPacketLeft, SeesRoots, TracesFor}

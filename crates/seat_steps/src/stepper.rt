@@ -2,8 +2,8 @@
 ghost use Rattle.std.specs.Arc.{arc_value};
 ghost use Rattle.std.specs.Prelude.{◌≡◌, ◌≤◌};
 ghost use Rattle.mark_core.specs.Layout.{block_count};
-ghost use Rattle.cycle_steps.specs.Pieces.{CountsFrom, HasCounted, IsAtClear, LooksFrom, SeesRootsFrom};
-ghost use Rattle.cycle_steps.specs.Stepping.{AwaitsStop, Drains, IsAtSweep};
+ghost use Rattle.gc_cycle.specs.Pieces.{CountsFrom, HasCounted, IsAtClear, LooksFrom, SeesRootsFrom};
+ghost use Rattle.gc_cycle.specs.Stepping.{AwaitsStop, Drains, IsAtSweep};
 ghost use Rattle.seat_steps.specs.Asked.{CountsSinceAsked, MarksSinceAsked, SweepsSinceAsked, WaitsSinceAsked};
 ghost use Rattle.seat_steps.specs.Collecting.{Collects};
 ghost use Rattle.seat_turns.specs.Standing.{IsAtTurn, IsMutatorOutside};

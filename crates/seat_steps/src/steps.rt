@@ -2,8 +2,8 @@
 ghost use Rattle.std.specs.Prelude.{ℕ, ◌≡◌};
 ghost use Rattle.std.specs.Bool.{OnFalse, OnTrue};
 ghost use Rattle.gc_table.specs.Seats.{Across, state_of};
-ghost use Rattle.cycle_steps.specs.Pieces.{HasCounted};
-ghost use Rattle.cycle_steps.specs.Stepping.{AsksOnce, AwaitsStop};
+ghost use Rattle.gc_cycle.specs.Pieces.{HasCounted};
+ghost use Rattle.gc_cycle.specs.Stepping.{AsksOnce, AwaitsStop};
 ghost use Rattle.seat_steps.specs.Asked.{CountsSinceAsked, WaitsSinceAsked};
 ghost use Rattle.seat_steps.specs.Collecting.{Collects};
 ghost use Rattle.seat_steps.specs.Course.{EndsBy};
@@ -19,7 +19,7 @@ use crate::leaving::gives_own_up;
 use crate::stepper::{Stage, Stepper};
 use crate::telling::read_marking;
 use crate::tries::arrive;
-use cycle_steps::{
+use gc_cycle::{
     Look, ask_to_stop, begin_collection, clean_step, clear_step, count_step, finds_all_marked,
     finds_stopped, finish_clear, finish_count, look_step, root_piece, start_clear, start_count,
     start_sweep, stretches_of, sweep_step, trace_step,

@@ -12,7 +12,7 @@ ghost use Rattle.world_seats.specs.Sizing.{Fits};
 use crate::planning::RootPlan;
 use alloc_cache::{Cache, claim, leave_with_seat, retire};
 use cache_refills::{Pass, try_enter};
-use cycle_steps::{ask_to_stop, finds_stopped};
+use gc_cycle::{ask_to_stop, finds_stopped};
 use gc_table::{Heap, HeapSeat};
 use mark_core::{Phase, Shape, usual_stretch};
 use mutator_ops::share_create;

@@ -4,7 +4,7 @@ ghost use Rattle.std.specs.Prelude.{◌≡◌, None};
 ghost use Rattle.std.specs.Bool.{OnFalse, OnTrue};
 ghost use Rattle.gc_table.specs.Seats.{Sits, view_of};
 ghost use Rattle.gc_cycle.specs.Collecting.{HoldsWorld};
-ghost use Rattle.cycle_steps.specs.Stepping.{AwaitsStop};
+ghost use Rattle.gc_cycle.specs.Stepping.{AwaitsStop};
 ghost use Rattle.test_heaps.specs.Seats.{HasEachObject, IsReadyWithCache};
 
 use super::LARGE;
@@ -15,8 +15,7 @@ use super::opening::begun;
 use super::stages::{Collected, Drained, Marked, collects_in_steps};
 use alloc_cache::{Cache, retire};
 use cache_refills::{Pass, try_enter, try_safe_point};
-use cycle_steps::{ask_to_stop, finds_stopped};
-use gc_cycle::Counts;
+use gc_cycle::{Counts, ask_to_stop, finds_stopped};
 use gc_table::{Heap, HeapSeat};
 use mutator_ops::set;
 use test_heaps::{SMALL, take};

@@ -2,7 +2,7 @@ use Rattle.std.proofs.Common.{ℕ, ap, subst}
 use Rattle.std.proofs.lemmas.Bool.{OnTrue_at, OnTrue_from}
 use Rattle.mark_core.specs.declared.seat.SeatState.{SeatState}
 use Rattle.gc_table.specs.Seats.{view_of}
-use Rattle.cycle_steps.specs.Stepping.{AsksOnce}
+use Rattle.gc_cycle.specs.Stepping.{AsksOnce}
 use Rattle.seat_turns.proofs.Seats.{mutator-kept}
 use Rattle.seat_steps.proofs.SinceAsked.{asked-now}
 use Rattle.seat_steps.proofs.Sparing.{asks-leaves}

@@ -4,7 +4,7 @@ use Rattle.mark_core.specs.declared.kinds.Shape.{Shape}
 use Rattle.gc_table.specs.Seats.{view_of}
 use Rattle.gc_cycle.specs.Courses.{TakesCourse, sets_numbers}
 use Rattle.gc_cycle.specs.declared.counts.Counts.{Counts}
-use Rattle.cycle_steps.specs.Stepping.{EndsCollection}
+use Rattle.gc_cycle.specs.Stepping.{EndsCollection}
 use Rattle.seat_turns.proofs.Leaving.{leaves-join}
 use Rattle.seat_steps.proofs.Found.{arrives-few}
 use Rattle.seat_steps.proofs.Kept.{Kept, course-kept, runs-again}

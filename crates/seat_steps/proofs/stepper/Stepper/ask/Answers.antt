@@ -1,6 +1,6 @@
 use Rattle.std.proofs.Common.{◌∙◌, Bool, inl, refl, subst}
 use Rattle.gc_table.specs.Seats.{view_of}
-use Rattle.cycle_steps.specs.Stepping.{AsksOnce}
+use Rattle.gc_cycle.specs.Stepping.{AsksOnce}
 use Rattle.seat_turns.proofs.Leaving.{leaves-join}
 use Rattle.seat_steps.proofs.Amounts.{asks-few}
 use Rattle.seat_steps.specs.declared.stepper.Stage.TheVariants as stages

@@ -14,12 +14,12 @@ use Rattle.mutator_ops.specs.Few.{AtMost}
 use Rattle.gc_cycle.specs.Finishing.{most as greatest}
 use Rattle.gc_cycle.specs.Sorts.{clears}
 use Rattle.gc_cycle.proofs.Stops.Admitted.{count-none}
-use Rattle.cycle_steps.specs.Pieces.{CleansCards}
+use Rattle.gc_cycle.specs.Pieces.{CleansCards}
 use Rattle.seat_steps.specs.Amounts.{DoesFew}
 use Rattle.seat_steps.specs.Asked.{MarksSinceAsked}
 use Rattle.seat_steps.specs.Bounds.{cleaning_steps}
 use Rattle.seat_steps.specs.Collecting.{Collects}
-use Rattle.cycle_steps.specs.Stepping.{Drains}
+use Rattle.gc_cycle.specs.Stepping.{Drains}
 use Rattle.seat_steps.specs.Steps.{cards_left}
 use Rattle.seat_steps.specs.declared.stepper.Stage.TheVariants as stages
 use Rattle.seat_steps.proofs.Kept.{Kept, goes-on, keeps-all, part-kept, sits-in}

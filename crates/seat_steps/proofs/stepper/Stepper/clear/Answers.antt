@@ -8,8 +8,8 @@ use Rattle.gc_table.specs.declared.view.View.{View}
 use Rattle.packet_pools.specs.Counts.{count_of}
 use Rattle.gc_cycle.specs.Sorts.{draws_block}
 use Rattle.gc_cycle.proofs.Stops.Admitted.{count-run}
-use Rattle.cycle_steps.specs.Pieces.{stretches_in}
-use Rattle.cycle_steps.proofs.Courses.{part-unpopped}
+use Rattle.gc_cycle.specs.Pieces.{stretches_in}
+use Rattle.gc_cycle.proofs.CourseSteps.{part-unpopped}
 use Rattle.mutator_ops.specs.Few.{AtMost}
 use Rattle.mutator_ops.proofs.Few.{at-most-join}
 use Rattle.seat_steps.specs.Amounts.{PassesFew}

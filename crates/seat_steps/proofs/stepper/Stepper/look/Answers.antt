@@ -6,8 +6,8 @@ use Rattle.gc_table.specs.Seats.{Across, did, view_of}
 use Rattle.gc_table.specs.declared.seat.Heap.{Heap}
 use Rattle.gc_table.specs.declared.view.View.{View}
 use Rattle.mutator_ops.proofs.Few.{at-most-more}
-use Rattle.cycle_steps.specs.Pieces.{LooksAt}
-use Rattle.cycle_steps.specs.declared.card_steps.Look.TheVariants as looks
+use Rattle.gc_cycle.specs.Pieces.{LooksAt}
+use Rattle.gc_cycle.specs.declared.card_steps.Look.TheVariants as looks
 use Rattle.seat_steps.specs.Amounts.{DoesFew}
 use Rattle.seat_steps.specs.Asked.{MarksSinceAsked}
 use Rattle.seat_steps.specs.Collecting.{Collects}

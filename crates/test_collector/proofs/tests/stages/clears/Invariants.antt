@@ -1,5 +1,5 @@
 use Rattle.gc_table.specs.Seats.{view_of}
-use Rattle.cycle_steps.specs.Pieces.{IsAtClear}
+use Rattle.gc_cycle.specs.Pieces.{IsAtClear}
 use Rattle.test_heaps.specs.Seats.{HasEachObject}
 use Rattle.test_collector.proofs.tests.stages.clears.Given as goal
 

@@ -1,5 +1,5 @@
 use Rattle.gc_table.specs.Seats.{view_of}
-use Rattle.cycle_steps.specs.Pieces.{CountsFrom}
+use Rattle.gc_cycle.specs.Pieces.{CountsFrom}
 use Rattle.test_heaps.specs.Seats.{HasEachObject}
 use Rattle.test_collector.proofs.tests.stages.counts.Given as goal
 

@@ -1,5 +1,5 @@
 use Rattle.gc_table.specs.Seats.{view_of}
-use Rattle.cycle_steps.specs.Stepping.{IsAtSweep}
+use Rattle.gc_cycle.specs.Stepping.{IsAtSweep}
 use Rattle.test_heaps.specs.Seats.{HasEachObject}
 use Rattle.test_collector.proofs.tests.stages.sweeps.Given as goal
 

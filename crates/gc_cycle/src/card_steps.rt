@@ -1,0 +1,164 @@
+//! A drain in pieces, once the roots are seen to.
+ghost use Rattle.std.specs.Prelude.{◌≡◌, ◌≤◌, ◌+◌, ◌-◌, min, length, IsTrue, IfSome, IfNone, ◌*◌};
+ghost use Rattle.std.specs.Bool.{OnFalse, OnTrue};
+ghost use Rattle.mark_core.specs.Layout.{card_count};
+ghost use Rattle.mark_core.specs.declared.kinds.Phase.TheVariants.{Drain};
+ghost use Rattle.mark_core.specs.Cards.{card_cells};
+ghost use Rattle.gc_table.specs.Log.{Only};
+ghost use Rattle.gc_table.specs.Seats.{Across, did, Sits, view_of};
+ghost use Rattle.gc_table.specs.declared.view.View.{View};
+ghost use Rattle.packet_pools.specs.Counts.{count_of};
+ghost use Rattle.tracer.specs.StepBounds.{recycle_steps, trace_steps};
+ghost use Rattle.card_clean.specs.StepBounds.{clean_some_steps};
+ghost use Rattle.gc_cycle.specs.Events.{never};
+ghost use Rattle.gc_cycle.specs.Finishing.{IsPart};
+ghost use Rattle.gc_cycle.specs.Sorts.{clears, pops};
+ghost use Rattle.gc_cycle.specs.Statistics.{leaves_numbers};
+ghost use Rattle.gc_cycle.specs.RoundParts.{BringsBack, LacksPacket};
+ghost use Rattle.gc_cycle.specs.Turns.{DrainsFor};
+ghost use Rattle.gc_cycle.specs.Pieces.{CleansCards, HasLooked, LooksAt, LooksFrom, ReadsCount, StandsAfter};
+ghost use Rattle.gc_cycle.specs.Stepping.{Drains, HasMarkedAll, IsExactSince, Keeps};
+
+use crate::pieces::at_most;
+use card_clean::{clean_some, dirty_between};
+use crate::tracing::{recycle_deferred, sees_all_empty, trace};
+use gc_table::{Heap, HeapSeat};
+use mark_core::CARD_CELLS;
+
+/// What a look at some cards came to.
+#[derive(Clone, Copy, Debug, PartialEq, Eq, Drop)]
+pub enum Look {
+    /// So many cards are clean: none is left if they are fewer than asked for.
+    Clean(u32),
+    /// This card is dirty.
+    Dirty(u32),
+}
+
+/// What a step of cleaning came to.
+#[derive(Clone, Copy, Debug, PartialEq, Eq, Drop)]
+pub struct CleanStep {
+    /// How many cards it passed: none is left if they are fewer than asked for.
+    pub passed: u32,
+    /// How many of them it cleaned.
+    pub cleaned: u32,
+}
+
+/// Brings back what was deferred, and traces at most `most` objects: how many it popped, fewer only if at some
+/// moment there was none.
+pub fn trace_step(heap: &Heap, seat: &mut HeapSeat, most: u32) -> u32
+    requires seat { Sits heap.now seat.old }
+    requires drains { Drains (view_of seat.old) }
+    ensures seat { Sits heap.now seat.new }
+    ensures part { Across (IsPart Drain) seat.old seat.new }
+    ensures drains { Drains (view_of seat.new) }
+    ensures popped { (result ≤ most) × (count_of pops (did seat.old seat.new) ≡ result) }
+    ensures brings { Across BringsBack seat.old seat.new }
+    ensures worked { Across (DrainsFor most) seat.old seat.new }
+    ensures exact { (u : View) → IsExactSince u (view_of seat.old) → IsExactSince u (view_of seat.new) }
+    ensures numbers { Across (Only leaves_numbers) seat.old seat.new }
+    ensures keeps { Across Keeps seat.old seat.new }
+    ensures few { length (did seat.old seat.new) ≤ recycle_steps heap.now.shape + trace_steps result heap.now.shape }
+{
+    recycle_deferred(heap, seat);
+    let traced = trace(heap, seat, most);
+    traced.done
+}
+
+/// Looks at no more than `most` cards from `from` on, up to the first dirty one. What it saw clean stays noted
+/// while the seat does nothing else.
+pub fn look_step(heap: &Heap, seat: &mut HeapSeat, from: u32, most: u32) -> Look
+    requires seat { Sits heap.now seat.old }
+    requires looks { LooksFrom from (view_of seat.old) }
+    ensures seat { Sits heap.now seat.new }
+    ensures part { Across (IsPart Drain) seat.old seat.new }
+    ensures looked { LooksAt heap.now.shape from most result (did seat.old seat.new) }
+    ensures stands { StandsAfter from most result (view_of seat.new) }
+    ensures few { length (did seat.old seat.new) ≤ most }
+    ensures exact { (u : View) → IsExactSince u (view_of seat.old) → IsExactSince u (view_of seat.new) }
+    ensures numbers { Across (Only leaves_numbers) seat.old seat.new }
+    ensures keeps { Across Keeps seat.old seat.new }
+{
+    let number = at_most(most, from, heap.shape().cells / CARD_CELLS);
+    match dirty_between(heap, seat, from, from + number) {
+        Some(card) => Look::Dirty(card),
+        None => Look::Clean(number),
+    }
+}
+
+/// Whether all is marked, once each card was seen clean: by one look at the count of empty packets.
+pub fn finds_all_marked(heap: &Heap, seat: &mut HeapSeat) -> bool
+    requires seat { Sits heap.now seat.old }
+    requires looked { HasLooked (view_of seat.old) }
+    ensures seat { Sits heap.now seat.new }
+    ensures part { Across (IsPart Drain) seat.old seat.new }
+    ensures marked { OnTrue result (HasMarkedAll (view_of seat.new)) }
+    ensures not_yet { OnFalse result (Drains (view_of seat.new)) }
+    ensures reads { Across (ReadsCount result) seat.old seat.new }
+    ensures exact { (u : View) → IsExactSince u (view_of seat.old) → IsExactSince u (view_of seat.new) }
+    ensures numbers { Across (Only leaves_numbers) seat.old seat.new }
+    ensures keeps { Across Keeps seat.old seat.new }
+{
+    sees_all_empty(heap, seat)
+}
+
+/// Cleans those of these cards that are dirty, and answers how many; None if no packet can be had. Then what was
+/// deferred is brought back, which is all that can keep packets from a seat that is alone.
+fn cleans_some(heap: &Heap, seat: &mut HeapSeat, first: u32, end: u32) -> Option<u32>
+    requires seat { Sits heap.now seat.old }
+    requires drains { Drains (view_of seat.old) }
+    requires cards { (first ≤ end) × (end ≤ card_count heap.now.shape) }
+    ensures seat { Sits heap.now seat.new }
+    ensures part { Across (IsPart Drain) seat.old seat.new }
+    ensures drains { Drains (view_of seat.new) }
+    ensures unpopped { IsTrue (never pops (did seat.old seat.new)) }
+    ensures numbers { Across (Only leaves_numbers) seat.old seat.new }
+    ensures cleaned { IfSome result (λ _. Across (CleansCards first (end - first)) seat.old seat.new) }
+    ensures counts { IfSome result (λ n. (n ≤ end - first) × (count_of clears (did seat.old seat.new) ≡ n)) }
+    ensures lacks { IfNone result (Across LacksPacket seat.old seat.new) }
+    ensures uncleaned { IfNone result (IsTrue (never clears (did seat.old seat.new))) }
+    ensures few { length (did seat.old seat.new) ≤ clean_some_steps (end - first) (card_cells * (end - first)) heap.now.shape + recycle_steps heap.now.shape }
+{
+    match clean_some(heap, seat, first, end) {
+        Some(cleaned) => Some(cleaned.cards),
+        None => {
+            recycle_deferred(heap, seat);
+            None
+        }
+    }
+}
+
+/// Looks at no more than `most` cards from `from` on, and cleans those that are dirty. It passes fewer only if none
+/// is left. None means that no packet could be had: the deferred ones are back, and it is to be called again.
+///
+/// A card may be dirty again afterwards, so another look is due.
+pub fn clean_step(heap: &Heap, seat: &mut HeapSeat, from: u32, most: u32) -> Option<CleanStep>
+    requires seat { Sits heap.now seat.old }
+    requires drains { Drains (view_of seat.old) }
+    ensures seat { Sits heap.now seat.new }
+    ensures part { Across (IsPart Drain) seat.old seat.new }
+    ensures drains { Drains (view_of seat.new) }
+    ensures unpopped { IsTrue (never pops (did seat.old seat.new)) }
+    ensures cleaned { IfSome result (λ r. (r.passed ≡ min most (card_count heap.now.shape - from)) × Across (CleansCards from r.passed) seat.old seat.new) }
+    ensures counts { IfSome result (λ r. (r.cleaned ≤ r.passed) × (count_of clears (did seat.old seat.new) ≡ r.cleaned)) }
+    ensures lacks { IfNone result (Across LacksPacket seat.old seat.new) }
+    ensures uncleaned { IfNone result (IsTrue (never clears (did seat.old seat.new))) }
+    ensures exact { (u : View) → IsExactSince u (view_of seat.old) → IsExactSince u (view_of seat.new) }
+    ensures numbers { Across (Only leaves_numbers) seat.old seat.new }
+    ensures keeps { Across Keeps seat.old seat.new }
+    ensures few { length (did seat.old seat.new) ≤ clean_some_steps most (card_cells * most) heap.now.shape + recycle_steps heap.now.shape }
+{
+    let number = at_most(most, from, heap.shape().cells / CARD_CELLS);
+    if number == 0 {
+        return Some(CleanStep {
+            passed: 0,
+            cleaned: 0,
+        });
+    }
+    match cleans_some(heap, seat, from, from + number) {
+        Some(cleaned) => Some(CleanStep {
+            passed: number,
+            cleaned,
+        }),
+        None => None,
+    }
+}
