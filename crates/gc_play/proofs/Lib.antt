@@ -17,3 +17,7 @@ pub mod TurnCuts
 pub mod Rounds
 pub mod Seasons
 pub mod Outside
+pub mod Ends
+pub mod Taking
+pub mod Plays
+pub mod Faulted

@@ -6,3 +6,8 @@ pub mod Crews
 pub mod Options
 pub mod Turns
 pub mod Answers
+pub mod Promise
+pub mod RunAnswers
+pub mod Ending
+pub mod Reading
+pub mod Given

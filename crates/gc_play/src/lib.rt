@@ -32,17 +32,31 @@
 
 mod crew;
 mod entering;
+mod fault;
 mod gate;
 mod gathering;
 mod limits;
 mod marking;
 mod playing;
+mod run;
 mod season;
+mod settling;
+mod source;
+mod status;
+mod stopped;
 mod tracers;
+mod words;
 mod workers;
 
+pub use fault::tell_fault;
 pub use gate::OpenGate;
 pub use play_end::{Options, PlayError};
 pub use playing::{play, play_final};
+pub use run::{play_bytes, play_source};
+pub use settling::settle;
+pub use source::{BATCH, DUMP, SCHEDULE, SCRIPT, Unread, read_source};
+pub use status::Status;
+pub use stopped::tell_stop;
 pub use tracers::run_tracer;
 pub use warehouse::Gate;
+pub use words::{given_words, run_words};

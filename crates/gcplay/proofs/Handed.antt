@@ -2,7 +2,7 @@
 use Rattle.std.proofs.Common.{◌≡◌, ℕ, List, [], ◌++◌, ap, ◌∙◌, subst, append-nil, inl, inr, arith}
 use Rattle.std.specs.Prelude.{Option, Some, None}
 use Rattle.std.specs.Io.KnownBytes.{Appends, Keeps, append_known}
-use Rattle.play_run.specs.Promise.{HasItsText, WritesSome}
+use Rattle.gc_play.specs.Promise.{HasItsText, WritesSome}
 
 -- what was appended to nothing gathered, and then kept, was appended to what the sink behind had
 appended : (old took new : Option (List ℕ)) (text : List ℕ) → Appends (append_known old []) took text → Keeps took new → Appends old new text

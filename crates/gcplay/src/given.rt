@@ -1,10 +1,10 @@
 ghost use Rattle.std.specs.Prelude.{◌≡◌, ◌<◌, ◌-◌, ◌^◌, ◌⊎◌, Some};
 ghost use Rattle.std.specs.Io.KnownBytes.{Keeps};
 ghost use Rattle.command_words.specs.Words.{Options, Run};
-ghost use Rattle.play_run.specs.Promise.{FromSource, HasItsText, WritesSome, wanted};
+ghost use Rattle.gc_play.specs.Promise.{FromSource, HasItsText, WritesSome, wanted};
 ghost use Rattle.play_words.specs.Answers.{IsAnswer};
 ghost use Rattle.play_words.specs.Running.{IsRunText};
-ghost use Rattle.play_run.specs.Given.{words_behind};
+ghost use Rattle.gc_play.specs.Given.{words_behind};
 
 use gc_play::OpenGate;
 use play_report::{GatheredSink, Sink, Source};

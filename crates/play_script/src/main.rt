@@ -2,9 +2,8 @@
 //! `./play` runs it by `rt try`.
 #![tactic(auto)]
 
-use gc_play::OpenGate;
+use gc_play::{OpenGate, given_words, run_words, settle};
 use play_report::{GatheredSink, StdSink, StdSource};
-use play_run::{given_words, run_words, settle};
 use std::env;
 use std::process::ExitCode;
 

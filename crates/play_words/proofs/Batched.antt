@@ -12,11 +12,11 @@ use Rattle.job_pool.specs.declared.fault.BatchError.{BatchError}
 use Rattle.job_pool.specs.declared.fault.BatchError.TheVariants as errors
 use Rattle.command_words.specs.Words.{Options}
 use Rattle.play_words.specs.Batching.{FitsJob, BatchesTo, IsBatchAnswer, IsBatchFault, batch_error_text, text_of_batch_fault, job_line_text, job_text}
-use Rattle.play_run.specs.RunAnswers.{IsRunAnswer}
-use Rattle.play_run.specs.Ending.{TextEnds, number_of_status}
+use Rattle.gc_play.specs.RunAnswers.{IsRunAnswer}
+use Rattle.gc_play.specs.Ending.{TextEnds, number_of_status}
 use Rattle.play_words.specs.Roomy.{IsOf, AreFew}
-use Rattle.play_run.specs.declared.status.Status.{Status}
-use Rattle.play_run.specs.declared.status.Status.TheVariants as ends
+use Rattle.gc_play.specs.declared.status.Status.{Status}
+use Rattle.gc_play.specs.declared.status.Status.TheVariants as ends
 use Rattle.play_words.proofs.Roomy.{run_few}
 
 -- a job is full only if its cells are few

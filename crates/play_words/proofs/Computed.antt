@@ -11,7 +11,7 @@ use Rattle.gc_script.specs.Script.{Script, script}
 use Rattle.load_gen.specs.Generated.{generated}
 use Rattle.play_report.specs.Text.{report_text, outcomes, fault_text, load_text, IsReportText}
 use Rattle.command_words.specs.Words.{Options}
-use Rattle.play_run.specs.RunAnswers.{IsRunAnswer, RunAnswersTo}
+use Rattle.gc_play.specs.RunAnswers.{IsRunAnswer, RunAnswersTo}
 use Rattle.play_words.specs.Loading.{IsLoadAnswer, LoadsTo}
 
 abbrev pub sections_in : Result Script Fault → Sections

@@ -10,7 +10,7 @@ use Rattle.play_report.specs.Text.{IsReportText, IsFullText}
 use Rattle.play_end.proofs.OneReport.{one-text}
 use Rattle.command_words.specs.Words.{Options}
 use Rattle.play_words.specs.Converting.{ConvertsTo}
-use Rattle.play_run.specs.RunAnswers.{PlaysTo, RunAnswersTo, IsRunAnswer}
+use Rattle.gc_play.specs.RunAnswers.{PlaysTo, RunAnswersTo, IsRunAnswer}
 use Rattle.play_words.specs.Laws.{ConversionsAnswer, ConversionsRunAlike}
 use Rattle.play_words.proofs.Unlined.{lines-off, lines-on}
 use Rattle.play_words.proofs.AlikeTexts.{report-alike, full-alike}

@@ -9,9 +9,9 @@ use Rattle.gc_script.specs.Meaning.{Means, sections, turned}
 use Rattle.gc_script.specs.Script.{Script, script}
 use Rattle.gc_script.proofs.Meant.{scripts-mean}
 use Rattle.command_words.specs.Words.{Options}
-use Rattle.play_run.specs.Promise.{FromSource, OfSource, Wrote, WritesSome}
+use Rattle.gc_play.specs.Promise.{FromSource, OfSource, Wrote, WritesSome}
 use Rattle.play_words.specs.Running.{IsRunText, IsRunFull}
-use Rattle.play_run.specs.RunAnswers.{PlaysTo, RunAnswersTo, IsRunAnswer}
+use Rattle.gc_play.specs.RunAnswers.{PlaysTo, RunAnswersTo, IsRunAnswer}
 
 played : (o : Options) (bytes text : List ℕ) (s : Script) → script bytes ≡ Ok s → PlaysTo o s 0 text → IsRunText o bytes text
 played o bytes text s is (inl a) = record { sections = s.sections; meant = scripts-mean bytes s is; report = a.1 }

@@ -3,7 +3,7 @@ use Rattle.std.proofs.Common.{refl, codes, false}
 use Rattle.std.specs.Fmt.{digits}
 use Rattle.play_report.specs.Text.{named_text, printed_text, pair_text, triple_text}
 use Rattle.command_words.specs.Words.{Options}
-use Rattle.play_run.specs.RunAnswers.{IsRunAnswer}
+use Rattle.gc_play.specs.RunAnswers.{IsRunAnswer}
 use Rattle.play_words.proofs.Computed.{done, faulty}
 
 abbrev usual : Options

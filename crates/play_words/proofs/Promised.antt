@@ -7,7 +7,7 @@ use Rattle.gc_script.specs.Convert.{Conversion, convert}
 use Rattle.load_gen.specs.Generated.{generated}
 use Rattle.play_report.specs.Text.{usage_text}
 use Rattle.command_words.specs.Words.{Options, Command, Run, Gen, Load, Convert, Schedule, Dump, Undump, Census, Batch}
-use Rattle.play_run.specs.RunAnswers.{RunAnswersTo}
+use Rattle.gc_play.specs.RunAnswers.{RunAnswersTo}
 use Rattle.play_words.specs.Loading.{LoadsTo}
 use Rattle.play_words.specs.Converting.{ConvertsTo}
 use Rattle.job_pool.specs.Batch.{FaultOfBatch as BatchFault, batch}

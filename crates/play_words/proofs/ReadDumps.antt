@@ -14,7 +14,7 @@ use Rattle.command_words.specs.Words.{Options}
 use Rattle.play_words.specs.Dumping.{DumpsTo, EndsDoneOrFull, IsEndAnswer}
 use Rattle.play_words.specs.Counting.{IsCensusAnswer, IsCensusText, IsCountOf}
 use Rattle.play_words.specs.DumpReading.{OfDump}
-use Rattle.play_run.specs.Ending.{IsFaultAnswer}
+use Rattle.gc_play.specs.Ending.{IsFaultAnswer}
 
 -- bytes with a fault are told so
 pub read_fault : (P : DumpedHeap → List ℕ → Type 0) (bytes : List ℕ) (e : DumpError) → Some e ≡ first_dump_fault bytes → OfDump P bytes (first_dump_fault bytes) 2 (dump_fault_text e)

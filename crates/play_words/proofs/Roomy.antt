@@ -12,7 +12,7 @@ use Rattle.load_gen.proofs.FewObjects.{generated_few}
 use Rattle.load_gen.proofs.Whole.{generated_script}
 use Rattle.play_report.specs.Text.{IsFullText}
 use Rattle.command_words.specs.Words.{Options, Command, Run, Gen, Load, Convert, Schedule, Dump, Undump, Census, Batch}
-use Rattle.play_run.specs.RunAnswers.{RunAnswersTo}
+use Rattle.gc_play.specs.RunAnswers.{RunAnswersTo}
 use Rattle.play_words.specs.Loading.{LoadsTo}
 use Rattle.play_words.specs.Dumping.{DumpsTo}
 use Rattle.play_words.specs.Answers.{IsAnswer}

@@ -5,10 +5,10 @@ use Rattle.play_report.specs.Causes.{Rose}
 use Rattle.schedule_check.specs.Telling.{status_of}
 use Rattle.command_words.specs.Words.{Command, Schedule}
 use Rattle.play_words.specs.Answers.{IsAnswer}
-use Rattle.play_run.specs.Promise.{HasItsText, WritesSome, WritesFront, Wrote}
-use Rattle.play_run.specs.Ending.{number_of_status, CommandEnds}
-use Rattle.play_run.specs.declared.status.Status.{Status}
-use Rattle.play_run.specs.declared.status.Status.TheVariants as ends
+use Rattle.gc_play.specs.Promise.{HasItsText, WritesSome, WritesFront, Wrote}
+use Rattle.gc_play.specs.Ending.{number_of_status, CommandEnds}
+use Rattle.gc_play.specs.declared.status.Status.{Status}
+use Rattle.gc_play.specs.declared.status.Status.TheVariants as ends
 use Rattle.play_words.proofs.Promised.{refusal_is_schedule, usage_is_refusal}
 
 not_risen : (before now : ℕ) → before < 2 ^ 64 - 1 → now ≡ before → Rose before now → ⊥

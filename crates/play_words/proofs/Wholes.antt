@@ -14,7 +14,7 @@ use Rattle.schedule_check.specs.Faults as schedules
 use Rattle.schedule_check.specs.Schedule.{Schedule, schedule, of_schedule_text as schedule_of_text}
 use Rattle.schedule_check.specs.Telling.{IsToldAs, IsScheduleAnswer}
 use Rattle.command_words.specs.Words.{Options}
-use Rattle.play_run.proofs.Taking.{IsOfWhole, all_taken, long_script, same_meaning}
+use Rattle.gc_play.proofs.Taking.{IsOfWhole, all_taken, long_script, same_meaning}
 use Rattle.play_words.specs.Converting.{IsConvertAnswer, ConvertsTo}
 use Rattle.play_words.specs.Batching.{IsBatchAnswer, BatchesTo}
 use Rattle.play_words.specs.Dumping.{IsDumpAnswer, DumpsTo}

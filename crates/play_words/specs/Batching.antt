@@ -9,7 +9,7 @@ use Rattle.job_pool.specs.Jobs.{ArePlayed}
 use Rattle.job_pool.specs.declared.done.JobDone.{JobDone}
 use Rattle.job_pool.specs.declared.fault.BatchError.{BatchError}
 use Rattle.command_words.specs.Words.{Options}
-use Rattle.play_run.specs.RunAnswers.{IsRunAnswer}
+use Rattle.gc_play.specs.RunAnswers.{IsRunAnswer}
 use Rattle.play_words.specs.Roomy.{IsOf, AreFew}
 
 -- a job of a batch fits its script; out of memory has no text

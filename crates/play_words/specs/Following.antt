@@ -2,8 +2,8 @@
 use Rattle.std.specs.Prelude.{ℕ, ◌≡◌, List, Option, Some, None}
 use Rattle.schedule_check.specs.Telling.{IsScheduleAnswer}
 use Rattle.command_words.specs.Words.{Options, Command, Run, Gen, Load, Convert, Schedule, Dump, Undump, Census, Batch}
-use Rattle.play_run.specs.Promise.{HasItsText, OfSource, Wrote}
-use Rattle.play_run.specs.RunAnswers.{IsRunAnswer}
+use Rattle.gc_play.specs.Promise.{HasItsText, OfSource, Wrote}
+use Rattle.gc_play.specs.RunAnswers.{IsRunAnswer}
 use Rattle.play_words.specs.Generating.{IsGenAnswer}
 use Rattle.play_words.specs.Loading.{IsLoadAnswer}
 use Rattle.play_words.specs.Converting.{IsConvertAnswer}
@@ -11,7 +11,7 @@ use Rattle.play_words.specs.Dumping.{IsDumpAnswer}
 use Rattle.play_words.specs.Undumping.{IsUndumpAnswer}
 use Rattle.play_words.specs.Counting.{IsCensusAnswer}
 use Rattle.play_words.specs.Batching.{IsBatchAnswer}
-use Rattle.play_run.specs.RunAnswers.{IsUsageAnswer}
+use Rattle.gc_play.specs.RunAnswers.{IsUsageAnswer}
 use Rattle.play_words.specs.Answers.{IsAnswer}
 use Rattle.play_words.specs.Statuses.{EndsWith}
 

@@ -15,7 +15,7 @@ use Rattle.dump_census.specs.declared.counts.SectionCount.{SectionCount}
 use Rattle.play_words.specs.Final.{IsFinalHeap}
 use Rattle.command_words.specs.Words.{Options}
 use Rattle.play_words.specs.Running.{IsRunText}
-use Rattle.play_run.specs.RunAnswers.{IsRunAnswer}
+use Rattle.gc_play.specs.RunAnswers.{IsRunAnswer}
 use Rattle.play_words.specs.Converting.{IsConvertAnswer}
 use Rattle.play_words.specs.Loading.{IsLoadAnswer}
 use Rattle.play_words.specs.Counting.{IsCensusAnswer}

@@ -5,10 +5,10 @@
 //! that `specs/Answers.antt` allows it.
 ghost use Rattle.std.specs.Prelude.{◌≡◌, IfSome, Some, true, false};
 ghost use Rattle.command_words.specs.Commands.{IsCommandInRange, command_of};
-ghost use Rattle.play_run.specs.Ending.{CommandEnds, number_of_status};
-ghost use Rattle.play_run.specs.Promise.{HasItsText, enough_for, reads_source};
+ghost use Rattle.gc_play.specs.Ending.{CommandEnds, number_of_status};
+ghost use Rattle.gc_play.specs.Promise.{HasItsText, enough_for, reads_source};
 ghost use Rattle.play_words.specs.Answers.{IsAnswer};
-ghost use Rattle.play_run.specs.Reading.{IsSpent, TakesAtMost};
+ghost use Rattle.gc_play.specs.Reading.{IsSpent, TakesAtMost};
 ghost use Rattle.play_report.specs.Causes.{AcrossSink};
 
 mod batch;
@@ -25,11 +25,10 @@ use census::census_source;
 use command_words::Asked;
 use convert::convert_source;
 use dump::dump_source;
-use gc_play::Gate;
+use gc_play::{Gate, Status, play_source};
 use generate::write_generated;
 use load::load_generated;
 use play_report::{Sink, Source};
-use play_run::{Status, play_source};
 use schedule::check_source;
 use std::alloc::Global;
 use std::sync::Wait;

@@ -16,5 +16,5 @@ pub use laws::{
     dumps_tell_survivors, final_heaps_are_reached, loads_alike, one_final_heap, runs_alike,
     statuses_follow,
 };
-pub use play_run::{given_words, settle};
+pub use gc_play::{given_words, settle};
 pub use program::play_words;

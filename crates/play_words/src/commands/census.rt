@@ -2,15 +2,15 @@
 ghost use Rattle.std.specs.Prelude.{IfSome};
 ghost use Rattle.heap_dump.specs.Reading.{heap_of_dump};
 ghost use Rattle.play_words.specs.Counting.{IsCensusAnswer, IsCountOf};
-ghost use Rattle.play_run.specs.Ending.{CommandEnds, TextEnds, number_of_status};
-ghost use Rattle.play_run.specs.Promise.{HasItsText, OfSource};
-ghost use Rattle.play_run.specs.Reading.{IsSpent, TakesAtMost};
+ghost use Rattle.gc_play.specs.Ending.{CommandEnds, TextEnds, number_of_status};
+ghost use Rattle.gc_play.specs.Promise.{HasItsText, OfSource};
+ghost use Rattle.gc_play.specs.Reading.{IsSpent, TakesAtMost};
 ghost use Rattle.play_report.specs.Causes.{AcrossSink};
 
 use dump_census::{census, write_census};
 use heap_dump::{Dump, read_dump, write_dump_fault};
 use play_report::{Sink, Source};
-use play_run::{DUMP, Status, Unread, read_source};
+use gc_play::{DUMP, Status, Unread, read_source};
 use std::alloc::Global;
 use std::thread::Threads;
 

@@ -4,14 +4,14 @@ ghost use Rattle.gc_script.specs.Convert.{added_lines, converted_text};
 ghost use Rattle.gc_script.specs.Converting.{conversion_of};
 ghost use Rattle.play_report.specs.Causes.{AcrossSink, WritesTo};
 ghost use Rattle.play_words.specs.Converting.{IsConvertAnswer};
-ghost use Rattle.play_run.specs.Ending.{CommandEnds, TextEnds, number_of_status};
-ghost use Rattle.play_run.specs.Promise.{HasItsText, OfSource};
-ghost use Rattle.play_run.specs.Reading.{IsSpent, TakesAtMost};
+ghost use Rattle.gc_play.specs.Ending.{CommandEnds, TextEnds, number_of_status};
+ghost use Rattle.gc_play.specs.Promise.{HasItsText, OfSource};
+ghost use Rattle.gc_play.specs.Reading.{IsSpent, TakesAtMost};
 
 use crate::lines::write_lines;
 use gc_script::{Converted, ScriptError, convert};
 use play_report::{Failed, Sink, Source};
-use play_run::{SCRIPT, Status, Unread, read_source, tell_fault};
+use gc_play::{SCRIPT, Status, Unread, read_source, tell_fault};
 use std::alloc::Global;
 
 fn write_added<K: Sink>(added: bool, sink: &mut K) -> Result<(), Failed>

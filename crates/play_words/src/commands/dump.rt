@@ -4,9 +4,9 @@ ghost use Rattle.command_words.specs.Commands.{options_of};
 ghost use Rattle.play_end.specs.Answers.{AreInRange};
 ghost use Rattle.play_words.specs.EndOfPlay.{IsEndOf};
 ghost use Rattle.play_words.specs.Dumping.{EndsDoneOrFull, IsDumpAnswer, IsEndAnswer};
-ghost use Rattle.play_run.specs.Ending.{CommandEnds, TextEnds, number_of_status};
-ghost use Rattle.play_run.specs.Promise.{HasItsText, OfSource};
-ghost use Rattle.play_run.specs.Reading.{IsSpent, TakesAtMost};
+ghost use Rattle.gc_play.specs.Ending.{CommandEnds, TextEnds, number_of_status};
+ghost use Rattle.gc_play.specs.Promise.{HasItsText, OfSource};
+ghost use Rattle.gc_play.specs.Reading.{IsSpent, TakesAtMost};
 ghost use Rattle.play_report.specs.Causes.{AcrossSink};
 
 mod ending;
@@ -14,13 +14,12 @@ mod numbers;
 mod telling;
 
 use ending::final_heap;
-use gc_play::{Gate, play_final};
+use gc_play::{Gate, SCRIPT, Status, Unread, play_final, read_source, tell_fault, tell_stop};
 use gc_script::{Script, ScriptError, read};
 use gc_table::Words;
 use heap_dump::write_dump;
 use play_end::Options;
 use play_report::{Report, Sink, Source};
-use play_run::{SCRIPT, Status, Unread, read_source, tell_fault, tell_stop};
 use std::alloc::Global;
 use std::sync::Wait;
 use std::thread::Threads;

@@ -1,13 +1,13 @@
 //! The command `gen`: writes a generated script.
 ghost use Rattle.std.specs.Prelude.{◌≤◌};
 ghost use Rattle.play_words.specs.Generating.{IsGenAnswer};
-ghost use Rattle.play_run.specs.Ending.{TextEnds};
+ghost use Rattle.gc_play.specs.Ending.{TextEnds};
 ghost use Rattle.play_report.specs.Causes.{AcrossSink};
 
 use crate::lines::write_lines;
 use load_gen::generate;
 use play_report::Sink;
-use play_run::Status;
+use gc_play::Status;
 use std::alloc::Global;
 
 /// Writes the generated script of this number, with this many lines a warehouse, each line as one piece.

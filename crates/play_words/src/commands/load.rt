@@ -4,16 +4,15 @@ ghost use Rattle.gc_script.specs.Script.{script as meaning};
 ghost use Rattle.load_gen.specs.FourWarehouses.{HasFourWarehouses};
 ghost use Rattle.play_words.specs.Loading.{IsLoadAnswer, LoadsTo};
 ghost use Rattle.command_words.specs.Commands.{options_of};
-ghost use Rattle.play_run.specs.Ending.{TextEnds};
+ghost use Rattle.gc_play.specs.Ending.{TextEnds};
 ghost use Rattle.play_end.specs.Answers.{AreInRange};
 ghost use Rattle.play_report.specs.Causes.{AcrossSink};
 
-use gc_play::{Gate, play};
+use gc_play::{Gate, Status, play, tell_stop};
 use gc_script::{Script, read};
 use load_gen::generate;
 use play_end::Options;
 use play_report::{Sink, write_load};
-use play_run::{Status, tell_stop};
 use std::alloc::Global;
 use std::sync::Wait;
 use std::thread::Threads;

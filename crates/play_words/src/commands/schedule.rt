@@ -1,12 +1,12 @@
 ghost use Rattle.std.specs.Prelude.{IfSome};
 ghost use Rattle.schedule_check.specs.Telling.{IsScheduleAnswer};
-ghost use Rattle.play_run.specs.Ending.{CommandEnds, TextEnds, number_of_status};
-ghost use Rattle.play_run.specs.Promise.{HasItsText, OfSource};
-ghost use Rattle.play_run.specs.Reading.{IsSpent, TakesAtMost};
+ghost use Rattle.gc_play.specs.Ending.{CommandEnds, TextEnds, number_of_status};
+ghost use Rattle.gc_play.specs.Promise.{HasItsText, OfSource};
+ghost use Rattle.gc_play.specs.Reading.{IsSpent, TakesAtMost};
 ghost use Rattle.play_report.specs.Causes.{AcrossSink};
 
 use play_report::{Sink, Source};
-use play_run::{SCHEDULE, Status, Unread, read_source};
+use gc_play::{SCHEDULE, Status, Unread, read_source};
 use schedule_check::{Told, Untold, tell_schedule};
 use std::alloc::Global;
 

@@ -1,14 +1,14 @@
 //! The command `undump`: writes the records of the source's dump.
 ghost use Rattle.std.specs.Prelude.{IfSome};
 ghost use Rattle.play_words.specs.Undumping.{IsUndumpAnswer};
-ghost use Rattle.play_run.specs.Ending.{CommandEnds, TextEnds, number_of_status};
-ghost use Rattle.play_run.specs.Promise.{HasItsText, OfSource};
-ghost use Rattle.play_run.specs.Reading.{IsSpent, TakesAtMost};
+ghost use Rattle.gc_play.specs.Ending.{CommandEnds, TextEnds, number_of_status};
+ghost use Rattle.gc_play.specs.Promise.{HasItsText, OfSource};
+ghost use Rattle.gc_play.specs.Reading.{IsSpent, TakesAtMost};
 ghost use Rattle.play_report.specs.Causes.{AcrossSink};
 
 use heap_dump::{read_dump, write_dump_fault, write_undump};
 use play_report::{Sink, Source};
-use play_run::{DUMP, Status, Unread, read_source};
+use gc_play::{DUMP, Status, Unread, read_source};
 use std::alloc::Global;
 
 fn undump_bytes<K: Sink>(bytes: &[u8], sink: &mut K) -> Status

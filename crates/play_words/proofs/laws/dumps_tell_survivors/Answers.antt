@@ -20,7 +20,7 @@ use Rattle.dump_census.specs.Values.{AreValueCounts}
 use Rattle.dump_census.specs.declared.counts.SectionCount.{SectionCount}
 use Rattle.play_words.specs.Final.{survivor_in}
 use Rattle.command_words.specs.Words.{Options}
-use Rattle.play_run.specs.RunAnswers.{RunAnswersTo}
+use Rattle.gc_play.specs.RunAnswers.{RunAnswersTo}
 use Rattle.play_words.specs.Dumping.{DumpsTo, IsDumpText}
 use Rattle.play_words.specs.DumpReading.{OfDump}
 use Rattle.play_words.specs.Undumping.{IsUndumpText, IsUndumpAnswer}

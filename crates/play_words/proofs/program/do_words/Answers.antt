@@ -3,8 +3,8 @@ use Rattle.std.specs.Prelude.{option_map}
 use Rattle.std.specs.String.{string_bytes}
 use Rattle.command_words.specs.Commands.{command_of}
 use Rattle.play_words.specs.Answers.{IsAnswer}
-use Rattle.play_run.specs.Promise.{wanted}
-use Rattle.play_run.proofs.Ends.{command_ends, text_ends}
+use Rattle.gc_play.specs.Promise.{wanted}
+use Rattle.gc_play.proofs.Ends.{command_ends, text_ends}
 use Rattle.play_words.proofs.Promised.{refusal}
 use Rattle.play_words.proofs.program.do_words.Goals as goal
 

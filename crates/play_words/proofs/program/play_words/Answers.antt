@@ -4,7 +4,7 @@ use Rattle.std.specs.String.{string_bytes}
 use Rattle.command_words.specs.Words.{Command, Run, Gen, Load, Convert, Schedule, Dump, Undump, Census, Batch}
 use Rattle.command_words.proofs.InRange.{load_size}
 use Rattle.play_words.specs.Answers.{IsAnswer}
-use Rattle.play_run.specs.Promise.{wanted, WritesSome}
+use Rattle.gc_play.specs.Promise.{wanted, WritesSome}
 use Rattle.play_words.proofs.Meant.{done_run, full_run}
 use Rattle.play_words.proofs.Roomy.{full-few, load-fits}
 use Rattle.play_words.proofs.Statuses.{text_written, wrote_as, usage_comes, refused_comes, complete}

@@ -1,10 +1,9 @@
 ghost use Rattle.play_end.specs.Answers.{AreInRange};
 
-use gc_play::OpenGate;
+use gc_play::{OpenGate, Status, play_bytes};
 use job_pool::{Job, Player, Text};
 use play_end::Options;
 use play_report::{Failed, Sink};
-use play_run::{Status, play_bytes};
 use std::alloc::Global;
 use std::sync::Wait;
 use std::thread::Threads;

@@ -1,6 +1,6 @@
 use Rattle.command_words.specs.Commands.{options_of}
 use Rattle.play_words.specs.Batching.{IsBatchAnswer}
-use Rattle.play_run.proofs.Taking.{source_ends, source_spent}
+use Rattle.gc_play.proofs.Taking.{source_ends, source_spent}
 use Rattle.play_words.proofs.Wholes.{batch_of_whole}
 use Rattle.play_words.proofs.commands.batch.play_batch.Goals as goal
 

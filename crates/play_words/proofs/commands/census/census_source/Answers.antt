@@ -1,5 +1,5 @@
 use Rattle.play_words.specs.Counting.{IsCensusAnswer}
-use Rattle.play_run.proofs.Taking.{source_ends, source_spent}
+use Rattle.gc_play.proofs.Taking.{source_ends, source_spent}
 use Rattle.play_words.proofs.Wholes.{census_of_whole}
 use Rattle.play_words.proofs.commands.census.census_source.Goals as goal
 

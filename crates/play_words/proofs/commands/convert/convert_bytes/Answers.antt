@@ -3,11 +3,11 @@ use Rattle.std.specs.Prelude.{Option, Some, None, Result, Ok}
 use Rattle.gc_script.specs.Faults.{Fault}
 use Rattle.gc_script.specs.Convert.{Conversion, converted_text, convert}
 use Rattle.gc_script.specs.Finished.{is_refused}
-use Rattle.play_run.specs.Ending.{IsFaultAnswer}
+use Rattle.gc_play.specs.Ending.{IsFaultAnswer}
 use Rattle.play_words.specs.Converting.{ConvertsTo, IsConvertAnswer}
 use Rattle.gc_script.specs.Converting.{conversion_of}
 use Rattle.gc_script.specs.Shown.{fault_of}
-use Rattle.play_run.proofs.Ends.{text_ends, other_ends}
+use Rattle.gc_play.proofs.Ends.{text_ends, other_ends}
 use Rattle.play_words.proofs.commands.convert.convert_bytes.Goals as goal
 
 -- What a conversion is answered, and a script with a fault in place of one.

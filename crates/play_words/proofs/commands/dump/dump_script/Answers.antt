@@ -1,9 +1,9 @@
 use Rattle.std.proofs.Common.{inr}
 use Rattle.play_words.specs.Dumping.{EndsDoneOrFull, IsEndAnswer}
-use Rattle.play_run.specs.Ending.{IsStopAnswer}
+use Rattle.gc_play.specs.Ending.{IsStopAnswer}
 use Rattle.command_words.specs.Commands.{options_of}
-use Rattle.play_run.proofs.Ends.{other_ends}
-use Rattle.play_run.proofs.Plays.{stopped}
+use Rattle.gc_play.proofs.Ends.{other_ends}
+use Rattle.gc_play.proofs.Plays.{stopped}
 use Rattle.play_words.proofs.ReadDumps.{dump_answer}
 use Rattle.play_words.proofs.commands.dump.dump_script.Goals as goal
 

@@ -1,6 +1,6 @@
 use Rattle.command_words.specs.Commands.{options_of}
 use Rattle.play_words.specs.Dumping.{IsDumpAnswer}
-use Rattle.play_run.proofs.Taking.{source_ends, source_spent}
+use Rattle.gc_play.proofs.Taking.{source_ends, source_spent}
 use Rattle.play_words.proofs.Wholes.{dump_of_whole}
 use Rattle.play_words.proofs.commands.dump.dump_source.Goals as goal
 

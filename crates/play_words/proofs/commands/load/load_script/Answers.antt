@@ -1,10 +1,10 @@
 use Rattle.std.proofs.Common.{Ok, arith, inr}
 use Rattle.play_words.specs.Loading.{LoadsTo}
 use Rattle.command_words.specs.Commands.{options_of}
-use Rattle.play_run.specs.Ending.{IsStopAnswer}
-use Rattle.play_run.proofs.Ends.{other_ends, text_ends}
+use Rattle.gc_play.specs.Ending.{IsStopAnswer}
+use Rattle.gc_play.proofs.Ends.{other_ends, text_ends}
 use Rattle.play_words.proofs.LoadFits.{lines_fit, few_survivors}
-use Rattle.play_run.proofs.Plays.{stopped}
+use Rattle.gc_play.proofs.Plays.{stopped}
 use Rattle.play_words.proofs.LoadText.{five_answer}
 use Rattle.play_words.proofs.commands.load.load_script.Goals as goal
 

@@ -1,5 +1,5 @@
 use Rattle.schedule_check.specs.Telling.{IsScheduleAnswer}
-use Rattle.play_run.proofs.Taking.{source_ends, source_spent}
+use Rattle.gc_play.proofs.Taking.{source_ends, source_spent}
 use Rattle.play_words.proofs.Wholes.{schedule_of_whole}
 use Rattle.play_words.proofs.commands.schedule.check_source.Goals as goal
 

@@ -1,5 +1,5 @@
 use Rattle.play_words.specs.Undumping.{IsUndumpAnswer}
-use Rattle.play_run.proofs.Taking.{source_ends, source_spent}
+use Rattle.gc_play.proofs.Taking.{source_ends, source_spent}
 use Rattle.play_words.proofs.Wholes.{undump_of_whole}
 use Rattle.play_words.proofs.commands.undump.undump_source.Goals as goal
 

@@ -1,0 +1,92 @@
+-- What was taken of a source, and what it answers.
+use Rattle.std.proofs.Common.{◌≡◌, ◌≤◌, ◌<◌, ◌⊎◌, ℕ, List, [], ◌++◌, length, refl, sym, ◌∙◌, ap, subst, inl, inr, arith, length-append, Bool, true, nat_lt, cond}
+use Rattle.std.proofs.lemmas.Bool.Decides.{nat_tests}
+use Rattle.std.proofs.lemmas.List.{append-nil}
+use Rattle.std.specs.Prelude.{Option, Some, None, IfSome, Result, Err}
+use Rattle.std.specs.Io.KnownBytes.{Consumes, IsAtEnd}
+use Rattle.gc_script.specs.Faults.{Fault, TooLong}
+use Rattle.gc_script.specs.Script.{Script, script, of_text}
+use Rattle.gc_script.specs.ScriptText.{first_foreign}
+use Rattle.gc_play.specs.RunAnswers.{IsRunAnswer, RunAnswersTo}
+use Rattle.gc_play.specs.Ending.{TextEnds, CommandEnds}
+use Rattle.gc_play.specs.Promise.{OfSource}
+use Rattle.gc_play.specs.Reading.{IsSpent}
+use Rattle.command_words.specs.Words.{Options}
+use Rattle.gc_play.specs.declared.status.Status.{Status}
+use Rattle.gc_play.proofs.Ends.{other_ends, command_ends}
+
+-- what was taken of some bytes: all, or as many as decide
+pub record Takes (enough : ℕ) (bytes taken rest : List ℕ) : Type 0 where
+  pub whole : bytes ≡ taken ++ rest
+  pub enough_taken : (rest ≡ []) ⊎ (enough ≤ length taken)
+
+-- if nothing is left, all was taken
+pub all_taken : (bytes taken rest : List ℕ) → bytes ≡ taken ++ rest → rest ≡ [] → bytes ≡ taken
+all_taken bytes taken rest whole none = whole ∙ ap (λ (l : List ℕ). taken ++ l) none ∙ append-nil taken
+
+-- a meaning that is the same for all bytes that are too long is that of the whole
+pub same_meaning : {X : Type 0} (meaning : List ℕ → X) (enough : ℕ) (too_long : X) → ((bytes : List ℕ) → enough ≤ length bytes → meaning bytes ≡ too_long)
+    → (bytes taken rest : List ℕ) → Takes enough bytes taken rest → meaning taken ≡ meaning bytes
+same_meaning {X = X} meaning enough too_long decides bytes taken rest t = by t.enough_taken
+  where
+    by : (rest ≡ []) ⊎ (enough ≤ length taken) → meaning taken ≡ meaning bytes
+    by (inl none) = ap meaning (sym (all_taken bytes taken rest t.whole none))
+    by (inr long) = decides taken long ∙ sym (decides bytes (omega (arith, long, ap length t.whole, length-append taken rest)))
+
+-- a script that is too long has one fault
+pub long_script : (bytes : List ℕ) → 1048577 ≤ length bytes → script bytes ≡ Err TooLong
+long_script bytes long =
+    let test : nat_lt 1048576 (length bytes) ≡ true = grind (arith, nat_tests) in
+    ap (λ (b : Bool). cond b (Err TooLong) (of_text (first_foreign bytes) bytes)) test
+
+-- an answer to what was taken is one to the whole
+abbrev pub IsOfWhole : ℕ → (List ℕ → ℕ → List ℕ → Type 0) → Type 0
+IsOfWhole enough A = (bytes taken rest : List ℕ) → Takes enough bytes taken rest → (status : ℕ) (text : List ℕ) → A taken status text → A bytes status text
+
+pub run_of_whole : (o : Options) → IsOfWhole 1048577 (IsRunAnswer o)
+run_of_whole o bytes taken rest t status text a =
+    subst (λ (r : Result Script Fault). RunAnswersTo o r status text) (same_meaning script 1048577 (Err TooLong) long_script bytes taken rest t) a
+
+module _ (enough : ℕ) where
+  -- what was taken, if the source tells its bytes
+  takes : (bytes taken : List ℕ) (left : Option (List ℕ)) → Consumes (Some bytes) left taken → IsAtEnd left ⊎ (enough ≤ length taken) → (rest : List ℕ) × (left ≡ Some rest) × Takes enough bytes taken rest
+  takes bytes taken None consumed decided = absurd consumed
+  takes bytes taken (Some rest) consumed decided = (rest, refl, record { whole = consumed; enough_taken = decided })
+
+  of_source : (A : List ℕ → ℕ → List ℕ → Type 0) (left left_now : Option (List ℕ)) (taken : List ℕ) → IsOfWhole enough A → Consumes left left_now taken → IsAtEnd left_now ⊎ (enough ≤ length taken)
+      → (status : ℕ) (text : List ℕ) → A taken status text → OfSource A left status text
+  of_source A None left_now taken whole consumed decided status text a = (taken, tt, a)
+  of_source A (Some bytes) left_now taken whole consumed decided status text a =
+      let t = takes bytes taken left_now consumed decided in
+      (bytes, refl, whole bytes taken t.0 t.2 status text a)
+
+  -- a command whose source was read ends as what was taken does
+  pub source_ends : (A : List ℕ → ℕ → List ℕ → Type 0) (status : Status) (left left_now : Option (List ℕ)) (taken bytes : List ℕ) (reads reads_now : ℕ) (old new : Option (List ℕ)) (before now : ℕ)
+      → IsOfWhole enough A → Consumes left left_now taken × (IsAtEnd left_now ⊎ (enough ≤ length taken)) × (length taken ≤ enough) × (reads_now ≡ reads) → bytes ≡ taken
+      → TextEnds (A bytes) status old new before now → CommandEnds (OfSource A left) status reads reads_now old new before now
+  source_ends A status left left_now taken bytes reads reads_now old new before now whole (consumed, decided, few, same) is h =
+      command_ends (OfSource A left) status reads reads_now old new before now same
+      (other_ends (A taken) (OfSource A left) status old new before now (of_source A left left_now taken whole consumed decided)
+      (subst (λ (l : List ℕ). TextEnds (A l) status old new before now) is h))
+
+  is_spent : (bytes taken rest : List ℕ) → Takes enough bytes taken rest → length taken ≤ enough → IsSpent enough bytes (Some rest)
+  is_spent bytes taken rest t few = record {
+    short = λ short. ap Some (none short t.enough_taken);
+    long = λ long. (taken, rest, t.whole, omega (arith, few, decided long t.enough_taken), refl);
+  }
+    where
+      none : length bytes < enough → (rest ≡ []) ⊎ (enough ≤ length taken) → rest ≡ []
+      none short (inl nothing) = nothing
+      none short (inr many) = absurd (omega (arith, ap length t.whole, length-append taken rest))
+
+      decided : enough ≤ length bytes → (rest ≡ []) ⊎ (enough ≤ length taken) → enough ≤ length taken
+      decided long (inl nothing) = let size : length rest ≡ 0 = ap length nothing in omega (arith, ap length t.whole, length-append taken rest)
+      decided long (inr many) = many
+
+  -- a source that was read is spent
+  pub source_spent : (left left_now : Option (List ℕ)) (taken : List ℕ) {reads reads_now : ℕ}
+      → Consumes left left_now taken × (IsAtEnd left_now ⊎ (enough ≤ length taken)) × (length taken ≤ enough) × (reads_now ≡ reads) → IfSome left (λ bytes. IsSpent enough bytes left_now)
+  source_spent None left_now taken read = tt
+  source_spent (Some bytes) left_now taken (consumed, decided, few, same) =
+      let t = takes bytes taken left_now consumed decided in
+      subst (λ (o : Option (List ℕ)). IsSpent enough bytes o) (sym t.1) (is_spent bytes taken t.0 t.2 few)

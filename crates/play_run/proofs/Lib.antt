@@ -1,4 +1,0 @@
-pub mod Ends
-pub mod Taking
-pub mod Plays
-pub mod Faulted
