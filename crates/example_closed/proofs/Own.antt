@@ -5,10 +5,10 @@ use Rattle.std.specs.Arc.{arc_value}
 use Rattle.gc_table.specs.declared.words.Words.{Words}
 use Rattle.managed_heap.specs.Closing.{IsWorldEnd}
 use Rattle.managed_heap.specs.Lending.{IsFreshMutator, IsOpened, KeepsRest}
-use Rattle.world_seats.specs.Opening.{AreNumbered}
+use Rattle.managed_heap.specs.WorldOpening.{AreNumbered}
 use Rattle.managed_heap.specs.Threads.{ThreadsRun}
 use Rattle.managed_heap.specs.declared.mutator.Mutator.{Mutator}
-use Rattle.world_seats.specs.declared.sizes.Sizes.{Sizes}
+use Rattle.managed_heap.specs.declared.sizes.Sizes.{Sizes}
 use Rattle.managed_heap.specs.declared.world.World.{World}
 use Rattle.example_closed.specs.Ending.{AreOwn, EndsWhole}
 

@@ -19,7 +19,7 @@ use Rattle.shared_heap.specs.Lending.{IsFreshSharer, IsSharedOpened, KeepsRest}
 use Rattle.shared_heap.specs.Logs.{Adds, Locks, Raises}
 use Rattle.shared_heap.specs.Threads.{ThreadsRun}
 use Rattle.shared_heap.specs.declared.mutator.SharedMutator.{SharedMutator}
-use Rattle.world_seats.specs.declared.sizes.Sizes.{Sizes}
+use Rattle.managed_heap.specs.declared.sizes.Sizes.{Sizes}
 use Rattle.shared_heap.specs.declared.world.SharedWorld.{SharedWorld}
 use Rattle.example_counter.specs.Locking.{IsAlone}
 use Rattle.example_counter.specs.Pairs.{AreNew}

@@ -8,7 +8,7 @@ use Rattle.gc_table.specs.declared.seat.HeapSeat.{HeapSeat}
 use Rattle.gc_table.specs.declared.view.SectionState.{SectionState}
 use Rattle.gc_table.proofs.Running.{ran-number, ran-opened}
 use Rattle.managed_heap.specs.Opening.{IsNewSeat, Opens}
-use Rattle.world_seats.specs.Gathering.{IsFirstSeat}
+use Rattle.managed_heap.specs.Gathering.{IsFirstSeat}
 
 pub new-opens : (h : Heap) (x : HeapSeat) → IsNewSeat h 0 x → Opens h resting x
 new-opens h x new = ((new.0, new.1.state), ap (λ (o : SectionState). o.meaning) new.1.own, ap (λ (o : SectionState). o.seasons) new.1.own, new.1.plan_is)

@@ -2,3 +2,6 @@ mod Beginning
 mod Doing
 mod Threads
 mod Turning
+pub mod Starting
+pub mod Gathered
+pub mod Lists

@@ -6,7 +6,7 @@ use Rattle.gc_table.specs.Seats.{Across}
 use Rattle.gc_table.specs.declared.seat.HeapSeat.{HeapSeat}
 use Rattle.gc_table.specs.declared.words.Words.{Words}
 use Rattle.seat_turns.specs.declared.background.Tracer.{Tracer}
-use Rattle.world_seats.specs.Gathering.{AreThere, IsEndOf, seats_of}
+use Rattle.managed_heap.specs.Gathering.{AreThere, IsEndOf, seats_of}
 use Rattle.managed_heap.specs.Calls.{MutatorLeft}
 use Rattle.managed_heap.specs.declared.mutator.Mutator.{Mutator}
 use Rattle.managed_heap.specs.declared.world.World.{World}

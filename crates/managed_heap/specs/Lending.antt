@@ -13,9 +13,9 @@ use Rattle.managed_heap.specs.Opening.{IsNewSeat}
 use Rattle.managed_heap.specs.declared.mutator.Mutator.{Mutator}
 use Rattle.managed_heap.specs.declared.mutator.Place.TheVariants.{Outside}
 use Rattle.managed_heap.specs.declared.world.World.{World}
-use Rattle.world_seats.specs.Opening.{AreNumbered, IsFreshTracer}
-use Rattle.world_seats.specs.Sizing.{Fits}
-use Rattle.world_seats.specs.declared.sizes.Sizes.{Sizes}
+use Rattle.managed_heap.specs.WorldOpening.{AreNumbered, IsFreshTracer}
+use Rattle.managed_heap.specs.Sizing.{Fits}
+use Rattle.managed_heap.specs.declared.sizes.Sizes.{Sizes}
 
 -- each size is in its range, and no slots are asked for
 abbrev pub FitsWorld : Sizes → Type 0

@@ -3,3 +3,8 @@ pub mod Closing
 pub mod Lending
 pub mod Opening
 pub mod Threads
+pub mod WorldClosing
+pub mod Gathering
+pub mod Numbers
+pub mod WorldOpening
+pub mod Sizing

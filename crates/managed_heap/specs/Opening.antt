@@ -7,7 +7,7 @@ use Rattle.gc_table.specs.Sections.{start_section}
 use Rattle.gc_table.specs.SeatRecords.{At}
 use Rattle.gc_table.specs.declared.seat.Heap.{Heap}
 use Rattle.gc_table.specs.declared.seat.HeapSeat.{HeapSeat}
-use Rattle.world_seats.specs.Opening.{AreNewOf, IsNewSeatOf}
+use Rattle.managed_heap.specs.WorldOpening.{AreNewOf, IsNewSeatOf}
 
 -- seat k of the heap has done nothing
 abbrev pub IsNewSeat : Heap → ℕ → HeapSeat → Type 0

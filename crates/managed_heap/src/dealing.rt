@@ -7,9 +7,9 @@ ghost use Rattle.managed_heap.specs.Lending.{IsFreshMutator, IsOpened, shape_for
 ghost use Rattle.managed_heap.specs.Opening.{AreNew, IsNewSeat};
 ghost use Rattle.seat_turns.specs.Standing.{RestsOutside};
 ghost use Rattle.seat_turns.specs.declared.refused.NotOpened.TheVariants.{OutOfMemory};
-ghost use Rattle.world_seats.specs.Gathering.{IsFirstSeat};
-ghost use Rattle.world_seats.specs.Opening.{AreNumbered};
-ghost use Rattle.world_seats.specs.Sizing.{Fits};
+ghost use Rattle.managed_heap.specs.Gathering.{IsFirstSeat};
+ghost use Rattle.managed_heap.specs.WorldOpening.{AreNumbered};
+ghost use Rattle.managed_heap.specs.Sizing.{Fits};
 
 use crate::mutator::{Mutator, Place};
 use crate::opening::{open, open_turn};
@@ -19,7 +19,9 @@ use plain_heap::NoPlan;
 use seat_turns::NotOpened;
 use std::alloc::{AllocError, Global};
 use std::sync::Arc;
-use world_seats::{Sizes, deal_tracers, first_of};
+use crate::dealt_tracers::deal_tracers;
+use crate::sizes::Sizes;
+use crate::taking::first_of;
 
 fn mutator_of(
     heap: &Arc<Heap, Global>,

@@ -10,7 +10,7 @@ ghost use Rattle.managed_heap.specs.Calls.{MutatorLeft};
 ghost use Rattle.managed_heap.specs.Lending.{AreAllBack, FitsWorld, HasAllStill, IsBack, IsOpened, KeepsRest, TakesNoMutator, TakesNoTracer};
 ghost use Rattle.seat_turns.specs.Standing.{RestsOutside};
 ghost use Rattle.seat_turns.specs.declared.refused.NotOpened.TheVariants.{OutOfRange};
-ghost use Rattle.world_seats.specs.Numbers.{ReadsStatistics};
+ghost use Rattle.managed_heap.specs.Numbers.{ReadsStatistics};
 
 use crate::dealing::open_fitting;
 use crate::mutator::Mutator;
@@ -19,7 +19,8 @@ use gc_table::{Heap, HeapSeat};
 use mark_core::NAMED_SECTION;
 use seat_turns::{NotOpened, Tracer};
 use std::alloc::Global;
-use world_seats::{Sizes, Statistics, read_statistics};
+use crate::numbers::{Statistics, read_statistics};
+use crate::sizes::Sizes;
 
 /// Which section found the heap full, by one read.
 fn read_named(heap: &Heap, seat: &mut HeapSeat) -> u64

@@ -11,7 +11,7 @@ ghost use Rattle.gc_table.specs.declared.seat.HeapSeat.{HeapSeat};
 ghost use Rattle.managed_heap.specs.Lending.{shape_for};
 ghost use Rattle.managed_heap.specs.Opening.{AreNew, Opens};
 ghost use Rattle.stop_world.specs.StopRecords.{flagged, stopped, KeepsMeaningAndPlan};
-ghost use Rattle.world_seats.specs.Sizing.{Fits};
+ghost use Rattle.managed_heap.specs.Sizing.{Fits};
 
 use gc_table::{Heap, HeapSeat};
 use mark_core::{Phase, Shape, usual_stretch};
@@ -19,7 +19,7 @@ use plain_heap::NoPlan;
 use seat_turns::NotOpened;
 use std::alloc::Global;
 use stop_world::{Raised, leave, raise, resume};
-use world_seats::Sizes;
+use crate::sizes::Sizes;
 
 /// A section for each mutator besides section 0, which is the catalogue's and has nothing to do.
 fn shape_of(sizes: &Sizes) -> Shape

@@ -2,7 +2,7 @@
 ghost use Rattle.std.specs.Arc.{arc_value};
 ghost use Rattle.std.specs.Prelude.{◌≤◌, IsTrue, is_some, vec_capacity};
 ghost use Rattle.gc_table.specs.Seats.{state_of};
-ghost use Rattle.world_seats.specs.Gathering.{IsFirstSeat};
+ghost use Rattle.managed_heap.specs.Gathering.{IsFirstSeat};
 ghost use Rattle.seat_turns.specs.Standing.{RestsOutside};
 
 use crate::mutator::Mutator;
@@ -10,7 +10,7 @@ use gc_table::{Heap, HeapSeat};
 use seat_turns::Tracer;
 use std::alloc::Global;
 use std::sync::Arc;
-use world_seats::Sizes;
+use crate::sizes::Sizes;
 
 /// A heap that threads share, with those of its mutators and tracers that nobody has taken.
 #[derive(Drop)]

@@ -13,8 +13,8 @@ use Rattle.managed_heap.specs.Calls.{heap_of}
 use Rattle.managed_heap.specs.Lending.{HasAllStill, IsBack, KeepsRest}
 use Rattle.managed_heap.specs.declared.mutator.Mutator.{Mutator}
 use Rattle.managed_heap.specs.declared.mutator.Place.TheVariants as places
-use Rattle.world_seats.specs.Numbers.{ReadsStatistics}
-use Rattle.world_seats.specs.declared.numbers.Statistics.{Statistics}
+use Rattle.managed_heap.specs.Numbers.{ReadsStatistics}
+use Rattle.managed_heap.specs.declared.numbers.Statistics.{Statistics}
 use Rattle.managed_heap.specs.declared.world.World.{World}
 use Rattle.managed_heap_c.specs.declared.sizes.CNumbers.{CNumbers}
 

@@ -12,8 +12,8 @@ use Rattle.shared_heap.specs.Handing.{IsInSteps, IsOfSteps}
 use Rattle.shared_heap.specs.Lending.{HasAllStill, IsBack, KeepsRest}
 use Rattle.shared_heap.specs.declared.mutator.Place.TheVariants.{Outside}
 use Rattle.shared_heap.specs.declared.mutator.SharedMutator.{SharedMutator}
-use Rattle.world_seats.specs.Numbers.{ReadsStatistics}
-use Rattle.world_seats.specs.declared.numbers.Statistics.{Statistics}
+use Rattle.managed_heap.specs.Numbers.{ReadsStatistics}
+use Rattle.managed_heap.specs.declared.numbers.Statistics.{Statistics}
 use Rattle.shared_heap.specs.declared.world.SharedWorld.{SharedWorld}
 use Rattle.managed_heap_c.specs.declared.sizes.CNumbers.{CNumbers}
 

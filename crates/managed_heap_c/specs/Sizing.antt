@@ -2,8 +2,8 @@
 use Rattle.std.specs.Prelude.{◌≡◌, ◌⊎◌, false}
 use Rattle.managed_heap.specs.Lending.{FitsWorld}
 use Rattle.shared_heap.specs.Lending.{FitsShared}
-use Rattle.world_seats.specs.Sizing.{usual_entries}
-use Rattle.world_seats.specs.declared.sizes.Sizes.{Sizes}
+use Rattle.managed_heap.specs.Sizing.{usual_entries}
+use Rattle.managed_heap.specs.declared.sizes.Sizes.{Sizes}
 use Rattle.managed_heap_c.specs.declared.sizes.CSizes.{CSizes}
 
 -- those of a world whose mutators have objects of their own; there are as many packets as when nothing is said of them

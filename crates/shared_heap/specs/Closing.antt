@@ -4,7 +4,7 @@ use Rattle.std.specs.Arc.{arc_value}
 use Rattle.gc_table.specs.declared.seat.HeapSeat.{HeapSeat}
 use Rattle.gc_table.specs.declared.words.Words.{Words}
 use Rattle.seat_turns.specs.declared.background.Tracer.{Tracer}
-use Rattle.world_seats.specs.Gathering.{AreThere, IsEndOf, seats_of}
+use Rattle.managed_heap.specs.Gathering.{AreThere, IsEndOf, seats_of}
 use Rattle.shared_heap.specs.Calls.{SharerLeft}
 use Rattle.shared_heap.specs.declared.mutator.SharedMutator.{SharedMutator}
 use Rattle.shared_heap.specs.declared.world.SharedWorld.{SharedWorld}

@@ -9,9 +9,9 @@ use Rattle.shared_heap.specs.Planning.{root_plan}
 use Rattle.shared_heap.specs.declared.mutator.Place.TheVariants.{Outside}
 use Rattle.shared_heap.specs.declared.mutator.SharedMutator.{SharedMutator}
 use Rattle.shared_heap.specs.declared.world.SharedWorld.{SharedWorld}
-use Rattle.world_seats.specs.Opening.{AreNumbered, IsFreshTracer}
-use Rattle.world_seats.specs.Sizing.{Fits}
-use Rattle.world_seats.specs.declared.sizes.Sizes.{Sizes}
+use Rattle.managed_heap.specs.WorldOpening.{AreNumbered, IsFreshTracer}
+use Rattle.managed_heap.specs.Sizing.{Fits}
+use Rattle.managed_heap.specs.declared.sizes.Sizes.{Sizes}
 
 -- each size is in its range, and mutators collecting in stops aren't asked for
 abbrev pub FitsShared : Sizes → Type 0

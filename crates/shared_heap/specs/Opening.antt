@@ -14,7 +14,7 @@ use Rattle.gc_table.specs.declared.seat.HeapSeat.{HeapSeat}
 use Rattle.gc_table.specs.declared.view.View.{View}
 use Rattle.gc_cycle.specs.Standing.{IsAlone, Mutates}
 use Rattle.mutator_ops.specs.Sharing.{SharesReady}
-use Rattle.world_seats.specs.Opening.{AreNewOf, IsNewSeatOf}
+use Rattle.managed_heap.specs.WorldOpening.{AreNewOf, IsNewSeatOf}
 use Rattle.shared_heap.specs.Planning.{root_plan}
 
 -- seat k of the heap has done nothing

@@ -2,7 +2,7 @@
 ghost use Rattle.std.specs.Prelude.{◌≡◌, All, IfErr, IfOk};
 ghost use Rattle.std.specs.Arc.{arc_value};
 ghost use Rattle.shared_heap.specs.Closing.{AreAllThere, HasLeft, IsSharedEnd};
-ghost use Rattle.world_seats.specs.Closing.{IsUnclosed};
+ghost use Rattle.managed_heap.specs.WorldClosing.{IsUnclosed};
 
 use crate::mutator::SharedMutator;
 use crate::world::SharedWorld;
@@ -10,7 +10,7 @@ use gc_table::{Heap, HeapSeat, Words};
 use seat_turns::Tracer;
 use std::alloc::Global;
 use std::sync::Arc;
-use world_seats::{Lent, NotClosed, Opened, close_world};
+use managed_heap::{Lent, NotClosed, Opened, close_world};
 
 impl Lent for SharedMutator {
     ghost heap_in = { λ m. arc_value m.heap };

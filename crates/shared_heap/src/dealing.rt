@@ -7,7 +7,7 @@ ghost use Rattle.seat_turns.specs.declared.refused.NotOpened.TheVariants.{OutOfM
 ghost use Rattle.shared_heap.specs.Lending.{AreFresh, IsFreshSharer, IsSharedOpened};
 ghost use Rattle.shared_heap.specs.Opening.{AreNew, IsNewSeat};
 ghost use Rattle.shared_heap.specs.Rooting.{HasSeats, IsRootSeat};
-ghost use Rattle.world_seats.specs.Sizing.{Fits};
+ghost use Rattle.managed_heap.specs.Sizing.{Fits};
 
 use crate::mutator::{Place, SharedMutator};
 use crate::opening::{open, open_turn};
@@ -17,7 +17,7 @@ use gc_table::{Heap, HeapSeat};
 use seat_turns::NotOpened;
 use std::alloc::{AllocError, Global};
 use std::sync::Arc;
-use world_seats::{Sizes, deal_tracers, first_of};
+use managed_heap::{Sizes, deal_tracers, first_of};
 
 fn mutator_of(
     heap: &Arc<Heap, Global>,

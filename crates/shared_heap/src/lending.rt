@@ -7,14 +7,14 @@ ghost use Rattle.seat_turns.specs.Standing.{RestsOutside};
 ghost use Rattle.shared_heap.specs.Calls.{SharerLeft};
 ghost use Rattle.shared_heap.specs.Lending.{FitsShared, HasAllStill, IsBack, IsSharedOpened, KeepsRest, TakesNoMutator};
 ghost use Rattle.seat_turns.specs.declared.refused.NotOpened.TheVariants.{OutOfRange};
-ghost use Rattle.world_seats.specs.Numbers.{ReadsStatistics};
+ghost use Rattle.managed_heap.specs.Numbers.{ReadsStatistics};
 
 use crate::dealing::open_fitting;
 use crate::mutator::SharedMutator;
 use crate::world::SharedWorld;
 use seat_turns::NotOpened;
 use std::alloc::Global;
-use world_seats::{Sizes, Statistics, first_of, read_statistics};
+use managed_heap::{Sizes, Statistics, first_of, read_statistics};
 
 impl SharedWorld {
     /// A world of these sizes with its root, an object with value 0 whose references refer to nothing. It is

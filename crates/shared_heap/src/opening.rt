@@ -7,7 +7,7 @@ ghost use Rattle.gc_table.specs.declared.seat.HeapSeat.{HeapSeat};
 ghost use Rattle.seat_turns.specs.Standing.{RestsOutside};
 ghost use Rattle.shared_heap.specs.Opening.{AreNew, HasFirstCache, HasRoot, IsAloneInIdle, IsAtFirstTurn, IsNewSeat, StopsWithRoot};
 ghost use Rattle.shared_heap.specs.Rooting.{MakesRoot, Spares, SparesSeason};
-ghost use Rattle.world_seats.specs.Sizing.{Fits};
+ghost use Rattle.managed_heap.specs.Sizing.{Fits};
 
 use crate::planning::RootPlan;
 use alloc_cache::{Cache, claim, leave_with_seat, retire};
@@ -19,7 +19,7 @@ use mutator_ops::share_create;
 use seat_turns::{NotOpened, is_turn};
 use std::alloc::Global;
 use stop_world::{leave, resume};
-use world_seats::Sizes;
+use managed_heap::Sizes;
 
 /// A section for each mutator besides section 0, which has the root.
 fn shape_of(sizes: &Sizes) -> Shape

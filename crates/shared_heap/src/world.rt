@@ -9,7 +9,7 @@ use gc_table::{Heap, HeapSeat};
 use seat_turns::Tracer;
 use std::alloc::Global;
 use std::sync::Arc;
-use world_seats::Sizes;
+use managed_heap::Sizes;
 
 /// A heap whose objects threads share, with those of its mutators and tracers that nobody has taken.
 #[derive(Drop)]

@@ -1,9 +1,9 @@
 use Rattle.std.proofs.Common.{rules, ℕ, ◌≡◌, ◌+◌, ◌<◌, All, List, [], ◌∷◌, IfOk, ap, ◌∙◌, arith}
 use Rattle.std.proofs.lemmas.List.Elements.{All-cons}
 use Rattle.std.specs.Arc.{arc_value}
-use Rattle.world_seats.specs.Opening.{AreNumbered}
+use Rattle.managed_heap.specs.WorldOpening.{AreNumbered}
 use Rattle.managed_heap.specs.declared.mutator.Mutator.{Mutator}
-use Rattle.world_seats.specs.declared.sizes.Sizes.{Sizes}
+use Rattle.managed_heap.specs.declared.sizes.Sizes.{Sizes}
 use Rattle.managed_heap.specs.declared.world.World.{World}
 use Rattle.managed_heap.specs.Lending.{IsFreshMutator, IsOpened}
 use Rattle.bench_trees.specs.Standing.{WorkerWaits}

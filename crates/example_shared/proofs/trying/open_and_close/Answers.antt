@@ -4,7 +4,7 @@ use Rattle.std.specs.Arc.{arc_value}
 use Rattle.seat_turns.specs.declared.background.Tracer.{Tracer}
 use Rattle.shared_heap.specs.declared.mutator.SharedMutator.{SharedMutator}
 use Rattle.shared_heap.specs.declared.world.SharedWorld.{SharedWorld}
-use Rattle.world_seats.proofs.Beginning.{numbered-at}
+use Rattle.managed_heap.proofs.Starting.{numbered-at}
 use Rattle.example_shared.proofs.trying.open_and_close.Goals as goal
 
 -- The last of a list.

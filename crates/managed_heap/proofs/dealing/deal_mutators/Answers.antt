@@ -6,8 +6,8 @@ use Rattle.gc_table.specs.declared.seat.HeapSeat.{HeapSeat}
 use Rattle.managed_heap.specs.Lending.{IsFreshMutator}
 use Rattle.managed_heap.specs.declared.mutator.Mutator.{Mutator}
 use Rattle.managed_heap.specs.Opening.{AreNew}
-use Rattle.world_seats.specs.Opening.{AreNumbered}
-use Rattle.world_seats.proofs.Beginning.{first-new, numbered-push, rest-new}
+use Rattle.managed_heap.specs.WorldOpening.{AreNumbered}
+use Rattle.managed_heap.proofs.Starting.{first-new, numbered-push, rest-new}
 use Rattle.managed_heap.proofs.dealing.deal_mutators.Goals as goal
 
 pub loop-at-preserved : goal.loop-at-preserved

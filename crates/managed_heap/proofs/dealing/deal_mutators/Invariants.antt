@@ -3,7 +3,7 @@ use Rattle.std.specs.Prelude.{vec_len}
 use Rattle.std.specs.Arc.{arc_value}
 use Rattle.managed_heap.specs.Lending.{IsFreshMutator}
 use Rattle.managed_heap.specs.Opening.{AreNew}
-use Rattle.world_seats.specs.Opening.{AreNumbered}
+use Rattle.managed_heap.specs.WorldOpening.{AreNumbered}
 use Rattle.managed_heap.proofs.dealing.deal_mutators.Given as goal
 
 abbrev pub invariant-loop-at : goal.invariant-loop-at

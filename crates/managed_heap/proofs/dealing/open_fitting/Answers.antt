@@ -5,7 +5,7 @@ use Rattle.mark_core.specs.declared.seat.SeatState.{SeatState}
 use Rattle.gc_table.specs.Seats.{view_of}
 use Rattle.gc_table.specs.declared.seat.HeapSeat.{HeapSeat}
 use Rattle.gc_table.proofs.Running.{ran-opened}
-use Rattle.world_seats.proofs.Beginning.{first-new, rest-new}
+use Rattle.managed_heap.proofs.Starting.{first-new, rest-new}
 use Rattle.managed_heap.proofs.Beginning.{new-opens}
 use Rattle.managed_heap.proofs.dealing.open_fitting.Goals as goal
 

@@ -6,7 +6,7 @@ use Rattle.gc_table.specs.declared.seat.HeapSeat.{HeapSeat}
 use Rattle.shared_heap.specs.Lending.{IsFreshSharer}
 use Rattle.shared_heap.specs.Opening.{AreNew}
 use Rattle.shared_heap.specs.Planning.{root_plan}
-use Rattle.world_seats.proofs.Beginning.{first-new, rest-new}
+use Rattle.managed_heap.proofs.Starting.{first-new, rest-new}
 use Rattle.shared_heap.proofs.Dealt.{fresh-push}
 use Rattle.shared_heap.proofs.dealing.deal_mutators.Goals as goal
 

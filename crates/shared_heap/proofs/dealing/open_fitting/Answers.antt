@@ -1,7 +1,7 @@
 use Rattle.std.proofs.Common.{◌∙◌, List, ap, arith}
 use Rattle.std.specs.Prelude.{slice_get}
 use Rattle.gc_table.specs.declared.seat.HeapSeat.{HeapSeat}
-use Rattle.world_seats.proofs.Beginning.{first-new, rest-new}
+use Rattle.managed_heap.proofs.Starting.{first-new, rest-new}
 use Rattle.shared_heap.specs.Planning.{root_plan}
 use Rattle.gc_table.specs.Seats.{view_of}
 use Rattle.gc_table.proofs.Running.{ran-opened}

@@ -1,5 +1,0 @@
-pub mod Closing
-pub mod Gathering
-pub mod Numbers
-pub mod Opening
-pub mod Sizing
