@@ -1,14 +1,14 @@
 -- When the steps of this crate may be taken, by what the seat knows.
-use Rattle.std.proofs.Common.{ℕ, ◌≡◌, ◌<◌, ◌≤◌, ◌+◌, arith, refl, sym, ap, ◌∙◌, subst, Bool, true, false, not, ◌&&◌, ◌||◌, Some, None, Option, is_none, is_some}
-use Rattle.std.specs.Prelude.{IsTrue, IsFalse}
-use Rattle.std.proofs.lemmas.Bool.{true≢false, false≢true, and_from, lt-ltb, le-leb, not_from_false, eq-eqb, eqb-true}
+use Rattle.std.proofs.Common.{ℕ, ◌≡◌, ◌<◌, ◌≤◌, ◌+◌, arith, refl, sym, ap, ◌∙◌, subst, Bool, true, false, not, ◌&&◌, ◌||◌, Some, None, Option, is_none, is_some, ◌*◌, ◌/◌, ◌%◌, ◌^◌}
+use Rattle.std.specs.Prelude.{IsTrue, IsFalse, nat_lt, ◌==◌, IfSome}
+use Rattle.std.proofs.lemmas.Bool.{true≢false, false≢true, and_from, lt-ltb, le-leb, not_from_false, eq-eqb, eqb-true, ltb-true}
 use Rattle.mark_core.specs.Layout.{words_of, block_count}
 use Rattle.mark_core.specs.Numbers.{free_count}
 use Rattle.mark_core.specs.Places.{the_phase}
-use Rattle.mark_core.specs.Seats.{takes_part, may_mutate, free_in, has_making, has_used, is_unread, is_phase, is_the}
-use Rattle.mark_core.specs.Steps.MutatorSteps.{is_next_part, fits_part}
+use Rattle.mark_core.specs.Seats.{takes_part, may_mutate, free_in, has_making, has_used, is_unread, is_phase, is_the, last_made}
+use Rattle.mark_core.specs.Steps.MutatorSteps.{is_next_part, fits_part, used_bits}
 use Rattle.mark_core.specs.Rules.WorldRules.{IsEmpty}
-use Rattle.mark_core.proofs.Blocks.BlocksTaken.{Taken, mine, within, own-record}
+use Rattle.mark_core.proofs.Blocks.BlocksStopped.{Taken, mine, within, own-record}
 use Rattle.mark_core.proofs.World.WorldReading.{at-standing}
 use Rattle.mark_core.specs.Strong.{IsStrongSeat}
 use Rattle.mark_core.specs.Views.{Standing}
@@ -20,10 +20,21 @@ use Rattle.mark_core.specs.declared.seat.SeatState.{SeatState}
 use Rattle.gc_table.specs.declared.view.View.{View}
 use Rattle.gc_table.specs.Notes.{look}
 use Rattle.gc_table.specs.TableState.{TableState}
-use Rattle.gc_table.specs.Rule.{IsState, Agrees}
+use Rattle.gc_table.specs.Rule.{IsState, Agrees, IsPossible}
 use Rattle.gc_table.specs.Taking.{May}
 use Rattle.gc_table.proofs.Stands.StandsSeat.{looks, free-below}
 use Rattle.alloc_cache.specs.Claiming.{MayClaim, notes_idle}
+use Rattle.std.specs.Int.{trailing_zeros}
+use Rattle.std.proofs.Math.Logic.{∥∥₁_elim}
+use Rattle.std.proofs.Props.{props}
+use Rattle.std.proofs.lemmas.Nat.Bits.{bit_at-trailing_zeros}
+use mir.Syntax.{w64}
+use Rattle.mark_core.specs.Bits.{has_bit}
+use Rattle.mark_core.specs.Cards.{block_cells}
+use Rattle.mark_core.specs.WellFormed.{IsCache}
+use Rattle.mark_core.specs.declared.seat.CacheState.{CacheState}
+use Rattle.alloc_cache.specs.Caching.{IsCached}
+use Rattle.alloc_cache.specs.declared.cache.Cache.{Cache}
 
 -- the seat, in a state that agrees with its view
 pub seat-there : (x : TableState) (i : ℕ) (v : View) → IsState x → Agrees x i v → v.state.spent ≡ false → Taken x.core i v.state ReadCount
@@ -98,3 +109,32 @@ may-claim_block v b live m there x i st a = (
     (resting_of v.state.active v.state.knows (notes_idle v) (is_phase (words_of x.core.shape x.core.words).phase Idle) (runs-apart x i v st a live) (idle-there x i v a) m.may, tt),
   ),
 )
+
+-- The cache in hand and the seat's record of it.
+within_by : (v : View) (h : Cache) → IsCached h v → IsPossible v → nat_lt h.block (block_count v.shape) ≡ true
+within_by v h e p =
+    let formed = (p.whole.core.formed.seats p.index v.state p.agrees.seat).cache in
+    let at : IsCache p.state.core.shape (record { block = h.block; unread = false; free = h.cells; used = used_bits v.state.cache; making = None; last = last_made v.state.cache }) = subst (λ (o : Option CacheState). IfSome o (IsCache p.state.core.shape)) e formed in
+    lt-ltb h.block (block_count v.shape) (subst (λ (sh : Shape). h.block < block_count sh) (sym p.agrees.shape) at.block)
+
+-- the block of a cache exists
+pub cache-within : (v : View) (h : Cache) → IsCached h v → ∥ IsPossible v ∥₁ → h.block < block_count v.shape
+cache-within v h e p = ltb-true h.block (block_count v.shape) (∥∥₁_elim p (Prim.hlevel props) (within_by v h e))
+
+-- the lowest bit of the free cells is a free cell
+pub lowest-free : (v : View) (h : Cache) (i : ℕ) → IsCached h v → 0 < h.cells → h.cells < 2 ^ 64 → i ≡ trailing_zeros w64 h.cells → (i < block_cells) × (free_in v.state.cache (block_cells * h.block + i) ≡ true)
+lowest-free v h i e some fits is =
+    let low = bit_at-trailing_zeros w64 h.cells some fits in
+    let below : i < block_cells = omega (arith, is, low.0) in
+    let block : h.block ≡ (block_cells * h.block + i) / block_cells = omega (arith, below) in
+    let place : (block_cells * h.block + i) % block_cells ≡ trailing_zeros w64 h.cells = omega (arith, below, is) in (
+      below,
+      ap (λ (o : Option CacheState). free_in o (block_cells * h.block + i)) e
+          ∙ and_from (h.block == (block_cells * h.block + i) / block_cells) (has_bit h.cells ((block_cells * h.block + i) % block_cells)) (eq-eqb h.block _ block) (ap (λ (n : ℕ). has_bit h.cells n) place ∙ eq-eqb _ 1 low.1),
+    )
+
+-- each free cell exists
+pub free-within : (v : View) (x : ℕ) → free_in v.state.cache x ≡ true → ∥ IsPossible v ∥₁ → x < v.shape.cells
+free-within v x e p =
+    ltb-true x v.shape.cells
+    (∥∥₁_elim p (Prim.hlevel props) (λ (q : IsPossible v). lt-ltb x v.shape.cells (subst (λ (sh : Shape). x < sh.cells) (sym q.agrees.shape) (free-below q.state.core q.index v.state ReadCount x (seat-there q.state q.index v q.whole q.agrees q.live) e))))

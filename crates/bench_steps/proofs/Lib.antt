@@ -1,3 +1,1 @@
 pub mod Makers
-pub mod NewCells
-pub mod Stepping

@@ -1,4 +1,1 @@
-mod Growing
-mod Counting
 mod Building
-mod Walking

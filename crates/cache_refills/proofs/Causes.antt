@@ -12,10 +12,9 @@ use Rattle.mark_core.specs.declared.kinds.Step.{Step}
 use Rattle.gc_table.specs.Log.{all_steps}
 use Rattle.gc_table.specs.declared.view.Entry.{Entry}
 use Rattle.packet_pools.specs.Seeking.{some_event}
-pub use Rattle.packet_pools.proofs.Orders.{after-earlier, after-join, after-none}
+pub use Rattle.packet_pools.proofs.Counting.{after-earlier, after-join, after-none}
 pub use Rattle.gc_cycle.proofs.Since.{since-more}
-use Rattle.packet_pools.proofs.AllMissed.{all-more}
-use Rattle.packet_pools.proofs.Searches.{some-left, some-right}
+use Rattle.packet_pools.proofs.Searches.{all-more, some-left, some-right}
 use Rattle.alloc_cache.specs.Claiming.{finds_claimed, full_first, gets_block, NoBlock, seeks_block, seen_taken}
 use Rattle.gc_cycle.specs.Cycles.{collects, fills_with_cause, may_fill, sees_all_full}
 use Rattle.gc_cycle.specs.Events.{each_after, followed_by, front, since_last, Sort}

@@ -1,5 +1,4 @@
 mod Rows
-pub mod Kicking
 pub mod Due
 pub mod Few
 pub mod Positions

@@ -1,5 +1,4 @@
 -- A mutator on its way to a cache: what it claims, pays and answers.
-pub mod RoundNumbers
 pub mod Payment
 pub mod PaidFor
 pub mod Early
@@ -15,5 +14,4 @@ pub mod Filling
 pub mod Passed
 pub mod Leaves
 pub mod Pieced
-pub mod PieceSteps
 pub mod Together

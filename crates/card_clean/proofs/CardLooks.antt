@@ -1,27 +1,45 @@
 -- Cards are looked at, one after another.
-use Rattle.std.proofs.Common.{ℕ, zero, suc, ◌≡◌, ◌≢◌, ◌<◌, ◌≤◌, ◌+◌, ◌-◌, List, [], ◌∷◌, ◌++◌, map, arith, refl, sym, ap, ◌∙◌, subst, true, false, Some, eq-eqb, eqb-true, ⊎_elim}
+use Rattle.std.proofs.Common.{ℕ, zero, suc, ◌≡◌, ◌≢◌, ◌<◌, ◌≤◌, ◌+◌, ◌-◌, List, [], ◌∷◌, ◌++◌, map, arith, refl, sym, ap, ◌∙◌, subst, true, false, Some, eq-eqb, eqb-true, ⊎_elim, Bool}
 use Rattle.std.specs.List.{range_with_len}
-use Rattle.std.proofs.lemmas.Bool.{true≢false, cases_eq}
+use Rattle.std.proofs.lemmas.Bool.{true≢false, cases_eq, and_from}
 use Rattle.mark_core.specs.Layout.{card_count}
-use Rattle.mark_core.specs.Notes.{steady}
+use Rattle.mark_core.specs.Notes.{steady, same_place}
 use Rattle.mark_core.specs.Places.{card_at, the_empty_count}
 use Rattle.mark_core.specs.declared.kinds.Shape.{Shape}
 use Rattle.mark_core.specs.declared.kinds.Step.TheVariants.{ReadCard, ReadCount}
 use Rattle.gc_table.specs.declared.view.Entry.{Entry}
 use Rattle.gc_table.specs.declared.view.View.{View}
 use Rattle.gc_table.specs.Log.{event, events}
-use Rattle.gc_table.specs.Notes.{look}
+use Rattle.gc_table.specs.Notes.{look, Notes, noting}
 use Rattle.gc_table.specs.Taking.{Finds, after, won}
 use Rattle.gc_table.proofs.History.Log.{events-after, events-join}
-use Rattle.gc_table.proofs.Noticing.{alone-steady}
+use Rattle.gc_table.proofs.Noticing.{alone-steady, note-left}
 use Rattle.packet_pools.specs.Fields.{fields_read, picked}
 use Rattle.packet_pools.specs.OnlyTraced.{OnlyTraced}
 use Rattle.card_clean.specs.Drained.{AreNotedClean}
 use Rattle.card_clean.specs.Leaving.{rescanned_in}
 use Rattle.card_clean.specs.Looking.{KeepsAllNotes, looks_clean, looks_dirty}
 use Rattle.card_clean.proofs.Leavings.{rescanned-unread}
-use Rattle.card_clean.proofs.Noted.{noted-here, look-keeps}
 use Rattle.card_clean.proofs.Steps.{card-small}
+use Rattle.mark_core.specs.Effects.{written, seat_after}
+use Rattle.mark_core.specs.declared.kinds.Step.{Step}
+use Rattle.mark_core.specs.declared.seat.SeatState.{SeatState}
+use Rattle.packet_pools.proofs.TracedSteps.{read-keeps}
+
+-- What is noted after one step.
+same-place : (at : ℕ × ℕ) → same_place at at ≡ true
+same-place at = and_from _ _ (eq-eqb at.0 at.0 refl) (eq-eqb at.1 at.1 refl)
+
+-- the word that the step left
+pub noted-here : (keeps : ℕ × ℕ → ℕ → Bool) (at : ℕ × ℕ) (word : ℕ) (xs : Notes) → keeps at word ≡ true → look at (noting keeps at word xs) ≡ Some word
+noted-here keeps at word xs k = note-left keeps at at word xs (same-place at) k
+
+-- a look that leaves the record leaves all notes
+pub look-keeps : (v : View) (step : Step) (n : ℕ) → written v.shape v.state step n ≡ n → seat_after v.shape v.state step n ≡ v.state → Finds step n v → KeepsAllNotes v (after step n v)
+look-keeps v step n reads same f at m h = read-keeps v step n reads f at m (ap (λ (s : SeatState). steady s at m) same ∙ (f.agrees.noted at m h).0) h
+
+pub keeps-join : (u v w : View) → KeepsAllNotes u v → KeepsAllNotes v w → KeepsAllNotes u w
+keeps-join u v w a b at n h = b at n (a at n h)
 
 -- the notes of cards stay while the seat only looks
 pub clean-kept : (from to : ℕ) (v w : View) → KeepsAllNotes v w → AreNotedClean from to v → AreNotedClean from to w

@@ -19,7 +19,7 @@ use Rattle.packet_pools.proofs.Conditions.{may-trace}
 use Rattle.packet_pools.proofs.TracedSteps.{read-keeps}
 use Rattle.card_clean.specs.Passing.{card_floor}
 use Rattle.gc_table.proofs.Noticing.{knows-steady, note-stays}
-use Rattle.card_clean.proofs.Noted.{noted-here}
+use Rattle.card_clean.proofs.CardLooks.{noted-here}
 
 the-is : (o : Option ℕ) (n : ℕ) → is_the o n ≡ true → o ≡ Some n
 the-is None n e = absurd (true≢false (sym e))

@@ -1,14 +1,14 @@
 -- How many objects leave a cleaning, event by event.
 use Rattle.std.proofs.Common.{ℕ, zero, suc, ◌≡◌, ◌+◌, ◌/◌, ◌%◌, List, [], ◌∷◌, ◌++◌, arith, refl, sym, ap, ◌∙◌, Bool, true, false, cond, Some, None, Option, eqb}
 use Rattle.std.specs.Prelude.{◌&&◌, ◌==◌}
-use Rattle.std.proofs.lemmas.Bool.{and_parts, false≢true}
+use Rattle.std.proofs.lemmas.Bool.{and_parts, false≢true, and_from}
 use Rattle.mark_core.specs.Bits.{has_bit, without_bit}
 use Rattle.mark_core.specs.Effects.{seat_after}
 use Rattle.mark_core.specs.Seats.{left_in, may_scan, in_set}
 use Rattle.mark_core.specs.Steps.ColourSteps.{redirty_off, without_cell}
 use Rattle.mark_core.specs.declared.kinds.Shape.{Shape}
 use Rattle.mark_core.specs.declared.kinds.Step.{Step}
-use Rattle.mark_core.specs.declared.kinds.Step.TheVariants.{ReadAlloc, ReadField, DirtyCard, ClearCard, ReadMarks}
+use Rattle.mark_core.specs.declared.kinds.Step.TheVariants.{ReadAlloc, ReadField, DirtyCard, ClearCard, ReadMarks, LoadSlot, Push, ReadRoot, SetMark}
 use Rattle.mark_core.specs.declared.seat.Cleaning.{Cleaning}
 use Rattle.mark_core.specs.declared.seat.SeatState.{SeatState}
 use Rattle.mark_core.proofs.Writing.CellBits.{without_same}
@@ -19,10 +19,11 @@ use Rattle.gc_table.specs.Running.{Ran, after_all}
 use Rattle.gc_table.proofs.Running.{ran-events}
 use Rattle.packet_pools.specs.Counts.{scans_object, only_scans}
 use Rattle.packet_pools.specs.Fields.{fields_read, picked, fields_from}
-use Rattle.gc_table.specs.Log.{events}
-use Rattle.packet_pools.specs.Seeking.{moves_packet, only_moves}
+use Rattle.gc_table.specs.Log.{events, all_steps}
+use Rattle.packet_pools.specs.Seeking.{moves_packet, only_moves, output_pools}
 use Rattle.card_clean.specs.Leaving.{rescans, rescanned_in}
 use Rattle.mark_core.specs.Cards.{block_cells, block_of_card}
+use Rattle.card_clean.specs.Drained.{sees_roots}
 
 total-join : (xs ys : List Entry) (v : View) → rescanned_in v (xs ++ ys) ≡ rescanned_in v xs + rescanned_in (after_all xs v) ys
 total-join [] ys v = omega arith
@@ -148,3 +149,32 @@ rescanned-unread (x ∷ xs) v e =
     let h = unread-step v.state x.step x.found (picked fields_read xs) e in
     let rest = rescanned-unread xs (after x.step x.found v) h.1 in
     omega (arith, h.0, rest)
+
+-- The steps by which roots are seen to.
+-- packets are moved
+move-sees : (step : Step) → moves_packet output_pools step ≡ true → sees_roots step ≡ true
+move-sees (ReadRoot section v) e = refl
+move-sees (LoadSlot section k) e = refl
+move-sees (ReadField c i) e = absurd (false≢true e)
+move-sees (Push p c) e = refl
+move-sees (SetMark c) e = refl
+move-sees (DirtyCard card) e = refl
+move-sees step e = e
+
+pub moves-see : (es : List Entry) → only_moves output_pools es ≡ true → all_steps sees_roots es ≡ true
+moves-see [] m = refl
+moves-see (e ∷ es) m = let h = and_parts (moves_packet output_pools e.step) (only_moves output_pools es) m in and_from (sees_roots e.step) (all_steps sees_roots es) (move-sees e.step h.0) (moves-see es h.1)
+
+-- a cell is marked, and no field read
+scan-sees : (step : Step) (n : ℕ) (xs : List (ℕ × ℕ)) → scans_object step ≡ true → fields_read step n ++ xs ≡ [] → (sees_roots step ≡ true) × (xs ≡ [])
+scan-sees (ReadField c i) n xs o e = absurd (no_first (c, i) xs e)
+scan-sees (ReadRoot section v) n xs o e = (refl, e)
+scan-sees (LoadSlot section k) n xs o e = (refl, e)
+scan-sees step n xs o e = (o, e)
+
+pub marks-see : (es : List Entry) → only_scans es ≡ true → picked fields_read es ≡ [] → all_steps sees_roots es ≡ true
+marks-see [] o r = refl
+marks-see (e ∷ es) o r =
+    let h = and_parts (scans_object e.step) (only_scans es) o in
+    let k = scan-sees e.step e.found (picked fields_read es) h.0 r in
+    and_from (sees_roots e.step) (all_steps sees_roots es) k.0 (marks-see es h.1 k.1)

@@ -2,7 +2,6 @@ pub mod Owned
 mod Steps
 mod Between
 mod Learning
-pub mod Noted
 pub mod Drawing
 pub mod CardLooks
 mod Rooting
@@ -13,5 +12,4 @@ pub mod Few
 pub mod Staying
 pub mod Drawn
 pub mod DrainEnds
-mod RootSteps
 mod RootReads

@@ -10,7 +10,7 @@ use Rattle.mark_core.specs.Seats.{is_the, may_mutate}
 use Rattle.mark_core.specs.WellFormed.{IsSeat}
 use Rattle.mark_core.specs.declared.kinds.Shape.{Shape}
 use Rattle.mark_core.specs.declared.kinds.Step.TheVariants.{StoreField, StoreValue, DirtyCard, ReadCount, ExchangeField, ExchangeValue}
-use Rattle.mark_core.proofs.Blocks.BlocksTaken.{Taken}
+use Rattle.mark_core.proofs.Blocks.BlocksStopped.{Taken}
 use Rattle.plain_heap.specs.PlainHeap.{variable, is_own}
 use Rattle.plain_heap.specs.declared.object.Ref.{Ref}
 use Rattle.plain_heap.specs.declared.object.Ref.TheVariants as refs
@@ -21,7 +21,7 @@ use Rattle.gc_table.specs.TableState.{TableState, meanings_of}
 use Rattle.gc_table.specs.declared.view.Meaning.{Meaning}
 use Rattle.gc_table.specs.declared.view.View.{View}
 use Rattle.gc_table.proofs.Stands.StandsSeat.{looks, env-agrees}
-use Rattle.gc_table.proofs.State.StatePlain.{Views, views}
+use Rattle.gc_table.proofs.State.StateStores.{Views, views}
 use Rattle.card_clean.specs.Barrier.{HasOwn, IsStorable, MayStore}
 
 -- a word that agrees with an own reference isn't nil, and names a cell of the section

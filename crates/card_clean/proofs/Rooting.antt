@@ -23,11 +23,11 @@ use Rattle.packet_pools.specs.OnlyTraced.{OnlyTraced, IsNotedMarked}
 use Rattle.packet_pools.specs.Scanning.{Pushes}
 use Rattle.packet_pools.specs.Tracing.{traces}
 use Rattle.packet_pools.proofs.Conditions.{may-trace}
-use Rattle.packet_pools.proofs.InHand.{known-held}
+use Rattle.packet_pools.proofs.Exchanged.{known-held}
 use Rattle.packet_pools.proofs.Settled.{settles-left}
 use Rattle.card_clean.specs.Drained.{IsNotedRoot, RootsBetween, slot_index}
 use Rattle.gc_table.proofs.Noticing.{alone-steady}
-use Rattle.card_clean.proofs.Noted.{noted-here}
+use Rattle.card_clean.proofs.CardLooks.{noted-here}
 
 pub may-read_root : (v : View) (section u : ℕ) (h : Held) → traces v ≡ true → section < v.shape.sections → u < section_variables → HoldsPacket h v → work_in_hand v.shape.fields v.state ≡ false → May (ReadRoot section u) v
 may-read_root v section u h t there low held work c k w a = (

@@ -13,7 +13,7 @@ use Rattle.gc_table.specs.Running.{Ran, ends_alone}
 use Rattle.gc_table.proofs.Noticing.{Spares, alone-kept, alone-steady, known-alone}
 use Rattle.gc_table.proofs.Running.{ran-shape}
 use Rattle.packet_pools.specs.OnlyTraced.{IsNotedMarked, traces_cells}
-use Rattle.packet_pools.proofs.Marked.{marked-stays, tracing-alone}
+use Rattle.packet_pools.proofs.TracedSteps.{marked-stays, tracing-alone}
 use Rattle.card_clean.specs.Drained.{IsBeforeSweep, IsNotedRoot, IsRooted}
 
 -- by steps of any sort with which the seat stays alone, and which clear no mark and write neither the counter of blocks nor a root

@@ -12,7 +12,7 @@ use Rattle.clap.specs.declared.builder.command.Command.TheViews.{out-Command}
 use Rattle.command_words.specs.Building.{HasMore, IsCommand, texts_of, with_commands, with_options}
 use Rattle.command_words.specs.declared.program.Form.{Form as WrittenForm}
 use Rattle.command_words.specs.Parsing.{asked_command, asked_rule}
-use Rattle.command_words.proofs.NamedRules.{or_no}
+use Rattle.command_words.proofs.LeafTurns.{or_no}
 
 pub one_more : (old new : Command) (a : Arg) (n : Text) → AddsArg old a new → rule_of a ≡ asked_rule n → a.global ≡ false → HasMore old (n ∷ []) new
 one_more old new a n adds rule plain = record {

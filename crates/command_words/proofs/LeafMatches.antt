@@ -17,9 +17,8 @@ use Rattle.clap.specs.declared.parser.matches.ValueSource.TheVariants.{DefaultVa
 use Rattle.clap.proofs.WalkLemmas.{find-map}
 use Rattle.command_words.specs.Words.{Setting, given, settings}
 use Rattle.command_words.specs.Parsing.{IsToldFlag, MatchesTell, are_allowed, dashed, flag_rule, has_no_dashes, is_flag, is_required, option_rule, read_command, read_rule, told_values}
-use Rattle.command_words.proofs.NamedRules.{by_kind, has_name, rules}
+use Rattle.command_words.proofs.LeafTurns.{by_kind, has_name, rules, at, ends, held, if_sound}
 use Rattle.command_words.proofs.Uses.{IsOnce, Use, at_no_row, row_of_use, row_with, rows_of_uses, settings_of, shown, use_of}
-use Rattle.command_words.proofs.LeafTurns.{at, ends, held, if_sound}
 use Rattle.command_words.proofs.LeafRefused.{flip, is_bad}
 use Rattle.command_words.proofs.LeafWalk.{Found, Result, fits, leaf_result}
 

@@ -7,10 +7,9 @@ use Rattle.std.proofs.lemmas.Slice.Eq.{bytes_eq-Decides}
 use Rattle.clap.specs.Walk.{Text}
 use Rattle.command_words.specs.Words.{Setting, Begins, Flag, Named, Whole, word_kind, settings_begun, settings, with_setting}
 use Rattle.command_words.specs.Parsing.{dashed, has_no_dashes, is_flag}
-use Rattle.command_words.proofs.NamedRules.{has_name}
+use Rattle.command_words.proofs.LeafTurns.{has_name, begins_with_hyphen}
 use Rattle.command_words.proofs.Uses.{Use, has_setting, is_used, settings_of}
 use Rattle.command_words.proofs.LongWords.{BeginsOther, has_dashes, lacks_names}
-use Rattle.command_words.proofs.LeafTurns.{begins_with_hyphen}
 
 -- a flag with a value, or an option whose value begins with a hyphen
 abbrev pub is_misused : Setting → Bool

@@ -1,18 +1,71 @@
 -- One word of a command's options, as a parse takes it.
-use Rattle.std.proofs.Common.{◌≡◌, ◌⊎◌, ◌∙◌, ◌&&◌, ◌==◌, ℕ, zero, suc, Bool, true, false, not, cond, refl, sym, ap, ap₂, inl, inr, List, [], ◌∷◌, length, drop, Option, Some, None, is_some, bytes_eq, true≢false, if◌then◌else◌, encode_utf8, slice_get, chars}
+use Rattle.std.proofs.Common.{◌≡◌, ◌⊎◌, ◌∙◌, ◌&&◌, ◌==◌, ℕ, zero, suc, Bool, true, false, not, cond, refl, sym, ap, ap₂, inl, inr, List, [], ◌∷◌, length, drop, Option, Some, None, is_some, bytes_eq, true≢false, if◌then◌else◌, encode_utf8, slice_get, chars, ◌||◌, map, option_map}
 use Rattle.std.specs.Prelude.{option_and_then}
 use Rattle.std.specs.Option.{option_map_or}
 use Rattle.std.proofs.lemmas.Slice.Eq.{bytes_eq-Decides}
 use Rattle.clap.specs.Lexer.{long_of, short_of, short_of_rest}
-use Rattle.clap.specs.Walk.{Held, Outcome, Row, Rule, Step, Text, Waiting, Walk, after_flag, after_step, arg_by_id, arg_by_long, bundle_met, bundle_step, idle, long_met, long_or_other, next, option, plain_word, plain, settled, short_or_plain, short_word, to_positional, trailing, walked}
+use Rattle.clap.specs.Walk.{Held, Outcome, Row, Rule, Step, Text, Waiting, Walk, after_flag, after_step, arg_by_id, arg_by_long, bundle_met, bundle_step, idle, long_met, long_or_other, next, option, plain_word, plain, settled, short_or_plain, short_word, to_positional, trailing, walked, arg_by_index, arg_by_short, has_long, has_short}
 use Rattle.clap.specs.Simple.{Shape}
 use Rattle.clap.specs.Kinds.{Kinds, or_else}
 use Rattle.clap.specs.Faults.{bundle_fault, flags_fault, flag_word_fault, bundle_step_fault, long_fault, positional_fault, settle_fault, short_fault, step_fault, stray_fault, turn_fault, use_fault}
 use Rattle.clap.specs.declared.error.kind.ErrorKind.{ErrorKind}
 use Rattle.clap.specs.declared.error.kind.ErrorKind.TheVariants as kind
-use Rattle.command_words.specs.Parsing.{dashed, flag_rule, has_no_dashes, is_flag, option_rule, read_command}
-use Rattle.command_words.proofs.NamedRules.{by_id, by_index, by_long, by_short, has_name, rules}
+use Rattle.command_words.specs.Parsing.{dashed, flag_rule, has_no_dashes, is_flag, option_rule, read_command, read_rule}
 use Rattle.command_words.proofs.LongWords.{Look, dashes, long, look, other}
+use Rattle.std.specs.List.{find, list_any}
+use Rattle.clap.proofs.WalkLemmas.{find-map}
+
+-- Which rule a name, a position or an id finds among the rules of names.
+pub or_no : (b : Bool) → (b || false) ≡ b
+or_no true = refl
+or_no false = refl
+
+-- some name of the list is this one
+abbrev pub has_name : List Text → Text → Bool
+has_name names n = list_any (λ m. bytes_eq m n) names
+
+abbrev pub rules : List Text → List Rule
+rules names = map read_rule names
+
+pub by_kind : {X : Type 0} (f : Rule → X) (x : X) (n : Text) → f (flag_rule n) ≡ x → f (option_rule n) ≡ x → f (read_rule n) ≡ x
+by_kind f x n p q = go (is_flag n)
+  where
+    go : (b : Bool) → f (cond b (flag_rule n) (option_rule n)) ≡ x
+    go true = p
+    go false = q
+
+-- the first name that is this one is this one
+first_name : (names : List Text) (n : Text) → find (λ m. bytes_eq m n) names ≡ cond (has_name names n) (Some n) None
+first_name [] n = refl
+first_name (m ∷ ms) n = go (bytes_eq m n) (bytes_eq-Decides m n).0 (first_name ms n)
+  where
+    go : (b : Bool) → (b ≡ true → m ≡ n) → find (λ x. bytes_eq x n) ms ≡ cond (has_name ms n) (Some n) None
+        → cond b (Some m) (find (λ x. bytes_eq x n) ms) ≡ cond (b || has_name ms n) (Some n) None
+    go true same h = ap Some (same refl)
+    go false same h = h
+
+found : (p : Rule → Bool) (names : List Text) (n : Text) → ((m : Text) → p (read_rule m) ≡ bytes_eq m n) → find p (rules names) ≡ cond (has_name names n) (Some (read_rule n)) None
+found p names n same = sym (find-map p read_rule names) ∙ ((λ i. option_map read_rule (find (λ m. same m i) names)) ∙ (ap (option_map read_rule) (first_name names n) ∙ go (has_name names n)))
+  where
+    go : (b : Bool) → option_map read_rule (cond b (Some n) None) ≡ cond b (Some (read_rule n)) None
+    go true = refl
+    go false = refl
+
+none_found : (p : Rule → Bool) (names : List Text) → ((m : Text) → p (read_rule m) ≡ false) → find p (rules names) ≡ None
+none_found p [] none = refl
+none_found p (m ∷ ms) none = rw (none m) (none_found p ms none)
+
+pub by_long : (names : List Text) (n : Text) → arg_by_long (rules names) n ≡ cond (has_name names n) (Some (read_rule n)) None
+by_long names n = found _ names n (λ m. by_kind (λ a. not (is_some a.index) && has_long a n) _ m (or_no (bytes_eq m n)) (or_no (bytes_eq m n)))
+
+pub by_id : (names : List Text) (n : Text) → arg_by_id (rules names) n ≡ cond (has_name names n) (Some (read_rule n)) None
+by_id names n = found _ names n (λ m. by_kind (λ a. bytes_eq a.id n) _ m refl refl)
+
+pub by_short : (names : List Text) (x : ℕ) → arg_by_short (rules names) x ≡ None
+by_short names x = none_found _ names (λ m. by_kind (λ a. not (is_some a.index) && has_short a x) _ m refl refl)
+
+pub by_index : (names : List Text) (i : ℕ) → arg_by_index (rules names) i ≡ None
+by_index names i = none_found _ names (λ m. by_kind (λ a. option_map_or (λ k. k == i) a.index false) _ m refl refl)
 
 abbrev pub begins_with_hyphen : Text → Bool
 begins_with_hyphen [] = false

@@ -15,10 +15,9 @@ use Rattle.clap.specs.declared.parser.matches.ValueSource.TheVariants.{CommandLi
 use Rattle.clap.specs.declared.error.kind.ErrorKind.TheVariants as kind
 use Rattle.command_words.specs.Words.{Setting, Flag, Named, word_kind, settings_begun, settings, with_setting}
 use Rattle.command_words.specs.Parsing.{dashed, has_no_dashes, is_flag, read_command}
-use Rattle.command_words.proofs.NamedRules.{has_name, rules}
+use Rattle.command_words.proofs.LeafTurns.{has_name, rules, at, broken, ends, first_word, for_none, for_value, held, id_is, if_sound, long_fails, long_turn, long_turn_is, met_is, never_dashes, other_fails, other_is, plain_turn, rule_met, begins_with_hyphen}
 use Rattle.command_words.proofs.Uses.{IsOnce, Use, has_used, is_used, once_more, one_row_more, rows_of_uses, setting_of, settings_of}
 use Rattle.command_words.proofs.LongWords.{Look, begins_as, begins_other, dashes, long, look, other}
-use Rattle.command_words.proofs.LeafTurns.{at, broken, ends, first_word, for_none, for_value, held, id_is, if_sound, long_fails, long_turn, long_turn_is, met_is, never_dashes, other_fails, other_is, plain_turn, rule_met, begins_with_hyphen}
 use Rattle.command_words.proofs.LeafRefused.{again, hyphened, is_bad, misused, other_refused, preceded, read, refused_again, refused_name, refused_use, unknown, waiting_refused}
 
 -- the use of an option fits its kind

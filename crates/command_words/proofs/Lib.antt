@@ -1,4 +1,3 @@
-pub mod NamedRules
 pub mod Uses
 pub mod LongWords
 pub mod LeafTurns
@@ -8,7 +7,6 @@ pub mod LeafMatches
 pub mod TopWalk
 pub mod Refusing
 pub mod CommandTable
-pub mod Answered
 pub mod Builders
 pub mod InRange
 mod WordRows

@@ -10,8 +10,7 @@ use Rattle.clap.specs.Walk.{Text}
 use Rattle.clap.proofs.WalkLemmas.{list_any-map}
 use Rattle.command_words.specs.Words.{Batch, Command, Dump, Gen, Load, Options, Run, Setting, allowing, cells, chosen, entries, given, is_set, number, number_in, options, packets, runners, size, tracers, workers}
 use Rattle.command_words.specs.Parsing.{are_allowed, batch_options, dashed, is_flag, load_options, made_options, play_options, run_options}
-use Rattle.command_words.proofs.NamedRules.{has_name}
-use Rattle.command_words.proofs.LeafTurns.{begins_with_hyphen}
+use Rattle.command_words.proofs.LeafTurns.{has_name, begins_with_hyphen}
 use Rattle.command_words.proofs.LeafRefused.{is_bad, is_misused}
 
 -- ---- what is given is of no use

@@ -14,8 +14,7 @@ use Rattle.clap.proofs.WalkLemmas.{walk_stopped}
 use Rattle.clap.proofs.FaultLemmas.{stopped_fault}
 use Rattle.command_words.specs.Words.{Setting, given, settings}
 use Rattle.command_words.specs.Parsing.{Form, MatchesTell, are_allowed, dashed, form_named, has_no_dashes, is_required, read_command, read_program}
-use Rattle.command_words.proofs.NamedRules.{has_name, or_no, rules}
-use Rattle.command_words.proofs.LeafTurns.{bundle_fails, first_word}
+use Rattle.command_words.proofs.LeafTurns.{has_name, or_no, rules, bundle_fails, first_word}
 use Rattle.command_words.proofs.LeafRefused.{is_bad}
 use Rattle.command_words.proofs.LeafMatches.{Answers, leaf_answers, or_else_none}
 

@@ -3,4 +3,3 @@ pub mod Rounding
 pub mod Leveling
 pub mod Tally
 pub mod Adding
-pub mod Reached

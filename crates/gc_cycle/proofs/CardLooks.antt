@@ -21,9 +21,8 @@ use Rattle.tracer.specs.Roots.{scans_roots}
 use Rattle.tracer.specs.Tally.{is_trace_step}
 use Rattle.gc_cycle.specs.CardLooks.{looks_at_card, PassesCards}
 use Rattle.gc_cycle.specs.Events.{never, Sort}
-use Rattle.gc_cycle.proofs.CleaningSpares.{none-with}
+use Rattle.gc_cycle.proofs.CleaningSpares.{none-with, moved-untaken, Spares}
 use Rattle.gc_cycle.proofs.Few.{cards-fewer}
-use Rattle.gc_cycle.proofs.TracingSpares.{moved-untaken, Spares}
 
 pub trace-unlooked : Spares is_trace_step looks_at_card
 trace-unlooked (ReadCard card) n e = absurd (false≢true e)

@@ -22,8 +22,7 @@ use Rattle.packet_pools.specs.OnlyTraced.{OnlyCleaned, OnlyTraced}
 use Rattle.packet_pools.specs.Tracing.{Traces}
 use Rattle.card_clean.specs.Drained.{AreNotedClean}
 use Rattle.card_clean.specs.Looking.{KeepsAllNotes, looks_clean, looks_dirty}
-use Rattle.card_clean.proofs.CardLooks.{clean-kept, count-noted}
-use Rattle.card_clean.proofs.Noted.{look-keeps}
+use Rattle.card_clean.proofs.CardLooks.{clean-kept, count-noted, look-keeps}
 use Rattle.gc_cycle.specs.Finishing.{IsAloneIn, IsPart}
 use Rattle.gc_cycle.specs.Lower.{HasTraced}
 use Rattle.gc_cycle.specs.Standing.{is_at_rest}

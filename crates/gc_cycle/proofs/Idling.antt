@@ -25,7 +25,7 @@ use Rattle.gc_table.proofs.Running.{run-keeps}
 use Rattle.packet_pools.specs.OnlyTraced.{OnlyTracedBy, rest_of, traces_cells}
 use Rattle.packet_pools.specs.Seeking.{moves_packet, only_moves}
 use Rattle.packet_pools.specs.Tracing.{Traces, traces}
-use Rattle.packet_pools.proofs.Marked.{tracing-alone}
+use Rattle.packet_pools.proofs.TracedSteps.{tracing-alone}
 use Rattle.tracer.specs.Hands.{IsIdle, no_packets}
 use Rattle.card_clean.proofs.Staying.{root-stays}
 use Rattle.gc_cycle.specs.Drained.{RootedAlone}

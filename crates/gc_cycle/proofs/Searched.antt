@@ -12,7 +12,7 @@ use Rattle.mark_core.specs.declared.kinds.Step.TheVariants.{Give, Push}
 use Rattle.mark_core.specs.declared.seat.SeatState.{SeatState}
 use Rattle.gc_table.specs.declared.view.Entry.{Entry}
 use Rattle.packet_pools.specs.Seeking.{input_pools, moves_packet, no_input, no_output, output_pools}
-use Rattle.packet_pools.proofs.AllMissed.{no-input-left, no-output-left}
+use Rattle.packet_pools.proofs.Searches.{no-input-left, no-output-left}
 use Rattle.tracer.specs.Deferral.{defers}
 use Rattle.tracer.specs.Moments.{after_moment, at_some_moment, deferring_after, finds_no_work, front, is_spent_slot, Moment, nothing_left, without}
 use Rattle.gc_cycle.specs.Moments.{finds_no_room, holds_one}

@@ -1,22 +1,22 @@
 -- The steps of a collection that doesn't wait.
-use Rattle.std.proofs.Common.{ℕ, ◌≡◌, ◌≤◌, ◌-◌, ◌/◌, ◌%◌, refl, sym, ap, ◌∙◌, Bool, true, false, Option, ◌&&◌, ◌||◌, Some, None, subst, eqb-true, eq-eqb, ◌⊎◌, inl, inr, ⊎_elim}
+use Rattle.std.proofs.Common.{ℕ, ◌≡◌, ◌≤◌, ◌-◌, ◌/◌, ◌%◌, refl, sym, ap, ◌∙◌, Bool, true, false, Option, ◌&&◌, ◌||◌, Some, None, subst, eqb-true, eq-eqb, ◌⊎◌, inl, inr, ⊎_elim, ◌<◌, ◌+◌, ◌*◌, List, length, arith}
 use Rattle.std.specs.Prelude.{is_some, ◌==◌}
 use Rattle.std.proofs.lemmas.Bool.{false≢true, and_from, or_cases, or_left, or_right}
 use Rattle.mark_core.specs.Cards.{block_cells}
 use Rattle.mark_core.specs.Effects.{seat_after}
 use Rattle.mark_core.specs.Layout.{block_count}
 use Rattle.mark_core.specs.Numbers.{block_counter}
-use Rattle.mark_core.specs.Places.{mark_at, the_phase}
+use Rattle.mark_core.specs.Places.{mark_at, the_phase, alloc_at}
 use Rattle.mark_core.specs.Seats.{cleaning_left, is_the}
 use Rattle.mark_core.specs.Steps.WorldSteps.{has_nothing, is_stopped}
 use Rattle.mark_core.specs.declared.kinds.Phase.{Phase}
 use Rattle.mark_core.specs.declared.kinds.Phase.TheVariants.{Drain, Full, Idle, Sweep}
 use Rattle.mark_core.specs.declared.kinds.Shape.{Shape}
 use Rattle.mark_core.specs.declared.kinds.Step.{Step}
-use Rattle.mark_core.specs.declared.kinds.Step.TheVariants.{DropStep, JoinHelpStep, LeaveHelpStep, Observe, ReadPhase, ReadStat, Reset}
+use Rattle.mark_core.specs.declared.kinds.Step.TheVariants.{DropStep, JoinHelpStep, LeaveHelpStep, Observe, ReadPhase, ReadStat, Reset, ReadAlloc}
 use Rattle.mark_core.specs.declared.seat.Cleaning.{Cleaning}
 use Rattle.mark_core.specs.declared.seat.SeatState.{SeatState}
-use Rattle.gc_table.specs.Log.{Only}
+use Rattle.gc_table.specs.Log.{Only, steps_of}
 use Rattle.gc_table.specs.Notes.{look}
 use Rattle.gc_table.specs.Rule.{KnowsFull}
 use Rattle.gc_table.specs.Running.{Alone, Ran}
@@ -24,7 +24,7 @@ use Rattle.gc_table.specs.Seats.{Found, Took}
 use Rattle.gc_table.specs.Taking.{after}
 use Rattle.gc_table.specs.declared.view.View.{View}
 use Rattle.gc_table.proofs.History.Log.{only-more}
-use Rattle.gc_table.proofs.Noticing.{alone-kept}
+use Rattle.gc_table.proofs.Noticing.{alone-kept, alone-steady}
 use Rattle.gc_table.proofs.Running.{ran-shape, state-kept}
 use Rattle.packet_pools.specs.OnlyTraced.{IsNotedMarked}
 use Rattle.card_clean.specs.Drained.{IsNotedRoot}
@@ -34,7 +34,7 @@ use Rattle.sweeper.specs.Freeing.{block_floor}
 use Rattle.sweeper.specs.Sweepers.{is_sweeping}
 use Rattle.gc_cycle.specs.Collecting.{HoldsWorld}
 use Rattle.gc_cycle.specs.Drained.{RootedAlone}
-use Rattle.gc_cycle.specs.Finishing.{finishes, IsAloneIn, IsPart, stays_in}
+use Rattle.gc_cycle.specs.Finishing.{finishes, IsAloneIn, IsPart, stays_in, AllocsNoted, ones_noted}
 use Rattle.gc_cycle.specs.Lower.{sweeps_next}
 use Rattle.gc_cycle.specs.Mutating.{keeps_section, tries_stopping}
 use Rattle.gc_cycle.specs.Standing.{IsAlone}
@@ -47,6 +47,12 @@ use Rattle.gc_cycle.proofs.Ends.Rooted.{cleared}
 use Rattle.gc_cycle.proofs.Ends.Swept.{done-of, nothing_by, sweeps-quiet, sweeps-stay}
 use Rattle.gc_cycle.proofs.Ends.Spared.{finish-keeps}
 use Rattle.gc_cycle.specs.Stepping.{AwaitsStop, Drains, IsOwner, HasSwept, Keeps, RunsAgain, notes_root, says_marked, says_root, IsAtRoots, IsAtSweep}
+use Rattle.std.specs.List.{range_with_len}
+use Rattle.std.proofs.lemmas.List.{length-map}
+use Rattle.std.proofs.lemmas.List.FromFn.{length-range_with_len}
+use Rattle.gc_table.specs.declared.view.Entry.{Entry}
+use Rattle.gc_cycle.specs.Settling.{alloc_reads}
+use Rattle.gc_cycle.specs.Pieces.{CountsFrom, HasCounted}
 
 helping-kept : (sh : Shape) (s : SeatState) (step : Step) (old : ℕ) → finishes step ≡ true → (seat_after sh s step old).helping ≡ s.helping
 helping-kept sh s JoinHelpStep old e = absurd (false≢true e)
@@ -218,3 +224,29 @@ drains-of v k r =
 pub rooted-back : (v : View) → Drains v → RootedAlone v
 rooted-back v d =
     record { rest = d.rest; rooted = record { ready = record { drains = d.drain; next_block = d.next_block }; roots = λ i h. root-noted i v (d.roots i h) } }
+
+-- A seat that is alone counts the cells in use, in pieces.
+-- how many blocks were read
+pub reads-few : (from n most : ℕ) (es : List Entry) → steps_of es ≡ alloc_reads from n → n ≤ most → length es ≤ most
+reads-few from n most es e l =
+    let long = sym (length-map es (λ (x : Entry). x.step)) ∙ (ap length e ∙ (length-map (range_with_len from n) (λ b. ReadAlloc b) ∙ length-range_with_len from n)) in omega (arith, long, l)
+
+-- what is noted of an allocation word, told by a test and by a fact
+some-noted : (o : Option ℕ) → is_some o ≡ true → (n : ℕ) × (o ≡ Some n)
+some-noted None e = absurd (false≢true e)
+some-noted (Some n) e = (n, refl)
+
+pub allocs-of : (n : ℕ) (v : View) → v.state.alone ≡ true → ((b : ℕ) → b < n → is_some (look (alloc_at b) v.known) ≡ true) → AllocsNoted n v
+allocs-of n v alone noted b l = let s = some-noted (look (alloc_at b) v.known) (noted b l) in (s.0, (s.1, alone-steady v.state (alloc_at b) s.0 refl alone))
+
+pub allocs-told : (n : ℕ) (v : View) → AllocsNoted n v → (b : ℕ) → b < n → is_some (look (alloc_at b) v.known) ≡ true
+allocs-told n v noted b l = ap (λ (o : Option ℕ). is_some o) (noted b l).1.0
+
+-- more blocks were counted
+pub counts-on : (sh : Shape) (from to counted more : ℕ) (v w : View) → w.shape ≡ sh → CountsFrom from counted v → IsPart Idle v w → to ≤ block_count sh → AllocsNoted to w → more ≡ ones_noted to w → more ≤ block_cells * to → CountsFrom to more w
+counts-on sh from to counted more v w e c p within noted count bound =
+    record { owner = part-owner Idle v w p c.owner; alone = p.alone; within = subst (λ (x : Shape). to ≤ block_count x) (sym e) within; noted = allocs-told to w noted; count = count; bound = bound }
+
+-- none is left
+pub counted-all : (n counted : ℕ) (v : View) → CountsFrom n counted v → block_count v.shape ≤ n → HasCounted counted v
+counted-all n counted v c all = let within = c.within in let same : n ≡ block_count v.shape = omega (arith, all, within) in subst (λ k. CountsFrom k counted v) same c

@@ -2,7 +2,6 @@
 pub mod Opened
 pub mod OutAndIn
 pub mod Outside
-pub mod Away
 pub mod FlagRaised
 pub mod Waits
 pub mod Admitted

@@ -3,7 +3,7 @@ use Rattle.std.proofs.Common.{ℕ, zero, suc, ◌≡◌, ◌≢◌, ◌+◌, ◌
 use Rattle.std.specs.Prelude.{IsTrue, slice_get}
 use Rattle.std.proofs.lemmas.Option.{get_or_from_slice_get, slice_get-get_or, slice_get_within}
 use Rattle.plain_heap.specs.Sections.{Sections, seasons, section_numbers}
-use Rattle.plain_heap.proofs.Counted.{section-count}
+use Rattle.plain_heap.proofs.Turns.{section-count}
 use Rattle.play_report.specs.declared.report.Part.{Part}
 use Rattle.gc_table.specs.Rule.{KnowsFull}
 use Rattle.gc_table.specs.Seats.{Sits, IsOutside, view_of}

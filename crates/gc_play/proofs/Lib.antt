@@ -1,10 +1,8 @@
 pub mod Steps
-pub mod GoingIn
 pub mod Parts
 pub mod Shares
 pub mod Dealt
 pub mod Starting
-pub mod Counting
 pub mod Turning
 pub mod Leaving
 pub mod Catalogues
@@ -17,7 +15,6 @@ pub mod TurnCuts
 pub mod Rounds
 pub mod Seasons
 pub mod Outside
-pub mod Ends
 pub mod Taking
 pub mod Plays
 pub mod Faulted

@@ -1,10 +1,10 @@
 -- The part of one section.
-use Rattle.std.proofs.Common.{ℕ, zero, suc, ◌≡◌, ◌+◌, ◌-◌, ◌<◌, length, map, get_or, refl, sym, ap, ◌∙◌, subst, arith}
+use Rattle.std.proofs.Common.{ℕ, zero, suc, ◌≡◌, ◌+◌, ◌-◌, ◌<◌, length, map, get_or, refl, sym, ap, ◌∙◌, subst, arith, ◌≤◌, max, fold, List, [], ◌∷◌}
 use Rattle.std.specs.Prelude.{◌==◌, IsTrue, IsFalse}
 use Rattle.std.specs.List.{list_any}
 use Rattle.mark_core.specs.Steps.WorldSteps.{has_nothing}
 use Rattle.mark_core.specs.declared.kinds.Shape.{Shape}
-use Rattle.plain_heap.specs.Sections.{Sections, Parts, section_of, counted, joined, parts_of, lends}
+use Rattle.plain_heap.specs.Sections.{Sections, Parts, section_of, counted, joined, parts_of, lends, section_numbers, seasons, warehouse_sections}
 use Rattle.gc_table.specs.Running.{Ran}
 use Rattle.gc_table.specs.Seats.{Sits, view_of}
 use Rattle.gc_table.specs.declared.seat.Heap.{Heap}
@@ -19,6 +19,8 @@ use Rattle.warehouse.specs.Playing.{IsPartPlayed, MayPlay}
 use Rattle.gc_cycle.specs.Standing.{IsOut}
 use Rattle.gc_play.specs.Standing.{IsSeated, PlayedTo, Rests, StoppedIn}
 use Rattle.gc_play.specs.Dealing.{seat_number, IsWarehouse, OneEnds}
+use Rattle.std.proofs.lemmas.List.{length-map}
+use Rattle.gc_play.specs.Crews.{AreAfter, Numbered}
 
 pub counted-long : (from n : ℕ) → length (counted from n) ≡ n
 counted-long from zero = refl
@@ -91,3 +93,24 @@ one-ends Full h s z m n a f w p x =
     let q = part-full h s (seat_number m) z m n p (subst (λ (y : Parts). IsPartPlayed Full h y z m n) f x) in
     let same : seat_number n ≡ seat_number m = q.seated.number in
     (record { warehouse = subst (IsWarehouse s) (sym same) w; stopped = subst (λ k. StoppedIn h s k z n) (sym same) q }, same)
+
+-- How many warehouses there are.
+pub warehouse-count : (s : Sections) (xs : List Parts) → xs ≡ warehouse_sections s → length xs ≡ length s.warehouses
+warehouse-count s xs e = ap length e ∙ (length-map (counted 1 (length s.warehouses)) (section_of s) ∙ counted-long 1 (length s.warehouses))
+
+-- one more in front of those that are numbered
+pub numbered-front : {X : Type 0} (P : ℕ → X → Type 0) (n : ℕ) (x : X) (xs : List X) → P n x → Numbered P (n + 1) xs → Numbered P n (x ∷ xs)
+numbered-front P n x xs p h zero d below = subst (λ k. P k x) (omega arith) p
+numbered-front P n x xs p h (suc i) d below = subst (λ k. P k (get_or xs i d)) (omega arith) (h i d (omega (arith, below)))
+
+-- one more before them
+pub one-before : (x : HeapSeat) (n : ℕ) (xs ys zs : List HeapSeat) → AreAfter n xs ys → zs ≡ x ∷ ys → AreAfter (n + 1) xs zs
+one-before x n xs ys zs a e = (x ∷ a.0, let k = a.1 in omega (arith, k), e ∙ ap (λ l. x ∷ l) a.2)
+
+most-least : (f : ℕ → ℕ) (first : ℕ) (xs : List ℕ) → first ≤ fold (λ most x. max most (f x)) first xs
+most-least f first [] = omega arith
+most-least f first (x ∷ xs) = let e = most-least f (max first (f x)) xs in omega (arith, e)
+
+-- there is a season
+pub some-season : (s : Sections) → 1 ≤ seasons s
+some-season s = most-least (λ w. length (parts_of s w)) 1 (section_numbers s)

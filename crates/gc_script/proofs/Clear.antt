@@ -1,5 +1,5 @@
 -- A line without a fault: what holds of it, and of the context after it.
-use Rattle.std.proofs.Common.{◌≡◌, ℕ, ◌≤◌, ◌<◌, zero, suc, List, [], ◌∷◌, ◌++◌, length, refl, ap, sym, ◌∙◌, subst, cond, Bool, true, false, arith}
+use Rattle.std.proofs.Common.{◌≡◌, ℕ, ◌≤◌, ◌<◌, zero, suc, List, [], ◌∷◌, ◌++◌, length, refl, ap, sym, ◌∙◌, subst, cond, Bool, true, false, arith, ◌+◌}
 use Rattle.std.proofs.lemmas.Bool.Decides.{nat_tests}
 use Rattle.std.proofs.lemmas.List.{length-append}
 use Rattle.std.specs.Prelude.{not, nat_le, nat_lt, Option, Some, None, is_none, unwrap_or, ◌&&◌, ◌||◌, ◌^◌}
@@ -8,7 +8,23 @@ use Rattle.gc_script.specs.Statement.{Spoken, NewOf, LetOf, NilOf, SetOf, GetOf,
 use Rattle.gc_script.specs.Earlier.{place, has_name, with_name}
 use Rattle.gc_script.specs.Faults.{Fault, starts_section, unless_, cuts_repeat}
 use Rattle.gc_script.specs.Context.{Context, context_after, closing, placed_in, large_in, knows_in, names_after, warehouses_after, seasons_after, uncut_fault_in, fault_in, IsClear, IsSane, operation_in}
-use Rattle.gc_script.proofs.Positions.{within}
+use Rattle.std.specs.List.{position_or_len, position}
+
+-- Places of elements.
+pub or_end : (k n : ℕ) → k ≤ n → unwrap_or (cond (nat_lt k n) (Some k) None) n ≡ k
+or_end k n h = grind (arith, nat_tests)
+
+pub within : {X : Type 0} (p : X → Bool) (xs : List X) → position_or_len p xs ≤ length xs
+within p [] = omega arith
+within p (x ∷ xs) = by_head (p x) _ _ (within p xs)
+  where
+    by_head : (b : Bool) (k n : ℕ) → k ≤ n → cond (not b) (1 + k) 0 ≤ suc n
+    by_head true k n h = omega arith
+    by_head false k n h = omega arith
+
+-- if the first element passes, by the position if there is one
+pub end_by_position : {X : Type 0} (p : X → Bool) (xs : List X) (r : Option ℕ) (k : ℕ) → r ≡ position p xs → k ≡ unwrap_or r (length xs) → k ≡ position_or_len p xs
+end_by_position p xs r k e f = f ∙ ap (λ (o : Option ℕ). unwrap_or o (length xs)) e ∙ or_end _ (length xs) (within p xs)
 
 test_of : (t : Bool) (f : Fault) (others : Option Fault) → unless_ t f others ≡ None → t ≡ true
 test_of true f others e = refl

@@ -10,9 +10,10 @@ use Rattle.std.specs.List.{All, position_or_len, slice_split, onto_first, before
 use Rattle.gc_script.specs.ScriptText.{is_allowed, first_foreign, lines, words, without_empty_last}
 use Rattle.gc_script.specs.Statement.{Fields, statement, header}
 use Rattle.gc_script.specs.Faults.{Fault, TooLong}
-use Rattle.gc_script.specs.Script.{Script, script, of_text, of_lines, of_version, body}
+use Rattle.gc_script.specs.Script.{Script, script, of_text, of_lines, of_version, body, ScriptsMean}
 use Rattle.gc_script.specs.Convert.{Conversion, added_lines, converted_text, if_short, converted, without_lines, KeepsMeaning}
 use Rattle.gc_script.proofs.SameMeaning.{body_same, body_ok, IsScript}
+use Rattle.gc_script.specs.Meaning.{Means}
 
 header_two : header (words (codes "gcscript 2")) ≡ Some 2
 header_two = refl
@@ -193,3 +194,23 @@ pub keeps_meaning : KeepsMeaning
 keeps_meaning bytes c s k h =
     let made : converted (Ok s) bytes ≡ Ok c = ap (λ (r : Result Script Fault). converted r bytes) (sym h) ∙ k in
     by_version bytes c s (s.version == 1) refl h made
+
+-- A script without a fault means its sections.
+lines_mean : (bytes : List ℕ) (all : List (List (List ℕ))) (s : Script) → map words (lines bytes) ≡ all → of_lines all ≡ Ok s → Means bytes s.sections
+lines_mean bytes [] s is h = cc
+lines_mean bytes (first ∷ others) s is h =
+    let v = version_ok (header first) others s h in
+    let whole : IsScript v.0 (map statement others) s = body_ok v.0 (map statement others) s v.2 in
+    record {
+      version = v.0;
+      first = first;
+      others = others;
+      lines = is;
+      headed = v.1;
+      sections = ap (λ (z : Script). z.sections) whole.same;
+    }
+
+pub scripts-mean : ScriptsMean
+scripts-mean bytes s h =
+    let text = text_ok bytes s (nat_lt 1048576 (length bytes)) (first_foreign bytes) h in
+    lines_mean bytes (map words (lines bytes)) s refl text.1

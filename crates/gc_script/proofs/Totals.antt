@@ -12,7 +12,7 @@ use Rattle.gc_script.specs.Earlier.{known_fields, open_repeat, open_section}
 use Rattle.gc_script.specs.Script.{repeated, repetitions, pending, executed, execution, ended_parts, parts_of_open_section, if_warehouse, if_catalogue, closed_warehouses, closed_catalogue, one_if, pending_count, executed_count}
 use Rattle.gc_script.specs.Context.{AreClear}
 use Rattle.gc_script.specs.Sectioned.{in_parts, in_sections}
-use Rattle.gc_script.proofs.Repeats.{count_by-append, count_repeated}
+use Rattle.gc_script.proofs.Sectioning.{count_by-append, count_repeated}
 use Rattle.gc_script.proofs.History.{bare, none_is}
 
 right : (a b : Bool) → (a && b) ≡ true → b ≡ true

@@ -72,14 +72,14 @@ fn count_in(kind: Kind, commands: &[Command<'_>]) -> u64
     count
 }
 
-#[tactic(auto, using(crate::proofs::Repeats::count_repeated))]
+#[tactic(auto, using(crate::proofs::Sectioning::count_repeated))]
 fn count_in_block(kind: Kind, block: &Block<'_>) -> u64
     ensures { result ≡ min (count_by (counts kind) (block_shown block.now)) u64.MAX }
 {
     u64::from(block.times).saturating_mul(count_in(kind, block.body.as_slice()))
 }
 
-#[tactic(auto, using(crate::proofs::Repeats::count_more))]
+#[tactic(auto, using(crate::proofs::Sectioning::count_more))]
 fn count_in_blocks(kind: Kind, blocks: &[Block<'_>]) -> u64
     ensures { result ≡ min (count_by (counts kind) (blocks_shown blocks.now)) u64.MAX }
 {
@@ -90,7 +90,7 @@ fn count_in_blocks(kind: Kind, blocks: &[Block<'_>]) -> u64
     count
 }
 
-#[tactic(auto, using(crate::proofs::Repeats::count_more))]
+#[tactic(auto, using(crate::proofs::Sectioning::count_more))]
 /// How many commands of a kind are executed, at most the greatest number.
 pub fn count_in_parts(kind: Kind, parts: &[Part<'_>]) -> u64
     ensures { result ≡ min (count_by (counts kind) (joined (map part_shown parts.now))) u64.MAX }

@@ -11,9 +11,8 @@ use Rattle.mark_core.specs.declared.kinds.Shape.{Shape}
 use Rattle.mark_core.specs.declared.kinds.Step.{Step}
 use Rattle.mark_core.specs.declared.kinds.Step.TheVariants.{ExchangeValue, Join, Split}
 use Rattle.mark_core.specs.declared.seat.SeatState.{SeatState}
-use Rattle.mark_core.proofs.Acting.{Acted, some_none}
-use Rattle.mark_core.proofs.Blocks.BlocksTaken.{Taken}
-use Rattle.mark_core.proofs.Core.{acts}
+use Rattle.mark_core.proofs.Known.{Acted, some_none, acts}
+use Rattle.mark_core.proofs.Blocks.BlocksStopped.{Taken}
 use Rattle.mark_core.proofs.Pool.PoolsKept.{shape-kept}
 use Rattle.gc_table.specs.Laws.{IsRunOf}
 use Rattle.gc_table.specs.Log.{all_steps}
@@ -28,9 +27,8 @@ use Rattle.gc_table.specs.RunWorlds.{World, WorldObject, object_of, section_of, 
 use Rattle.gc_table.proofs.Kept.{agrees-kept, agrees-starts}
 use Rattle.gc_table.specs.Runs.{AreAllowed}
 use Rattle.gc_table.specs.Single.{CounterTold, HasOne, all_won, leaves_values, made_count, makes_object, raises, won_count}
-use Rattle.gc_table.proofs.Lending.{all_split}
-use Rattle.gc_table.proofs.Sharing.{Sound, later-sound, world-first}
-use Rattle.gc_table.proofs.Threads.{allowed}
+use Rattle.gc_table.proofs.Lending.{all_split, Sound, later-sound, world-first}
+use Rattle.gc_table.proofs.Freeing.{allowed}
 use Rattle.gc_table.proofs.Single.{IsSingle, exchanged_one, none_at, step_single, the_one, value_after}
 
 -- how many exchanges of values these events win, by the logs of their seats

@@ -14,10 +14,10 @@ use Rattle.gc_table.specs.Entries.{won}
 use Rattle.gc_table.specs.AgreementLaws.{FindsValue, StoresIn, StoresOf, TellsOf, found_of, world_after, world_of}
 use Rattle.gc_table.specs.RunWorlds.{World, WorldObject, is_same, object_of, own_section, variable_of, with_exchanged_value, with_object, with_value, world_by}
 use Rattle.gc_table.proofs.Forgetting.{none_forgotten, same-is}
-use Rattle.gc_table.proofs.Heap.{object-changed}
+use Rattle.gc_table.proofs.Reading.{object-changed}
 use Rattle.gc_table.proofs.Telling.{tells-once}
 use Rattle.gc_table.specs.Counting.{IsRaise, RaisesCounted, WinsTold, has_value, wins_in}
-use Rattle.gc_table.proofs.Sharing.{world-first}
+use Rattle.gc_table.proofs.Lending.{world-first}
 
 -- what comes of the object by one step, which is won or not
 abbrev Raised : World → Name → WorldObject → Bool → Type 0

@@ -1,5 +1,5 @@
 -- 50 and 51: a field or the value of an object is exchanged: the words found and expected are equal exactly if the heap has the expected there.
-use Rattle.std.proofs.Common.{ℕ, ◌≡◌, ◌+◌, ◌-◌, ◌*◌, ◌<◌, List, set, arith, refl, sym, ap, ◌∙◌, subst, Bool, true, false, cond, not, eqb, ◌&&◌, ◌||◌, Option, Some, None}
+use Rattle.std.proofs.Common.{ℕ, ◌≡◌, ◌+◌, ◌-◌, ◌*◌, ◌<◌, List, set, arith, refl, sym, ap, ◌∙◌, subst, Bool, true, false, cond, not, eqb, ◌&&◌, ◌||◌, Option, Some, None, zero, suc}
 use Rattle.std.specs.Prelude.{IsTrue, slice_index, nat_lt}
 use Rattle.std.proofs.lemmas.Bool.{and_parts, and_from, or_left, eqb-true, eq-eqb, ltb-true}
 use Rattle.std.proofs.lemmas.List.{get_or-set_same, get_or-set_other, set-get_or}
@@ -13,11 +13,11 @@ use Rattle.mark_core.specs.Cells.{field}
 use Rattle.mark_core.specs.Rules.HeapRules.{NamesInUse, section_of_cell}
 use Rattle.mark_core.specs.Steps.MutatorSteps.{in_variables, variable_or_nil, may_change, seat_variable as word_in}
 use Rattle.mark_core.specs.Effects.{seat_after, written}
-use Rattle.mark_core.specs.Steps.{Core}
+use Rattle.mark_core.specs.Steps.{Core, run_of, start_core}
 use Rattle.mark_core.specs.Laws.{IsCore}
-use Rattle.mark_core.proofs.Acting.{found, words_left, seats_left}
-use Rattle.mark_core.proofs.Blocks.BlocksTaken.{Taken, in-place, mine as own-fact}
-use Rattle.mark_core.proofs.Writing.Regions.{words-get}
+use Rattle.mark_core.proofs.Known.{found, words_left, seats_left}
+use Rattle.mark_core.proofs.Blocks.BlocksStopped.{Taken, in-place, mine as own-fact}
+use Rattle.mark_core.proofs.Writing.Places.{words-get}
 use Rattle.mark_core.proofs.References.ReferencesRoots.{Used, UsedAfter, seat-formed, read-field}
 use Rattle.mark_core.specs.declared.kinds.Shape.{Shape}
 use Rattle.mark_core.specs.declared.kinds.Step.{Step}
@@ -26,10 +26,28 @@ use Rattle.mark_core.specs.declared.seat.SeatState.{SeatState}
 use Rattle.gc_table.specs.RunWorlds.{World, WorldObject, variable_of, reference_of, is_same, with_object, with_reference, with_value, with_exchanged, with_exchanged_value, stored, name_at, referred, own_section}
 use Rattle.gc_table.specs.Agreement.{Agrees, AgreesIn, AgreesWith}
 use Rattle.gc_table.proofs.Frame.{moved}
-use Rattle.gc_table.proofs.Seats.{Mutates, mutates}
+use Rattle.gc_table.proofs.Seats.{Mutates, mutates, names, used-exists}
 use Rattle.gc_table.proofs.Stores.{stored-agrees, Refers, refers, Rewrites, object-moves, field-rewrites, field-inside, value-rewrites, values-length}
-use Rattle.gc_table.proofs.SameCells.{words-same}
 use Rattle.gc_table.proofs.Forgetting.{same-is}
+use Rattle.std.proofs.lemmas.Option.{same_Some}
+use Rattle.mark_core.proofs.CoreKept.{runs_sound}
+use Rattle.gc_table.specs.AgreementLaws.{SameWords}
+use Rattle.gc_table.proofs.Reading.{none-some}
+
+-- Two words that refer to the same object are the same.
+-- if both are nil or name cells in use
+pub words-same : (c : Core) (r q : ℕ) → IsCore c → nil_or (Used c) r ≡ true → nil_or (Used c) q ≡ true → referred (words_of c.shape c.words).identities r ≡ referred (words_of c.shape c.words).identities q → r ≡ q
+words-same c zero zero k u v e = refl
+words-same c zero (suc y) k u v e = absurd (none-some (name_at (words_of c.shape c.words).identities y) e)
+words-same c (suc x) zero k u v e = absurd (none-some (name_at (words_of c.shape c.words).identities x) (sym e))
+words-same c (suc x) (suc y) k u v e =
+    let a : Used c x ≡ true = names (Used c) (suc x) x refl u in
+    let b : Used c y ≡ true = names (Used c) (suc y) y refl v in
+    let name : name_at (words_of c.shape c.words).identities x ≡ name_at (words_of c.shape c.words).identities y = same_Some _ _ e in
+    ap (λ (n : ℕ). suc n) (k.sound.caches.distinct x (used-exists c k x a) y (used-exists c k y b) a b (omega (arith, ap (λ (n : Name). n.section) name, ap (λ (n : Name). n.number) name)))
+
+pub same_words : SameWords
+same_words sh n es z some few fit r q u v e = words-same (run_of es (start_core sh n)) r q (runs_sound sh n es z some few fit) u v e
 
 -- what is equal is the same
 pub same-as : (x : Option Name) → is_same x x ≡ true

@@ -20,7 +20,7 @@ use Rattle.mark_core.specs.declared.kinds.Step.{Step}
 use Rattle.mark_core.specs.declared.kinds.Step.TheVariants.{Take, Give, Push, Pop, StoreLength, ReadLength, StoreNew, Reset, AddStat, ReadStat}
 use Rattle.mark_core.specs.declared.seat.SeatState.{SeatState}
 use Rattle.mark_core.proofs.Pool.PoolSlots.{SameInHand, put-other, drop-other, set-other, holds-put_same, holds-drop_same, holds-set_same, known-set_same}
-use Rattle.mark_core.proofs.Pool.PoolHolders.{only-holder}
+use Rattle.mark_core.proofs.Pool.PoolPlaces.{only-holder}
 use Rattle.mark_core.proofs.Writing.RegionWrites.{touches_heads}
 use Rattle.mark_core.proofs.Writing.Writes.{at_part, at_counter}
 use Rattle.gc_table.specs.declared.view.Entry.{Entry}

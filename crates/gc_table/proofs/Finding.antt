@@ -5,9 +5,8 @@ use Rattle.mark_core.specs.Effects.{place}
 use Rattle.mark_core.specs.Steps.{Core, start_core}
 use Rattle.mark_core.specs.declared.kinds.Event.{Event}
 use Rattle.mark_core.specs.declared.seat.SeatState.{SeatState}
-use Rattle.mark_core.proofs.Acting.{Acted}
-use Rattle.mark_core.proofs.Blocks.BlocksTaken.{in-place}
-use Rattle.mark_core.proofs.Core.{acts}
+use Rattle.mark_core.proofs.Known.{Acted, acts}
+use Rattle.mark_core.proofs.Blocks.BlocksStopped.{in-place}
 use Rattle.mark_core.proofs.Writing.Ranges.{IsPlace}
 use Rattle.mark_core.proofs.Notes.NotesKept.{word-found}
 use Rattle.gc_table.proofs.State.StateSteps.{some-same}

@@ -9,9 +9,9 @@ use Rattle.mark_core.specs.Effects.{place, written, seat_after}
 use Rattle.mark_core.specs.Steps.{Core}
 use Rattle.mark_core.specs.Room.{HasNumber, HasRoom}
 use Rattle.mark_core.proofs.Doing.{has-number, has-room}
-use Rattle.mark_core.proofs.Blocks.BlocksTaken.{in-place}
+use Rattle.mark_core.proofs.Blocks.BlocksStopped.{in-place}
 use Rattle.mark_core.proofs.Writing.Ranges.{IsPlace}
-use Rattle.mark_core.proofs.Writing.Regions.{address-lt-total}
+use Rattle.mark_core.proofs.Writing.Places.{address-lt-total}
 use Rattle.mark_core.specs.declared.kinds.Shape.{Shape}
 use Rattle.mark_core.specs.declared.kinds.Step.{Step}
 use Rattle.mark_core.specs.declared.kinds.Step.TheVariants.{Push, ReadField, StoreRoot, StoreNew}

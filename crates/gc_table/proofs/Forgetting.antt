@@ -7,7 +7,7 @@ use Rattle.mark_core.specs.declared.kinds.Step.{Step}
 use Rattle.mark_core.specs.declared.kinds.Step.TheVariants.{ReadOwn, ReadCat, StoreField, StoreValue, StoreRoot, StoreNew, ExchangeField, ExchangeValue, StoreSlot, ReadSlot}
 use Rattle.gc_table.specs.RunWorlds.{World, WorldObject, WorldSection, variable_of, object_of, reference_of, is_same, in_section, section_of, followed, with_register, with_variable, with_reference, with_value, with_new, with_part, with_object, stored, name_at, referred, own_section, with_exchanged, with_exchanged_value}
 use Rattle.gc_table.specs.AgreementLaws.{StoresIn, HasReference, HasValue, NoneForgotten}
-use Rattle.gc_table.proofs.Heap.{object-kept, object-changed, object-other}
+use Rattle.gc_table.proofs.Reading.{object-kept, object-changed, object-other}
 use Rattle.gc_table.proofs.NewObjects.{before-new}
 
 -- what is kept of the object

@@ -8,8 +8,8 @@ use Rattle.mark_core.specs.Numbers.{section_span}
 use Rattle.mark_core.specs.Seats.{makes, last_made}
 use Rattle.mark_core.specs.Cells.{field}
 use Rattle.mark_core.specs.Steps.{Core}
-use Rattle.mark_core.proofs.Blocks.BlocksTaken.{Taken, within}
-use Rattle.mark_core.proofs.Formed.FormedAfter.{set-here, set-there}
+use Rattle.mark_core.proofs.Blocks.BlocksStopped.{Taken, within}
+use Rattle.mark_core.proofs.Formed.FormedLearns.{set-here, set-there}
 use Rattle.mark_core.proofs.References.ReferencesRoots.{Used, UsedAfter}
 use Rattle.mark_core.proofs.Used.UsedKept.{used-back}
 use Rattle.mark_core.proofs.Used.UsedSeats.{IsMadeBy}

@@ -1,14 +1,15 @@
 -- On a run of the core no reachable cell is freed.
 use Rattle.std.proofs.Common.{◌≡◌, ◌+◌, ◌<◌, ℕ, zero, suc, List, [], ◌∷◌, length, take, ap, sym, ◌∙◌, subst, arith}
-use Rattle.std.specs.Prelude.{IsTrue}
-use Rattle.mark_core.specs.Steps.{Core, after_event, run_of, start_core}
+use Rattle.std.specs.Prelude.{IsTrue, None}
+use Rattle.mark_core.specs.Steps.{Core, after_event, run_of, start_core, first_refused}
 use Rattle.mark_core.specs.Laws.{IsCore}
 use Rattle.mark_core.specs.Closed.{IsReachableIn, is_published}
 use Rattle.mark_core.specs.declared.kinds.Event.{Event}
 use Rattle.mark_core.proofs.CoreKept.{core-starts}
-use Rattle.mark_core.proofs.Consequences.Staying.{reachable_stay}
-use Rattle.gc_table.proofs.History.Past.{run-first, run-sound}
+use Rattle.mark_core.proofs.Consequences.Closing.{reachable_stay}
+use Rattle.gc_table.proofs.History.Past.{run-first, run-sound, first-allowed, closed_ran}
 use Rattle.gc_table.specs.Runs.{AreAllowed, NoneFreed}
+use Rattle.gc_table.specs.Threads.{ThreadsFreeNone}
 
 -- what is so in one state stays in another
 abbrev Stays : Core → Core → ℕ → Type 0
@@ -35,3 +36,13 @@ stays c (e ∷ es) core ok k x below =
 
 pub none_freed : NoneFreed
 none_freed sh n es run k x below = stays (start_core sh n) es (λ m. run-sound m es (start_core sh n) (core-starts sh n run.shape run.seats.0 run.seats.1) run.fit) run.allowed k x below
+
+-- What threads do is a run of the core.
+pub allowed : (i : ℕ) (es : List Event) (c : Core) → first_refused i es c ≡ None → AreAllowed c es
+allowed i [] c h = tt
+allowed i (e ∷ es) c h = let first = first-allowed i e es c h in (first.0, allowed (i + 1) es _ first.1)
+
+pub threads_free_none : ThreadsFreeNone
+threads_free_none sh seats w end =
+    let ran = closed_ran sh seats w end in
+    (ran.0, ran.1, λ k x below. stays (start_core sh 1) ran.0 ran.1.sound (allowed 0 ran.0 (start_core sh 1) ran.1.allowed) k x below)

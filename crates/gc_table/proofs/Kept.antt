@@ -11,15 +11,15 @@ use Rattle.mark_core.specs.Layout.{Words, words_of, root_count}
 use Rattle.mark_core.specs.Seats.{may_mutate}
 use Rattle.mark_core.specs.Effects.{seat_after}
 use Rattle.mark_core.specs.Steps.{Core, failing_part, after_event, run_of, start_core}
-use Rattle.mark_core.proofs.Acting.{found, words_left, seats_left}
-use Rattle.mark_core.proofs.AtSeat.{roots-length}
-use Rattle.mark_core.proofs.Blocks.BlocksTaken.{Taken, in-place, kept-after}
+use Rattle.mark_core.proofs.Known.{found, words_left, seats_left}
+use Rattle.mark_core.proofs.HeldBlock.{roots-length}
+use Rattle.mark_core.proofs.Blocks.BlocksStopped.{Taken, in-place, kept-after}
 use Rattle.mark_core.specs.declared.kinds.Step.{Step}
 use Rattle.mark_core.specs.declared.kinds.Step.TheVariants.{StoreRoot, StoreSlot, ReadOwn, ReadCat, StoreField, StoreValue, ClaimBlock, ReleaseBlock, ReadFree, StoreNew, PublishCells, Split, Join, ExchangeField, ExchangeValue, ReadSlot}
 use Rattle.mark_core.specs.declared.seat.SeatState.{SeatState}
 use Rattle.gc_table.specs.RunWorlds.{World, WorldSection, section_of, variable_of, in_section, with_variable, name_at, referred, own_section, new_section, world_by, start_world, start_section}
 use Rattle.gc_table.specs.Agreement.{SeatAgrees, AgreesIn, AgreesWith}
-use Rattle.gc_table.proofs.Heap.{section-same, section-other, sections-kept, view-kept, object-kept}
+use Rattle.gc_table.proofs.Reading.{section-same, section-other, sections-kept, view-kept, object-kept, read-own, read-cat, read-slot}
 use Rattle.gc_table.proofs.Frame.{holds-on, Moves, moved, had-object}
 use Rattle.gc_table.proofs.Seats.{Mutates, mutates}
 use Rattle.gc_table.proofs.Exchanges.{exchange-field, exchange-value}
@@ -27,15 +27,13 @@ use Rattle.std.proofs.lemmas.List.Elements.{All-head, All-tail}
 use Rattle.mark_core.specs.Start.{start_words}
 use Rattle.mark_core.specs.Laws.{IsCore, NumbersFit, AllNumbersFit}
 use Rattle.mark_core.proofs.CoreKept.{core_kept, core-starts}
-use Rattle.mark_core.proofs.Formed.FormedStart.{seat-at}
-use Rattle.mark_core.proofs.References.ReferencesStart.{no-root, none-used}
+use Rattle.mark_core.proofs.Formed.FormedSeats.{seat-at}
+use Rattle.mark_core.proofs.References.ReferencesRoots.{no-root, none-used}
 use Rattle.mark_core.specs.declared.kinds.Event.{Event}
 use Rattle.mark_core.specs.declared.kinds.Shape.{Shape}
 use Rattle.gc_table.specs.AgreementLaws.{StartAgrees, EventsAgree, RunsAgree, world_of, world_after, world_run}
-use Rattle.gc_table.proofs.Making.{same-making, none-making, free-making, published-making, claimed-making}
+use Rattle.gc_table.proofs.Still.{same-making, none-making, free-making, published-making, claimed-making, still-seat, still-split, still-join}
 use Rattle.gc_table.proofs.NewObjects.{store-new}
-use Rattle.gc_table.proofs.Reading.{read-own, read-cat, read-slot}
-use Rattle.gc_table.proofs.Still.{still-seat, still-split, still-join}
 use Rattle.gc_table.proofs.Stores.{store-field, store-value}
 
 -- 19 and 52: a root is stored, a variable or a slot: it refers to what the word refers to.

@@ -12,7 +12,7 @@ use Rattle.mark_core.proofs.Notes.NotesKept.{notes_kept, word-found, word-elsewh
 use Rattle.mark_core.proofs.Notes.NotesBounds.{bounds-kept}
 use Rattle.mark_core.proofs.Notes.NotesOwn.{word-here}
 use Rattle.mark_core.proofs.Pool.PoolsKept.{shape-kept}
-use Rattle.mark_core.proofs.Blocks.BlocksTaken.{in-place}
+use Rattle.mark_core.proofs.Blocks.BlocksStopped.{in-place}
 use Rattle.mark_core.proofs.Writing.Ranges.{IsPlace}
 use Rattle.mark_core.specs.declared.kinds.Shape.{Shape}
 use Rattle.mark_core.specs.declared.kinds.Step.{Step}

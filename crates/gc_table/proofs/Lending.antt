@@ -1,32 +1,83 @@
 -- A variable of section 0 refers to one object in the whole run, if its seat stores there once.
 use Rattle.std.proofs.Common.{ℕ, zero, suc, ◌≡◌, ◌≢◌, ◌⊎◌, ◌+◌, ◌<◌, ◌≤◌, ◌==◌, ◌&&◌, ◌∙◌, List, [], ◌∷◌, ◌++◌, set, take, length, ap, arith, inl, inr, not, refl, subst, sym, ⊎_elim, Bool, true, false, Option, None, Some}
-use Rattle.std.specs.Prelude.{if◌then◌else◌, nat_lt, replicate, slice_get, slice_index_or}
+use Rattle.std.specs.Prelude.{if◌then◌else◌, nat_lt, replicate, slice_get, slice_index_or, is_none}
 use Rattle.std.proofs.lemmas.Bool.{and_from, and_parts, cases_eq, cases_lt, eq-eqb, false≢true}
 use Rattle.std.proofs.lemmas.List.{get_or-set_other}
 use Rattle.plain_heap.specs.Paths.{Name}
 use Rattle.mark_core.specs.Layout.{words_of}
 use Rattle.mark_core.specs.Laws.{IsCore}
 use Rattle.mark_core.specs.Seats.{may_mutate}
-use Rattle.mark_core.specs.Steps.{Core, after_event, failing_part, start_core}
+use Rattle.mark_core.specs.Steps.{Core, after_event, failing_part, start_core, run_of}
 use Rattle.mark_core.specs.declared.kinds.Event.{Event}
 use Rattle.mark_core.specs.declared.kinds.Shape.{Shape}
 use Rattle.mark_core.specs.declared.kinds.Step.{Step}
 use Rattle.mark_core.specs.declared.kinds.Step.TheVariants.{ExchangeField, ExchangeValue, Join, ReadCat, ReadOwn, ReadSlot, Split, StoreField, StoreNew, StoreRoot, StoreSlot, StoreValue}
 use Rattle.mark_core.specs.declared.seat.SeatState.{SeatState}
-use Rattle.mark_core.proofs.Acting.{Acted}
-use Rattle.mark_core.proofs.Core.{acts}
-use Rattle.mark_core.proofs.Blocks.BlocksTaken.{Taken}
+use Rattle.mark_core.proofs.Known.{Acted, acts}
+use Rattle.mark_core.proofs.Blocks.BlocksStopped.{Taken}
 use Rattle.gc_table.specs.Log.{all_steps}
 use Rattle.gc_table.specs.Past.{adds, entries_of, log_from}
 use Rattle.gc_table.specs.declared.view.Entry.{Entry}
-use Rattle.gc_table.specs.AgreementLaws.{world_after, world_of, world_run}
+use Rattle.gc_table.specs.AgreementLaws.{world_after, world_of, world_run, TellsOf}
 use Rattle.gc_table.specs.RunWorlds.{World, WorldObject, WorldSection, in_section, own_section, replaced, section_of, start_section, start_world, variable_of, with_new, with_object, with_part, with_register, with_variable, world_by}
-use Rattle.gc_table.proofs.Heap.{section-other, view-kept}
+use Rattle.gc_table.proofs.Reading.{section-other, view-kept}
 use Rattle.gc_table.proofs.Seats.{Mutates, mutates}
 use Rattle.gc_table.specs.Lending.{OneObjectLent, leaves_variable, stores_once}
 use Rattle.gc_table.specs.Runs.{AreAllowed}
-use Rattle.gc_table.proofs.Sharing.{Sound, later-sound, world-first}
-use Rattle.gc_table.proofs.Threads.{allowed}
+use Rattle.gc_table.proofs.Freeing.{allowed}
+use Rattle.gc_table.proofs.History.Past.{run-first, closed_ran}
+use Rattle.gc_table.specs.Agreement.{AgreesWith}
+use Rattle.gc_table.proofs.Kept.{agrees-kept, agrees-starts}
+use Rattle.gc_table.proofs.Telling.{tells-once}
+use Rattle.gc_table.specs.Sharing.{ThreadsShareOneHeap}
+
+-- Threads that share objects act on one plain heap.
+-- the heap after a first event that is allowed, and more
+pub world-first : (c : Core) (e : Event) (es : List Event) (world : World) → failing_part c e ≡ None → world_run (e ∷ es) c world ≡ world_run es (after_event c e) (world_after c e world)
+world-first c e es world ok = ap (λ (o : Option ℕ). if is_none o then world_run es (after_event c e) (world_after c e world) else world) ok
+
+-- each state of a run meets the rule of the core
+abbrev pub Sound : Core → List Event → Type 0
+Sound c es = (n : ℕ) → IsCore (run_of (take n es) c)
+
+pub later-sound : (c : Core) (e : Event) (es : List Event) → failing_part c e ≡ None → Sound c (e ∷ es) → Sound (after_event c e) es
+later-sound c e es ok core n = subst IsCore (run-first c e (take n es) ok) (core (suc n))
+
+-- after the first k events they agree
+pub agree-on : (es : List Event) (c : Core) (world : World) → Sound c es → AreAllowed c es → AgreesWith c world → (k : ℕ) → AgreesWith (run_of (take k es) c) (world_run (take k es) c world)
+agree-on es c world core ok a zero = a
+agree-on [] c world core ok a (suc k) = a
+agree-on (e ∷ es) c world core ok a (suc k) =
+    let rest : AgreesWith (run_of (take k es) (after_event c e)) (world_run (take k es) (after_event c e) (world_after c e world)) =
+    agree-on es (after_event c e) (world_after c e world) (later-sound c e es ok.0 core) ok.1 (agrees-kept c e world (core 0) a ok.0) k in
+    subst (λ (x : Core). AgreesWith x (world_run (e ∷ take k es) c world)) (sym (run-first c e (take k es) ok.0))
+    (subst (AgreesWith (run_of (take k es) (after_event c e))) (sym (world-first c e (take k es) world ok.0)) rest)
+
+-- the event after the first k finds what the heap has
+pub tells-on : (es : List Event) (c : Core) (world : World) → Sound c es → AreAllowed c es → AgreesWith c world → (k : ℕ) (f : Event) → slice_get es k ≡ Some f
+    → TellsOf (run_of (take k es) c) (world_run (take k es) c world) (slice_get (run_of (take k es) c).seats f.seat) f.step
+tells-on [] c world core ok a k f at = absurd (cc)
+tells-on (e ∷ es) c world core ok a zero f at =
+    let same : e ≡ f = some_same e f at in
+    subst (λ (x : Event). TellsOf c world (slice_get c.seats x.seat) x.step) same (tells-once c world e (core 0) a ok.0)
+  where
+    some_same : (x y : Event) → Some x ≡ Some y → x ≡ y
+    some_same x y h = ap (λ (o : Option Event). event_or x o) h
+      where
+        event_or : Event → Option Event → Event
+        event_or z None = z
+        event_or z (Some y) = y
+tells-on (e ∷ es) c world core ok a (suc k) f at =
+    let rest = tells-on es (after_event c e) (world_after c e world) (later-sound c e es ok.0 core) ok.1 (agrees-kept c e world (core 0) a ok.0) k f at in
+    subst (λ (x : Core). TellsOf x (world_run (e ∷ take k es) c world) (slice_get x.seats f.seat) f.step) (sym (run-first c e (take k es) ok.0))
+    (subst (λ (y : World). TellsOf (run_of (take k es) (after_event c e)) y (slice_get (run_of (take k es) (after_event c e)).seats f.seat) f.step) (sym (world-first c e (take k es) world ok.0)) rest)
+
+pub threads_share_one_heap : ThreadsShareOneHeap
+threads_share_one_heap sh seats w end =
+    let ran = closed_ran sh seats w end in
+    let all : AreAllowed (start_core sh 1) ran.0 = allowed 0 ran.0 (start_core sh 1) ran.1.allowed in
+    let start : AgreesWith (start_core sh 1) (start_world sh) = agrees-starts sh 1 (ran.1.sound 0).formed.shaped in
+    (ran.0, ran.1, agree-on ran.0 (start_core sh 1) (start_world sh) ran.1.sound all start, tells-on ran.0 (start_core sh 1) (start_world sh) ran.1.sound all start)
 
 -- a section that doesn't exist doesn't change
 set_past : {X : Type 0} (xs : List X) (i : ℕ) (x : X) → length xs ≤ i → set xs i x ≡ xs

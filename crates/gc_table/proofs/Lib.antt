@@ -18,8 +18,6 @@ pub mod ReachStill
 mod Rows
 pub mod Running
 pub mod Noticing
-pub mod Heap
-pub mod Making
 pub mod Seats
 pub mod Frame
 pub mod Still
@@ -27,16 +25,12 @@ pub mod Reading
 pub mod Stores
 pub mod NewParts
 pub mod NewObjects
-pub mod SameCells
 pub mod Forgetting
 pub mod Exchanges
-pub mod ExchangesFind
 pub mod Kept
 pub mod Telling
 pub mod Winning
 pub mod Freeing
-pub mod Threads
-pub mod Sharing
 pub mod Finding
 pub mod Lending
 pub mod SeasonMoves

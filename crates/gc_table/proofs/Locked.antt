@@ -9,9 +9,8 @@ use Rattle.mark_core.specs.declared.kinds.Shape.{Shape}
 use Rattle.mark_core.specs.declared.kinds.Step.{Step}
 use Rattle.mark_core.specs.declared.kinds.Step.TheVariants.{ExchangeValue, Join, Split}
 use Rattle.mark_core.specs.declared.seat.SeatState.{SeatState}
-use Rattle.mark_core.proofs.Acting.{Acted}
-use Rattle.mark_core.proofs.Blocks.BlocksTaken.{Taken}
-use Rattle.mark_core.proofs.Core.{acts}
+use Rattle.mark_core.proofs.Known.{Acted, acts}
+use Rattle.mark_core.proofs.Blocks.BlocksStopped.{Taken}
 use Rattle.mark_core.proofs.Pool.PoolsKept.{shape-kept}
 use Rattle.gc_table.specs.Log.{all_steps}
 use Rattle.gc_table.specs.Past.{adds, entries_of, log_from}
@@ -23,10 +22,9 @@ use Rattle.gc_table.proofs.Kept.{agrees-kept, agrees-starts}
 use Rattle.gc_table.specs.Runs.{AreAllowed}
 use Rattle.gc_table.specs.Single.{LockHeld, is_inside, leaves_values, makes_object, takes_turn, takes_turns, turned}
 use Rattle.gc_table.proofs.Counted.{Bound, bound_rest, bound_starts, log_each, logged_all, other_adds, own_adds, single_event, single_starts}
-use Rattle.gc_table.proofs.Lending.{all_split}
-use Rattle.gc_table.proofs.Sharing.{Sound, later-sound}
+use Rattle.gc_table.proofs.Lending.{all_split, Sound, later-sound}
 use Rattle.gc_table.proofs.Single.{IsSingle, exchanged_one, value_after}
-use Rattle.gc_table.proofs.Threads.{allowed}
+use Rattle.gc_table.proofs.Freeing.{allowed}
 
 -- one seat at most is inside, and then the value is 1
 record Held (n : ℕ) (b : ℕ → Bool) : Type 0 where

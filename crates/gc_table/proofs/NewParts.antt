@@ -8,7 +8,7 @@ use Rattle.mark_core.specs.Seats.{free_in, makes, last_made}
 use Rattle.mark_core.specs.Cells.{field}
 use Rattle.mark_core.specs.Steps.MutatorSteps.{with_making}
 use Rattle.mark_core.specs.Steps.{Core}
-use Rattle.mark_core.proofs.Blocks.BlocksTaken.{Taken}
+use Rattle.mark_core.proofs.Blocks.BlocksStopped.{Taken}
 use Rattle.mark_core.proofs.References.ReferencesRoots.{Used}
 use Rattle.mark_core.specs.declared.kinds.Step.{Step}
 use Rattle.mark_core.specs.declared.kinds.Step.TheVariants.{ReadCount, StoreNew}
@@ -16,7 +16,7 @@ use Rattle.mark_core.specs.declared.seat.SeatState.{SeatState}
 use Rattle.mark_core.specs.declared.seat.CacheState.{CacheState}
 use Rattle.gc_table.specs.RunWorlds.{World, WorldObject, WorldSection, section_of, in_section, name_at}
 use Rattle.gc_table.specs.Agreement.{SeatAgrees, AgreesWith}
-use Rattle.gc_table.proofs.Heap.{section-same, section-other, sections-kept, view-kept, object-kept}
+use Rattle.gc_table.proofs.Reading.{section-same, section-other, sections-kept, view-kept, object-kept}
 use Rattle.gc_table.proofs.Frame.{IsLast, holds-on, Moves, had-object}
 use Rattle.gc_table.proofs.Seats.{Mutates, looks, making-is-free, free-not-used, free-apart}
 

@@ -4,12 +4,12 @@ use Rattle.mark_core.specs.Layout.{Words, words_of}
 use Rattle.mark_core.specs.Cells.{IsReachableCell}
 use Rattle.mark_core.specs.Closed.{IsReachableIn}
 use Rattle.mark_core.specs.Steps.{Core}
-use Rattle.mark_core.proofs.Acting.{words_left}
-use Rattle.mark_core.proofs.Blocks.BlocksTaken.{Taken}
+use Rattle.mark_core.proofs.Known.{words_left}
+use Rattle.mark_core.proofs.Blocks.BlocksStopped.{Taken}
 use Rattle.mark_core.proofs.References.ReferencesRoots.{stores_root, roots-same}
 use Rattle.mark_core.specs.declared.kinds.Step.{Step}
 use Rattle.mark_core.specs.declared.seat.SeatState.{SeatState}
-use Rattle.gc_table.proofs.Stands.StandsWords.{stores_cell, fields-same}
+use Rattle.gc_table.proofs.Stands.StandsKept.{stores_cell, fields-same}
 
 -- cell y is reachable by the words that the step leaves
 abbrev pub ReachedAfter : Core → SeatState → Step → ℕ → Type 0

@@ -17,9 +17,8 @@ use Rattle.mark_core.specs.declared.kinds.Shape.{Shape}
 use Rattle.mark_core.specs.declared.kinds.Step.{Step}
 use Rattle.mark_core.specs.declared.kinds.Step.TheVariants.{ReadCat, StoreRoot}
 use Rattle.mark_core.specs.declared.seat.SeatState.{SeatState}
-use Rattle.mark_core.proofs.Acting.{Acted, found}
-use Rattle.mark_core.proofs.Blocks.BlocksTaken.{Taken}
-use Rattle.mark_core.proofs.Core.{acts}
+use Rattle.mark_core.proofs.Known.{Acted, found, acts}
+use Rattle.mark_core.proofs.Blocks.BlocksStopped.{Taken}
 use Rattle.mark_core.proofs.CoreKept.{core-starts}
 use Rattle.gc_table.specs.Ends.{AreWords, IsEnd}
 use Rattle.gc_table.specs.Entries.{event, is_logged}
@@ -39,16 +38,14 @@ use Rattle.gc_table.proofs.Told.SeasonsKept.{in-turn, season_in}
 use Rattle.gc_table.specs.Agreement.{AgreesWith}
 use Rattle.gc_table.specs.AgreementLaws.{world_after, world_of}
 use Rattle.gc_table.specs.RunWorlds.{World, WorldSection, in_section, name_at, referred, section_of, start_world, variable_of, with_variable, world_by}
-use Rattle.gc_table.proofs.Heap.{section-same}
+use Rattle.gc_table.proofs.Reading.{section-same, cat-found}
 use Rattle.gc_table.proofs.Kept.{agrees-kept, agrees-starts}
-use Rattle.gc_table.proofs.Reading.{cat-found}
 use Rattle.gc_table.proofs.Seats.{Mutates, mutates}
 use Rattle.gc_table.specs.Lending.{leaves_variable, stores_once}
 use Rattle.gc_table.specs.Rooted.{FindsSome, RootFound, fills_first, fills_variable, moves_season, season_count}
 use Rattle.gc_table.specs.Runs.{AreAllowed}
-use Rattle.gc_table.proofs.Lending.{after_some, event_keeps, first_more, none_starts, none_stores}
-use Rattle.gc_table.proofs.Sharing.{Sound, agree-on, later-sound, tells-on}
-use Rattle.gc_table.proofs.Threads.{allowed}
+use Rattle.gc_table.proofs.Lending.{after_some, event_keeps, first_more, none_starts, none_stores, Sound, agree-on, later-sound, tells-on}
+use Rattle.gc_table.proofs.Freeing.{allowed}
 use Rattle.gc_table.proofs.SeasonMoves.{adds-cases, bit, none_more, Counted, season_by}
 
 -- a word that isn't nil refers to something

@@ -9,9 +9,8 @@ use Rattle.mark_core.specs.declared.kinds.Shape.{Shape}
 use Rattle.mark_core.specs.declared.kinds.Step.{Step}
 use Rattle.mark_core.specs.declared.kinds.Step.TheVariants.{NextSeason}
 use Rattle.mark_core.specs.declared.seat.SeatState.{SeatState}
-use Rattle.mark_core.proofs.Acting.{Acted, words_left}
-use Rattle.mark_core.proofs.Blocks.BlocksTaken.{Taken}
-use Rattle.mark_core.proofs.Core.{acts}
+use Rattle.mark_core.proofs.Known.{Acted, words_left, acts}
+use Rattle.mark_core.proofs.Blocks.BlocksStopped.{Taken}
 use Rattle.mark_core.proofs.Pool.PoolsKept.{shape-kept}
 use Rattle.gc_table.specs.Entries.{event, is_logged}
 use Rattle.gc_table.specs.Past.{adds, entries_of, log_from, word_told}
@@ -20,7 +19,7 @@ use Rattle.gc_table.proofs.History.Past.{run-first}
 use Rattle.gc_table.proofs.Told.SeasonsKept.{season-next, season-same, season_in}
 use Rattle.gc_table.specs.Rooted.{moves_season, season_count}
 use Rattle.gc_table.specs.Runs.{AreAllowed}
-use Rattle.gc_table.proofs.Sharing.{Sound, later-sound}
+use Rattle.gc_table.proofs.Lending.{Sound, later-sound}
 
 -- what is so of nothing, and of the entry of the event if it is this seat's, is so of what the event adds to the seat's log
 pub adds-cases : (P : List Entry → Type 0) (i : ℕ) (c : Core) (e : Event) (s : SeatState) → slice_get c.seats e.seat ≡ Some s → P [] → (e.seat ≡ i → is_logged e.step ≡ true → P (event e.step (word_told c s e.step) ∷ [])) → P (adds i c e)

@@ -11,16 +11,13 @@ use Rattle.mark_core.specs.Rules.HeapRules.{NamesInUse}
 use Rattle.mark_core.specs.WellFormed.{IsCache}
 use Rattle.mark_core.specs.Steps.{Core}
 use Rattle.mark_core.specs.Laws.{IsCore}
-use Rattle.mark_core.proofs.AtSeat.{allocs-length}
-use Rattle.mark_core.proofs.Blocks.BlocksTaken.{Taken, mine as own-fact}
+use Rattle.mark_core.proofs.HeldBlock.{allocs-length}
+use Rattle.mark_core.proofs.Blocks.BlocksStopped.{Taken, mine as own-fact}
 use Rattle.mark_core.proofs.Caches.CachesAt.{caching, maker-at}
-use Rattle.mark_core.proofs.Caches.CachesFacts.{all-facts}
-use Rattle.mark_core.proofs.Caches.CachesNext.{making-free, free-block}
-use Rattle.mark_core.proofs.Caches.CachesOwners.{free-unused, same-seat}
-use Rattle.mark_core.proofs.Caches.CachesSeat.{CacheFacts}
+use Rattle.mark_core.proofs.Caches.CachesSeat.{all-facts, CacheFacts, making-free, free-block}
+use Rattle.mark_core.proofs.Caches.CachesClaims.{free-unused, same-seat}
 use Rattle.mark_core.proofs.Consequences.Closing.{goes-to}
-use Rattle.mark_core.proofs.Core.{all-makers}
-use Rattle.mark_core.proofs.Known.{in_use-below}
+use Rattle.mark_core.proofs.Known.{all-makers, in_use-below}
 use Rattle.mark_core.proofs.References.ReferencesEnv.{section-is}
 use Rattle.mark_core.proofs.References.ReferencesRoots.{Used, own-used, seat-formed, mutator-is}
 use Rattle.mark_core.specs.declared.kinds.Shape.{Shape}

@@ -11,13 +11,13 @@ use Rattle.mark_core.specs.Steps.{Core}
 use Rattle.mark_core.specs.declared.kinds.Step.{Step}
 use Rattle.mark_core.specs.declared.kinds.Step.TheVariants.{ExchangeField, ExchangeValue, ReadCat, ReadOwn, ReadSlot, StoreField, StoreNew, StoreRoot, StoreSlot, StoreValue}
 use Rattle.mark_core.specs.declared.seat.SeatState.{SeatState}
-use Rattle.mark_core.proofs.Acting.{found}
-use Rattle.mark_core.proofs.Blocks.BlocksTaken.{Taken}
+use Rattle.mark_core.proofs.Known.{found}
+use Rattle.mark_core.proofs.Blocks.BlocksStopped.{Taken}
 use Rattle.gc_table.specs.Agreement.{AgreesWith}
 use Rattle.gc_table.specs.AgreementLaws.{FindsValue}
 use Rattle.gc_table.specs.RunWorlds.{World, WorldObject, WorldSection, in_section, object_of, own_section, replaced, section_of, variable_of, with_exchanged, with_exchanged_value, with_new, with_object, with_part, with_reference, with_register, with_value, with_variable, stored, world_by}
-use Rattle.gc_table.proofs.ExchangesFind.{finds-value}
-use Rattle.gc_table.proofs.Heap.{section-other, section-same, view-kept}
+use Rattle.gc_table.proofs.Winning.{finds-value}
+use Rattle.gc_table.proofs.Reading.{section-other, section-same, view-kept}
 use Rattle.gc_table.proofs.Seats.{Mutates, mutates}
 use Rattle.gc_table.specs.Single.{leaves_values, makes_object}
 

@@ -1,10 +1,7 @@
 -- What the words stand for, and how each step changes it.
 pub mod StandsAgree
 pub mod StandsFrame
-pub mod StandsWords
-pub mod StandsCells
 pub mod StandsSeat
-pub mod StandsMoves
 pub mod StandsReads
 pub mod StandsRoots
 pub mod StandsObjects
@@ -13,8 +10,4 @@ pub mod StandsMaking
 pub mod StandsNew
 pub mod StandsKept
 pub mod StandsStart
-pub mod StandsUsed
-pub mod StandsNamed
 pub mod StandsReached
-pub mod StandsRanges
-pub mod StandsOne

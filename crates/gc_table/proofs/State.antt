@@ -3,6 +3,4 @@ pub mod StateKept
 pub mod StateStart
 pub mod StateSteps
 pub mod StateStores
-pub mod StateSeen
-pub mod StatePlain
 pub mod StateReads

@@ -1,11 +1,11 @@
 -- The steps that leave the heap: those that store no word of a cell and no root, and that read nothing into the register.
-use Rattle.std.proofs.Common.{ℕ, ◌≡◌, refl, ap, Bool, true, false, ◌≤◌, ◌<◌, List, [], ◌∷◌, ◌++◌, set, length, arith, sym, ◌∙◌, subst, Option, Some, None, ◌⊎◌, inl, inr, ⊎_elim}
-use Rattle.std.proofs.lemmas.Bool.{true≢false}
+use Rattle.std.proofs.Common.{ℕ, ◌≡◌, refl, ap, Bool, true, false, ◌≤◌, ◌<◌, List, [], ◌∷◌, ◌++◌, set, length, arith, sym, ◌∙◌, subst, Option, Some, None, ◌⊎◌, inl, inr, ⊎_elim, cond}
+use Rattle.std.proofs.lemmas.Bool.{true≢false, false≢true}
 use Rattle.mark_core.specs.Layout.{Words, words_of, put_word}
 use Rattle.mark_core.specs.Effects.{written, seat_after}
 use Rattle.mark_core.specs.Steps.{Core}
-use Rattle.mark_core.proofs.Acting.{found, words_left, seats_left}
-use Rattle.mark_core.proofs.Blocks.BlocksTaken.{Taken, words-read}
+use Rattle.mark_core.proofs.Known.{found, words_left, seats_left}
+use Rattle.mark_core.proofs.Blocks.BlocksStopped.{Taken, words-read}
 use Rattle.mark_core.proofs.Writing.RegionWrites.{identities-kept, fields-kept}
 use Rattle.mark_core.proofs.Writing.Writes.{at_counter}
 use Rattle.mark_core.specs.declared.kinds.Step.{Step}
@@ -13,16 +13,41 @@ use Rattle.mark_core.specs.declared.kinds.Step.TheVariants.{ReadField, ReadOwn, 
 use Rattle.mark_core.specs.declared.seat.SeatState.{SeatState}
 use Rattle.std.specs.Prelude.{IsTrue, IsFalse, slice_get}
 use Rattle.std.proofs.lemmas.List.{length-set, length-append}
-use Rattle.mark_core.specs.Seats.{last_made}
+use Rattle.mark_core.specs.Seats.{last_made, makes}
 use Rattle.mark_core.specs.Start.{start_seat, spent_seat}
-use Rattle.mark_core.proofs.Formed.FormedAfter.{set-cases, push-cases}
+use Rattle.mark_core.proofs.Formed.FormedLearns.{set-cases, push-cases}
 use Rattle.mark_core.proofs.References.ReferencesRoots.{Used, UsedAfter, stores_root, roots-same}
 use Rattle.mark_core.proofs.Used.UsedSeats.{IsMadeBy}
 use Rattle.mark_core.proofs.Used.UsedKept.{used-back}
 use Rattle.gc_table.specs.RunWorlds.{World, referred}
 use Rattle.gc_table.specs.Agreement.{SeatAgrees, Agrees, AgreesIn, AgreesWith}
 use Rattle.gc_table.proofs.Frame.{agrees-same, IsLast}
-use Rattle.gc_table.proofs.Making.{MakesNoMore}
+use Rattle.mark_core.specs.Steps.MutatorSteps.{with_free, without_used}
+use Rattle.mark_core.specs.declared.seat.CacheState.{CacheState}
+
+-- A cache in which nothing further is made.
+-- what is being made was being made before, and no other cell was made last
+pub record MakesNoMore (o o' : Option CacheState) : Type 0 where
+  pub makes : (c part : ℕ) → makes o' c part ≡ true → makes o c part ≡ true
+  pub last : (last_made o' ≡ last_made o) ⊎ (last_made o' ≡ None)
+
+pub same-making : (o : Option CacheState) → MakesNoMore o o
+same-making o = record { makes = λ c part e. e; last = inl refl }
+
+pub none-making : (o : Option CacheState) → MakesNoMore o None
+none-making o = record { makes = λ c part e. absurd (false≢true e); last = inr refl }
+
+pub free-making : (o : Option CacheState) (word : ℕ) → MakesNoMore o (with_free o word)
+free-making None word = same-making None
+free-making (Some x) word = record { makes = λ c part e. e; last = inl refl }
+
+pub published-making : (o : Option CacheState) → MakesNoMore o (without_used o)
+published-making None = same-making None
+published-making (Some x) = record { makes = λ c part e. e; last = inr refl }
+
+pub claimed-making : (t : Bool) (b : ℕ) (o : Option CacheState) → MakesNoMore o (cond t (Some (record { block = b; unread = true; free = 0; used = 0; making = None; last = None })) o)
+claimed-making true b o = record { makes = λ c part e. absurd (false≢true e); last = inr refl }
+claimed-making false b o = same-making o
 
 -- Which steps change the identities, values and fields of cells.
 -- the step stores a word of an object or of a new cell

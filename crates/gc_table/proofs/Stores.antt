@@ -15,8 +15,8 @@ use Rattle.mark_core.specs.Steps.MutatorSteps.{in_variables, variable_or_nil, ma
 use Rattle.mark_core.specs.Effects.{seat_after}
 use Rattle.mark_core.specs.Steps.{Core}
 use Rattle.mark_core.specs.Laws.{IsCore}
-use Rattle.mark_core.proofs.Acting.{found, words_left, seats_left}
-use Rattle.mark_core.proofs.Blocks.BlocksTaken.{Taken, mine as own-fact}
+use Rattle.mark_core.proofs.Known.{found, words_left, seats_left}
+use Rattle.mark_core.proofs.Blocks.BlocksStopped.{Taken, mine as own-fact}
 use Rattle.mark_core.proofs.Writing.Places.{region-length}
 use Rattle.mark_core.proofs.Pool.PoolBits.{same_place}
 use Rattle.mark_core.proofs.References.ReferencesRoots.{Used, UsedAfter, seat-formed}
@@ -26,7 +26,7 @@ use Rattle.mark_core.specs.declared.kinds.Step.TheVariants.{ReadCount, StoreFiel
 use Rattle.mark_core.specs.declared.seat.SeatState.{SeatState}
 use Rattle.gc_table.specs.RunWorlds.{World, WorldObject, WorldSection, section_of, variable_of, reference_of, replaced, no_object, with_object, with_reference, with_value, stored, name_at, referred, own_section}
 use Rattle.gc_table.specs.Agreement.{HoldsObject, SeatAgrees, Agrees, AgreesIn, AgreesWith}
-use Rattle.gc_table.proofs.Heap.{sections-kept, view-kept, object-inside, object-changed, object-other}
+use Rattle.gc_table.proofs.Reading.{sections-kept, view-kept, object-inside, object-changed, object-other}
 use Rattle.gc_table.proofs.Frame.{holds-on, Moves, moved, had-object}
 use Rattle.gc_table.proofs.Seats.{Mutates, mutates, looks, names, used-exists, not-making}
 

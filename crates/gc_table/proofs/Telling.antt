@@ -1,5 +1,5 @@
 -- Whatever a mutator reads of an object is what the heap has there.
-use Rattle.gc_table.proofs.ExchangesFind.{finds-reference, finds-value}
+use Rattle.gc_table.proofs.Winning.{finds-reference, finds-value}
 use Rattle.std.proofs.Common.{ℕ, ◌≡◌, ◌+◌, ◌-◌, ◌*◌, ◌<◌, zero, suc, List, [], ◌∷◌, get_or, length, arith, sym, ap, ◌∙◌, subst, true, not, ◌||◌, ◌&&◌, eqb, Option, Some, None, inl, inr, ⊎_elim}
 use Rattle.std.specs.Prelude.{slice_get, slice_index, nat_lt}
 use Rattle.std.specs.List.{list_any}
@@ -11,13 +11,11 @@ use Rattle.mark_core.specs.Seats.{may_mutate, is_the, last_made}
 use Rattle.mark_core.specs.Steps.MutatorSteps.{knows_cell, has_reference, names_last}
 use Rattle.mark_core.specs.Steps.{Core, failing_part, run_of, start_core}
 use Rattle.mark_core.specs.Laws.{IsCore}
-use Rattle.mark_core.proofs.Acting.{Acted, found}
-use Rattle.mark_core.proofs.Core.{acts}
+use Rattle.mark_core.proofs.Known.{Acted, found, acts}
 use Rattle.mark_core.proofs.CoreKept.{runs_sound}
-use Rattle.mark_core.proofs.Blocks.BlocksTaken.{Taken, in-place}
-use Rattle.mark_core.proofs.Writing.Regions.{words-get}
-use Rattle.mark_core.proofs.References.ReferencesNames.{known-used}
-use Rattle.mark_core.proofs.References.ReferencesRoots.{seat-formed}
+use Rattle.mark_core.proofs.Blocks.BlocksStopped.{Taken, in-place}
+use Rattle.mark_core.proofs.Writing.Places.{words-get}
+use Rattle.mark_core.proofs.References.ReferencesRoots.{known-used, seat-formed}
 use Rattle.mark_core.specs.declared.kinds.Event.{Event}
 use Rattle.mark_core.specs.declared.kinds.Step.{Step}
 use Rattle.mark_core.specs.declared.kinds.Step.TheVariants.{ReadOwn, ReadValue, ReadIdent, ReadCat, StoreRoot, ExchangeField, ExchangeValue, StoreSlot, ReadSlot}

@@ -17,7 +17,7 @@ use Rattle.mark_core.specs.declared.kinds.Shape.{Shape}
 use Rattle.mark_core.specs.declared.kinds.Step.{Step}
 use Rattle.mark_core.specs.declared.kinds.Step.TheVariants.{ReadPhase, RaiseStep, Observe, DropStep, StorePhase, StoreNew, Reset, AddStat, ReadStat}
 use Rattle.mark_core.specs.declared.seat.SeatState.{SeatState}
-use Rattle.mark_core.proofs.Blocks.BlocksAlone.{one-passes}
+use Rattle.mark_core.proofs.Blocks.BlocksStopped.{one-passes}
 use Rattle.mark_core.proofs.Notes.NotesBeside.{Sits, sits}
 use Rattle.mark_core.proofs.World.WorldReading.{any-passes, some-passes}
 use Rattle.mark_core.proofs.Writing.Writes.{at_part, at_counter}

@@ -1,5 +1,5 @@
 -- An object stays while nobody stores in it: so of exchanges that expect the same one is won.
-use Rattle.std.proofs.Common.{ℕ, ◌≡◌, ◌<◌, List, length, [], ◌∷◌, refl, sym, ap, ◌∙◌, subst, Bool, true, false, cond, eqb, Option, Some, None, ⊎_elim}
+use Rattle.std.proofs.Common.{ℕ, ◌≡◌, ◌<◌, List, length, [], ◌∷◌, refl, sym, ap, ◌∙◌, subst, Bool, true, false, cond, eqb, Option, Some, None, ⊎_elim, ◌-◌, arith}
 use Rattle.std.specs.Prelude.{is_none, slice_get}
 use Rattle.std.proofs.lemmas.Bool.{eq-eqb}
 use Rattle.std.proofs.lemmas.Option.{same_Some}
@@ -7,24 +7,83 @@ use Rattle.std.proofs.lemmas.List.{get_or-set_same}
 use Rattle.std.proofs.lemmas.List.Elements.{All-head, All-tail}
 use Rattle.plain_heap.specs.Paths.{Name}
 use Rattle.mark_core.specs.Layout.{words_of}
-use Rattle.mark_core.specs.Steps.MutatorSteps.{variable_or_nil}
+use Rattle.mark_core.specs.Steps.MutatorSteps.{variable_or_nil, seat_variable as word_in}
 use Rattle.mark_core.specs.Steps.{Core, failing_part, after_event, run_of}
 use Rattle.mark_core.specs.Laws.{IsCore, NumbersFit, AllNumbersFit}
-use Rattle.mark_core.proofs.Acting.{Acted, found}
-use Rattle.mark_core.proofs.Core.{acts}
+use Rattle.mark_core.proofs.Known.{Acted, found, acts}
 use Rattle.mark_core.proofs.CoreKept.{core_kept}
-use Rattle.mark_core.proofs.Blocks.BlocksTaken.{Taken}
+use Rattle.mark_core.proofs.Blocks.BlocksStopped.{Taken}
 use Rattle.mark_core.specs.declared.kinds.Event.{Event}
 use Rattle.mark_core.specs.declared.kinds.Step.{Step}
 use Rattle.mark_core.specs.declared.kinds.Step.TheVariants.{ExchangeField, ExchangeValue}
 use Rattle.mark_core.specs.declared.seat.SeatState.{SeatState}
-use Rattle.gc_table.specs.RunWorlds.{World, WorldObject, object_of, reference_of, referred, is_same, stored, with_reference, with_value, own_section, world_by}
+use Rattle.gc_table.specs.RunWorlds.{World, WorldObject, object_of, reference_of, referred, is_same, stored, with_reference, with_value, own_section, world_by, variable_of, with_object, with_exchanged, with_exchanged_value, name_at}
 use Rattle.gc_table.specs.Agreement.{AgreesWith}
 use Rattle.gc_table.specs.AgreementLaws.{StoresIn, StoresOf, ObjectsStay, FindsReference, FindsValue, Exchanges, WonOnce, ExchangesField, FieldWonOnce, found_of, world_of, world_after, world_run}
-use Rattle.gc_table.proofs.Exchanges.{same-as}
-use Rattle.gc_table.proofs.ExchangesFind.{finds-value, finds-reference}
+use Rattle.gc_table.proofs.Exchanges.{same-as, Compares, compares, ComparesValue, compares_value}
 use Rattle.gc_table.proofs.Forgetting.{none_forgotten}
 use Rattle.gc_table.proofs.Kept.{agrees-kept}
+use Rattle.gc_table.proofs.Reading.{object-changed}
+
+-- 50 and 51: what an exchange finds is what the heap has there, and it is won by the word found.
+pub finds-reference : (c : Core) (i : ℕ) (s : SeatState) (v j : ℕ) (x o : Option ℕ) (world : World) → Taken c i s (ExchangeField v j x o) → AgreesWith c world → FindsReference c world s v j x o (found c s (ExchangeField v j x o))
+finds-reference c i s v j x o world k a = record {
+  name = name;
+  object = object;
+  variable = variable;
+  there = h.there.holds.there;
+  exists = omega (arith, h.exists, h.there.holds.room);
+  found = h.finds;
+  won = won;
+  after =
+      subst (λ (p : Option Name). object_of (with_object world p f) name ≡ Some (cond t changed object)) (sym variable)
+      (object-changed world name f object h.there.holds.there ∙ ap (λ (b : Bool). Some (cond b changed object)) (sym won));
+}
+  where
+    h : Compares c i s v j x o world
+    h = compares c i s v j x o world k a
+
+    own : ℕ
+    own = own_section s
+
+    object : WorldObject
+    object = h.there.holds.object
+
+    name : Name
+    name = name_at (words_of c.shape c.words).identities (word_in s v - 1)
+
+    f : WorldObject → WorldObject
+    f = with_exchanged j (stored world own x) (stored world own o)
+
+    changed : WorldObject
+    changed = with_reference j (stored world own o) object
+
+    t : Bool
+    t = eqb (found c s (ExchangeField v j x o)) (variable_or_nil s x)
+
+    variable : variable_of world own v ≡ Some name
+    variable = subst (λ (z : ℕ). variable_of world z v ≡ Some name) (sym h.mutator.own) h.there.variable
+
+    won : t ≡ is_same (reference_of object j) (stored world own x)
+    won = subst (λ (z : ℕ). t ≡ is_same (reference_of object j) (stored world z x)) (sym h.mutator.own) h.won
+
+pub finds-value : (c : Core) (i : ℕ) (s : SeatState) (v m n : ℕ) (world : World) → Taken c i s (ExchangeValue v m n) → AgreesWith c world → FindsValue c world s v m n (found c s (ExchangeValue v m n))
+finds-value c i s v m n world k a =
+    let h : ComparesValue c i s v m n world = compares_value c i s v m n world k a in
+    let name : Name = name_at (words_of c.shape c.words).identities (word_in s v - 1) in
+    let object : WorldObject = h.there.holds.object in
+    let f : WorldObject → WorldObject = with_exchanged_value m n in
+    let variable : variable_of world (own_section s) v ≡ Some name = subst (λ (z : ℕ). variable_of world z v ≡ Some name) (sym h.mutator.own) h.there.variable in
+    record {
+      name = name;
+      object = object;
+      variable = variable;
+      there = h.there.holds.there;
+      found = h.finds;
+      after =
+          subst (λ (p : Option Name). object_of (with_object world p f) name ≡ Some (cond (eqb (found c s (ExchangeValue v m n)) m) (with_value n object) object)) (sym variable)
+          (object-changed world name f object h.there.holds.there ∙ ap (λ (z : ℕ). Some (cond (eqb z m) (with_value n object) object)) (sym h.finds));
+    }
 
 -- one step that doesn't store in the object
 step_stays : (c : Core) (o : Option SeatState) (step : Step) (world : World) (name : Name) (object : WorldObject) → object_of world name ≡ Some object → (StoresOf world o step name → ⊥) → object_of (world_of c o step world) name ≡ Some object

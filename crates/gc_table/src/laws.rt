@@ -24,20 +24,20 @@ pub fn stands_is_kept()
 {}
 
 /// The plain step of a store may stand in a script: its variables, field and value are in range.
-#[tactic(auto, using(crate::proofs::Stands::StandsRanges::steps_in_range))]
+#[tactic(auto, using(crate::proofs::Stands::StandsSeat::steps_in_range))]
 pub fn plain_steps_are_in_range()
     ensures { PlainStepsAreInRange }
 {}
 
 /// A step of a section's seat changes what this section's words mean and no other's, so a seat can tell it by
 /// itself.
-#[tactic(auto, using(crate::proofs::Stands::StandsOne::one_changes))]
+#[tactic(auto, using(crate::proofs::Stands::StandsStores::one_changes))]
 pub fn one_meaning_changes()
     ensures { OneMeaningChanges }
 {}
 
 /// At most one cell in use of a section has no object yet.
-#[tactic(auto, using(crate::proofs::Stands::StandsOne::one_next))]
+#[tactic(auto, using(crate::proofs::Stands::StandsStores::one_next))]
 pub fn one_cell_is_next()
     ensures { OneCellIsNext }
 {}
@@ -54,7 +54,7 @@ pub fn reachable_cells_have_objects()
 
 /// What the seats of a closed heap did, each by its log, is one run of the core from the start to the words that
 /// `close` gave. Each step found or stored the word of its entry, and every state on the way is sound.
-#[tactic(auto, using(crate::proofs::History::Ran::closed_ran))]
+#[tactic(auto, using(crate::proofs::History::Past::closed_ran))]
 pub fn closed_heaps_ran()
     ensures { ClosedHeapsRan }
 {}

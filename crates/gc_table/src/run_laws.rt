@@ -16,7 +16,7 @@ pub fn none_freed()
 
 /// What threads did with the seats of a closed heap is one run of the core, and no event of it frees a cell that is
 /// reachable just before it.
-#[tactic(auto, using(crate::proofs::Threads::threads_free_none))]
+#[tactic(auto, using(crate::proofs::Freeing::threads_free_none))]
 pub fn threads_free_none()
     ensures { ThreadsFreeNone }
 {}
@@ -24,7 +24,7 @@ pub fn threads_free_none()
 /// What threads did with the seats of a closed heap is one run of the core, which keeps each thread's order. After
 /// each step the words agree with one plain heap that forgets nothing, and a step found what this heap had just
 /// before.
-#[tactic(auto, using(crate::proofs::Sharing::threads_share_one_heap))]
+#[tactic(auto, using(crate::proofs::Lending::threads_share_one_heap))]
 pub fn threads_share_one_heap()
     ensures { ThreadsShareOneHeap }
 {}
@@ -126,7 +126,7 @@ pub fn field_won_once()
 
 /// After every run two references to cells in use are one word exactly if they refer to one object: so a seat can
 /// compare them.
-#[tactic(auto, using(crate::proofs::SameCells::same_words))]
+#[tactic(auto, using(crate::proofs::Exchanges::same_words))]
 pub fn same_words()
     ensures { SameWords }
 {}

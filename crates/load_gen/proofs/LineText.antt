@@ -9,13 +9,26 @@ use Rattle.gc_script.specs.ScriptText.{words, number_of}
 use Rattle.gc_script.specs.Statement.{Spoken, NewOf, LetOf, NilOf, SetOf, GetOf, SayOf, Statement, Command, with_number, statement}
 use Rattle.gc_script.specs.Earlier.{place, has_name, with_name, names_read, reads_of_catalogue, assigns, is_too_large, is_printing}
 use Rattle.gc_script.specs.Script.{operation}
-use Rattle.load_gen.proofs.Conjunction.{and_true}
+use Rattle.load_gen.proofs.Cut.{and_true, IsWord, two_words, three_words, four_words, decimal_word, letter_word, named_letter, numbered_decimal}
 use Rattle.load_gen.specs.Generated.{letter, draw_of, drawn_text, generated_line}
-use Rattle.load_gen.proofs.Cases.{by_test, chosen, below, not_below}
-use Rattle.load_gen.proofs.Cut.{IsWord, two_words, three_words, four_words}
-use Rattle.load_gen.proofs.Numerals.{decimal_word, letter_word, named_letter, numbered_decimal}
 use Rattle.load_gen.proofs.Known.{Knows, is_known, place_is, place_below, first_place, knows_more, first_letter, later_letter}
 use Rattle.load_gen.proofs.Blocks.{IsStep}
+
+-- Two cases of a test.
+-- what holds whether or not the test passes
+pub by_test : (P : Bool → Type 0) (test : Bool) → (test ≡ true → P true) → (test ≡ false → P false) → P test
+by_test P true f g = f refl
+by_test P false f g = g refl
+
+-- what holds of either text holds of the one that is chosen
+pub chosen : (P : List ℕ → Type 0) (test : Bool) (x y : List ℕ) → P x → P y → P (cond test x y)
+chosen P test x y f g = by_test (λ (t : Bool). P (cond t x y)) test (λ _. f) (λ _. g)
+
+pub below : (a b : ℕ) → nat_lt a b ≡ true → a < b
+below a b e = grind (arith, nat_tests)
+
+pub not_below : (a b : ℕ) → nat_lt a b ≡ false → b ≤ a
+not_below a b e = grind (arith, nat_tests)
 
 new_is : (v n : ℕ) → v < 8 → n < 2 ^ 64 → statement (words (codes "new " ++ letter v ++ codes " " ++ decimal n)) ≡ Command (NewOf (letter v) n)
 new_is v n h l =

@@ -6,10 +6,9 @@ use Rattle.std.proofs.lemmas.List.Folds.{list_all-append}
 use Rattle.std.specs.Prelude.{not, ◌&&◌, ◌==◌, nat_lt, Some, None}
 use Rattle.std.specs.List.{list_all, position_or_len}
 use Rattle.gc_script.specs.ScriptText.{is_allowed, first_foreign}
-use Rattle.load_gen.proofs.Conjunction.{both, and_true}
+use Rattle.load_gen.proofs.Cut.{both, and_true, is_printed, all_pass, decimal_printed, letter_printed}
 use Rattle.load_gen.specs.Generated.{letter, draw_of, drawn_text, state_after_line, generated_line, lines_text, last_state, generated_warehouses, generated}
-use Rattle.load_gen.proofs.Numerals.{is_printed, all_pass, decimal_printed, letter_printed}
-use Rattle.load_gen.proofs.Cases.{by_test, chosen, below}
+use Rattle.load_gen.proofs.LineText.{by_test, chosen, below}
 
 -- the text of a line, without its LF
 pub record IsShort (text : List ℕ) : Type 0 where

@@ -11,14 +11,13 @@ use Rattle.gc_script.specs.Statement.{Spoken, Statement, Warehouse, Command}
 use Rattle.gc_script.specs.Earlier.{place, has_name, names_read, reads_of_catalogue, assigns, is_printing, known_names, open_repeat, open_section, warehouse_count, season_count, with_name, catalogue_names}
 use Rattle.gc_script.specs.Faults.{Fault, unless_, cuts_repeat, may_stand, line_fault, first_fault, TooLong, left_open, or_later}
 use Rattle.gc_script.specs.Script.{execution, executed, ended_parts, parts_of_open_section, if_warehouse, if_catalogue, closed_warehouses, closed_catalogue, sections, executed_count, one_if, Script, turned, limited, judged, body, of_lines, of_text, script}
-use Rattle.load_gen.proofs.Conjunction.{and_true}
+use Rattle.load_gen.proofs.Cut.{and_true, lines_first, statements, statements_first}
 use Rattle.load_gen.proofs.Known.{Knows, few_names, knows_none}
 use Rattle.load_gen.proofs.LineText.{MayStand, IsLine, line_is}
 use Rattle.load_gen.proofs.Blocks.{IsStep, AreSteps, AreBlocks, steps_push}
 use Rattle.gc_script.specs.ScriptText.{first_foreign, words}
 use Rattle.load_gen.specs.Generated.{state_after_line, generated_line, lines_text, last_state, generated_warehouses, generated}
 use Rattle.load_gen.specs.FourWarehouses.{HasFourWarehouses}
-use Rattle.load_gen.proofs.Cut.{lines_first, statements, statements_first}
 use Rattle.load_gen.proofs.Source.{line_no_end, IsSource, generated_source, no_foreign}
 
 -- What the lines so far make, latest first, between two warehouses and inside one.

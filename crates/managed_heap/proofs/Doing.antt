@@ -8,8 +8,7 @@ use Rattle.gc_table.specs.declared.seat.Heap.{Heap}
 use Rattle.gc_table.specs.declared.seat.HeapSeat.{HeapSeat}
 use Rattle.mutator_ops.specs.Doing.{Does}
 use Rattle.mutator_ops.specs.Ready.{IsReady}
-use Rattle.seat_turns.proofs.Done.{turn-ready}
-use Rattle.seat_turns.proofs.Operating.{Operated, operated}
+use Rattle.seat_turns.proofs.Done.{turn-ready, Operated, operated}
 use Rattle.managed_heap.specs.declared.mutator.Mutator.{Mutator}
 use Rattle.managed_heap.specs.declared.mutator.Place.TheVariants.{Inside}
 

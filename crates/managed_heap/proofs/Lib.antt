@@ -4,4 +4,3 @@ mod Threads
 mod Turning
 pub mod Starting
 pub mod Gathered
-pub mod Lists

@@ -1,7 +1,7 @@
 -- What the threads of a closed world did is one run, which frees no reachable cell.
 use Rattle.std.proofs.Common.{refl}
 use Rattle.std.specs.Arc.{arc_value}
-use Rattle.gc_table.proofs.Threads.{threads_free_none}
+use Rattle.gc_table.proofs.Freeing.{threads_free_none}
 use Rattle.managed_heap.specs.Closing.{all_seats}
 use Rattle.managed_heap.specs.Threads.{ThreadsRun}
 

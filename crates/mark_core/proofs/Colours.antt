@@ -1,8 +1,6 @@
 -- The files on the colour rule.
 pub mod ColoursQueued
 pub mod ColoursHands
-pub mod ColoursSeats
-pub mod ColoursWaiting
 pub mod ColoursWaits
 pub mod ColoursUnpublished
 pub mod ColoursFields

@@ -13,11 +13,10 @@ use Rattle.mark_core.specs.Effects.{place, written, seat_after}
 use Rattle.mark_core.specs.Steps.{Core, AllTrue, failing_part, after_event, others_after, start_core, run_of}
 use Rattle.mark_core.specs.Rules.WorldRules.{Season, NoneActive}
 use Rattle.mark_core.specs.Laws.{IsCore, StartIsCore, EventsKeepCore, RunsAreSound, NumbersFit, AllNumbersFit, ArePacketsSound}
-use Rattle.mark_core.proofs.Writing.Regions.{words-get}
-use Rattle.mark_core.proofs.Acting.{Acted, found}
-use Rattle.mark_core.proofs.Core.{acts}
+use Rattle.mark_core.proofs.Writing.Places.{words-get}
+use Rattle.mark_core.proofs.Known.{Acted, found, acts}
 use Rattle.mark_core.proofs.Writing.Writes.{touches_season, season-kept}
-use Rattle.mark_core.proofs.Locals.{local-kept}
+use Rattle.mark_core.proofs.Doing.{local-kept}
 use Rattle.mark_core.specs.declared.kinds.Shape.{Shape}
 use Rattle.mark_core.specs.declared.kinds.Event.{Event}
 use Rattle.mark_core.specs.declared.kinds.Step.{Step}
@@ -25,28 +24,24 @@ use Rattle.mark_core.specs.declared.kinds.Step.TheVariants.{EnterStep, LeaveStep
 use Rattle.mark_core.specs.declared.seat.SeatState.{SeatState}
 use Rattle.mark_core.specs.Start.{start_words, start_seats}
 use Rattle.mark_core.specs.Strong.{IsStrongSeat}
-use Rattle.mark_core.proofs.Blocks.BlocksKept.{BlocksSound, blocks-kept_by}
-use Rattle.mark_core.proofs.Blocks.BlocksStart.{blocks-starts}
-use Rattle.mark_core.proofs.Caches.CachesFacts.{SeatFacts, facts-kept_by, facts-starts}
+use Rattle.mark_core.proofs.Blocks.BlocksFacts.{BlocksSound, blocks-kept_by, blocks-starts}
+use Rattle.mark_core.proofs.Caches.CachesSeat.{SeatFacts, facts-kept_by, facts-starts}
 use Rattle.mark_core.proofs.Caches.CachesKept.{caches-kept_by}
-use Rattle.mark_core.proofs.Caches.CachesStart.{caches-starts}
+use Rattle.mark_core.proofs.Caches.CachesAt.{caches-starts}
 use Rattle.mark_core.proofs.Colours.ColoursPublished.{published-kept_by, published-starts}
 use Rattle.mark_core.proofs.Colours.ColoursUnpublished.{unpublished-kept_by, unpublished-starts}
-use Rattle.mark_core.proofs.Exacts.ExactsKept.{exact-kept_by}
-use Rattle.mark_core.proofs.Exacts.ExactsStart.{exact-starts}
+use Rattle.mark_core.proofs.Exacts.ExactsKept.{exact-kept_by, exact-starts}
 use Rattle.mark_core.proofs.Formed.FormedKept.{formed-kept_by}
-use Rattle.mark_core.proofs.Formed.FormedStart.{formed-starts}
-use Rattle.mark_core.proofs.Hands.HandsKept.{hands-kept_by, hands-starts, apart-kept_by, apart-starts}
-use Rattle.mark_core.proofs.Hands.HandsApart.{HandApart}
+use Rattle.mark_core.proofs.Formed.FormedSeats.{formed-starts}
+use Rattle.mark_core.proofs.Hands.HandsApart.{hands-kept_by, hands-starts, apart-kept_by, apart-starts, HandApart}
 use Rattle.mark_core.proofs.Hands.HandsRight.{HandRight}
 use Rattle.mark_core.proofs.Marks.MarksKept.{marks-kept_by}
-use Rattle.mark_core.proofs.Marks.MarksStart.{marks-starts}
+use Rattle.mark_core.proofs.Marks.MarksBefore.{marks-starts}
 use Rattle.mark_core.proofs.Pool.PoolStart.{start, each-seat}
 use Rattle.mark_core.proofs.Pool.PoolsKept.{packets_kept, shape-kept}
 use Rattle.mark_core.proofs.References.ReferencesKept.{references-kept_by}
-use Rattle.mark_core.proofs.References.ReferencesStart.{references-starts}
-use Rattle.mark_core.proofs.Sweeps.SweepsKept.{sweeping-kept_by}
-use Rattle.mark_core.proofs.Sweeps.SweepsStart.{sweeping-starts}
+use Rattle.mark_core.proofs.References.ReferencesRoots.{references-starts}
+use Rattle.mark_core.proofs.Sweeps.SweepsKept.{sweeping-kept_by, sweeping-starts}
 use Rattle.mark_core.proofs.World.WorldKept.{WorldSound, world-kept_by}
 use Rattle.mark_core.proofs.World.WorldStart.{world-starts}
 

@@ -1,9 +1,9 @@
 -- What an event that is allowed may rely on, and the state that its writes leave.
-use Rattle.std.proofs.Common.{ℕ, ◌≡◌, ◌+◌, ◌<◌, ◌≤◌, List, set, get_or, length, arith, refl, sym, ap, ◌∙◌, subst, Bool, true, false, Option, Some, None, cond, ◌&&◌}
+use Rattle.std.proofs.Common.{ℕ, ◌≡◌, ◌+◌, ◌<◌, ◌≤◌, List, set, get_or, length, arith, refl, sym, ap, ◌∙◌, subst, Bool, true, false, Option, Some, None, cond, ◌&&◌, [], ◌∷◌, ◌++◌}
 use Rattle.std.specs.Prelude.{slice_get, nat_lt, nat_le, unwrap_or, IfSome}
 use Rattle.std.proofs.lemmas.Bool.{and_parts, ltb-true, leb-true}
 use Rattle.std.proofs.lemmas.List.{length-set, length-append, get_or_read}
-use Rattle.std.proofs.lemmas.List.Elements.{All-get_or}
+use Rattle.std.proofs.lemmas.List.Elements.{All-get_or, All-nil, All-cons, All-head, All-tail, All-set}
 use Rattle.std.proofs.lemmas.Option.{slice_get_within, slice_get_read, slice_get_past}
 use Rattle.mark_core.specs.Shapes.{IsShape}
 use Rattle.mark_core.specs.Layout.{Words, words_of, address, block_count, region_sizes}
@@ -16,12 +16,10 @@ use Rattle.mark_core.specs.Room.{HasNumber, HasRoom, HasValue}
 use Rattle.mark_core.specs.Bounds.{CacheFits, SeatBounds, IsBounded}
 use Rattle.mark_core.specs.Steps.{Core, first_false, AllTrue, failing_of, failing_part, others_after, after_of, after_event}
 use Rattle.mark_core.specs.Laws.{NumbersFit}
-use Rattle.mark_core.proofs.Acting.{some_none, parts_hold}
-use Rattle.mark_core.proofs.Locals.{local-kept}
+use Rattle.mark_core.proofs.Known.{some_none, parts_hold}
 use Rattle.mark_core.proofs.Writing.Ranges.{InRange, IsPlace, placed, block-below}
-use Rattle.mark_core.proofs.Writing.Regions.{address-lt-total}
-use Rattle.mark_core.proofs.Writing.SlotBounds.{length-fits}
-use Rattle.mark_core.proofs.Writing.SeatBoundsKept.{fits-made, variable-fits, seat-bounds, start-bounds, spent-bounds}
+use Rattle.mark_core.proofs.Writing.Places.{address-lt-total}
+use Rattle.mark_core.proofs.Writing.SeatBoundsKept.{length-fits, fits-made, variable-fits, seat-bounds, start-bounds, spent-bounds}
 use Rattle.mark_core.proofs.Writing.WordBoundsKept.{finds, word-bounds}
 use Rattle.mark_core.specs.declared.kinds.Shape.{Shape}
 use Rattle.mark_core.specs.declared.kinds.Event.{Event}
@@ -29,6 +27,19 @@ use Rattle.mark_core.specs.declared.kinds.Step.{Step}
 use Rattle.mark_core.specs.declared.kinds.Step.TheVariants.{Push, ReadField, StoreValue, StorePosition, StoreRoot, StoreNew, Split, Join}
 use Rattle.mark_core.specs.declared.seat.SeatState.{SeatState}
 use Rattle.mark_core.specs.declared.seat.CacheState.{CacheState}
+use Rattle.std.specs.List.{All}
+use Rattle.mark_core.specs.Start.{start_seat, spent_seat}
+
+-- A rule that each seat meets for itself is kept if the seat that acts still meets it.
+pub all-push : {X : Type 0} (P : X → Type 0) (xs : List X) (y : X) → All P xs → P y → All P (xs ++ y ∷ [])
+all-push P [] y a h = All-cons P y [] h (All-nil P)
+all-push P (x ∷ xs) y a h = All-cons P x (xs ++ y ∷ []) (All-head P x xs a) (all-push P xs y (All-tail P x xs a) h)
+
+-- all seats meet P after a step, if they did before, and a new record does
+pub local-kept : (P : SeatState → Type 0) (sh : Shape) (step : Step) (seats : List SeatState) (i : ℕ) (t : SeatState) → ((k : ℕ) → P (start_seat sh k)) → ((k : ℕ) → P (spent_seat sh k)) → All P seats → P t → All P (others_after sh step (set seats i t))
+local-kept P sh Split seats i t new old a h = all-push P (set seats i t) (start_seat sh (length (set seats i t))) (All-set P seats i t h a) (new (length (set seats i t)))
+local-kept P sh (Join other) seats i t new old a h = All-set P (set seats i t) other (spent_seat sh other) (old other) (All-set P seats i t h a)
+local-kept P sh step seats i t new old a h = All-set P seats i t h a
 
 -- a step that is allowed has room for what it counts
 pub has-room : (sh : Shape) (w : Words) (seats : List SeatState) (s : SeatState) (step : Step) → IsShape sh → AllTrue (parts sh w seats s step) → HasRoom s step

@@ -1,6 +1,4 @@
 -- The files on exact cycles.
-pub mod ExactsReach
 pub mod ExactsDrain
 pub mod ExactsMoves
 pub mod ExactsKept
-pub mod ExactsStart

@@ -1,10 +1,7 @@
 -- The files on words and records in range.
 pub mod FormedSlots
-pub mod FormedBits
 pub mod FormedGrasps
-pub mod FormedAfter
 pub mod FormedSeats
 pub mod FormedLearns
 pub mod FormedWords
 pub mod FormedKept
-pub mod FormedStart

@@ -5,8 +5,6 @@ pub mod WorldNumbers
 pub mod WorldReading
 pub mod WorldSeats
 pub mod WorldLocals
-pub mod WorldSights
-pub mod WorldQuiet
 pub mod WorldPhases
 pub mod WorldPhaseKept
 pub mod WorldPhaseMoves

@@ -1,12 +1,10 @@
 -- Which step writes which region, and in which range.
-pub mod Regions
 pub mod Slices
 pub mod Places
 pub mod Frames
 pub mod Ranges
 pub mod Writes
 pub mod RegionWrites
-pub mod SlotBounds
 pub mod SeatBoundsKept
 pub mod WordBoundsKept
 pub mod CellBits

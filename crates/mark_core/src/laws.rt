@@ -52,7 +52,7 @@ pub fn full_is_reachable()
 {}
 
 /// No event clears the allocation bit of a reachable cell.
-#[tactic(auto, using(crate::proofs::Consequences::Staying::reachable_stay))]
+#[tactic(auto, using(crate::proofs::Consequences::Closing::reachable_stay))]
 pub fn reachable_stay()
     ensures { ReachableStay }
 {}

@@ -30,9 +30,8 @@ use Rattle.gc_table.proofs.Running.{ran-stored, ran-join, ran-only, ran-shape, r
 use Rattle.alloc_cache.specs.Making.{Makes, nil_fields, with_cell, with_place, identity_word}
 use Rattle.mutator_ops.specs.Creating.{Creates}
 use Rattle.mutator_ops.specs.Doing.{belongs, seen, spares_plain}
-use Rattle.mutator_ops.proofs.Once.{once-after, once-last}
+use Rattle.mutator_ops.proofs.Stepping.{once-after, once-last, stepped-none, undropped-root}
 use Rattle.mutator_ops.specs.Ready.{IsReady}
-use Rattle.mutator_ops.proofs.Stepping.{stepped-none, undropped-root}
 use Rattle.mutator_ops.proofs.Storing.{all-by}
 
 -- the new cell is the one made last, and none is half made

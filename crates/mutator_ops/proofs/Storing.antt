@@ -1,12 +1,12 @@
 -- A command that stores in an object.
-use Rattle.std.proofs.Common.{ℕ, ◌≡◌, ◌≤◌, List, [], ◌∷◌, arith, refl, sym, ap, ◌∙◌, Bool, true, false, not, ◌&&◌, ◌||◌, Some, None, Option, is_some}
-use Rattle.std.specs.Prelude.{◌==◌, if◌then◌else◌}
-use Rattle.std.specs.List.{list_all}
-use Rattle.std.proofs.lemmas.Bool.{false≢true, true≢false}
+use Rattle.std.proofs.Common.{ℕ, ◌≡◌, ◌≤◌, List, [], ◌∷◌, arith, refl, sym, ap, ◌∙◌, Bool, true, false, not, ◌&&◌, ◌||◌, Some, None, Option, is_some, length, cond, ◌<◌, ◌+◌, is_none, subst}
+use Rattle.std.specs.Prelude.{◌==◌, if◌then◌else◌, slice_set}
+use Rattle.std.specs.List.{list_all, list_any}
+use Rattle.std.proofs.lemmas.Bool.{false≢true, true≢false, and_from, or_left, or_right, lt-ltb, eq-eqb, ne_eqb, not_from_false}
 use Rattle.mark_core.specs.Steps.ColourSteps.{dirty_card_effect, fresh_off, popped_off, redirty_off}
-use Rattle.mark_core.specs.Seats.{work_in_hand, cleaning_left, scan_left, is_the, used_in}
+use Rattle.mark_core.specs.Seats.{work_in_hand, cleaning_left, scan_left, is_the, used_in, has_making, may_mutate}
 use Rattle.mark_core.specs.declared.kinds.Step.{Step}
-use Rattle.mark_core.specs.declared.kinds.Step.TheVariants.{ReadIdent, StoreField, DirtyCard}
+use Rattle.mark_core.specs.declared.kinds.Step.TheVariants.{ReadIdent, StoreField, DirtyCard, ExchangeField, ExchangeValue, StoreRoot, ReadSlot, StoreSlot}
 use Rattle.mark_core.specs.declared.seat.Cleaning.{Cleaning}
 use Rattle.mark_core.specs.declared.seat.SeatState.{SeatState}
 use Rattle.plain_heap.specs.declared.operation.Op.{Op}
@@ -14,14 +14,99 @@ use Rattle.plain_heap.specs.declared.operation.Op.TheVariants as ops
 use Rattle.gc_table.specs.declared.view.Entry.{Entry}
 use Rattle.gc_table.specs.declared.view.SectionState.{SectionState}
 use Rattle.gc_table.specs.declared.view.View.{View}
-use Rattle.gc_table.specs.Log.{all_steps, steps_of, events, Only}
-use Rattle.gc_table.specs.Running.{Ran}
+use Rattle.gc_table.specs.Log.{all_steps, steps_of, events, Only, event}
+use Rattle.gc_table.specs.Running.{Ran, after_all}
 use Rattle.gc_table.proofs.History.Log.{only-more}
-use Rattle.gc_table.proofs.Running.{ran-join, ran-only}
-use Rattle.card_clean.specs.Barrier.{barrier_steps, cell_in, record_stored}
+use Rattle.gc_table.proofs.Running.{ran-join, ran-only, ran-shape}
+use Rattle.card_clean.specs.Barrier.{barrier_steps, cell_in, record_stored, Exchanged, dirtied_after}
 use Rattle.mutator_ops.specs.Doing.{belongs, plain_steps, reads_ident, spares_plain, Does, IsOneStep, IsStepped, Looks}
-use Rattle.mutator_ops.proofs.Once.{once-last, once-none}
+use Rattle.mutator_ops.proofs.Stepping.{once-last, once-none}
 use Rattle.mark_core.specs.Cards.{card_of}
+use Rattle.gc_table.specs.Taking.{after, May}
+use Rattle.mutator_ops.specs.Sharing.{SharesReady}
+use Rattle.std.proofs.lemmas.List.Folds.{list_any_at}
+use Rattle.mark_core.specs.Bits.{reference_in}
+use Rattle.mark_core.specs.Numbers.{section_variables}
+use Rattle.mark_core.specs.Steps.MutatorSteps.{names_last, seat_variable as word_in}
+use Rattle.plain_heap.specs.PlainHeap.{Heap}
+use Rattle.plain_heap.specs.PlainStep.{assigned, with_new}
+use Rattle.gc_table.specs.Seats.{Stored}
+use Rattle.gc_table.specs.Sections.{named_by}
+use Rattle.mark_core.specs.declared.kinds.Shape.{Shape}
+
+-- A seat that shares objects is ready again after a call.
+pub shares-on : (v w : View) → SharesReady v → w.shape ≡ v.shape → w.state ≡ record v.state { env = w.state.env } → length w.own.meaning.heap.objects ≡ length v.own.meaning.heap.objects → SharesReady w
+shares-on v w r shape s objects =
+    record {
+      shared = ap (λ (sh : Shape). sh.sharing) shape ∙ r.shared;
+      stores =
+          record {
+            turn = ap may_mutate s ∙ r.stores.turn;
+            seen = (r.stores.seen.0, ap (λ (t : SeatState). t.phase_seen) s ∙ r.stores.seen.1, r.stores.seen.2);
+            owes = ap (λ (t : SeatState). t.owes) s ∙ r.stores.owes;
+          };
+      idle = (λ i. work_in_hand (shape i).fields (s i)) ∙ r.idle;
+      whole = ap (λ (t : SeatState). has_making t.cache) s ∙ r.whole;
+      register = ap (λ (t : SeatState). t.got) s ∙ r.register;
+      counted = objects ∙ r.counted ∙ sym (ap (λ (t : SeatState). t.made) s);
+    }
+
+-- what was read into the register may be stored in a variable
+pub may-share_read : (u r : ℕ) (v x : View) → SharesReady v → x.state ≡ record v.state { got = x.state.got } → u < section_variables → r ≡ x.state.got → May (StoreRoot u r) x
+may-share_read u r v x ready s below is y i st a = (
+  and_from _ _ (lt-ltb u section_variables below) (ap may_mutate s ∙ ready.stores.turn),
+  (
+    or_left ((r == 0) || (r == x.state.got) || list_any (λ n. n == r) x.state.env) (names_last x.state.cache r)
+        (or_left ((r == 0) || (r == x.state.got)) (list_any (λ n. n == r) x.state.env) (or_right (r == 0) (r == x.state.got) (eq-eqb r x.state.got is))),
+    (and_from _ _ (ap (λ (t : SeatState). is_none t.owes) s ∙ ap is_none ready.stores.owes) (ap (λ (t : SeatState). not (has_making t.cache)) s ∙ not_from_false _ ready.whole), tt),
+  ),
+)
+
+-- what the record is after both
+pub state-read : (u r : ℕ) (v x w : View) → v.state.got ≡ 0 → x.state ≡ record v.state { got = x.state.got } → Stored (StoreRoot u r) x w → w.state ≡ record v.state { env = slice_set v.state.env u (reference_in r) }
+state-read u r v x w none s e =
+    ap (λ (y : View). y.state) e
+    ∙ (λ i. record (s i) { env = slice_set (s i).env u (reference_in r); got = 0 })
+    ∙ (λ i. record v.state { env = slice_set v.state.env u (reference_in r); got = sym none i })
+
+count-rooted : (b : Bool) (h k : Heap) → b ≡ false → length (if b then h else k).objects ≡ length k.objects
+count-rooted b h k e = ap (λ (c : Bool). length (if c then h else k).objects) e
+
+none-last : (a b : Bool) → b ≡ false → (a && b) ≡ false
+none-last a b e = grind arith
+
+-- no object comes by it
+pub count-read : (u r : ℕ) (x w : View) → length x.own.meaning.heap.objects ≡ x.state.made → Stored (StoreRoot u r) x w → length w.own.meaning.heap.objects ≡ length x.own.meaning.heap.objects
+count-read u r x w counted e =
+    let m = x.own.meaning in
+    ap (λ (y : View). length y.own.meaning.heap.objects) e
+    ∙ count-rooted (names_last x.state.cache r && (length m.heap.objects + 1 == x.state.made)) (with_new m.heap u m.value) (assigned m.heap u (named_by x.state m r))
+    (none-last (names_last x.state.cache r) (length m.heap.objects + 1 == x.state.made) (ne_eqb (length m.heap.objects + 1) x.state.made (λ z. omega (arith, z, counted))))
+
+-- a slot that exists may be read
+pub may-read_slot : (k : ℕ) (v : View) → SharesReady v → k < v.shape.slots → May (ReadSlot k) v
+may-read_slot k v ready low y i st a = (and_from _ _ (lt-ltb k y.core.shape.slots (subst (λ (sh : Shape). k < sh.slots) a.shape low)) ready.stores.turn, tt)
+
+-- what a variable holds may be stored in a slot
+pub may-spill : (k r u : ℕ) (v : View) → SharesReady v → k < v.shape.slots → u < section_variables → r ≡ word_in v.state u → May (StoreSlot k r) v
+may-spill k r u v ready low below is y i st a = (
+  and_from _ _ (lt-ltb k y.core.shape.slots (subst (λ (sh : Shape). k < sh.slots) a.shape low)) ready.stores.turn,
+  (
+    or_left ((r == 0) || (r == v.state.got) || list_any (λ n. n == r) v.state.env) (names_last v.state.cache r)
+        (or_right ((r == 0) || (r == v.state.got)) (list_any (λ n. n == r) v.state.env)
+        (list_any_at (λ n. n == r) v.state.env u 0 (omega (arith, below, (st.core.formed.seats i v.state a.seat).env)) (eq-eqb (word_in v.state u) r (sym is)))),
+    (and_from _ _ (ap is_none ready.stores.owes) (not_from_false _ ready.whole), tt),
+  ),
+)
+
+-- the record after a spill
+pub state-spilled : (k r : ℕ) (v w : View) → v.state.got ≡ 0 → Stored (StoreSlot k r) v w → w.state ≡ record v.state { env = w.state.env }
+state-spilled k r v w none e =
+    ap (λ (y : View). y.state) e ∙ (λ i. record v.state { got = sym none i }) ∙ (λ i. record v.state { env = sym (ap (λ (y : View). y.state.env) e) i })
+
+-- a spill leaves the record as it was
+pub state-kept : (k r : ℕ) (v w : View) → v.state.got ≡ 0 → Stored (StoreSlot k r) v w → w.state ≡ v.state
+state-kept k r v w none e = ap (λ (y : View). y.state) e ∙ (λ i. record v.state { got = sym none i })
 
 -- a seat with nothing in hand dirties a card, and nothing of its record changes
 or_none : (a b : Bool) → (a || b) ≡ false → (a ≡ false) × (b ≡ false)
@@ -121,3 +206,35 @@ reads-set u i w step e = absurd (false≢true e)
 pub reads-put : (u n : ℕ) (step : Step) → reads_ident step ≡ true → belongs (ops.Put u n) step ≡ true
 reads-put u n (ReadIdent c) e = refl
 reads-put u n step e = absurd (false≢true e)
+
+-- A seat that shares objects is ready again after an exchange.
+abbrev Count : View → ℕ
+Count v = length v.own.meaning.heap.objects
+
+-- no object comes by an exchange, nor by the card that is dirtied after it
+count_after : (v x : View) (u : ℕ) (s : SeatState) (won used : Bool) (card : ℕ) → Count (after_all (cond won (cond used [] (event (DirtyCard card) 1 ∷ [])) []) x) ≡ Count x
+count_after v x u s false used card = refl
+count_after v x u s true true card = refl
+count_after v x u s true false card = refl
+
+same_by : (won : Bool) (s t : SeatState) → t ≡ s → cond won t s ≡ s
+same_by true s t e = e
+same_by false s t e = refl
+
+-- the seat's record is as before
+pub exchanged-same : (u i : ℕ) (x y : Option ℕ) (won : Bool) (v w : View) → SharesReady v → Exchanged u i x y won v w → w.state ≡ v.state
+exchanged-same u i x y won v w q e = e.state ∙ same_by won v.state (record_stored v.state u) (stored-same v.shape.fields v.state u q.idle q.stores.owes)
+
+pub exchanged-ready : (u i : ℕ) (x y : Option ℕ) (won : Bool) (v w : View) → SharesReady v → Ran v w → Exchanged u i x y won v w → SharesReady w
+exchanged-ready u i x y won v w q r e =
+    let same : w.state ≡ v.state = exchanged-same u i x y won v w q e in
+    let first : View = after (ExchangeField u i x y) e.found v in
+    let count : Count w ≡ Count v =
+    ap Count (r.steps ∙ ap (λ (es : List Entry). after_all es v) e.did_are) ∙ count_after v first u v.state won (used_in v.state.cache _) _ in
+    shares-on v w q (ran-shape v w r) (same ∙ ap (λ (s : SeatState). record v.state { env = s.env }) (sym same)) count
+
+-- and after an exchange of a value
+pub counted-ready : (u m n k : ℕ) (v w : View) → SharesReady v → Ran v w → w ≡ after (ExchangeValue u m n) k v → SharesReady w
+counted-ready u m n k v w q r e =
+    let same : w.state ≡ v.state = ap (λ (z : View). z.state) e in
+    shares-on v w q (ran-shape v w r) (same ∙ ap (λ (s : SeatState). record v.state { env = s.env }) (sym same)) (ap Count e)

@@ -16,11 +16,10 @@ use Rattle.gc_table.specs.Rule.{IsPossible}
 use Rattle.gc_table.specs.declared.view.SectionState.{SectionState}
 use Rattle.gc_table.specs.declared.view.View.{View}
 use Rattle.std.specs.Prelude.{IsFalse}
-use Rattle.mutator_ops.proofs.Once.{once-none}
+use Rattle.mutator_ops.proofs.Stepping.{once-none, reads-seen, reads-join}
 use Rattle.mutator_ops.specs.Doing.{HasRead, Does, belongs, seen, with_dropped}
 use Rattle.mutator_ops.specs.Walking.{IsAt, Visits, ref_at, walks_step}
 use Rattle.mutator_ops.proofs.Knowing.{Knows, knows-variable, knows-register, known-variable, known-register, nil-variable, nil-register, some-variable, some-register}
-use Rattle.mutator_ops.proofs.Stepping.{reads-seen, reads-join}
 
 -- the word and the reference in hand are a variable's, or the register's
 abbrev pub InHand : ℕ → ℕ → Ref → View → Type 0

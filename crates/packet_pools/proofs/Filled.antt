@@ -8,9 +8,8 @@ use Rattle.packet_pools.specs.declared.held.Held.{Held}
 use Rattle.packet_pools.specs.Hands.{HoldsPacket, free_slots}
 use Rattle.packet_pools.specs.Gains.{Takes}
 use Rattle.packet_pools.specs.Scanning.{Fills}
-use Rattle.packet_pools.proofs.InHand.{drop-set, known-held, with-other}
+use Rattle.packet_pools.proofs.Exchanged.{drop-set, known-held, with-other, drop-free, drop-frees, exchanged, held-apart, known-came, set-free, set-frees, with-frees}
 use Rattle.packet_pools.proofs.Doing.{held-again}
-use Rattle.packet_pools.proofs.Exchanged.{drop-free, drop-frees, exchanged, held-apart, known-came, set-free, set-frees, with-frees}
 
 -- a packet is held as before
 pub held-same : (v w : View) (h : Held) → w.shape ≡ v.shape → known_length w.state.held h.packet ≡ known_length v.state.held h.packet → HoldsPacket h v → HoldsPacket h w

@@ -10,7 +10,7 @@ use Rattle.packet_pools.specs.OnlyTraced.{OnlyTraced}
 use Rattle.packet_pools.specs.Tracing.{Traces}
 use Rattle.packet_pools.proofs.TracedSteps.{traced-join}
 use Rattle.packet_pools.proofs.Doing.{traced-store_length, traced-give, traced-credit, traces-on}
-use Rattle.packet_pools.proofs.InHand.{drop-set, known-entry, known-held, known-length, known-set, stored-set}
+use Rattle.packet_pools.proofs.Exchanged.{drop-set, known-entry, known-held, known-length, known-set, stored-set}
 
 module _ (s : SeatState) (p n : ℕ) (k : known_length s.held p ≡ Some n) where
   -- its length is in the head

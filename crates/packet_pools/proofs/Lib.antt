@@ -1,15 +1,10 @@
 pub mod TracedSteps
 pub mod Conditions
 pub mod Searches
-pub mod AllMissed
-pub mod Orders
-pub mod InHand
 pub mod Doing
 pub mod TakenOne
 pub mod TakenRead
 pub mod WordSearch
-pub mod PoolSearch
-pub mod Choices
 pub mod Given
 pub mod Exchanged
 pub mod Filled
@@ -20,5 +15,4 @@ pub mod Settled
 pub mod Pushed
 pub mod Rounds
 pub mod Reading
-pub mod Marked
 pub mod SearchRows

@@ -1,14 +1,23 @@
 -- What the events of a search say, as more events come.
-use Rattle.std.proofs.Common.{ℕ, ◌≡◌, ◌<◌, ◌≤◌, List, [], ◌∷◌, ◌++◌, arith, ⊎_elim, inl, inr, ◌⊎◌, Bool, true, false, not, ◌&&◌, ◌||◌, ap, refl, eqb, eq-eqb}
-use Rattle.std.proofs.lemmas.Bool.{false≢true, and_parts, and_from, or_left, or_right, or_cases, or_parts, not_from_false, cases_lt, false_from_ne_true}
-use Rattle.mark_core.specs.Numbers.{high_pool_number}
+use Rattle.std.proofs.Common.{ℕ, ◌≡◌, ◌<◌, ◌≤◌, List, [], ◌∷◌, ◌++◌, arith, ⊎_elim, inl, inr, ◌⊎◌, Bool, true, false, not, ◌&&◌, ◌||◌, ap, refl, eqb, eq-eqb, ◌*◌, sym, ◌∙◌, subst, ◌+◌, zero, suc}
+use Rattle.std.proofs.lemmas.Bool.{false≢true, and_parts, and_from, or_left, or_right, or_cases, or_parts, not_from_false, cases_lt, false_from_ne_true, true≢false}
+use Rattle.mark_core.specs.Numbers.{high_pool_number, word_bits, empty_pool_number, low_pool_number}
 use Rattle.mark_core.specs.declared.kinds.Step.{Step}
 use Rattle.mark_core.specs.declared.kinds.Step.TheVariants.{Reserve, Take, Give, Credit, Look, StoreLength, ReadLength}
 use Rattle.mark_core.specs.declared.kinds.Shape.{Shape}
 use Rattle.gc_table.specs.declared.view.Entry.{Entry}
-use Rattle.gc_table.specs.Log.{steps_of}
-use Rattle.packet_pools.specs.Seeking.{gets, shows_outside, loses, some_event, before_got, was_full, was_got, was_missed, reads_full, gets_from, in_pools, moves_packet, only_moves}
-use Rattle.packet_pools.specs.Gains.{missed, MissesPackets}
+use Rattle.gc_table.specs.Log.{steps_of, events}
+use Rattle.packet_pools.specs.Seeking.{gets, shows_outside, loses, some_event, before_got, was_full, was_got, was_missed, reads_full, gets_from, in_pools, moves_packet, only_moves, all_missed, was_missed_in, input_pools, no_input, no_output, was_roomless}
+use Rattle.packet_pools.specs.Gains.{missed, MissesPackets, ComesFrom, Takes, Gains}
+use Rattle.mark_core.specs.Layout.{pool_words}
+use Rattle.mark_core.specs.Held.{holds}
+use Rattle.mark_core.specs.declared.seat.SeatState.{SeatState}
+use Rattle.gc_table.specs.declared.view.View.{View}
+use Rattle.packet_pools.specs.declared.held.Held.{Held}
+use Rattle.packet_pools.specs.OnlyTraced.{OnlyTraced}
+use Rattle.packet_pools.specs.Hands.{with_packet}
+use Rattle.gc_table.proofs.History.Log.{events-join}
+use Rattle.std.specs.List.{list_all, range_with_len}
 
 pub some-left : (f : Step → ℕ → Bool) (xs ys : List Entry) → some_event f xs ≡ true → some_event f (xs ++ ys) ≡ true
 some-left f [] ys h = absurd (false≢true h)
@@ -142,4 +151,104 @@ misses-join sh q not_full lo mid hi xs ys le a b =
           (λ y. b.got p y)
           (some-parts (gets p) xs ys e);
       moves = moves-join (q ∷ []) xs ys a.moves b.moves;
+    }
+
+-- One pool is searched after another.
+-- No packet could be had, told of all packets at once.
+-- what is so of each number is so of all in a range
+pub all-range : (f : ℕ → Bool) (a n : ℕ) → ((p : ℕ) → p < a + n → f p ≡ true) → list_all f (range_with_len a n) ≡ true
+all-range f a zero h = refl
+all-range f a (suc n) h = and_from _ _ (h a (omega arith)) (all-range f (a + 1) n (λ p l. h p (omega (arith, l))))
+
+-- what follows for each follows for all
+pub all-more : (f g : ℕ → Bool) → ((p : ℕ) → f p ≡ true → g p ≡ true) → (ps : List ℕ) → list_all f ps ≡ true → list_all g ps ≡ true
+all-more f g h [] a = refl
+all-more f g h (p ∷ ps) a = let q = and_parts (f p) (list_all f ps) a in and_from _ _ (h p q.0) (all-more f g h ps q.1)
+
+-- one packet, with events after and before
+missed-in-left : (qs : List ℕ) (p : ℕ) (xs ys : List Entry) → was_missed_in qs p xs ≡ true → was_missed_in qs p (xs ++ ys) ≡ true
+missed-in-left [] p xs ys m = refl
+missed-in-left (q ∷ qs) p xs ys m = let h = and_parts (was_missed q p xs) (was_missed_in qs p xs) m in and_from _ _ (was-missed-left q p xs ys h.0) (missed-in-left qs p xs ys h.1)
+
+missed-in-right : (qs : List ℕ) (p : ℕ) (xs ys : List Entry) → was_got p xs ≡ false → was_missed_in qs p ys ≡ true → was_missed_in qs p (xs ++ ys) ≡ true
+missed-in-right [] p xs ys n m = refl
+missed-in-right (q ∷ qs) p xs ys n m = let h = and_parts (was_missed q p ys) (was_missed_in qs p ys) m in and_from _ _ (was-missed-right q p xs ys n h.0) (missed-in-right qs p xs ys n h.1)
+
+roomless-left : (entries p : ℕ) (xs ys : List Entry) → was_roomless entries p xs ≡ true → was_roomless entries p (xs ++ ys) ≡ true
+roomless-left entries p xs ys m =
+    let h = and_parts (was_missed_in (empty_pool_number ∷ low_pool_number ∷ []) p xs) (was_missed high_pool_number p xs || was_full entries p xs) m in
+    and_from _ _ (missed-in-left (empty_pool_number ∷ low_pool_number ∷ []) p xs ys h.0) (either-way _ _ _ _ (was-missed-left high_pool_number p xs ys) (full-left entries p xs ys) h.1)
+
+-- all of them
+pub all-missed-left : (sh : Shape) (qs : List ℕ) (xs ys : List Entry) → all_missed sh qs xs ≡ true → all_missed sh qs (xs ++ ys) ≡ true
+all-missed-left sh qs xs ys m = all-more (λ p. was_missed_in qs p xs) (λ p. was_missed_in qs p (xs ++ ys)) (λ p e. missed-in-left qs p xs ys e) (range_with_len 0 sh.packets) m
+
+pub all-missed-right : (sh : Shape) (qs : List ℕ) (xs ys : List Entry) → ((p : ℕ) → was_got p xs ≡ false) → all_missed sh qs ys ≡ true → all_missed sh qs (xs ++ ys) ≡ true
+all-missed-right sh qs xs ys n m = all-more (λ p. was_missed_in qs p ys) (λ p. was_missed_in qs p (xs ++ ys)) (λ p e. missed-in-right qs p xs ys (n p) e) (range_with_len 0 sh.packets) m
+
+pub no-input-left : (sh : Shape) (xs ys : List Entry) → no_input sh xs ≡ true → no_input sh (xs ++ ys) ≡ true
+no-input-left sh xs ys m = all-missed-left sh input_pools xs ys m
+
+pub no-output-left : (sh : Shape) (xs ys : List Entry) → no_output sh xs ≡ true → no_output sh (xs ++ ys) ≡ true
+no-output-left sh xs ys m = all-more (λ p. was_roomless sh.entries p xs) (λ p. was_roomless sh.entries p (xs ++ ys)) (λ p e. roomless-left sh.entries p xs ys e) (range_with_len 0 sh.packets) m
+
+pub below-words : (sh : Shape) (p : ℕ) → p < sh.packets → p < word_bits * pool_words sh
+below-words sh p l = omega (arith, l)
+
+without-room : (a f : Bool) → (a || (false && f)) ≡ true → a ≡ true
+without-room true f e = refl
+without-room false f e = e
+
+-- a whole pool without a packet
+pub pool-missed : (sh : Shape) (q : ℕ) (es : List Entry) → MissesPackets sh q false 0 (word_bits * pool_words sh) es → (p : ℕ) → p < sh.packets → was_missed q p es ≡ true
+pool-missed sh q es m p l = without-room (was_missed q p es) (was_full sh.entries p es) (m.all p (omega arith) (below-words sh p l) l)
+
+pub all-missed : (sh : Shape) (q : ℕ) (es : List Entry) → MissesPackets sh q false 0 (word_bits * pool_words sh) es → all_missed sh (q ∷ []) es ≡ true
+all-missed sh q es m = all-range (λ p. was_missed_in (q ∷ []) p es) 0 sh.packets (λ p l. and_from _ _ (pool-missed sh q es m p (omega (arith, l))) refl)
+
+-- where a packet came from, with events before it that got none
+comes-right : (sh : Shape) (qs : List ℕ) (h : Held) (xs ys : List Entry) → ((p : ℕ) → was_got p xs ≡ false) → ComesFrom sh qs h ys → ComesFrom sh qs h (xs ++ ys)
+comes-right sh [] h xs ys n c = c
+comes-right sh (q ∷ qs) h xs ys n c = ⊎_elim (λ a. inl (a.0, some-right (gets_from q h.packet) xs ys a.1)) (λ b. inr (all-missed-right sh (q ∷ []) xs ys n b.0, comes-right sh qs h xs ys n b.1)) c
+
+-- a packet of the first pool
+pub takes-first : (q : ℕ) (qs : List ℕ) (room : Bool) (h : Held) (v w : View) → v.state.reserved ≡ false → Gains q room h v w → Takes (q ∷ qs) h v w
+takes-first q qs room h v w r g =
+    record {
+      unheld = g.unheld;
+      held = g.held;
+      state = g.state ∙ (λ i. record v.state { held = with_packet v.state.held h.packet h.length; reserved = sym r i });
+      from = inl (g.range, g.got);
+      moves = first-pool q qs (events v w) g.moves;
+    }
+
+-- a packet of a later pool, if a whole search of the first found none
+pub takes-next : (sh : Shape) (q : ℕ) (qs : List ℕ) (h : Held) (v u w : View) → v.shape ≡ sh → OnlyTraced v u → OnlyTraced u w → u.state ≡ v.state → MissesPackets sh q false 0 (word_bits * pool_words sh) (events v u) → Takes qs h u w → Takes (q ∷ qs) h v w
+takes-next sh q qs h v u w shape a b e m t =
+    let es = events-join v u w a.log b.log in
+    let none : (p : ℕ) → was_got p (events v u) ≡ false = λ p. none-got sh q 0 (word_bits * pool_words sh) p (events v u) m in
+    let missed : all_missed v.shape (q ∷ []) (events v u) ≡ true = subst (λ (s : Shape). all_missed s (q ∷ []) (events v u) ≡ true) (sym shape) (all-missed sh q (events v u) m) in
+    record {
+      unheld = ap (λ (s : SeatState). holds s.held h.packet) (sym e) ∙ t.unheld;
+      held = t.held;
+      state = t.state ∙ ap (λ (s : SeatState). record s { held = with_packet s.held h.packet h.length }) e;
+      from = inr (
+        ap (all_missed v.shape (q ∷ [])) es ∙ all-missed-left v.shape (q ∷ []) (events v u) (events u w) missed,
+        subst (ComesFrom v.shape qs h) (sym es) (comes-right v.shape qs h (events v u) (events u w) none (subst (λ (s : Shape). ComesFrom s qs h (events u w)) a.shape t.from)),
+      );
+      moves = ap (only_moves (q ∷ qs)) es ∙ moves-join (q ∷ qs) (events v u) (events u w) (first-pool q qs (events v u) m.moves) (next-pools q qs (events u w) t.moves);
+    }
+
+-- events around a search that take nothing
+pub misses-within : (sh : Shape) (q : ℕ) (room : Bool) (lo hi : ℕ) (xs es ys : List Entry) → ((p : ℕ) → was_got p xs ≡ false) → ((p : ℕ) → was_got p ys ≡ false) → only_moves (q ∷ []) xs ≡ true → only_moves (q ∷ []) ys ≡ true → MissesPackets sh q room lo hi es → MissesPackets sh q room lo hi (xs ++ (es ++ ys))
+misses-within sh q room lo hi xs es ys nx ny mx my m =
+    record {
+      all = λ p l h low. missed-right sh.entries q room p xs (es ++ ys) (nx p) (missed-left sh.entries q room p es ys (m.all p l h low));
+      got =
+          λ p e.
+          ⊎_elim
+          (λ a. absurd (true≢false (sym a ∙ nx p)))
+          (λ b. ⊎_elim (λ g. m.got p g) (λ d. absurd (true≢false (sym d ∙ ny p))) (some-parts (gets p) es ys b))
+          (some-parts (gets p) xs (es ++ ys) e);
+      moves = moves-join (q ∷ []) xs (es ++ ys) mx (moves-join (q ∷ []) es ys m.moves my);
     }

@@ -22,7 +22,7 @@ use Rattle.packet_pools.specs.Gains.{Seeks, Gains, MissesPackets, missed}
 use Rattle.gc_table.proofs.History.Log.{entry_of, events-after, events-join, grows-after, grows-join}
 use Rattle.packet_pools.proofs.TracedSteps.{traced-join}
 use Rattle.packet_pools.proofs.Conditions.{traces-later}
-use Rattle.packet_pools.proofs.InHand.{known-with, unread-put, drop-with}
+use Rattle.packet_pools.proofs.Exchanged.{known-with, unread-put, drop-with}
 use Rattle.packet_pools.proofs.Doing.{traced-take, traced-read_length}
 use Rattle.packet_pools.proofs.Searches.{some-parts, full-left, moves-join, moves-steps, all_move, take-moves}
 use Rattle.packet_pools.proofs.TakenOne.{won-state, got-asked, got-from, fetched-range, range-fits, last-taken, none-taken, some_take}

@@ -1,11 +1,11 @@
 -- One step of tracing leaves the rest as it was, and so do many.
-use Rattle.std.proofs.Common.{◌≡◌, ℕ, List, [], ◌∷◌, ◌++◌, refl, sym, ap, ◌∙◌, true, ◌/◌, ◌%◌, ◌^◌, subst, Bool, false, cond, Some, None, ⊎_elim, eq-eqb}
+use Rattle.std.proofs.Common.{◌≡◌, ℕ, List, [], ◌∷◌, ◌++◌, refl, sym, ap, ◌∙◌, true, ◌/◌, ◌%◌, ◌^◌, subst, Bool, false, cond, Some, None, ⊎_elim, eq-eqb, ◌⊎◌, inl, inr}
 use Rattle.std.proofs.lemmas.Bool.{and_parts, and_from, cases_Bool, true≢false, false≢true, false_from_ne_true}
 use Rattle.mark_core.specs.declared.kinds.Step.{Step}
 use Rattle.gc_table.specs.declared.view.Entry.{Entry}
 use Rattle.gc_table.specs.declared.view.View.{View}
-use Rattle.gc_table.specs.Log.{events}
-use Rattle.gc_table.specs.Running.{after_all, Ran, is_store, IsSeen}
+use Rattle.gc_table.specs.Log.{events, Only}
+use Rattle.gc_table.specs.Running.{after_all, Ran, is_store, IsSeen, ends_alone}
 use Rattle.gc_table.specs.Taking.{after, Finds}
 use Rattle.gc_table.proofs.History.Log.{events-after, events-none, grows-refl, grows-join, grows-after, only-none, only-after, only-join}
 use Rattle.packet_pools.specs.Keeping.{all_keep, keeps_cells}
@@ -15,14 +15,14 @@ use Rattle.mark_core.specs.Effects.{place, written, seat_after}
 use Rattle.mark_core.specs.Notes.{same_place, steady, keeps_bound, keeps_single, is_counter}
 use Rattle.mark_core.specs.Bits.{has_bit, with_bit}
 use Rattle.mark_core.specs.Places.{mark_at}
-use Rattle.mark_core.specs.declared.kinds.Step.TheVariants.{SetMark}
+use Rattle.mark_core.specs.declared.kinds.Step.TheVariants.{SetMark, ReadMarks, ClearMarks, ReadBlockMarks, DropStep, OpenStep, Reset, AddStat, ReadStat, StoreNew, StorePhase}
 use Rattle.mark_core.proofs.Writing.CellBits.{bit-more, with_same}
 use Rattle.mark_core.specs.declared.seat.SeatState.{SeatState}
 use Rattle.gc_table.specs.Sections.{section_after}
 use Rattle.gc_table.specs.Notes.{Notes, look, if_kept, noting}
 use Rattle.gc_table.proofs.Noting.{place-same, look-map}
-use Rattle.gc_table.proofs.Noticing.{found-noted}
-use Rattle.gc_table.proofs.Running.{ran-refl, ran-after, ran-join, ran-events}
+use Rattle.gc_table.proofs.Noticing.{found-noted, is_load, known-step, alone-stays, alone-steady}
+use Rattle.gc_table.proofs.Running.{ran-refl, ran-after, ran-join, ran-events, run-keeps}
 use Rattle.packet_pools.specs.OnlyTraced.{is_traced, rest_of, IsNotedMarked, traces_cells, OnlyTracedBy, OnlyTraced, OnlyCleaned}
 
 -- The steps of one call, and those of another after them, lose no cell in hand.
@@ -214,3 +214,35 @@ traced-to v w step n e k = subst (OnlyTraced v) (sym e) k
 
 pub cleaned-to : (v w : View) (step : Step) (n : ℕ) → w ≡ after step n v → OnlyCleaned v (after step n v) → OnlyCleaned v w
 cleaned-to v w step n e k = subst (OnlyCleaned v) (sym e) k
+
+-- What a seat that is alone has noted as marked stays marked while it traces: by the steps that it takes alone.
+-- a seat that is alone stays so while it traces
+pub tracing-alone : (step : Step) → traces_cells step ≡ true → ends_alone step ≡ false
+tracing-alone OpenStep p = absurd (false≢true p)
+tracing-alone DropStep p = absurd (false≢true p)
+tracing-alone (StorePhase to) p = absurd (false≢true p)
+tracing-alone step p = refl
+
+-- alone, and cell c is noted as marked
+abbrev pub AloneMarked : ℕ → View → Type 0
+AloneMarked c v = (v.state.alone ≡ true) × IsNotedMarked v c
+
+other-step : (c : ℕ) (x : View) (step : Step) (n : ℕ) → traces_cells step ≡ true → IsSeen step n x → AloneMarked c x → (same_place (place x.shape x.state step) (mark_at (c / block_cells)) ≡ false) ⊎ (is_load step ≡ true) → AloneMarked c (after step n x)
+other-step c x step n p s q spared =
+    let alone = alone-stays x.shape x.state step n (tracing-alone step p) q.0 in
+    let note = known-step x step n (mark_at (c / block_cells)) q.1.0 spared s (alone-steady (seat_after x.shape x.state step n) (mark_at (c / block_cells)) q.1.0 refl alone) q.1.1 in
+    (alone, (q.1.0, note.0, q.1.2))
+
+marked-step : (c : ℕ) (x : View) (step : Step) (n : ℕ) → traces_cells step ≡ true → IsSeen step n x → AloneMarked c x → AloneMarked c (after step n x)
+marked-step c x (SetMark y) n p s q = (q.0, mark-keeps x y n c (s.found refl) q.0 q.1)
+marked-step c x (ReadMarks b) n p s q = other-step c x (ReadMarks b) n p s q (inr refl)
+marked-step c x ClearMarks n p s q = absurd (false≢true p)
+marked-step c x ReadBlockMarks n p s q = absurd (false≢true p)
+marked-step c x (Reset which) n p s q = absurd (false≢true p)
+marked-step c x (AddStat which by down) n p s q = absurd (false≢true p)
+marked-step c x (ReadStat which) n p s q = absurd (false≢true p)
+marked-step c x (StoreNew cell part word) n p s q = absurd (false≢true p)
+marked-step c x step n p s q = other-step c x step n p s q (inl refl)
+
+pub marked-stays : (v w : View) → Ran v w → Only traces_cells v w → (c : ℕ) → v.state.alone ≡ true → IsNotedMarked v c → IsNotedMarked w c
+marked-stays v w r o c alone k = (run-keeps traces_cells (AloneMarked c) (marked-step c) v w r o (alone, k)).1

@@ -8,7 +8,7 @@ use Rattle.std.proofs.lemmas.List.Kept.{AllPairs-filter}
 use Rattle.std.proofs.lemmas.List.Sums.{sum_by-cons, length-filter, get_or-le-sum_by}
 use Rattle.plain_heap.specs.Paths.{Name, ComesBefore, IsOrdered}
 use Rattle.plain_heap.specs.Sections.{counted}
-use Rattle.plain_heap.proofs.Counted.{length-counted, counted-at}
+use Rattle.plain_heap.proofs.Turns.{length-counted, counted-at}
 
 -- the name is of an object of this section
 abbrev pub is_of : ℕ → Name → Bool

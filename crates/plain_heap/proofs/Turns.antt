@@ -1,15 +1,16 @@
 -- One more command of a section: what it does and prints, and what stands where a part begins and ends.
-use Rattle.std.proofs.Common.{◌≡◌, ℕ, zero, suc, ◌+◌, ◌-◌, ◌≤◌, refl, ap, sym, ◌∙◌, arith, List, [], ◌∷◌, ◌++◌, length, map, take, append_assoc, length-append, ◌<◌}
-use Rattle.std.specs.Prelude.{Option, Some, None, slice_get}
-use Rattle.std.proofs.lemmas.List.{map_push, append-nil, take-map}
+use Rattle.std.proofs.Common.{◌≡◌, ℕ, zero, suc, ◌+◌, ◌-◌, ◌≤◌, refl, ap, sym, ◌∙◌, arith, List, [], ◌∷◌, ◌++◌, length, map, take, append_assoc, length-append, ◌<◌, ◌⊎◌, inl, inr, get_or}
+use Rattle.std.specs.Prelude.{Option, Some, None, slice_get, max, fold, Contains}
+use Rattle.std.proofs.lemmas.List.{map_push, append-nil, take-map, take_all, get_or_past}
 use Rattle.plain_heap.specs.declared.operation.Op.{Op}
 use Rattle.plain_heap.specs.declared.operation.Line.{Line}
 use Rattle.plain_heap.specs.PlainHeap.{Heap, empty_heap}
 use Rattle.plain_heap.specs.PlainStep.{heap_after, line_of}
-use Rattle.plain_heap.specs.Sections.{Execution, Sections, joined, first_of, parts_of, part_of, end_of, IsNext}
-use Rattle.plain_heap.specs.PlainRun.{Printed, heap_from, ops_of, seen_catalogue, heap_after_parts, with_label, printed_from, printed_in_parts, plain, part_end, catalogue_end, printed_before}
-use Rattle.plain_heap.proofs.Parts.{end_in, part_in, first-within, first-past, end-more, end-grows, take-next}
+use Rattle.plain_heap.specs.Sections.{Execution, Sections, joined, first_of, parts_of, part_of, end_of, IsNext, executed_of, seasons, section_numbers, counted}
+use Rattle.plain_heap.specs.PlainRun.{Printed, heap_from, ops_of, seen_catalogue, heap_after_parts, with_label, printed_from, printed_in_parts, plain, part_end, catalogue_end, printed_before, last_heap, transcript}
+use Rattle.plain_heap.proofs.Parts.{end_in, part_in, first-within, first-past, end-more, end-grows, take-next, end-within}
 use Rattle.std.proofs.lemmas.Option.{slice_get_within, same_Some}
+use Rattle.std.proofs.lemmas.Bool.{cases_lt}
 
 -- Parts of a section that are played: the heap and the lines after the first this many commands.
 -- first these operations and then those
@@ -186,3 +187,69 @@ next-once s w k z y e d one other = (same, same_Some e d (sym one.there ∙ ap (
 
     place : one.place ≡ other.place
     place = omega (arith, one.before, other.before, ap (λ (x : ℕ). end_of s w (x - 1)) same)
+
+-- The last season: each section was played to its end.
+-- Numbers that are counted up, as the section numbers are.
+pub length-counted : (n k : ℕ) → length (counted n k) ≡ k
+length-counted n zero = refl
+length-counted n (suc k) = omega (arith, length-counted (n + 1) k)
+
+pub counted-at : (n k i d : ℕ) → i < k → get_or (counted n k) i d ≡ n + i
+counted-at n zero i d below = absurd (omega arith)
+counted-at n (suc k) zero d below = omega arith
+counted-at n (suc k) (suc i) d below = counted-at (n + 1) k i d (omega arith) ∙ (let e : n + 1 + i ≡ n + suc i = omega arith in e)
+
+pub counted-contains : (n k m : ℕ) → n ≤ m → m < n + k → Contains (counted n k) m
+counted-contains n k m from to = (m - n, omega (arith, length-counted n k), counted-at n k (m - n) m (omega arith) ∙ (let e : n + (m - n) ≡ m = omega arith in e))
+
+pub section-count : (s : Sections) → length (section_numbers s) ≡ 1 + length s.warehouses
+section-count s = omega (arith, length-counted 1 (length s.warehouses))
+
+-- the section numbers are counted from 0 on
+pub section-at : (s : Sections) (w d : ℕ) → w < length (section_numbers s) → get_or (section_numbers s) w d ≡ w
+section-at s w d below = counted-at 0 (suc (length s.warehouses)) w d (omega (arith, section-count s)) ∙ (let e : 0 + w ≡ w = omega arith in e)
+
+-- the greatest of some numbers
+abbrev most_of : {X : Type 0} → (X → ℕ) → ℕ → List X → ℕ
+most_of f first xs = fold (λ most x. max most (f x)) first xs
+
+most-first : {X : Type 0} (f : X → ℕ) (first : ℕ) (xs : List X) → first ≤ most_of f first xs
+most-first f first [] = omega arith
+most-first f first (x ∷ xs) = omega (arith, most-first f (max first (f x)) xs)
+
+most-each : {X : Type 0} (f : X → ℕ) (first : ℕ) (xs : List X) (i : ℕ) (d : X) → i < length xs → f (get_or xs i d) ≤ most_of f first xs
+most-each f first [] i d below = absurd (omega arith)
+most-each f first (x ∷ xs) zero d below = omega (arith, most-first f (max first (f x)) xs)
+most-each f first (x ∷ xs) (suc i) d below = most-each f (max first (f x)) xs i d (omega arith)
+
+-- there are as many seasons as the section with most parts has
+pub parts-few : (s : Sections) (w : ℕ) → length (parts_of s w) ≤ seasons s
+parts-few s zero = most-each (λ w. length (parts_of s w)) 1 (section_numbers s) 0 0 (omega (arith, section-count s))
+parts-few s (suc w) = of (cases_lt w (length s.warehouses))
+  where
+    number : w < length s.warehouses → get_or (section_numbers s) (suc w) 0 ≡ suc w
+    number below = section-at s (suc w) 0 (omega (arith, section-count s))
+
+    of : (w < length s.warehouses) ⊎ (length s.warehouses ≤ w) → length (parts_of s (suc w)) ≤ seasons s
+    of (inl below) =
+        let each : length (parts_of s (get_or (section_numbers s) (suc w) 0)) ≤ seasons s = most-each (λ w. length (parts_of s w)) 1 (section_numbers s) (suc w) 0 (omega (arith, section-count s)) in
+        omega (arith, ap (λ (v : ℕ). length (parts_of s v)) (number below), each)
+    of (inr past) = omega (arith, ap (λ (parts : List (List Execution)). length parts) (get_or_past s.warehouses w [] past))
+
+-- all parts
+pub parts-taken : (s : Sections) (w z : ℕ) → seasons s ≤ z → take z (parts_of s w) ≡ parts_of s w
+parts-taken s w z late = take_all z (parts_of s w) (omega (arith, parts-few s w))
+
+-- what stands after the last season
+pub at-last : (s : Sections) (w z : ℕ) → seasons s ≤ z → plain s w (end_of s w z) ≡ last_heap s w
+at-last s w z late = at-part-end s w z ∙ ap (heap_after_parts s w 1 (empty_heap s.fields w)) (parts-taken s w z late)
+
+pub at-last-printed : (s : Sections) (w z : ℕ) → seasons s ≤ z → printed_before s w (end_of s w z) ≡ transcript s w
+at-last-printed s w z late = at-part-end-printed s w z ∙ ap (printed_in_parts s w 1 (empty_heap s.fields w)) (parts-taken s w z late)
+
+pub last-end : (s : Sections) (w z : ℕ) → seasons s ≤ z → end_of s w z ≡ length (executed_of s w)
+last-end s w z late = ap (λ (parts : List (List Execution)). length (joined parts)) (parts-taken s w z late)
+
+-- no part ends later
+pub end-most : (s : Sections) (w z : ℕ) → end_of s w z ≤ length (executed_of s w)
+end-most s w z = end-within (parts_of s w) z

@@ -1,5 +1,5 @@
 -- What can be decided of names, objects and references.
-use Rattle.std.proofs.Common.{◌≡◌, ◌⊎◌, inl, inr, ℕ, zero, suc, refl, ap, sym, ◌∙◌, subst, List, [], ◌∷◌}
+use Rattle.std.proofs.Common.{◌≡◌, ◌⊎◌, inl, inr, ℕ, zero, suc, refl, ap, sym, ◌∙◌, subst, List, [], ◌∷◌, arith, map}
 use Rattle.std.specs.Prelude.{Option, Some, None, slice_get, Contains}
 use Rattle.std.proofs.lemmas.Bool.{cases_eq}
 use Rattle.std.proofs.lemmas.Option.{same_Some}
@@ -7,8 +7,86 @@ use Rattle.plain_heap.specs.declared.object.Ref.{Ref}
 use Rattle.plain_heap.specs.declared.object.Ref.TheVariants as refs
 use Rattle.plain_heap.specs.declared.object.Object.{Object}
 use Rattle.plain_heap.specs.PlainHeap.{Heap}
-use Rattle.plain_heap.specs.Paths.{Name, Names, HasObject, IsObject, IsHeld, RefersTo}
-use Rattle.play_end.proofs.Members.{contains-cases, contains-head, contains-tail, nothing-in}
+use Rattle.plain_heap.specs.Paths.{Name, Names, HasObject, IsObject, IsHeld, RefersTo, ComesBefore, IsOrdered}
+
+-- Lists of names in order: one with the same names is the same.
+-- What a list and its images contain.
+pub contains-cases : {X : Type 0} (y : X) (ys : List X) (n : X) → Contains (y ∷ ys) n → (y ≡ n) ⊎ Contains ys n
+contains-cases y ys n (zero, below, e) = inl e
+contains-cases y ys n (suc k, below, e) = inr (k, omega (arith, below), e)
+
+pub contains-tail : {X : Type 0} (y : X) (ys : List X) (n : X) → Contains ys n → Contains (y ∷ ys) n
+contains-tail y ys n (k, below, e) = (suc k, omega (arith, below), e)
+
+pub contains-head : {X : Type 0} (y : X) (ys : List X) (n : X) → y ≡ n → Contains (y ∷ ys) n
+contains-head y ys n e = (0, omega arith, e)
+
+pub nothing-in : {X : Type 0} (n : X) → Contains [] n → ⊥
+nothing-in n (k, below, e) = omega (arith, below)
+
+pub map-from : {X Y : Type 0} (f : X → Y) (xs : List X) (y : Y) → Contains (map f xs) y → (x : X) × Contains xs x × (f x ≡ y)
+map-from {X = X} {Y = Y} f [] y c = absurd (nothing-in y c)
+map-from {X = X} {Y = Y} f (x ∷ xs) y c = of (contains-cases (f x) (map f xs) y c) (map-from f xs y)
+  where
+    of : (f x ≡ y) ⊎ Contains (map f xs) y → (Contains (map f xs) y → (z : X) × Contains xs z × (f z ≡ y)) → (z : X) × Contains (x ∷ xs) z × (f z ≡ y)
+    of (inl e) later = (x, contains-head x xs x refl, e)
+    of (inr c) later = let found = later c in (found.0, contains-tail x xs found.0 found.1, found.2)
+
+pub map-to : {X Y : Type 0} (f : X → Y) (xs : List X) (x : X) → Contains xs x → Contains (map f xs) (f x)
+map-to {X = X} {Y = Y} f [] x c = absurd (nothing-in x c)
+map-to {X = X} {Y = Y} f (z ∷ xs) x c = of (contains-cases z xs x c) (map-to f xs x)
+  where
+    of : (z ≡ x) ⊎ Contains xs x → (Contains xs x → Contains (map f xs) (f x)) → Contains (map f (z ∷ xs)) (f x)
+    of (inl e) later = contains-head (f z) (map f xs) (f x) (ap f e)
+    of (inr c) later = contains-tail (f z) (map f xs) (f x) (later c)
+
+-- a name doesn't come before itself, nor before one that comes before it
+pub never : (a : Name) → ComesBefore a a → ⊥
+never a (inl less) = omega arith
+never a (inr both) = omega (arith, both.1)
+
+not-both : (a b : Name) → ComesBefore a b → ComesBefore b a → ⊥
+not-both a b (inl x) (inl y) = omega arith
+not-both a b (inl x) (inr y) = omega (arith, y.0)
+not-both a b (inr x) (inl y) = omega (arith, x.0)
+not-both a b (inr x) (inr y) = omega (arith, x.1, y.1)
+
+-- a list in order: its first name comes before each other, and the rest is in order
+pub head_first : (y : Name) (ys : List Name) → IsOrdered (y ∷ ys) → (n : Name) → Contains ys n → ComesBefore y n
+head_first y ys ordered n (k, below, e) = subst (λ (m : Name). ComesBefore y m) e (ordered 0 (suc k) n (omega arith) (omega arith))
+
+pub rest_ordered : (y : Name) (ys : List Name) → IsOrdered (y ∷ ys) → IsOrdered ys
+rest_ordered y ys ordered i j d less short = ordered (suc i) (suc j) d (omega arith) (omega arith)
+
+-- two lists in order with the same names are one
+pub same-names : (xs ys : List Name) → IsOrdered xs → IsOrdered ys → ((n : Name) → Contains xs n → Contains ys n) → ((n : Name) → Contains ys n → Contains xs n) → xs ≡ ys
+same-names [] [] o p to from = refl
+same-names [] (y ∷ ys) o p to from = absurd (nothing-in y (from y (contains-head y ys y refl)))
+same-names (x ∷ xs) [] o p to from = absurd (nothing-in x (to x (contains-head x xs x refl)))
+same-names (x ∷ xs) (y ∷ ys) o p to from =
+    ap (λ (n : Name). n ∷ xs) first ∙ ap (λ (l : List Name). y ∷ l) (same-names xs ys (rest_ordered x xs o) (rest_ordered y ys p) later earlier)
+  where
+    first : x ≡ y
+    first = of (contains-cases y ys x (to x (contains-head x xs x refl))) (contains-cases x xs y (from y (contains-head y ys y refl)))
+      where
+        of : (y ≡ x) ⊎ Contains ys x → (x ≡ y) ⊎ Contains xs y → x ≡ y
+        of (inl e) other = sym e
+        of (inr c) (inl e) = e
+        of (inr c) (inr d) = absurd (not-both x y (head_first x xs o y d) (head_first y ys p x c))
+
+    later : (n : Name) → Contains xs n → Contains ys n
+    later n c = of (contains-cases y ys n (to n (contains-tail x xs n c)))
+      where
+        of : (y ≡ n) ⊎ Contains ys n → Contains ys n
+        of (inl e) = absurd (never x (subst (λ (m : Name). ComesBefore x m) (sym (first ∙ e)) (head_first x xs o n c)))
+        of (inr d) = d
+
+    earlier : (n : Name) → Contains ys n → Contains xs n
+    earlier n c = of (contains-cases x xs n (from n (contains-tail y ys n c)))
+      where
+        of : (x ≡ n) ⊎ Contains xs n → Contains xs n
+        of (inl e) = absurd (never y (subst (λ (m : Name). ComesBefore y m) (sym (sym first ∙ e)) (head_first y ys p n c)))
+        of (inr d) = d
 
 -- it holds, or it doesn't
 abbrev pub Decided : Type 0 → Type 0

@@ -8,11 +8,10 @@ use Rattle.plain_heap.specs.PlainHeap.{Heap}
 use Rattle.plain_heap.specs.Sections.{counted}
 use Rattle.plain_heap.specs.PlainRun.{last_heaps}
 use Rattle.plain_heap.specs.Paths.{Name, IsObject, IsHeld, RefersTo, IsReachable, Survivor, name_of, HasValue, AreSurvivors, IsOrdered, own}
-use Rattle.plain_heap.proofs.Counted.{counted-contains}
+use Rattle.plain_heap.proofs.Turns.{counted-contains}
 use Rattle.plain_heap.proofs.Reaching.{of_reachable, reach_on}
 use Rattle.play_end.specs.ReportLaws.{SurvivorsExist}
-use Rattle.play_end.proofs.Deciding.{Decided, both, either, neither, some-of, contained, held, is-object, refers}
-use Rattle.play_end.proofs.Members.{contains-cases, contains-head, contains-tail, nothing-in, map-to}
+use Rattle.play_end.proofs.Deciding.{Decided, both, either, neither, some-of, contained, held, is-object, refers, contains-cases, contains-head, contains-tail, nothing-in, map-to}
 use Rattle.play_end.proofs.Ordered.{AreDistinct, Ordered, order}
 
 -- all objects of some heaps, by their names

@@ -8,10 +8,9 @@ use Rattle.plain_heap.specs.PlainHeap.{Heap}
 use Rattle.plain_heap.specs.Sections.{Sections, section_numbers, executed_of, end_of, IsNext}
 use Rattle.plain_heap.specs.PlainRun.{plain, part_end, catalogue_end, heaps_at}
 use Rattle.plain_heap.specs.Placement.{AreOfTurn, LiesIn, position}
-use Rattle.plain_heap.proofs.Counted.{section-count}
-use Rattle.plain_heap.proofs.OwnReaching.{reached-among}
-use Rattle.plain_heap.proofs.TurnBounds.{next-before}
-use Rattle.plain_heap.proofs.Turns.{at-part-end, at-catalogue-end}
+use Rattle.plain_heap.proofs.Turns.{section-count, at-part-end, at-catalogue-end}
+use Rattle.plain_heap.proofs.Reaching.{reached-among}
+use Rattle.plain_heap.proofs.Steps.{next-before}
 use Rattle.play_report.specs.Order.{done_in, heaps_done}
 use Rattle.play_end.specs.ReportLaws.{CellsAreFree}
 use Rattle.play_end.proofs.SectionLists.{contains_got, map-at, one-of-two, of-first}

@@ -13,8 +13,8 @@ use Rattle.mark_core.specs.declared.kinds.Event.{Event}
 use Rattle.mark_core.specs.declared.kinds.Step.{Step}
 use Rattle.mark_core.specs.declared.kinds.Step.TheVariants.{StoreField, StoreValue, StoreRoot, NextSeason}
 use Rattle.mark_core.specs.declared.seat.SeatState.{SeatState}
-use Rattle.mark_core.proofs.Blocks.BlocksTaken.{Taken}
-use Rattle.mark_core.proofs.Core.{acts}
+use Rattle.mark_core.proofs.Blocks.BlocksStopped.{Taken}
+use Rattle.mark_core.proofs.Known.{acts}
 use Rattle.mark_core.proofs.References.ReferencesRoots.{Used, has-use, seat-formed}
 use Rattle.plain_heap.specs.declared.object.Object.{Object}
 use Rattle.plain_heap.specs.declared.object.Ref.{Ref}

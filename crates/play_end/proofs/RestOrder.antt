@@ -12,8 +12,7 @@ use Rattle.play_end.specs.Alike.{AreAlike}
 use Rattle.play_end.specs.Done.{IsQuiet}
 use Rattle.play_end.proofs.OneEvent.{season_in, Rests}
 use Rattle.play_end.proofs.Orders.{Order, recounted}
-use Rattle.play_end.proofs.SeasonOrder.{come, season-on}
-use Rattle.play_end.proofs.Turned.{ended, ended-grows}
+use Rattle.play_end.proofs.SeasonOrder.{come, season-on, ended, ended-grows}
 use Rattle.play_end.proofs.Standing.{IsPlayed, Stands, still-quiet}
 
 -- an event that changes no plain heap

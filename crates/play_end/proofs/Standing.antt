@@ -10,7 +10,7 @@ use Rattle.plain_heap.specs.Sections.{Sections, section_numbers, executed_of, se
 use Rattle.plain_heap.specs.PlainRun.{plain}
 use Rattle.plain_heap.specs.Paths.{Name, IsReachable}
 use Rattle.plain_heap.specs.Placement.{LiesIn, position}
-use Rattle.plain_heap.proofs.TurnEnds.{last-end}
+use Rattle.plain_heap.proofs.Turns.{last-end}
 use Rattle.play_report.specs.Order.{heaps_done}
 use Rattle.play_end.proofs.SectionLists.{of-section}
 use Rattle.gc_table.specs.declared.view.Meaning.{Meaning}
@@ -20,19 +20,17 @@ use Rattle.gc_table.specs.declared.view.SectionState.{SectionState}
 use Rattle.gc_table.specs.Rule.{Leads}
 use Rattle.gc_table.specs.StandsFor.{heaps_of, name_at}
 use Rattle.gc_table.specs.TableState.{TableState, meanings_of, section_at}
-use Rattle.gc_table.proofs.Stands.StandsNamed.{heap-there}
-use Rattle.gc_table.proofs.Stands.StandsReached.{objects_have_cells}
+use Rattle.gc_table.proofs.Stands.StandsReached.{heap-there, objects_have_cells}
 use Rattle.gc_table.proofs.Stands.StandsStores.{used-exists}
 use Rattle.play_end.specs.Alike.{AreAlike, AreAmong}
 use Rattle.play_end.specs.Done.{IsQuiet, Follow}
 use Rattle.play_end.specs.Ended.{IsStateOf, IsUsed, AreCellsOfPlaces, DidAll}
 use Rattle.play_end.proofs.Alike.{alike-back, alike-then, alike-same, alike-reached}
 use Rattle.play_end.proofs.EndListed.{the_words}
-use Rattle.play_end.proofs.Lying.{lies-place}
+use Rattle.play_end.proofs.SoFar.{lies-place}
 use Rattle.play_end.proofs.OneEvent.{season_in, HasNewCell}
 use Rattle.play_end.proofs.OnTheWay.{Later, later, places-led, same-shape, way-alone, way-there, way-whole}
-use Rattle.play_end.proofs.SeasonOrder.{come, quiet-until}
-use Rattle.play_end.proofs.Turned.{ended}
+use Rattle.play_end.proofs.SeasonOrder.{come, quiet-until, ended}
 
 -- a play that came to this state, in which the sections' objects have these places
 pub record IsPlayed (s : Sections) (f : TableState) (places : List (List ℕ)) : Type 0 where

@@ -19,8 +19,7 @@ use Rattle.play_end.proofs.Alike.{alike-back, alike-then, alike-same, alike-obje
 use Rattle.play_end.proofs.OneEvent.{season_in, Steps}
 use Rattle.play_end.proofs.OnTheWay.{Later, later, same-shape, way-whole}
 use Rattle.play_end.proofs.Orders.{Between, Fits, Order, raise, recounted}
-use Rattle.play_end.proofs.SeasonOrder.{come, new-more, not-new}
-use Rattle.play_end.proofs.Turned.{ended, IsInSeason, in-turn, ended-grows, turn-ended, next-after, next-inside}
+use Rattle.play_end.proofs.SeasonOrder.{come, new-more, not-new, ended, IsInSeason, in-turn, ended-grows, turn-ended, next-after, next-inside}
 use Rattle.play_end.proofs.Standing.{IsPlayed, Stands, still-quiet, free-cell, heaps-among}
 
 -- an event after which one plain step was done

@@ -11,9 +11,9 @@ use Rattle.plain_heap.specs.PlainRun.{plain}
 use Rattle.plain_heap.specs.Paths.{Name, IsObject, IsReachable, AreReachable, AreOwnReachable, own}
 use Rattle.plain_heap.specs.Placement.{position, IsFilled}
 use Rattle.play_words.specs.Bounded.{KeepsFew}
-use Rattle.plain_heap.proofs.Counted.{section-count, section-at}
-use Rattle.plain_heap.proofs.TurnBounds.{plain-section, objects-most}
-use Rattle.plain_heap.proofs.OwnReaching.{IsOnly, reached-beside, reached-alone}
+use Rattle.plain_heap.proofs.Turns.{section-count, section-at}
+use Rattle.plain_heap.proofs.Steps.{plain-section, objects-most}
+use Rattle.plain_heap.proofs.Reaching.{IsOnly, reached-beside, reached-alone}
 use Rattle.plain_heap.proofs.SectionNames.{numbers_of, numbers-contain, numbers-contained, numbers-ordered, sum-most, names-few, rising-few}
 
 -- the heap of a section at these positions, and those of all sections

@@ -1,5 +1,4 @@
 -- Why what is made of a play's end is its final heap.
-pub mod Lists
 pub mod Loops
 pub mod Closing
 pub mod Objects

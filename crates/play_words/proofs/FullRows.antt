@@ -12,7 +12,7 @@ use Rattle.plain_heap.proofs.Found.{Witness, survivors_of, found}
 use Rattle.plain_heap.proofs.Search.{searched}
 use Rattle.gc_script.specs.Script.{script}
 use Rattle.play_report.specs.Text.{IsFullText, named_text, pair_text}
-use Rattle.play_words.proofs.Computed.{sections_in}
+use Rattle.play_words.proofs.LoadRows.{sections_in}
 
 abbrev heaps_of : Sections → List ℕ → List Heap
 heaps_of s done = map (λ w. plain s w (position done w)) (section_numbers s)

@@ -1,23 +1,28 @@
 -- A play of few sections has few survivors, and prints no more lines than it executes commands.
-use Rattle.std.proofs.Common.{◌≡◌, ◌≤◌, ◌<◌, inl, inr, ℕ, zero, suc, ◌+◌, ◌*◌, List, [], ◌∷◌, length, get_or, map, refl, sym, ap, ◌∙◌, arith, length-append, sum_by}
+use Rattle.std.proofs.Common.{◌≡◌, ◌≤◌, ◌<◌, inl, inr, ℕ, zero, suc, ◌+◌, ◌*◌, List, [], ◌∷◌, length, get_or, map, refl, sym, ap, ◌∙◌, arith, length-append, sum_by, ◌++◌, append_assoc, codes}
 use Rattle.std.proofs.lemmas.List.{get_or-map, length-map}
-use Rattle.std.proofs.lemmas.List.Elements.{Contains-get_or}
+use Rattle.std.proofs.lemmas.List.Elements.{Contains-get_or, All-head, All-tail}
 use Rattle.std.proofs.lemmas.List.Folds.{fold-map}
 use Rattle.std.proofs.lemmas.List.Sums.{get_or-le-sum_by, sum_by-le-sum_by}
-use Rattle.std.specs.Prelude.{Option, Some, None, All, slice_get}
+use Rattle.std.specs.Prelude.{Option, Some, None, All, slice_get, Ok}
 use Rattle.plain_heap.specs.declared.operation.Line.{Line}
 use Rattle.plain_heap.specs.PlainHeap.{Heap, empty_heap}
 use Rattle.plain_heap.specs.PlainStep.{heap_after, line_of}
 use Rattle.plain_heap.specs.Sections.{Execution, Sections, parts_of, joined, executed_of, executed_total, section_numbers}
 use Rattle.plain_heap.specs.PlainRun.{Printed, heap_from, ops_of, with_label, printed_from, printed_in_parts, heap_after_parts, seen_catalogue, last_heap, last_heaps, transcript}
-use Rattle.plain_heap.specs.Paths.{Name, IsReachable, IsOrdered, ComesBefore, name_of}
+use Rattle.plain_heap.specs.Paths.{Name, IsReachable, IsOrdered, ComesBefore, name_of, Survivor}
 use Rattle.plain_heap.specs.Placement.{cells_of}
 use Rattle.play_report.specs.Report.{Outcome, outcome_of, survivor_of}
-use Rattle.play_report.specs.Text.{outcome, outcomes, placed_count, printed_count}
+use Rattle.play_report.specs.Text.{outcome, outcomes, placed_count, printed_count, named_text, brief_text, load_text, total_value, IsLoadText}
 use Rattle.play_report.specs.declared.report.Report.{Report}
 use Rattle.play_end.specs.Answers.{IsReport, places_of}
-use Rattle.plain_heap.proofs.Counted.{section-at, section-count}
+use Rattle.plain_heap.proofs.Turns.{section-at, section-count}
 use Rattle.plain_heap.proofs.Steps.{section_from}
+use Rattle.std.specs.List.{fold}
+use Rattle.play_report.specs.Order.{IsPlaced}
+use Rattle.gc_script.specs.Script.{Script}
+use Rattle.command_words.specs.Words.{Options}
+use Rattle.play_words.specs.Loading.{LoadsTo}
 
 labelled : (label : List ℕ) (line : Option Line) (printed : List Printed) → length (with_label label line printed) ≤ length printed + 1
 labelled label None printed = omega arith
@@ -124,3 +129,52 @@ module _ (s : Sections) (cells : ℕ) (r : Report) (report : IsReport s cells r)
       (λ k d l. is_small (get_or names k d) ((report.survivors.reachable.each (get_or names k d)).0 (Contains-get_or names k d l)))
       (λ k d l. omega arith) in
       omega (arith, many, length-map (map survivor_of r.survivors.items) name_of, length-map r.survivors.items survivor_of)
+
+-- A report in five lines.
+sum_same : {X : Type 0} (f g : X → ℕ) (a : ℕ) (xs : List X) → All (λ x. f x ≡ g x) xs → fold (λ a x. a + f x) a xs ≡ fold (λ a x. a + g x) a xs
+sum_same f g a [] h = refl
+sum_same f g a (x ∷ xs) h =
+    ap (λ (n : ℕ). fold (λ b y. b + f y) (a + n) xs) (All-head (λ y. f y ≡ g y) x xs h) ∙ sum_same f g (a + g x) xs (All-tail (λ y. f y ≡ g y) x xs h)
+
+-- each object that was made has its cell
+objects_counted : (s : Sections) (cells : ℕ) (places : List (List ℕ)) → IsPlaced s cells places → sum_by (λ w. length (last_heap s w).objects) (section_numbers s) ≡ placed_count (outcomes s places)
+objects_counted s cells places placed =
+    sym (sum_same (λ w. length (cells_of places w)) (λ w. length (last_heap s w).objects) 0 (section_numbers s) each) ∙ sym (cells_counted s places)
+  where
+    each : All (λ w. length (cells_of places w) ≡ length (last_heap s w).objects) (section_numbers s)
+    each k d inside = placed.each (get_or (section_numbers s) k d) (omega (arith, section-at s k d inside, inside, placed.sections))
+
+-- five pieces, grouped in two ways
+grouped : (a b c d e : List ℕ) → a ++ ((b ++ c) ++ (d ++ e)) ≡ a ++ b ++ c ++ d ++ e
+grouped a b c d e =
+    sym (append_assoc a (b ++ c) (d ++ e))
+    ∙ ap (λ (l : List ℕ). l ++ (d ++ e)) (sym (append_assoc a b c))
+    ∙ sym (append_assoc (a ++ b ++ c) d e)
+
+five_lines : (s : Sections) (cells : ℕ) (places : List (List ℕ)) (survivors : List Survivor) → IsPlaced s cells places
+    → brief_text (executed_total s) (outcomes s places) survivors ≡ load_text s survivors
+five_lines s cells places survivors placed =
+    grouped (named_text (codes "commands ") (executed_total s)) (named_text (codes "objects ") (placed_count (outcomes s places))) (named_text (codes "lines ") (printed_count (outcomes s places)))
+    (named_text (codes "survivors ") (length survivors)) (named_text (codes "total ") (total_value survivors))
+    ∙ ap
+    (λ (n : ℕ). named_text (codes "commands ") (executed_total s) ++ named_text (codes "objects ") n ++ named_text (codes "lines ") (printed_count (outcomes s places))
+    ++ named_text (codes "survivors ") (length survivors) ++ named_text (codes "total ") (total_value survivors)) (sym (objects_counted s cells places placed))
+    ∙ ap
+    (λ (n : ℕ). named_text (codes "commands ") (executed_total s) ++ named_text (codes "objects ") (sum_by (λ w. length (last_heap s w).objects) (section_numbers s)) ++ named_text (codes "lines ") n
+    ++ named_text (codes "survivors ") (length survivors) ++ named_text (codes "total ") (total_value survivors)) (lines_of s places)
+
+-- the five lines of a report are those of its script
+pub load_text_of : (s : Sections) (cells commands : ℕ) (r : Report) → IsReport s cells r → commands ≡ executed_total s
+    → IsLoadText s (brief_text commands (map outcome_of r.parts.items) (map survivor_of r.survivors.items))
+load_text_of s cells commands r report count = record {
+  survivors = map survivor_of r.survivors.items;
+  reached = report.survivors;
+  written = ap (λ (n : ℕ). brief_text n (map outcome_of r.parts.items) (map survivor_of r.survivors.items)) count
+      ∙ ap (λ (os : List Outcome). brief_text (executed_total s) os (map survivor_of r.survivors.items)) report.outcomes
+      ∙ five_lines s cells (places_of r) (map survivor_of r.survivors.items) report.placed;
+}
+
+-- the five lines of a report answer `load`
+pub five_answer : (o : Options) (s : Script) (commands : ℕ) (r : Report) → IsReport s.sections o.cells r → commands ≡ executed_total s.sections
+    → LoadsTo o (Ok s) 0 (brief_text commands (map outcome_of r.parts.items) (map survivor_of r.survivors.items))
+five_answer o s commands r report count = inl (refl, load_text_of s.sections o.cells commands r report count)

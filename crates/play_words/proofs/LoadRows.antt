@@ -1,10 +1,106 @@
 -- Generated scripts that are played, with their five lines.
-use Rattle.std.proofs.Common.{refl, codes, false}
+use Rattle.std.proofs.Common.{refl, codes, false, ◌≡◌, ℕ, List, [], sym, subst, inl, Bool, true, ◌∷◌, arith}
 use Rattle.std.specs.Fmt.{digits}
-use Rattle.play_report.specs.Text.{named_text}
+use Rattle.play_report.specs.Text.{named_text, report_text, outcomes, fault_text, load_text, IsReportText}
 use Rattle.command_words.specs.Words.{Options}
-use Rattle.play_words.specs.Loading.{IsLoadAnswer}
-use Rattle.play_words.proofs.Computed.{loaded}
+use Rattle.play_words.specs.Loading.{IsLoadAnswer, LoadsTo}
+use Rattle.std.specs.Prelude.{Result, Ok, Err, None, MatchBool, slice_index_or}
+use Rattle.plain_heap.specs.Sections.{Sections, Execution, part_of}
+use Rattle.plain_heap.specs.PlainRun.{last_heaps, heaps_at}
+use Rattle.play_report.specs.Order.{IsPlaced}
+use Rattle.plain_heap.proofs.Found.{Witness, are_found, survivors_of, found}
+use Rattle.plain_heap.proofs.Search.{searched}
+use Rattle.gc_script.specs.Faults.{Fault, BadHeader}
+use Rattle.gc_script.specs.Script.{Script, script}
+use Rattle.load_gen.specs.Generated.{generated}
+use Rattle.gc_play.specs.RunAnswers.{IsRunAnswer, RunAnswersTo}
+use Rattle.plain_heap.specs.declared.operation.Op.TheVariants as ops
+use Rattle.play_end.proofs.FreeCells.{cells-free}
+
+-- What shows an answer of `run`.
+abbrev pub sections_in : Result Script Fault → Sections
+sections_in (Ok s) = s.sections
+sections_in (Err fault) = record { fields = 0; catalogue = None; warehouses = [] }
+
+abbrev pub version_in : Result Script Fault → ℕ
+version_in (Ok s) = s.version
+version_in (Err fault) = 0
+
+abbrev pub fault_in : Result Script Fault → Fault
+fault_in (Ok s) = BadHeader
+fault_in (Err fault) = fault
+
+abbrev pub script_in : Result Script Fault → Script
+script_in r = record { version = version_in r; sections = sections_in r }
+
+-- what a search of this many rounds finds at the end of a script
+abbrev pub witnesses : ℕ → List ℕ → List Witness
+witnesses rounds bytes = searched (last_heaps (sections_in (script bytes))) rounds
+
+-- a script is done
+pub done : (o : Options) (rounds : ℕ) (bytes text : List ℕ) → o.place ≡ false → script bytes ≡ Ok (script_in (script bytes))
+    → are_found (last_heaps (sections_in (script bytes))) (witnesses rounds bytes) ≡ true
+    → text ≡ report_text (outcomes (sections_in (script bytes)) []) (survivors_of (witnesses rounds bytes)) false
+    → IsRunAnswer o bytes 0 text
+done o rounds bytes text place ok test written = subst (λ (r : Result Script Fault). RunAnswersTo o r 0 text) (sym ok) (inl (refl, report o.place (sym place)))
+  where
+    s : Sections
+    s = sections_in (script bytes)
+
+    report : (place : Bool) → false ≡ place → IsReportText s o.cells place text
+    report place p = record {
+      survivors = survivors_of (witnesses rounds bytes);
+      reached = found (last_heaps s) (witnesses rounds bytes) test;
+      places = [];
+      placed = subst (λ (b : Bool). MatchBool b (IsPlaced s o.cells []) (Unit {0})) p tt;
+      written = subst (λ (b : Bool). text ≡ report_text (outcomes s []) (survivors_of (witnesses rounds bytes)) b) p written;
+    }
+
+-- a script has a fault
+pub faulty : (o : Options) (bytes text : List ℕ) → script bytes ≡ Err (fault_in (script bytes)) → text ≡ fault_text (fault_in (script bytes)) → IsRunAnswer o bytes 2 text
+faulty o bytes text err written = subst (λ (r : Result Script Fault). RunAnswersTo o r 2 text) (sym err) (refl, written)
+
+-- a script that is made is played to its end
+pub loaded : (o : Options) (rounds number size : ℕ) (text : List ℕ) → script (generated number size) ≡ Ok (script_in (script (generated number size)))
+    → are_found (last_heaps (sections_in (script (generated number size)))) (witnesses rounds (generated number size)) ≡ true
+    → text ≡ load_text (sections_in (script (generated number size))) (survivors_of (witnesses rounds (generated number size)))
+    → IsLoadAnswer o number size 0 text
+loaded o rounds number size text ok test written = subst (λ (r : Result Script Fault). LoadsTo o r 0 text) (sym ok) (inl (
+  refl,
+  record {
+    survivors = survivors_of (witnesses rounds (generated number size));
+    reached = found (last_heaps (sections_in (script (generated number size)))) (witnesses rounds (generated number size)) test;
+    written = written;
+  },
+))
+
+-- Places that are not legal: a new object would take the cell of one that is still reachable.
+abbrev next_of : Sections → ℕ → ℕ → ℕ → Execution
+next_of s w z place = slice_index_or (part_of s w z) place (record { line = 0; label = []; op = ops.Collect })
+
+-- the variable still refers to its old object
+abbrev twice : Sections
+twice = sections_in (script (codes "gcscript 1\nwarehouse\nnew x 1\nnew x 2\n"))
+
+old_counts : IsPlaced twice 64 ([] ∷ (0 ∷ 0 ∷ []) ∷ []) → ⊥
+old_counts p = cells-free twice 64 ([] ∷ (0 ∷ 0 ∷ []) ∷ []) p 1 1 1 (next_of twice 1 1 1) (omega arith) (record { season = omega arith; place = 1; before = refl; there = refl }) tt
+    (record { section = 1; number = 0 }) 0 (((found (heaps_at twice 1 1 1) (searched (heaps_at twice 1 1 1) 2) refl).reachable.each (record { section = 1; number = 0 })).0 (0, omega arith, refl)) refl refl
+
+-- an object of the catalogue that a warehouse holds since the season before
+abbrev held : Sections
+held = sections_in (script (codes "gcscript 3\nfields 1\ncatalogue\nnew a 1\nseason\nnil a\nnew a 2\nwarehouse\ncat k a\n"))
+
+held_counts : IsPlaced held 64 ((0 ∷ 0 ∷ []) ∷ [] ∷ []) → ⊥
+held_counts p = cells-free held 64 ((0 ∷ 0 ∷ []) ∷ [] ∷ []) p 0 2 2 (next_of held 0 2 1) (omega arith) (record { season = omega arith; place = 1; before = refl; there = refl }) tt
+    (record { section = 0; number = 0 }) 0 (((found (heaps_at held 0 2 2) (searched (heaps_at held 0 2 2) 2) refl).reachable.each (record { section = 0; number = 0 })).0 (0, omega arith, refl)) refl refl
+
+-- an object of the catalogue and one of a warehouse, which both live when the warehouse says their values
+abbrev shared : Sections
+shared = sections_in (script (codes "gcscript 1\ncatalogue\nnew item 40\nwarehouse\ncat i item\nnew o 1\nsay a i\nsay b o\nnil o\n"))
+
+shared_counts : IsPlaced shared 64 ((0 ∷ []) ∷ (0 ∷ []) ∷ []) → ⊥
+shared_counts p = cells-free shared 64 ((0 ∷ []) ∷ (0 ∷ []) ∷ []) p 1 1 1 (next_of shared 1 1 1) (omega arith) (record { season = omega arith; place = 1; before = refl; there = refl }) tt
+    (record { section = 0; number = 0 }) 0 (((found (heaps_at shared 1 1 1) (searched (heaps_at shared 1 1 1) 2) refl).reachable.each (record { section = 0; number = 0 })).0 (0, omega arith, refl)) refl refl
 
 abbrev usual : Options
 usual = record { cells = 4096; workers = 4; tracers = 1; packets = 64; entries = 32; place = false }

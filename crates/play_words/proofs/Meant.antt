@@ -1,17 +1,25 @@
 -- What `run` writes is of what the script means.
 use Rattle.std.proofs.Common.{◌≡◌, ℕ, List, [], ◌∷◌, refl, sym, ap, ap₂, ◌∙◌, subst, inl, inr, arith, map}
-use Rattle.std.specs.Prelude.{Option, Some, Result, Ok, Err}
+use Rattle.std.specs.Prelude.{Option, Some, Result, Ok, Err, Bool}
 use Rattle.plain_heap.specs.Sections.{Sections}
 use Rattle.gc_script.specs.Faults.{Fault}
 use Rattle.gc_script.specs.Statement.{statement, header}
 use Rattle.gc_script.specs.Earlier.{catalogue_names}
 use Rattle.gc_script.specs.Meaning.{Means, sections, turned}
 use Rattle.gc_script.specs.Script.{Script, script}
-use Rattle.gc_script.proofs.Meant.{scripts-mean}
+use Rattle.gc_script.proofs.Meaning.{scripts-mean}
 use Rattle.command_words.specs.Words.{Options}
 use Rattle.gc_play.specs.Promise.{FromSource, OfSource, Wrote, WritesSome}
 use Rattle.play_words.specs.Running.{IsRunText, IsRunFull}
 use Rattle.gc_play.specs.RunAnswers.{PlaysTo, RunAnswersTo, IsRunAnswer}
+use Rattle.heap_dump.specs.Spelling.{dump}
+use Rattle.load_gen.specs.Generated.{generated}
+use Rattle.play_report.specs.Text.{IsReportText}
+use Rattle.play_end.proofs.SectionLists.{one-text, one-load-text}
+use Rattle.play_words.proofs.FinalHeap.One.{one-final}
+use Rattle.play_words.specs.Loading.{LoadsTo}
+use Rattle.play_words.specs.Dumping.{EndsDoneOrFull, DumpsTo}
+use Rattle.play_words.specs.Laws.{RunsAlike, DumpsAlike, LoadsAlike}
 
 played : (o : Options) (bytes text : List ℕ) (s : Script) → script bytes ≡ Ok s → PlaysTo o s 0 text → IsRunText o bytes text
 played o bytes text s is (inl a) = record { sections = s.sections; meant = scripts-mean bytes s is; report = a.1 }
@@ -51,3 +59,32 @@ one-meaning bytes s t x y =
     let headers : Some x.version ≡ Some y.version = sym x.headed ∙ ap header firsts ∙ y.headed in
     let versions : x.version ≡ y.version = cc in
     x.sections ∙ ap₂ (λ (v : ℕ) (lines : List (List (List ℕ))). sections v (catalogue_names (map statement lines)) (turned [] (map statement lines))) versions others ∙ sym y.sections
+
+-- Two runs that are done write one text.
+ended-alike : (o p : Options) (s : Script) (a b : List ℕ) → EndsDoneOrFull o s 0 a → EndsDoneOrFull p s 0 b → a ≡ b
+ended-alike o p s a b (inr x) y = absurd (omega (arith, x.0))
+ended-alike o p s a b (inl x) (inr y) = absurd (omega (arith, y.0))
+ended-alike o p s a b (inl x) (inl y) = x.1.written ∙ (ap dump (one-final s.sections x.1.heap y.1.heap x.1.final y.1.final) ∙ sym y.1.written)
+
+dump-alike : (o p : Options) (r : Result Script Fault) (a b : List ℕ) → DumpsTo o r 0 a → DumpsTo p r 0 b → a ≡ b
+dump-alike o p (Err fault) a b x y = absurd (omega (arith, x.0))
+dump-alike o p (Ok s) a b x y = ended-alike o p s a b x y
+
+load-alike : (o p : Options) (r : Result Script Fault) (a b : List ℕ) → LoadsTo o r 0 a → LoadsTo p r 0 b → a ≡ b
+load-alike o p (Err fault) a b x y = absurd x
+load-alike o p (Ok s) a b (inr x) y = absurd (omega (arith, x.0))
+load-alike o p (Ok s) a b (inl x) (inr y) = absurd (omega (arith, y.0))
+load-alike o p (Ok s) a b (inl x) (inl y) = one-load-text s.sections a b x.1 y.1
+
+pub runs-alike : RunsAlike
+runs-alike o p bytes a b f g x y =
+    let same : x.sections ≡ y.sections = one-meaning bytes x.sections y.sections x.meant y.meant in
+    let first : IsReportText y.sections o.cells o.place a = subst (λ (s : Sections). IsReportText s o.cells o.place a) same x.report in
+    one-text y.sections o.cells p.cells a b
+    (subst (λ (place : Bool). IsReportText y.sections o.cells place a) f first) (subst (λ (place : Bool). IsReportText y.sections p.cells place b) g y.report)
+
+pub dumps-alike : DumpsAlike
+dumps-alike o p bytes a b x y = dump-alike o p (script bytes) a b x y
+
+pub loads-alike : LoadsAlike
+loads-alike o p number size a b x y = load-alike o p (script (generated number size)) a b x y

@@ -4,7 +4,7 @@ use Rattle.std.specs.Fmt.{digits}
 use Rattle.play_report.specs.Text.{named_text, printed_text, pair_text, triple_text}
 use Rattle.command_words.specs.Words.{Options}
 use Rattle.gc_play.specs.RunAnswers.{IsRunAnswer}
-use Rattle.play_words.proofs.Computed.{done, faulty}
+use Rattle.play_words.proofs.LoadRows.{done, faulty}
 
 abbrev usual : Options
 usual = record { cells = 65536; workers = 4; tracers = 1; packets = 64; entries = 32; place = false }

@@ -27,6 +27,7 @@ use Rattle.play_words.specs.Undumping.{IsUndumpText}
 use Rattle.play_words.specs.Counting.{IsCensusText}
 use Rattle.play_words.specs.Answers.{IsAnswer}
 use Rattle.play_words.specs.Statuses.{EndsWith, RunsWith, ConvertsWith, BatchesWith, DumpsWith}
+use Rattle.play_words.specs.Following.{AnswersFollow, StatusesFollow}
 
 runs_with : (o : Options) (r : Result Script Fault) (status : ℕ) (text : List ℕ) → RunAnswersTo o r status text → RunsWith r status
 runs_with o (Err fault) status text a = a.0
@@ -162,3 +163,19 @@ refusal_is_schedule (Some (Dump o)) left text (taken, same, a) = absurd (runs_no
 refusal_is_schedule (Some Undump) left text (taken, same, a) = absurd (dumps_not_seven (first_dump_fault taken) (reads_with IsUndumpText taken (first_dump_fault taken) 7 text a))
 refusal_is_schedule (Some Census) left text (taken, same, a) = absurd (dumps_not_seven (first_dump_fault taken) (reads_with IsCensusText taken (first_dump_fault taken) 7 text a))
 refusal_is_schedule (Some (Batch o runners)) left text (taken, same, a) = absurd (batches_not_seven (batch taken) (batches_with o (batch taken) 7 text a))
+
+-- The clauses of all commands together.
+pub answers-follow : AnswersFollow
+answers-follow None left old new status p = p.usage refl
+answers-follow (Some (Run o)) left old new status p = p.run o refl
+answers-follow (Some (Gen number size)) left old new status p = p.gen number size refl
+answers-follow (Some (Load o number size)) left old new status p = p.load o number size refl
+answers-follow (Some Convert) left old new status p = p.convert refl
+answers-follow (Some Schedule) left old new status p = p.schedule refl
+answers-follow (Some (Dump o)) left old new status p = p.dump o refl
+answers-follow (Some Undump) left old new status p = p.undump refl
+answers-follow (Some Census) left old new status p = p.census refl
+answers-follow (Some (Batch o runners)) left old new status p = p.batch o runners refl
+
+pub statuses-follow : StatusesFollow
+statuses-follow asked left old new status p h = let some = (answers-follow asked left old new status p).whole h in ends_with asked left status some.0 some.1

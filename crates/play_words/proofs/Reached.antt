@@ -11,7 +11,7 @@ use Rattle.heap_dump.specs.Spelling.{dump}
 use Rattle.heap_dump.specs.declared.fault.DumpError.{DumpError}
 use Rattle.heap_dump.proofs.ReadBack.{heap_again, no_fault_again}
 use Rattle.dump_census.specs.Surviving.{TellsSurvivors}
-use Rattle.dump_census.proofs.Reached.{survivors_reached}
+use Rattle.dump_census.proofs.Found.{survivors_reached}
 use Rattle.play_words.specs.Final.{IsFinalHeap}
 use Rattle.play_words.proofs.FinalHeap.Referring.{held-there, refers-there}
 use Rattle.command_words.specs.Words.{Options}

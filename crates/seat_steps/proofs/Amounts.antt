@@ -1,15 +1,15 @@
 -- How much a step of a collection pops and draws.
-use Rattle.std.proofs.Common.{ℕ, ◌≡◌, ◌≤◌, ◌+◌, ◌-◌, List, [], ◌∷◌, length, map, refl, ap, ◌∙◌, Bool, true, false, arith}
+use Rattle.std.proofs.Common.{ℕ, ◌≡◌, ◌≤◌, ◌+◌, ◌-◌, List, [], ◌∷◌, length, map, refl, ap, ◌∙◌, Bool, true, false, arith, ◌<◌, subst, sym}
 use Rattle.std.specs.List.{range_with_len}
-use Rattle.std.specs.Prelude.{if◌then◌else◌}
+use Rattle.std.specs.Prelude.{if◌then◌else◌, min}
 use Rattle.std.proofs.lemmas.Bool.{false≢true}
 use Rattle.std.proofs.lemmas.List.{length-append}
 use Rattle.mark_core.specs.declared.kinds.Phase.{Phase}
 use Rattle.mark_core.specs.declared.kinds.Shape.{Shape}
 use Rattle.mark_core.specs.declared.kinds.Step.{Step}
 use Rattle.mark_core.specs.declared.kinds.Step.TheVariants.{AddStat, NextBlock, Pop, ReadCard, Reset, StorePhase}
-use Rattle.gc_table.specs.Log.{event, events}
-use Rattle.gc_table.specs.Running.{Ran}
+use Rattle.gc_table.specs.Log.{event, events, Only}
+use Rattle.gc_table.specs.Running.{Ran, Alone}
 use Rattle.gc_table.specs.declared.view.Entry.{Entry}
 use Rattle.gc_table.specs.declared.view.View.{View}
 use Rattle.packet_pools.specs.Counts.{count_of}
@@ -21,11 +21,11 @@ use Rattle.mutator_ops.proofs.Few.{at-most-events, at-most-join}
 use Rattle.gc_cycle.specs.Answering.{retires}
 use Rattle.gc_cycle.specs.Courses.{TakesCourse, phase_stored}
 use Rattle.gc_cycle.specs.Events.{Sort, never}
-use Rattle.gc_cycle.specs.Finishing.{IsMove}
-use Rattle.gc_cycle.specs.Pieces.{LooksAt, ReadsCount}
+use Rattle.gc_cycle.specs.Finishing.{IsMove, IsPart}
+use Rattle.gc_cycle.specs.Pieces.{LooksAt, ReadsCount, CountsFrom, SeesRootsFrom}
 use Rattle.gc_cycle.specs.Sorts.{draws_block, pops}
 use Rattle.gc_cycle.specs.Statistics.{changing_step}
-use Rattle.gc_cycle.specs.Stepping.{AsksOnce, FindsRunning, FindsStopped}
+use Rattle.gc_cycle.specs.Stepping.{AsksOnce, FindsRunning, FindsStopped, IsAtRoots, IsOwner}
 use Rattle.gc_cycle.specs.declared.card_steps.Look.{Look}
 use Rattle.gc_cycle.specs.declared.card_steps.Look.TheVariants as looks
 use Rattle.gc_cycle.proofs.Sequences.{count-none as count-missing, none-of-steps}
@@ -33,6 +33,18 @@ use Rattle.gc_cycle.proofs.Stops.Admitted.{count-none, count-run}
 use Rattle.seat_turns.specs.Coming.{GivesCache, StepsOut, WithOwn}
 use Rattle.seat_steps.specs.Filling.{PopsNone}
 use Rattle.seat_steps.specs.Amounts.{DrawsNone, DoesFew, DoesNeither}
+use Rattle.std.proofs.Math.Nat.{mul-le-mul_left, mul-le-mul_right}
+use Rattle.mark_core.specs.Layout.{block_count, card_count, root_count}
+use Rattle.mark_core.specs.Shapes.{IsShape}
+use Rattle.mark_core.specs.declared.kinds.Phase.TheVariants.{Drain, Idle}
+use Rattle.gc_table.specs.Seats.{Sits, did, view_of}
+use Rattle.gc_table.specs.declared.seat.Heap.{Heap}
+use Rattle.gc_table.specs.declared.seat.HeapSeat.{HeapSeat}
+use Rattle.card_clean.specs.Drained.{roots_read, sees_roots}
+use Rattle.tracer.specs.StepBounds.{object_steps, recycle_steps, trace_steps, turn_steps}
+use Rattle.gc_cycle.proofs.Changes.{part-unpopped}
+use Rattle.seat_steps.specs.Passes.{SeesRoots}
+use Rattle.seat_steps.proofs.Undrawn.{IsApart, all_apart, alone-apart, course-draws-none, part-draws-none}
 
 -- one, if it is so
 abbrev bit : Bool → ℕ
@@ -149,3 +161,60 @@ all-told blocks k ps ss v w c few all =
     let moved = ap length c.moved in
     let changed = ap length c.changed.all in
     omega (arith, apart, moved, changed, few, all)
+
+-- What a piece of a collection did, and how far a pass comes.
+-- no root is seen to at first
+pub sees-first : (v : View) → IsAtRoots v → SeesRootsFrom 0 v
+sees-first v a = record { roots = a; below = λ i l. absurd (omega (arith, l)) }
+
+-- so many roots are seen to
+pub sees-so :
+    (h : Heap) (x y : HeapSeat) (from n : ℕ) → Sits h x → IsPart Drain (view_of x) (view_of y) → Only sees_roots (view_of x) (view_of y) → picked (roots_read h.shape) (did x y) ≡ range_with_len from n → SeesRoots from n (view_of x) (view_of y)
+sees-so h x y from n sits part only reads =
+    record { part = part; only = only; reads = subst (λ (sh : Shape). picked (roots_read sh) (did x y) ≡ range_with_len from n) (sym sits.1) reads }
+
+-- a drain and a count draw no block
+pub drain-draws-none : (v w : View) → IsPart Drain v w → IsOwner v → Alone Drain v → DrawsNone v w
+drain-draws-none v w p o a = part-draws-none Drain v w p (alone-apart Drain v refl refl o.unhelping a)
+
+pub drain-few : (k : ℕ) (v w : View) → never pops (events v w) ≡ true → IsPart Drain v w → IsOwner v → Alone Drain v → AtMost k v w → DoesFew k v w
+drain-few k v w n p o a few = ((unpopped v w n, drain-draws-none v w p o a), few)
+
+pub count-few : (k from counted : ℕ) (v w : View) → IsPart Idle v w → CountsFrom from counted v → AtMost k v w → DoesFew k v w
+count-few k from counted v w p c few = ((unpopped v w (part-unpopped Idle refl v w p), part-draws-none Idle v w p (alone-apart Idle v refl refl c.owner.unhelping c.alone.alone)), few)
+
+-- nor does what goes on from a held world
+pub course-few : (k : ℕ) (ps : List Phase) (ss : List Step) (v w : View) → all_apart ps ≡ true → TakesCourse ps ss v w → IsApart v → AtMost k v w → DoesFew k v w
+course-few k ps ss v w e c a few = ((unpopped v w c.unpopped, course-draws-none ps ss v w e c a), few)
+
+-- the number of a root has 32 bits
+pub roots-small : (sh : Shape) → IsShape sh → root_count sh ≤ 4294967295
+roots-small sh s =
+    let sections = s.sections.1 in
+    let slots = mul-le-mul_left sh.sections s.slots in
+    omega (arith, sections, slots)
+
+-- nor has that of a card or a block more
+pub cards-small : (sh : Shape) → IsShape sh → card_count sh ≤ 1048576
+cards-small sh s = let cells = s.cells.1 in omega (arith, cells)
+
+pub blocks-small : (sh : Shape) → IsShape sh → block_count sh ≤ 262144
+blocks-small sh s = let cells = s.cells.1 in omega (arith, cells)
+
+-- fewer objects take fewer steps
+pub traced-more : (n most : ℕ) (sh : Shape) → n ≤ most → recycle_steps sh + trace_steps n sh ≤ recycle_steps sh + trace_steps most sh
+traced-more n most sh le = let all = mul-le-mul_right (turn_steps sh + object_steps sh) le in omega (arith, all)
+
+-- a piece that did as many as it was to, or all that were left
+pub as-many : (n most left : ℕ) → n ≡ min most left → n ≡ most → most ≤ left
+as-many n most left e is = omega (arith, e, is)
+
+pub all-left : (n most left : ℕ) → n ≡ min most left → (n ≡ most → ⊥) → (left < most) × (n ≡ left)
+all-left n most left e other = (omega (arith, e, other), omega (arith, e, other))
+
+-- a piece that took fewer stretches than it was to
+pub fewer-of : (drawn n most draws : ℕ) → drawn ≡ n → n ≤ most → (n ≡ most → ⊥) → most ≡ draws → drawn < draws
+fewer-of drawn n most draws a b other d = omega (arith, a, b, other, d)
+
+pub few-of : (n most left : ℕ) → n ≡ min most left → n ≤ most
+few-of n most left e = omega (arith, e)

@@ -2,9 +2,7 @@ mod Amounts
 mod Answered
 mod Counted
 pub mod Few
-mod Kept
 mod LookedAt
-mod Passes
 pub mod Places
 mod ReadFull
 mod Refilled
@@ -16,6 +14,4 @@ mod PaidCounts
 mod Doing
 mod Filled
 pub mod Found
-mod Made
 mod Searched
-mod Tried

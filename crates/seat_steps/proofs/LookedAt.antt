@@ -14,7 +14,7 @@ use Rattle.card_clean.specs.Looking.{looks_clean}
 use Rattle.gc_cycle.specs.Pieces.{LooksAt, ReadsCount}
 use Rattle.gc_cycle.specs.declared.card_steps.Look.TheVariants as looks
 use Rattle.seat_steps.specs.Passes.{FindsPacketLeft, LooksToEnd}
-use Rattle.seat_steps.proofs.Passes.{all-left}
+use Rattle.seat_steps.proofs.Amounts.{all-left}
 
 to_end : (from all n : ℕ) → n ≡ all - from → looks_clean from (from + n) ≡ looks_clean from all
 to_end from all n e = let same : from + n - from ≡ all - from = omega (arith, e) in ap (λ k. map (λ card. event (ReadCard card) 0) (range_with_len from k)) same

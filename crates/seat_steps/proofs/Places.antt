@@ -11,7 +11,7 @@ use Rattle.mark_core.specs.declared.kinds.Shape.{Shape}
 use Rattle.mark_core.specs.declared.seat.SeatState.{SeatState}
 use Rattle.mark_core.specs.declared.kinds.Step.TheVariants.{ReadCount}
 use Rattle.mark_core.proofs.Formed.FormedLearns.{used-exists}
-use Rattle.mark_core.proofs.References.ReferencesNames.{known-used}
+use Rattle.mark_core.proofs.References.ReferencesRoots.{known-used}
 use Rattle.gc_table.specs.Rule.{IsPossible}
 use Rattle.gc_table.specs.Seats.{Sits, view_of}
 use Rattle.gc_table.specs.declared.seat.Heap.{Heap}

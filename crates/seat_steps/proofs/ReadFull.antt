@@ -12,7 +12,7 @@ use Rattle.mark_core.specs.declared.kinds.Shape.{Shape}
 use Rattle.mark_core.specs.declared.kinds.Step.{Step}
 use Rattle.mark_core.specs.declared.kinds.Step.TheVariants.{AddStat, Observe, ReadPhase, ReadStat, Reset, StoreNew, StorePhase}
 use Rattle.mark_core.specs.declared.seat.SeatState.{SeatState}
-use Rattle.mark_core.proofs.Acting.{some_none}
+use Rattle.mark_core.proofs.Known.{some_none}
 use Rattle.mark_core.proofs.Writing.Writes.{at_counter, at_part}
 use Rattle.gc_table.specs.Log.{events}
 use Rattle.gc_table.specs.Notes.{Notes, if_kept, look, noting}

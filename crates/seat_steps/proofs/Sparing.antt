@@ -1,5 +1,5 @@
 -- No plain heap sees a step of a collection.
-use Rattle.std.proofs.Common.{ℕ, ◌≡◌, ap, refl, Bool, true, false}
+use Rattle.std.proofs.Common.{ℕ, ◌≡◌, ap, refl, Bool, true, false, ◌∙◌, subst, sym}
 use Rattle.std.proofs.lemmas.Bool.{false≢true}
 use Rattle.std.specs.Bool.{OnFalse, OnTrue}
 use Rattle.mark_core.specs.declared.kinds.Phase.{Phase}
@@ -13,9 +13,18 @@ use Rattle.gc_cycle.specs.Courses.{goes_on}
 use Rattle.gc_cycle.specs.Finishing.{IsMove, IsPart, stays_in}
 use Rattle.gc_cycle.specs.Sparing.{fills_part}
 use Rattle.gc_cycle.specs.Standing.{KeepsSeat}
-use Rattle.gc_cycle.specs.Stepping.{AsksOnce, FindsRunning, FindsStopped}
+use Rattle.gc_cycle.specs.Stepping.{AsksOnce, FindsRunning, FindsStopped, Keeps, RunsAgain}
 use Rattle.seat_turns.specs.Sharing.{LeavesHeap}
-use Rattle.seat_turns.proofs.Leaving.{leaves-filled}
+use Rattle.seat_turns.proofs.Leaving.{leaves-filled, leaves-join}
+use Rattle.std.specs.Arc.{arc_value}
+use Rattle.gc_table.specs.Seats.{Sits, view_of}
+use Rattle.gc_table.specs.declared.seat.Heap.{Heap}
+use Rattle.gc_table.specs.declared.seat.HeapSeat.{HeapSeat}
+use Rattle.seat_turns.specs.Standing.{Halts, IsMutator, plain_of}
+use Rattle.seat_turns.proofs.Seats.{kept-heap, mutator-kept}
+use Rattle.seat_steps.specs.Collecting.{Collects}
+use Rattle.seat_steps.specs.Stepping.{KeepsAll}
+use Rattle.seat_steps.specs.declared.stepper.Stepper.{Stepper}
 
 goes_fills : (step : Step) → goes_on step ≡ true → fills_part step ≡ true
 goes_fills (StoreField v i w) e = absurd (false≢true e)
@@ -58,3 +67,48 @@ asks-leaves done yours v w r a k = leaves-filled v w r (ap (all_steps fills_part
 pub looks-leaves : (b : Bool) (P Q : Type 0) (v w : View) → Ran v w → OnTrue b (P × FindsStopped v w) → OnFalse b (Q × FindsRunning v w) → KeepsSeat v w → LeavesHeap v w
 looks-leaves true P Q v w r s f k = leaves-filled v w r (ap (all_steps fills_part) s.1.all) k
 looks-leaves false P Q v w r s f k = leaves-filled v w r (ap (all_steps fills_part) f.1.all) k
+
+-- What a call of a collection leaves as it was: its seat is a mutator's still, and no plain heap sees what it did.
+pub record Kept (x y : HeapSeat) : Type 0 where
+  pub mutator : IsMutator (view_of x) → IsMutator (view_of y)
+  pub same : plain_of y ≡ plain_of x
+  pub leaves : LeavesHeap (view_of x) (view_of y)
+
+kept : (x y : HeapSeat) → Keeps (view_of x) (view_of y) → LeavesHeap (view_of x) (view_of y) → Kept x y
+kept x y k l = record { mutator = λ m. mutator-kept (view_of x) (view_of y) m l.ran k.0 k.1; same = kept-heap (view_of x) (view_of y) k.1; leaves = l }
+
+pub part-kept : (p : Phase) (x y : HeapSeat) → IsPart p (view_of x) (view_of y) → Keeps (view_of x) (view_of y) → Kept x y
+part-kept p x y h k = kept x y k (part-leaves p (view_of x) (view_of y) h k.0)
+
+pub move-kept : (from to : Phase) (x y : HeapSeat) → IsMove from to (view_of x) (view_of y) → Keeps (view_of x) (view_of y) → Kept x y
+move-kept from to x y m k = kept x y k (move-leaves from to (view_of x) (view_of y) m k.0)
+
+pub course-kept : (x y : HeapSeat) → Ran (view_of x) (view_of y) → Only goes_on (view_of x) (view_of y) → Keeps (view_of x) (view_of y) → Kept x y
+course-kept x y r o k = kept x y k (course-leaves (view_of x) (view_of y) r o k.0)
+
+pub looks-kept :
+    (b : Bool) (P Q : Type 0) (x y : HeapSeat) → Ran (view_of x) (view_of y) → OnTrue b (P × FindsStopped (view_of x) (view_of y)) → OnFalse b (Q × FindsRunning (view_of x) (view_of y)) → Keeps (view_of x) (view_of y) → Kept x y
+looks-kept b P Q x y r s f k = kept x y k (looks-leaves b P Q (view_of x) (view_of y) r s f k.0)
+
+-- one call after another
+pub kept-join : (x y z : HeapSeat) → Kept x y → Kept y z → Kept x z
+kept-join x y z a b = record { mutator = λ m. b.mutator (a.mutator m); same = b.same ∙ a.same; leaves = leaves-join (view_of x) (view_of y) (view_of z) a.leaves b.leaves }
+
+-- the heap of a collection, as a call has it, and as it is
+pub sits-in : (g h : Heap) (s : HeapSeat) → g ≡ h → Sits h s → Sits g s
+sits-in g h s e sits = subst (λ (i : Heap). Sits i s) (sym e) sits
+
+pub sits-on : (g h : Heap) (s : HeapSeat) → g ≡ h → Sits g s → Sits h s
+sits-on g h s e sits = subst (λ (i : Heap). Sits i s) e sits
+
+-- so a stepper keeps all
+pub keeps-all : (x y : Stepper) → Kept x.seat y.seat → arc_value y.heap ≡ arc_value x.heap → y.name ≡ x.name → KeepsAll x y
+keeps-all x y k world name = record { heap = k.same; leaves = k.leaves; world = world; name_is = name }
+
+-- and its collection goes on
+pub goes-on : {Stands Since : View → Type 0} (g h : Heap) (x y : HeapSeat) → g ≡ h → IsMutator (view_of x) → Kept x y → Sits g y → Stands (view_of y) → Since (view_of y) → Collects Stands Since h y
+goes-on g h x y e m k sits stands since = record { sits = sits-on g h y e sits; mutator = k.mutator m; stands = stands; since = since }
+
+-- or the seat runs again
+pub runs-again : (h : Heap) (x y : HeapSeat) → IsMutator (view_of x) → Kept x y → Sits h y → RunsAgain (view_of y) → Halts h y
+runs-again h x y m k sits r = record { works = record { sits = sits; mutates = r.mutates; mutator = k.mutator m }; cache = r.cache }

@@ -14,7 +14,7 @@ use Rattle.mark_core.specs.declared.kinds.Shape.{Shape}
 use Rattle.mark_core.specs.declared.kinds.Step.{Step}
 use Rattle.mark_core.specs.declared.kinds.Step.TheVariants.{DropStep, JoinHelpStep, LeaveHelpStep, NextBlock, Observe, OpenStep, Pop, RaiseStep, ReadField, ReadPhase, StoreAlloc, StorePhase}
 use Rattle.mark_core.specs.declared.seat.SeatState.{SeatState}
-use Rattle.mark_core.proofs.Acting.{parts_hold, some_none}
+use Rattle.mark_core.proofs.Known.{parts_hold, some_none}
 use Rattle.mark_core.proofs.Notes.NotesKept.{single-word}
 use Rattle.gc_table.specs.Log.{all_steps, events}
 use Rattle.gc_table.specs.Notes.{look}

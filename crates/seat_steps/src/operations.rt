@@ -39,7 +39,7 @@ pub fn makes(heap: &Heap, seat: &mut HeapSeat, cache: Cache, v: u8, value: u32)
 }
 
 /// Reference i of variable v's object becomes what variable w is.
-#[tactic(auto, using(seat_turns::proofs::Operating::operating))]
+#[tactic(auto, using(seat_turns::proofs::Done::operating))]
 pub fn sets(heap: &Heap, seat: &mut HeapSeat, v: u8, i: u8, w: u8)
     requires turn { IsAtTurn heap.now seat.old }
     requires range { (v < section_variables) × (i < heap.now.shape.fields) × (w < section_variables) }
@@ -55,7 +55,7 @@ pub fn sets(heap: &Heap, seat: &mut HeapSeat, v: u8, i: u8, w: u8)
 }
 
 /// Variable w becomes reference i of variable v's object, or nil if v is.
-#[tactic(auto, using(seat_turns::proofs::Operating::operating))]
+#[tactic(auto, using(seat_turns::proofs::Done::operating))]
 pub fn gets(heap: &Heap, seat: &mut HeapSeat, w: u8, v: u8, i: u8)
     requires turn { IsAtTurn heap.now seat.old }
     requires range { (w < section_variables) × (v < section_variables) × (i < heap.now.shape.fields) }
@@ -71,7 +71,7 @@ pub fn gets(heap: &Heap, seat: &mut HeapSeat, w: u8, v: u8, i: u8)
 }
 
 /// Variable w becomes what variable v is.
-#[tactic(auto, using(seat_turns::proofs::Operating::operating))]
+#[tactic(auto, using(seat_turns::proofs::Done::operating))]
 pub fn copies(heap: &Heap, seat: &mut HeapSeat, w: u8, v: u8)
     requires turn { IsAtTurn heap.now seat.old }
     requires range { (w < section_variables) × (v < section_variables) }
@@ -87,7 +87,7 @@ pub fn copies(heap: &Heap, seat: &mut HeapSeat, w: u8, v: u8)
 }
 
 /// Variable v refers to nothing any more.
-#[tactic(auto, using(seat_turns::proofs::Operating::operating))]
+#[tactic(auto, using(seat_turns::proofs::Done::operating))]
 pub fn forgets(heap: &Heap, seat: &mut HeapSeat, v: u8)
     requires turn { IsAtTurn heap.now seat.old }
     requires range { v < section_variables }
@@ -103,7 +103,7 @@ pub fn forgets(heap: &Heap, seat: &mut HeapSeat, v: u8)
 }
 
 /// The value of variable v's object becomes this one.
-#[tactic(auto, using(seat_turns::proofs::Operating::operating))]
+#[tactic(auto, using(seat_turns::proofs::Done::operating))]
 pub fn puts(heap: &Heap, seat: &mut HeapSeat, v: u8, value: u32)
     requires turn { IsAtTurn heap.now seat.old }
     requires range { v < section_variables }

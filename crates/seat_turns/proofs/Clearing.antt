@@ -3,7 +3,7 @@ use Rattle.std.proofs.Common.{ℕ, suc, ◌≡◌, ◌≤◌, ◌<◌, ◌+◌, 
 use Rattle.std.proofs.lemmas.Bool.{and_from, lt-ltb, not_from_false}
 use Rattle.mark_core.specs.declared.kinds.Shape.{Shape}
 use Rattle.mark_core.specs.declared.kinds.Step.TheVariants.{StoreSlot}
-use Rattle.alloc_cache.proofs.Steps.{steps-join}
+use Rattle.alloc_cache.proofs.Cells.{steps-join}
 use Rattle.gc_table.specs.Log.{steps_of}
 use Rattle.gc_table.specs.Taking.{May}
 use Rattle.gc_table.specs.declared.view.View.{View}

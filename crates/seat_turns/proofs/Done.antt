@@ -1,5 +1,5 @@
 -- An operation leaves the mutator at its turn, and is the one of the plain heap.
-use Rattle.std.proofs.Common.{ℕ, ◌≡◌, ◌+◌, [], length, arith, ap, ◌∙◌, refl, sym, false, true, Option, None, Some}
+use Rattle.std.proofs.Common.{ℕ, ◌≡◌, ◌+◌, [], length, arith, ap, ◌∙◌, refl, sym, false, true, Option, None, Some, ◌-◌, ◌∷◌, ◌==◌, List, ◌++◌, map, Bool, ◌&&◌}
 use Rattle.mark_core.specs.Numbers.{section_variables}
 use Rattle.mark_core.specs.declared.kinds.Shape.{Shape}
 use Rattle.mark_core.specs.declared.seat.SeatState.{SeatState}
@@ -22,10 +22,78 @@ use Rattle.mutator_ops.specs.Ready.{IsReady}
 use Rattle.seat_turns.specs.Plain.{Steps, value_in, value_of_some}
 use Rattle.mutator_ops.proofs.Knowing.{variables-count}
 use Rattle.seat_turns.specs.Standing.{IsAtTurn, MayOperate, Plays, plain_of}
-use Rattle.mutator_ops.specs.Sharing.{SharesReady}
+use Rattle.mutator_ops.specs.Sharing.{SharesReady, next_word}
 use Rattle.gc_table.specs.Running.{Ran}
 use Rattle.seat_turns.proofs.Seats.{plays-made, plays-on, plays-turn, turn-plays}
 use Rattle.seat_turns.proofs.Uncatalogued.{after-none, object-none, objects_of, sees-none}
+use Rattle.std.proofs.lemmas.List.{length-map}
+use Rattle.mark_core.specs.Steps.MutatorSteps.{seat_variable as word_in}
+use Rattle.mark_core.specs.declared.kinds.Step.TheVariants.{StoreValue, DirtyCard, StoreNew, StoreRoot}
+use Rattle.gc_table.specs.Log.{Only, events, steps_of, all_steps}
+use Rattle.gc_table.specs.declared.view.Entry.{Entry}
+use Rattle.card_clean.specs.Barrier.{barrier_steps, cell_in}
+use Rattle.mutator_ops.specs.Holding.{held_kind}
+use Rattle.seat_turns.specs.Operating.{TakesSteps}
+use Rattle.seat_turns.specs.Sharing.{spares_tracers}
+use Rattle.std.specs.Prelude.{if◌then◌else◌}
+use Rattle.std.specs.List.{range_with_len}
+use Rattle.std.proofs.lemmas.Bool.{and_from, and_parts}
+use Rattle.mark_core.specs.Cards.{card_of}
+use Rattle.mark_core.specs.Seats.{used_in}
+use Rattle.mark_core.specs.declared.kinds.Step.{Step}
+use Rattle.alloc_cache.specs.Making.{making_steps, nil_fields}
+use Rattle.mutator_ops.specs.Listing.{creating_steps, following_events, saying_steps, storing_steps}
+use Rattle.mutator_ops.specs.declared.objects.Holds.{Holds}
+use Rattle.mutator_ops.specs.declared.objects.Holds.TheVariants.{LentObject, Nothing, OwnObject}
+
+-- The steps of an operation count no part that was played.
+-- each of these steps is of this sort
+abbrev pub each : (Step → Bool) → List Step → Bool
+each P [] = true
+each P (s ∷ ss) = P s && each P ss
+
+all-each : (P : Step → Bool) (es : List Entry) → all_steps P es ≡ each P (steps_of es)
+all-each P [] = refl
+all-each P (e ∷ es) = ap (λ b. P e.step && b) (all-each P es)
+
+each-join : (P : Step → Bool) (xs ys : List Step) → each P xs ≡ true → each P ys ≡ true → each P (xs ++ ys) ≡ true
+each-join P [] ys a b = b
+each-join P (x ∷ xs) ys a b = let r = and_parts (P x) (each P xs) a in and_from (P x) (each P (xs ++ ys)) r.0 (each-join P xs ys r.1 b)
+
+-- by the list of the steps, and by that of the events
+pub only-steps : (P : Step → Bool) (v w : View) (xs : List Step) → steps_of (events v w) ≡ xs → each P xs ≡ true → Only P v w
+only-steps P v w xs e a = all-each P (events v w) ∙ (ap (each P) e ∙ a)
+
+pub only-events : (P : Step → Bool) (v w : View) (es : List Entry) → events v w ≡ es → all_steps P es ≡ true → Only P v w
+only-events P v w es e a = ap (all_steps P) e ∙ a
+
+-- one of two lists
+either : {X : Type 0} (f : X → Bool) (b : Bool) (x y : X) → f x ≡ true → f y ≡ true → f (if b then x else y) ≡ true
+either f true x y p q = p
+either f false x y p q = q
+
+pub storing-spares : (h : Holds) (cell : ℕ) (steps : List Step) → each spares_tracers steps ≡ true → each spares_tracers (storing_steps h cell steps) ≡ true
+storing-spares Nothing cell steps e = refl
+storing-spares OwnObject cell steps e = e
+storing-spares LentObject cell steps e = refl
+
+pub barrier-spares : (s : SeatState) (u i : ℕ) (w : Option ℕ) → each spares_tracers (barrier_steps s u i w) ≡ true
+barrier-spares s u i w = either {X = List Step} (each spares_tracers) (used_in s.cache (cell_in s u)) [] (DirtyCard (card_of (cell_in s u)) ∷ []) refl refl
+
+pub following-spares : (s : SeatState) (u w i found : ℕ) → all_steps spares_tracers (following_events s u w i found) ≡ true
+following-spares s u w i found = either {X = List Entry} (all_steps spares_tracers) (word_in s w == 0) _ _ refl refl
+
+pub saying-spares : (s : SeatState) (u : ℕ) → each spares_tracers (saying_steps s u) ≡ true
+saying-spares s u = either {X = List Step} (each spares_tracers) (word_in s u == 0) _ _ refl refl
+
+fields-spare : (c : ℕ) (ns : List ℕ) → each spares_tracers (map (λ i. StoreNew c i 0) ns) ≡ true
+fields-spare c [] = refl
+fields-spare c (n ∷ ns) = fields-spare c ns
+
+pub creating-spares : (fields : ℕ) (s : SeatState) (u n cell : ℕ) → each spares_tracers (creating_steps fields s u n cell) ≡ true
+creating-spares fields s u n cell =
+    each-join spares_tracers (making_steps fields cell n (next_word s)) (StoreRoot u (cell + 1) ∷ [])
+    (each-join spares_tracers (nil_fields cell fields) (StoreNew cell fields n ∷ StoreNew cell (fields + 1) (next_word s) ∷ []) (fields-spare cell (range_with_len 0 fields)) refl) refl
 
 -- what a mutator that may do an operation has, if objects aren't shared
 pub operates-ready : (v : View) → MayOperate v → v.shape.sharing ≡ false → IsReady v
@@ -118,3 +186,35 @@ value-read x v catalogue line none e =
     ap (λ (o : Option Line). value_said (line_of_some o)) e
     ∙ said (object_of x catalogue (variable x v))
     ∙ ap value_of_some (object-none x catalogue none (variable x v))
+
+-- What a call of `mutator_ops` says, told at the mutator's turn: how its callers know their clauses, where objects aren't shared.
+-- the mutator is at its turn still, and the operation is that one of its plain heap
+pub record Operated (op : Op) (h : Heap) (x y : HeapSeat) : Type 0 where
+  pub turn : IsAtTurn h y
+  pub steps : Steps op (plain_of x) (plain_of y)
+
+pub operated : (op : Op) (d : ℕ) (h : Heap) (x y : HeapSeat) → lends op ≡ false → IsAtTurn h x → h.shape.sharing ≡ false → Sits h y × IsReady (view_of y) → Does op d (view_of x) (view_of y) → Operated op h x y
+operated op d h x y own turn alone ready k =
+    record {
+      turn = turn-does h op d x y turn ready.0 ready.1 k;
+      steps = steps-does op d h x y turn alone own k;
+    }
+
+-- it dismisses no tracers
+pub takes-spares : (op : Op) (v w : View) → TakesSteps op v w → Only spares_tracers v w
+takes-spares (ops.Let u x) v w e = only-steps spares_tracers v w _ e refl
+takes-spares (ops.Nil u) v w e = only-steps spares_tracers v w _ e refl
+takes-spares (ops.Set u i x) v w e =
+    only-steps spares_tracers v w _ e
+    (storing-spares (held_kind (variable v.own.meaning.heap u)) (word_in v.state u - 1) (barrier_steps v.state u i (Some x)) (barrier-spares v.state u i (Some x)))
+takes-spares (ops.Put u n) v w e =
+    only-steps spares_tracers v w _ e (storing-spares (held_kind (variable v.own.meaning.heap u)) (word_in v.state u - 1) (StoreValue u n ∷ []) refl)
+takes-spares (ops.Get u x i) v w e = only-events spares_tracers v w _ e.1 (following-spares v.state u x i e.0)
+takes-spares (ops.Say u) v w e = only-steps spares_tracers v w _ e (saying-spares v.state u)
+takes-spares op v w e = absurd e
+
+-- each event is a step
+pub events-long : (v w : View) → length (events v w) ≡ length (steps_of (events v w))
+events-long v w = sym (length-map (events v w) (λ (x : Entry). x.step))
+
+pub ruleset operating = (events-long)

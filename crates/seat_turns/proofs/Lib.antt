@@ -5,9 +5,7 @@ mod Few
 mod Fulls
 pub mod Leaving
 mod Naming
-pub mod Operating
 pub mod Seats
-mod Taking
 mod Uncatalogued
 mod TurnSteps
 pub mod TracerStanding

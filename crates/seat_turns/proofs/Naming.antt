@@ -11,8 +11,7 @@ use Rattle.mark_core.specs.Steps.MutatorSteps.{seat_variable as word_in}
 use Rattle.mark_core.specs.Seats.{may_mutate}
 use Rattle.mark_core.specs.declared.kinds.Step.TheVariants.{ReadCount}
 use Rattle.mark_core.proofs.Formed.FormedLearns.{used-exists}
-use Rattle.mark_core.proofs.References.ReferencesNames.{known-used}
-use Rattle.mark_core.proofs.References.ReferencesRoots.{Used}
+use Rattle.mark_core.proofs.References.ReferencesRoots.{known-used, Used}
 use Rattle.plain_heap.specs.Paths.{Name, Names}
 use Rattle.plain_heap.specs.PlainHeap.{variable}
 use Rattle.plain_heap.specs.declared.object.Ref.{Ref}

@@ -7,6 +7,4 @@ mod Once
 mod RootRead
 mod Rooted
 mod Rooting
-mod Sectionless
 mod Telling
-mod Threads

@@ -1,5 +1,4 @@
 pub mod Standing
-pub mod Phases
 pub mod Passing
 pub mod Waits
 pub mod Flagged

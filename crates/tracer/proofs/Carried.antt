@@ -12,8 +12,7 @@ use Rattle.packet_pools.specs.declared.held.Held.{Held}
 use Rattle.packet_pools.specs.Hands.{HoldsPacket, free_slots}
 use Rattle.packet_pools.specs.Gains.{Takes}
 use Rattle.packet_pools.specs.Scanning.{Fills}
-use Rattle.packet_pools.proofs.InHand.{drop-set, drop-with, known-held}
-use Rattle.packet_pools.proofs.Exchanged.{drop-either, drop-frees, set-frees, some-free, with-frees}
+use Rattle.packet_pools.proofs.Exchanged.{drop-set, drop-with, known-held, drop-either, drop-frees, set-frees, some-free, with-frees}
 use Rattle.tracer.specs.declared.packets.Packets.{Packets}
 use Rattle.tracer.specs.Hands.{AllFit, AreHeld, Carries, in_front, no_packets, packet_of, packets_of}
 

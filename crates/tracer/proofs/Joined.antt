@@ -15,7 +15,7 @@ use Rattle.packet_pools.proofs.Counting.{count-join, searched-join}
 use Rattle.tracer.specs.Deferral.{waits, pops_waiting, defers}
 use Rattle.tracer.specs.Tally.{pops, count_by, only_traces}
 use Rattle.tracer.specs.Parts.{Did, Part}
-use Rattle.tracer.proofs.Histories.{by-join, none-join, popped-join, traces-join, waits-join}
+use Rattle.tracer.proofs.Whole.{by-join, none-join, popped-join, traces-join, waits-join}
 
 module _ (o q r : Option ℕ) (d e f g l m x y z : ℕ) (u v : View) (xs ys es : List Entry) (all : es ≡ xs ++ ys) (at : v ≡ after_all xs u) (dx : d + e ≡ x) (fy : f + g ≡ y) (lz : l + m ≡ z) where
   pub did-join : Did o q d f l u xs → Did q r e g m v ys → Did o r x y z u es

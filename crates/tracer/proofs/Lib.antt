@@ -1,7 +1,5 @@
-pub mod Histories
 pub mod Few
 pub mod Joined
-pub mod NoDeferral
 pub mod Quiet
 pub mod OneStep
 pub mod Carried

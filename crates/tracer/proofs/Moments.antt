@@ -14,7 +14,7 @@ use Rattle.gc_table.specs.declared.view.View.{View}
 use Rattle.gc_table.specs.Running.{after_all}
 use Rattle.gc_table.specs.Taking.{after}
 use Rattle.packet_pools.specs.Seeking.{moves_packet, no_input, no_output, NoInput, NoOutput, only_moves, input_pools, output_pools}
-use Rattle.packet_pools.proofs.AllMissed.{all-missed-left, no-output-left}
+use Rattle.packet_pools.proofs.Searches.{all-missed-left, no-output-left}
 use Rattle.tracer.specs.Deferral.{defers, waits, waits_on}
 use Rattle.tracer.specs.Moments.{Moment, after_moment, at_some_moment, deferring_after, front, is_spent_slot, without}
 

@@ -18,9 +18,8 @@ use Rattle.gc_table.proofs.History.Log.{entry_of, events-after, events-join}
 use Rattle.packet_pools.proofs.Counting.{quiet, searched-none, searched-one}
 use Rattle.tracer.specs.Deferral.{waits, waits_on}
 use Rattle.tracer.specs.Parts.{Did, Part}
-use Rattle.tracer.proofs.NoDeferral.{AllCalm, IsCalm, and-false, calm-got, calm-off, calm-popped, calm-pops, calm-traces}
+use Rattle.tracer.proofs.Quiet.{AllCalm, IsCalm, and-false, calm-got, calm-off, calm-popped, calm-pops, calm-traces, did-quiet, part-moves}
 use Rattle.tracer.proofs.Joined.{did-join}
-use Rattle.tracer.proofs.Quiet.{did-quiet, part-moves}
 
 -- no step
 pub part-none : (sh : Shape) (o : Option ℕ) (v : View) (es : List Entry) → es ≡ [] → Part sh o o 0 0 0 v es

@@ -27,7 +27,7 @@ use Rattle.packet_pools.specs.Counts.{count_of, CountsMarked, dirties, dirties_a
 use Rattle.packet_pools.specs.Fields.{AsksToMark, cells_asked, picked}
 use Rattle.packet_pools.proofs.Conditions.{may-trace}
 use Rattle.packet_pools.proofs.Counting.{count-join, counts-moves, searched-join}
-use Rattle.packet_pools.proofs.InHand.{known-held}
+use Rattle.packet_pools.proofs.Exchanged.{known-held}
 use Rattle.gc_table.proofs.History.Log.{entry_of}
 use Rattle.packet_pools.proofs.Reading.{asks-moves, fields-next, picked-join}
 use Rattle.packet_pools.proofs.Searches.{some-left}

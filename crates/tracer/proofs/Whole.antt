@@ -1,10 +1,10 @@
 -- A whole trace, from its parts.
-use Rattle.std.proofs.Common.{ℕ, ◌≡◌, ◌+◌, List, [], ◌∷◌, ◌++◌, refl, sym, ap, ◌∙◌, subst, cond, Bool, true, false, Some, None, Option, eq-eqb, append_assoc}
-use Rattle.std.specs.Prelude.{◌==◌, ◌||◌}
+use Rattle.std.proofs.Common.{ℕ, ◌≡◌, ◌+◌, List, [], ◌∷◌, ◌++◌, refl, sym, ap, ◌∙◌, subst, cond, Bool, true, false, Some, None, Option, eq-eqb, append_assoc, arith}
+use Rattle.std.specs.Prelude.{◌==◌, ◌||◌, ◌&&◌}
 use Rattle.std.specs.List.{list_all, list_any, AllPairs}
 use Rattle.std.proofs.Math.Logic.{∥∥₁_elim}
 use Rattle.std.proofs.Props.{props}
-use Rattle.std.proofs.lemmas.Bool.{and_from, and_parts, not_from_false, or_left, or_parts, or_right, false≢true}
+use Rattle.std.proofs.lemmas.Bool.{and_from, and_parts, not_from_false, or_left, or_parts, or_right, false≢true, or_from}
 use Rattle.mark_core.specs.Effects.{seat_after}
 use Rattle.mark_core.specs.Held.{Slots}
 use Rattle.mark_core.specs.WellFormed.{IsApart}
@@ -23,21 +23,41 @@ use Rattle.packet_pools.specs.Keeping.{all_keep, keeps_cells}
 use Rattle.packet_pools.specs.OnlyTraced.{OnlyTraced}
 use Rattle.gc_table.specs.Log.{events}
 use Rattle.packet_pools.specs.Tracing.{Traces}
-use Rattle.packet_pools.specs.Seeking.{NoInput, input_pools, only_moves}
+use Rattle.packet_pools.specs.Seeking.{NoInput, input_pools, only_moves, some_event}
 use Rattle.packet_pools.specs.Counts.{count_of, dirties, dirties_after_search}
 use Rattle.gc_table.proofs.History.Log.{events-join, grows-join}
 use Rattle.gc_table.proofs.Running.{after-join}
 use Rattle.tracer.specs.declared.packets.Packets.{Packets}
 use Rattle.tracer.specs.Hands.{Carries, in_front, HasNoCell, IsIdle, KeepsRecord, no_packets, packet_of, packets_of}
-use Rattle.tracer.specs.Deferral.{Defers, waits}
+use Rattle.tracer.specs.Deferral.{Defers, waits, waits_on, pops_from, pops_waiting}
 use Rattle.tracer.specs.Tally.{count_by, only_traces, spills, Tally, is_trace_step}
 use Rattle.tracer.specs.Causes.{FoundNoWork}
 use Rattle.tracer.specs.Moments.{Moment, at_some_moment, begins, finds_no_work, is_spent_slot}
 use Rattle.tracer.specs.Parts.{SearchedInVain, Part}
 use Rattle.tracer.proofs.Carried.{AllAre, held-is}
 use Rattle.tracer.proofs.Hand.{free-of, none-of}
-use Rattle.tracer.proofs.Histories.{waits-join}
 use Rattle.tracer.proofs.Moments.{all-spent, at-moment, input-front, moment-after, moment-state, moment-waits}
+
+-- What the events of a trace say, as more events come.
+pub waits-join : (p : ℕ) (xs ys : List Entry) (v : View) (b : Bool) → waits p v (xs ++ ys) b ≡ waits p (after_all xs v) ys (waits p v xs b)
+waits-join p [] ys v b = refl
+waits-join p (x ∷ xs) ys v b = waits-join p xs ys (after x.step x.found v) (waits_on p v.state x.step b)
+
+pub popped-join : (p : ℕ) (xs ys : List Entry) (v : View) (b : Bool) → pops_waiting p v xs b ≡ false → pops_waiting p (after_all xs v) ys (waits p v xs b) ≡ false → pops_waiting p v (xs ++ ys) b ≡ false
+popped-join p [] ys v b f g = g
+popped-join p (x ∷ xs) ys v b f g = let h = or_parts (b && pops_from p x.step) (pops_waiting p (after x.step x.found v) xs (waits_on p v.state x.step b)) f in or_from _ _ h.0 (popped-join p xs ys (after x.step x.found v) (waits_on p v.state x.step b) h.1 g)
+
+pub none-join : (f : Step → ℕ → Bool) (xs ys : List Entry) → some_event f xs ≡ false → some_event f ys ≡ false → some_event f (xs ++ ys) ≡ false
+none-join f [] ys a b = b
+none-join f (x ∷ xs) ys a b = let h = or_parts (f x.step x.found) (some_event f xs) a in or_from _ _ h.0 (none-join f xs ys h.1 b)
+
+pub by-join : (f : SeatState → Step → Bool) (xs ys : List Entry) (v : View) → count_by f v (xs ++ ys) ≡ count_by f v xs + count_by f (after_all xs v) ys
+by-join f [] ys v = omega arith
+by-join f (x ∷ xs) ys v = let e = by-join f xs ys (after x.step x.found v) in omega (arith, e)
+
+pub traces-join : (xs ys : List Entry) → only_traces xs ≡ true → only_traces ys ≡ true → only_traces (xs ++ ys) ≡ true
+traces-join [] ys a b = b
+traces-join (x ∷ xs) ys a b = let h = and_parts (is_trace_step x.step) (only_traces xs) a in and_from _ _ h.0 (traces-join xs ys h.1 b)
 
 -- a card is dirtied only for a cell in hand
 spill-one : (s : SeatState) (step : Step) (n : ℕ) → keeps_cells s step ≡ true → spills s step ≡ dirties step n

@@ -20,9 +20,7 @@ use Rattle.mark_core.specs.Layout.{card_count}
 use Rattle.mark_core.specs.declared.kinds.Phase.TheVariants.{Marking}
 use Rattle.gc_cycle.specs.Sparing.{fills_part, spares_part}
 use Rattle.cache_refills.specs.Stops.{claim_failed, marking_done, may_stop, no_block, stops_with_cause, stops_without_cause}
-use Rattle.warehouse.proofs.Counting.{fills-seasons, fills-stores, fills-uncounted, spares-fills}
-use Rattle.warehouse.proofs.Seen.{some-count}
-use Rattle.warehouse.proofs.Storing.{stored-none, stores_none, writes-none}
+use Rattle.warehouse.proofs.Counting.{fills-seasons, fills-stores, fills-uncounted, spares-fills, some-count, stored-none, stores_none, writes-none}
 
 append_none : {X : Type 0} (xs : List X) → xs ≡ xs ++ []
 append_none [] = refl

@@ -25,13 +25,12 @@ use Rattle.warehouse.specs.Commands.{IsAtCommand, IsNextOf, StopsBefore}
 use Rattle.cache_refills.specs.PartEvents.{polled_last}
 use Rattle.warehouse.specs.Playing.{Acts, FindsFull, GetsReady, HasFree, HasRoomForCommands, ObjectsHaveCells, MayPass, Stays, DoesNothing, collects_by, player_of}
 use Rattle.warehouse.specs.declared.mutator.Mutator.{Mutator}
-use Rattle.warehouse.proofs.Acting.{acts-join}
+use Rattle.warehouse.proofs.Leavings.{acts-join, within-still}
 use Rattle.warehouse.proofs.Commanding.{stays-of}
 use Rattle.warehouse.proofs.Fulls.{counted-kept}
-use Rattle.warehouse.proofs.Leaving.{within-still}
 use Rattle.warehouse.proofs.Readying.{polled-right}
 use Rattle.mark_core.specs.declared.kinds.Shape.{Shape}
-use Rattle.warehouse.proofs.Sparings.{stays-join}
+use Rattle.warehouse.proofs.InTheStop.{stays-join}
 
 -- the season word of a section's turn
 pub own-turn : (w z : ℕ) (o : Option ℕ) → 0 < z → o ≡ Some w → has_turn o (Some (turn_word w z)) ≡ true

@@ -1,21 +1,124 @@
 -- Which steps count no part that was played, and move no season on.
-use Rattle.std.proofs.Common.{ℕ, ◌≡◌, ◌==◌, List, refl, Bool, true, false, not}
-use Rattle.std.proofs.lemmas.Bool.{and_left, false≢true, not-true}
+use Rattle.std.proofs.Common.{ℕ, ◌≡◌, ◌==◌, List, refl, Bool, true, false, not, ◌+◌, ◌≤◌, ◌&&◌, ◌||◌, [], ◌∷◌, ◌++◌, ap, ◌∙◌, if◌then◌else◌, arith, sym, Some, Option, eq-eqb}
+use Rattle.std.proofs.lemmas.Bool.{and_left, false≢true, not-true, and_parts, or_from, or_left, or_parts, or_right, and_from}
 use Rattle.mark_core.specs.declared.kinds.Step.{Step}
 use Rattle.mark_core.specs.declared.kinds.Step.TheVariants.{AddStat, NextSeason, StoreField, StoreValue, StoreRoot, StoreNew, StorePhase, ExchangeField, ExchangeValue, StoreSlot}
-use Rattle.gc_table.specs.Log.{Only, all_steps}
-use Rattle.gc_table.specs.Running.{Ran}
+use Rattle.gc_table.specs.Log.{Only, all_steps, events}
+use Rattle.gc_table.specs.Running.{Ran, after_all}
 use Rattle.gc_table.specs.Taking.{after}
 use Rattle.gc_table.specs.declared.view.Entry.{Entry}
 use Rattle.gc_table.specs.declared.view.View.{View}
-use Rattle.gc_table.proofs.Running.{run-keeps}
-use Rattle.gc_cycle.specs.Events.{never}
+use Rattle.gc_table.proofs.Running.{run-keeps, ran-events}
+use Rattle.gc_cycle.specs.Events.{never, Sort, last_is}
 use Rattle.warehouse.specs.Playing.{counts_part}
 use Rattle.mark_core.specs.Numbers.{done_count}
 use Rattle.gc_cycle.specs.Sparing.{fills_part, spares_part}
-use Rattle.warehouse.proofs.Seen.{never-of}
-use Rattle.warehouse.proofs.Storing.{stores_none}
-use Rattle.warehouse.proofs.Turning.{is_of_command}
+use Rattle.warehouse.proofs.Turning.{is_of_command, season-step}
+use Rattle.packet_pools.specs.Counts.{count_of}
+use Rattle.packet_pools.specs.Seeking.{some_event}
+use Rattle.packet_pools.proofs.Searches.{some-right}
+use Rattle.mark_core.specs.Seats.{is_the}
+use Rattle.warehouse.specs.Storing.{stores_in, writes}
+
+-- In which season a call stored what it stored.
+-- the step stores or exchanges no object, no variable and no new cell
+abbrev pub stores_none : Step → Bool
+stores_none (StoreField v i w) = false
+stores_none (StoreValue v n) = false
+stores_none (StoreRoot v r) = false
+stores_none (ExchangeField v i x y) = false
+stores_none (ExchangeValue v m n) = false
+stores_none (StoreSlot k r) = false
+stores_none (StoreNew c part word) = false
+stores_none step = true
+
+pub writes-none : (step : Step) (n : ℕ) → stores_none step ≡ true → writes step n ≡ false
+writes-none (StoreField v i w) n b = absurd (false≢true b)
+writes-none (StoreValue v m) n b = absurd (false≢true b)
+writes-none (StoreRoot v r) n b = absurd (false≢true b)
+writes-none (ExchangeField v i x y) n b = absurd (false≢true b)
+writes-none (ExchangeValue v m k) n b = absurd (false≢true b)
+writes-none (StoreSlot k r) n b = absurd (false≢true b)
+writes-none (StoreNew c part word) n b = absurd (false≢true b)
+writes-none step n b = refl
+
+stored_both : (season : ℕ) (xs ys : List Entry) (v : View) → stores_in season v xs ≡ true → stores_in season (after_all xs v) ys ≡ true → stores_in season v (xs ++ ys) ≡ true
+stored_both season [] ys v a b = b
+stored_both season (e ∷ es) ys v a b =
+    let here : Bool = not (writes e.step e.found) || is_the v.state.season_seen season in
+    let p = and_parts here (stores_in season (after e.step e.found v) es) a in
+    and_from here (stores_in season (after e.step e.found v) (es ++ ys)) p.0 (stored_both season es ys (after e.step e.found v) p.1 b)
+
+pub stored-join : (season : ℕ) (u v w : View) → Ran u v → Ran v w → stores_in season u (events u v) ≡ true → stores_in season v (events v w) ≡ true → stores_in season u (events u w) ≡ true
+stored-join season u v w r s a b =
+    ap (stores_in season u) (ran-events u v w r s) ∙ stored_both season (events u v) (events v w) u a (ap (λ (x : View). stores_in season x (events v w)) (sym r.steps) ∙ b)
+
+pub stored-none : (season : ℕ) (es : List Entry) (v : View) → all_steps stores_none es ≡ true → stores_in season v es ≡ true
+stored-none season [] v b = refl
+stored-none season (e ∷ es) v b =
+    let p = and_parts (stores_none e.step) (all_steps stores_none es) b in
+    ap (λ r. (not r || is_the v.state.season_seen season) && stores_in season (after e.step e.found v) es) (writes-none e.step e.found p.0) ∙ stored-none season es (after e.step e.found v) p.1
+
+-- a command leaves the season that its seat has read
+pub stored-turn : (season : ℕ) (es : List Entry) (v : View) → all_steps is_of_command es ≡ true → v.state.season_seen ≡ Some season → stores_in season v es ≡ true
+stored-turn season [] v b s = refl
+stored-turn season (e ∷ es) v b s =
+    let p = and_parts (is_of_command e.step) (all_steps is_of_command es) b in
+    let next : View = after e.step e.found v in
+    and_from (not (writes e.step e.found) || is_the v.state.season_seen season) (stores_in season next es)
+    (or_right (not (writes e.step e.found)) (is_the v.state.season_seen season) (ap (λ (o : Option ℕ). is_the o season) s ∙ same season))
+    (stored-turn season es next p.1 (season-step v e.step e.found p.0 ∙ s))
+  where
+    same : (m : ℕ) → (m == m) ≡ true
+    same m = eq-eqb m m refl
+
+-- Tests over events: of lists one after another, and by the steps only.
+-- steps of this sort make no such event
+pub none-of : (P : Step → Bool) (f : Sort) → ((step : Step) (n : ℕ) → P step ≡ true → f step n ≡ false) → (es : List Entry) → all_steps P es ≡ true → some_event f es ≡ false
+none-of P f h [] b = refl
+none-of P f h (e ∷ es) b = let p = and_parts (P e.step) (all_steps P es) b in or_from (f e.step e.found) (some_event f es) (h e.step e.found p.0) (none-of P f h es p.1)
+
+pub never-of : (P : Step → Bool) (f : Sort) → ((step : Step) (n : ℕ) → P step ≡ true → f step n ≡ false) → (es : List Entry) → all_steps P es ≡ true → never f es ≡ true
+never-of P f h es b = ap not (none-of P f h es b)
+
+none_both : (f : Sort) (xs ys : List Entry) → some_event f xs ≡ false → some_event f ys ≡ false → some_event f (xs ++ ys) ≡ false
+none_both f [] ys a b = b
+none_both f (x ∷ xs) ys a b = let p = or_parts (f x.step x.found) (some_event f xs) a in or_from (f x.step x.found) (some_event f (xs ++ ys)) p.0 (none_both f xs ys p.1 b)
+
+pub never-join : (f : Sort) (u v w : View) → Ran u v → Ran v w → never f (events u v) ≡ true → never f (events v w) ≡ true → never f (events u w) ≡ true
+never-join f u v w r s a b =
+    ap not (ap (some_event f) (ran-events u v w r s) ∙ none_both f (events u v) (events v w) (not-true (some_event f (events u v)) a) (not-true (some_event f (events v w)) b))
+
+pub none-count : (f : Sort) (es : List Entry) → some_event f es ≡ false → count_of f es ≡ 0
+none-count f [] a = refl
+none-count f (e ∷ es) a =
+    let p = or_parts (f e.step e.found) (some_event f es) a in
+    ap (λ b. (if b then 1 else 0) + count_of f es) p.0 ∙ plus (count_of f es) (none-count f es p.1)
+  where
+    plus : (m : ℕ) → m ≡ 0 → 0 + m ≡ 0
+    plus m e = omega (arith, e)
+
+pub some-count : (f : Sort) (es : List Entry) → some_event f es ≡ true → 1 ≤ count_of f es
+some-count f [] a = absurd (false≢true a)
+some-count f (e ∷ es) a = by (f e.step e.found) (some_event f es) (count_of f es) (some-count f es) a
+  where
+    by : (b c : Bool) (m : ℕ) → (c ≡ true → 1 ≤ m) → (b || c) ≡ true → 1 ≤ (if b then 1 else 0) + m
+    by true c m later h = omega arith
+    by false c m later h = let r : 1 ≤ m = later h in omega (arith, r)
+
+-- the last event of a sort is among the later ones, if there is one
+pub last-right : (f g : Sort) (xs ys : List Entry) → some_event f ys ≡ true → last_is f g (xs ++ ys) ≡ last_is f g ys
+last-right f g [] ys h = refl
+last-right f g (x ∷ xs) ys h =
+    ap (λ b. if b then last_is f g (xs ++ ys) else f x.step x.found && g x.step x.found) (some-right f xs ys h) ∙ last-right f g xs ys h
+
+pub last-some : (f g : Sort) (ys : List Entry) → last_is f g ys ≡ true → some_event f ys ≡ true
+last-some f g [] h = absurd (false≢true h)
+last-some f g (y ∷ ys) h = by (some_event f ys) h
+  where
+    by : (b : Bool) → (if b then last_is f g ys else f y.step y.found && g y.step y.found) ≡ true → (f y.step y.found || b) ≡ true
+    by true k = or_right (f y.step y.found) true refl
+    by false k = or_left (f y.step y.found) false (and_parts (f y.step y.found) (g y.step y.found) k).0
 
 fills_none : (step : Step) (n : ℕ) → fills_part step ≡ true → counts_part step n ≡ false
 fills_none (AddStat which by down) n b = and_left (which == done_count) (not down) (not-true (which == done_count) b)

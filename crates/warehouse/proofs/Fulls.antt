@@ -14,7 +14,7 @@ use Rattle.warehouse.specs.Playing.{FindsFull, ObjectsHaveCells, Stays, DoesNoth
 use Rattle.gc_cycle.specs.Polling.{saw_full}
 use Rattle.gc_cycle.specs.Sorts.{reads_phase}
 use Rattle.gc_cycle.specs.Standing.{KeepsSeat, KeepsSection}
-use Rattle.warehouse.proofs.Acting.{waits-join, waits-ran}
+use Rattle.warehouse.proofs.Leavings.{waits-join, waits-ran}
 
 -- a call before it makes no difference
 pub ends-before : (done : ℕ) (u v w : View) → Ran u v → Ran v w → EndsFull done v w → EndsFull done u w

@@ -29,9 +29,8 @@ use Rattle.warehouse.specs.Playing.{Acts, collects_by}
 use Rattle.gc_cycle.specs.Sorts.{stores_new, raises_flag}
 use Rattle.gc_cycle.specs.Standing.{Mutates, is_at_rest}
 use Rattle.cache_refills.specs.Stops.{may_stop, stops_without_cause}
-use Rattle.warehouse.proofs.Counting.{command-seasons, command-uncounted}
+use Rattle.warehouse.proofs.Counting.{command-seasons, command-uncounted, stored-turn}
 use Rattle.warehouse.proofs.Pacing.{paces-command}
-use Rattle.warehouse.proofs.Storing.{stored-turn}
 use Rattle.warehouse.proofs.Turning.{is_of_command, of-command}
 
 -- the seat is a mutator as before, with the same cache

@@ -3,16 +3,16 @@ use Rattle.std.proofs.Common.{ℕ, ◌≡◌, List, [], ◌∷◌, refl, ap, ◌
 use Rattle.std.proofs.lemmas.Bool.{false≢true}
 use Rattle.mark_core.specs.Numbers.{done_count}
 use Rattle.mark_core.specs.declared.kinds.Step.{Step}
-use Rattle.mark_core.specs.declared.kinds.Step.TheVariants.{AddStat, Reset, StorePhase}
+use Rattle.mark_core.specs.declared.kinds.Step.TheVariants.{AddStat, Reset, StorePhase, DropStep, LeaveStep, NextSeason, RaiseStep, ReadPhase}
 use Rattle.mark_core.specs.declared.seat.SeatState.{SeatState}
 use Rattle.gc_table.specs.Log.{Only, event, events}
 use Rattle.gc_table.specs.Running.{Ran}
-use Rattle.gc_table.specs.Seats.{Took}
+use Rattle.gc_table.specs.Seats.{Took, Found}
 use Rattle.gc_table.specs.Taking.{after}
 use Rattle.gc_table.specs.declared.view.Entry.{Entry}
 use Rattle.gc_table.specs.declared.view.View.{View}
 use Rattle.gc_table.proofs.History.Log.{events-after, events-none, only-more}
-use Rattle.gc_table.proofs.Running.{ran-join}
+use Rattle.gc_table.proofs.Running.{ran-join, ran-found, ran-took}
 use Rattle.packet_pools.specs.Seeking.{some_event}
 use Rattle.alloc_cache.specs.declared.cache.Cache.{Cache}
 use Rattle.gc_cycle.specs.Answering.{HasCache, retires}
@@ -23,14 +23,14 @@ use Rattle.gc_cycle.specs.OneCycle.{EndsCycle}
 use Rattle.gc_cycle.specs.declared.counts.Counts.{Counts}
 use Rattle.gc_cycle.specs.Statistics.{BetweenCycles, ChangesBy, ChangesNumbers, GivesUp, RefillsNumbers, leaves_numbers}
 use Rattle.gc_cycle.specs.declared.counts.Refill.{Refill}
-use Rattle.gc_cycle.proofs.Changes.{by-join, by-none, changes-after, numbers-after, numbers-join, numbers-one, only-changes}
-use Rattle.gc_cycle.proofs.Courses.{add-changes}
+use Rattle.gc_cycle.proofs.Changes.{by-join, by-none, changes-after, numbers-after, numbers-join, numbers-one, only-changes, add-changes}
 use Rattle.gc_cycle.proofs.Unbegun.{calm-unbegun}
 use Rattle.cache_refills.specs.Getting.{RefillsTo}
 use Rattle.cache_refills.specs.Pace.Pacing.{begins_where_due}
 use Rattle.warehouse.specs.Pacing.{Changes, EndsCyclesAlone, LeavesPace, Paces, PacesBetween, by_collection, by_counting, by_refill, by_retiring, by_safe_point}
-use Rattle.warehouse.proofs.Seen.{never-join, never-of}
+use Rattle.warehouse.proofs.Counting.{never-join, never-of}
 use Rattle.warehouse.proofs.Turning.{is_of_command}
+use Rattle.stop_world.specs.Waiting.{watches}
 
 untried : (v : View) → never tries_marking (events v v) ≡ true
 untried v = ap (λ (es : List Entry). never tries_marking es) (events-none v)
@@ -150,3 +150,34 @@ ends-calm v w ran calm only = ends-none v w ran only (calm-unbegun v w calm)
 -- a cycle ends
 pub ends-cycle : {counts : Counts} (v w : View) → EndsCycle counts v w → EndsCyclesAlone v w
 ends-cycle v w e = record { numbers = numbers-after [] v w w e (numbers-one [] w w (by-none w)); unbegun = e.unbegun }
+
+-- Between two turns the numbers that pace a cycle are changed only by the end of a cycle.
+watches_numbers : (step : Step) → watches step ≡ true → leaves_numbers step ≡ true
+watches_numbers (AddStat which by down) e = absurd (false≢true e)
+watches_numbers (Reset which) e = absurd (false≢true e)
+watches_numbers step e = refl
+
+watches_untried : (step : Step) (n : ℕ) → watches step ≡ true → tries_marking step n ≡ false
+watches_untried (StorePhase to) n e = absurd (false≢true e)
+watches_untried step n e = refl
+
+-- the seat waits until the world is stopped
+pub watched-paces : (v w : View) → Ran v w → Only watches v w → EndsCyclesAlone v w
+watched-paces v w ran only = ends-none v w ran (only-more watches leaves_numbers watches_numbers v w only) (never-of watches tries_marking watches_untried (events v w) only)
+
+-- the seat raised the flag, or tried to, and did something else
+pub asked-paces : (n : ℕ) (v w : View) → Found RaiseStep n v w → (u x : View) → EndsCyclesAlone u v → EndsCyclesAlone w x → EndsCyclesAlone u x
+asked-paces n v w found u x before after = ends-both u v x before (ends-both v w x (ends-step RaiseStep n v w refl refl (ran-found v w RaiseStep n refl found) found.0) after)
+
+-- the phase was read
+pub read-paces : (n : ℕ) (v w : View) → Found ReadPhase n v w → EndsCyclesAlone v w
+read-paces n v w found = ends-step ReadPhase n v w refl refl (ran-found v w ReadPhase n refl found) found.0
+
+-- the season moved on
+pub turned-paces : (v w : View) → Took NextSeason v w → EndsCyclesAlone v w
+turned-paces v w took = ends-step NextSeason took.0 v w refl refl (ran-took v w NextSeason refl took) took.1.0
+
+-- the seat resumed the world, and left
+pub left-paces : (v w x : View) → Took DropStep v w → Took LeaveStep w x → EndsCyclesAlone v x
+left-paces v w x drop leave =
+    ends-both v w x (ends-step DropStep drop.0 v w refl refl (ran-took v w DropStep refl drop) drop.1.0) (ends-step LeaveStep leave.0 w x refl refl (ran-took w x LeaveStep refl leave) leave.1.0)

@@ -23,9 +23,8 @@ use Rattle.play_end.specs.Done.{HasSaid, IsStill, turn_word}
 use Rattle.play_end.specs.Parts.{IsAfterParts, Player, PlaysPart, SaysSame, StaysOf}
 use Rattle.play_end.specs.declared.played.Played.{Played}
 use Rattle.play_end.specs.declared.played.Played.TheVariants as plays
-use Rattle.play_end.proofs.Saying.{said-still}
+use Rattle.play_end.proofs.Within.{said-still, left-full, left-none}
 use Rattle.play_end.proofs.Doing.{done-still}
-use Rattle.play_end.proofs.Within.{left-full, left-none}
 use Rattle.warehouse.specs.Commands.{CountsPart, MayPlayPart, PlaysAll, StopsWithin}
 use Rattle.gc_cycle.specs.Cycles.{never_fills}
 use Rattle.warehouse.specs.Playing.{HasRoomForCommands, IsPartPlayed, IsPlaying, MayPlay, Stays, DoesNothing, collects_by, commands_of_part, player_of}
@@ -33,13 +32,11 @@ use Rattle.gc_cycle.specs.Sorts.{ends_cycle, moves_to}
 use Rattle.gc_cycle.specs.Standing.{Mutates}
 use Rattle.cache_refills.specs.Stops.{stops_without_cause}
 use Rattle.warehouse.specs.declared.mutator.Mutator.{Mutator}
-use Rattle.warehouse.proofs.Acting.{acts-join, waits-ran}
+use Rattle.warehouse.proofs.Leavings.{acts-join, waits-ran, of-stays, Told, told-left}
 use Rattle.warehouse.proofs.Commanding.{stays-of}
 use Rattle.warehouse.proofs.Coming.{moved, room-moved, says-moved}
 use Rattle.warehouse.proofs.Fulls.{counted-kept}
-use Rattle.warehouse.proofs.Leaving.{of-stays}
-use Rattle.warehouse.proofs.Leavings.{Told, told-left}
-use Rattle.warehouse.proofs.Lists.{part-then}
+use Rattle.warehouse.proofs.Going.{part-then}
 
 -- a section that didn't find the heap full moved the phase nowhere so
 full_step : (v : View) (step : Step) (n : ℕ) → (after step n v).own.full ≡ false → (v.own.full ≡ false) × (moves_to Full step n ≡ false)

@@ -31,13 +31,12 @@ use Rattle.gc_cycle.specs.Sorts.{stores_new, polls, raises_flag, reads_phase, mu
 use Rattle.gc_cycle.specs.Sparing.{spares_part}
 use Rattle.gc_cycle.specs.Standing.{KeepsSeat, Mutates, is_at_rest}
 use Rattle.cache_refills.specs.Stops.{stops_without_cause}
-use Rattle.warehouse.proofs.Acting.{acts-join, waits-join}
+use Rattle.warehouse.proofs.Leavings.{acts-join, waits-join}
 use Rattle.warehouse.proofs.Fulls.{counted-kept}
 use Rattle.warehouse.proofs.Others.{has-cache}
 use Rattle.warehouse.proofs.Pacing.{paces-after}
-use Rattle.warehouse.proofs.Seen.{last-right, last-some, some-count}
-use Rattle.warehouse.proofs.Sparings.{spares-stores, stays-join, stays-none, stays-spared, waits-calm, waits-none}
-use Rattle.warehouse.proofs.Storing.{stored-none, stores_none, writes-none}
+use Rattle.warehouse.proofs.Counting.{last-right, last-some, some-count, stored-none, stores_none, writes-none}
+use Rattle.warehouse.proofs.InTheStop.{spares-stores, stays-join, stays-none, stays-spared, waits-calm, waits-none}
 
 -- the phase that was read last isn't Full, if none was read as Full
 none_some : (p : Phase) → None ≡ Some p → ⊥

@@ -22,9 +22,8 @@ use Rattle.gc_cycle.specs.Polling.{saw_full}
 use Rattle.gc_cycle.specs.Sorts.{begins_exactly, ends_cycle, raises_flag, reads_phase}
 use Rattle.gc_cycle.specs.Sparing.{spares_part}
 use Rattle.warehouse.specs.Turns.{LeavesStop, turns_season}
-use Rattle.warehouse.proofs.Counting.{spares-seasons}
-use Rattle.warehouse.proofs.Seasons.{keeps-join, neither, seasons-step, spared-keeps, spared-turns}
-use Rattle.warehouse.proofs.Seen.{never-join}
+use Rattle.warehouse.proofs.Counting.{spares-seasons, never-join}
+use Rattle.warehouse.proofs.InTheStop.{keeps-join, neither, seasons-step, spared-keeps, spared-turns}
 
 settled_step : (x : View) (step : Step) (n : ℕ) → spares_part step ≡ true → x.own.settled ≡ true → (after step n x).own.settled ≡ true
 settled_step x (StoreField v i w) n b q = absurd (false≢true b)

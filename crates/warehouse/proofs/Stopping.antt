@@ -28,7 +28,7 @@ use Rattle.play_end.proofs.FullKnown.{full-kept, full-read}
 use Rattle.stop_world.specs.Waiting.{HasStopped, watches}
 use Rattle.stop_world.specs.declared.Raised.{Raised}
 use Rattle.stop_world.specs.declared.Raised.TheVariants.{Theirs, Yours}
-use Rattle.stop_world.proofs.Phases.{read-number}
+use Rattle.stop_world.proofs.Passing.{read-number}
 use Rattle.stop_world.proofs.Standing.{bare-parts, strong, unless}
 use Rattle.gc_cycle.proofs.Refills.Collected.{calm-spares as calm_spares}
 use Rattle.gc_cycle.specs.Events.{never}
@@ -39,10 +39,8 @@ use Rattle.gc_cycle.specs.Sorts.{raises_flag, reads_phase}
 use Rattle.gc_cycle.specs.Sparing.{spares_part}
 use Rattle.gc_cycle.specs.Standing.{IsAlone, IsOut}
 use Rattle.warehouse.specs.Turns.{LeavesNoCycle, KeepsPart, LeavesStop, StopsAt, in_stop, turns_season}
-use Rattle.warehouse.proofs.Counting.{spares-seasons}
-use Rattle.warehouse.proofs.Seasons.{keeps-join, neither, since-here, spared-keeps, spared-turns}
-use Rattle.warehouse.proofs.Seen.{never-join, none-of}
-use Rattle.warehouse.proofs.InTheStop.{helping_same}
+use Rattle.warehouse.proofs.Counting.{spares-seasons, never-join, none-of}
+use Rattle.warehouse.proofs.InTheStop.{keeps-join, neither, since-here, spared-keeps, spared-turns, helping_same}
 
 -- the end of a cycle makes no helper
 pub finishes-unhelped : (v w : View) → Ran v w → Only finishes v w → w.state.helping ≡ v.state.helping

@@ -29,14 +29,14 @@ use Rattle.packet_pools.proofs.Searches.{some-left, some-right}
 use Rattle.play_end.specs.Done.{IsStill}
 use Rattle.play_end.specs.declared.played.Played.{Played}
 use Rattle.play_end.specs.declared.played.Played.TheVariants as plays
-use Rattle.stop_world.proofs.Phases.{phase-is}
+use Rattle.stop_world.proofs.Passing.{phase-is}
 use Rattle.gc_cycle.specs.Cycles.{never_fills}
 use Rattle.gc_cycle.specs.Events.{never}
 use Rattle.gc_cycle.specs.Polling.{saw_full}
 use Rattle.gc_cycle.specs.Sorts.{raises_flag, reads_phase}
 use Rattle.warehouse.specs.Turns.{AloneAfter, LeavesNoCycle, EndsTurn, KeepsPart, LeavesStop, MayTurnSeason, StopsAt, TurnEnds, in_stop, turns_season}
-use Rattle.warehouse.proofs.Seasons.{keeps-join, neither, since-more}
-use Rattle.warehouse.proofs.Seen.{never-join, none-count}
+use Rattle.warehouse.proofs.InTheStop.{keeps-join, neither, since-more}
+use Rattle.warehouse.proofs.Counting.{never-join, none-count}
 
 -- the season is what the catalogue's seat made it
 season_there : (x : TableState) (i : ℕ) (v : View) → IsState x → Agrees x i v → v.state.section ≡ Some 0 → (words_of x.core.shape x.core.words).season ≡ v.own.seasons

@@ -28,7 +28,7 @@ use Rattle.gc_table.proofs.Noticing.{alone-steady, known-elsewhere, known-here}
 use Rattle.gc_table.proofs.Running.{ran-events, ran-join, ran-only}
 use Rattle.packet_pools.specs.Seeking.{some_event}
 use Rattle.packet_pools.proofs.Searches.{some-left, some-right}
-use Rattle.stop_world.proofs.Phases.{phase-is}
+use Rattle.stop_world.proofs.Passing.{phase-is}
 use Rattle.alloc_cache.specs.Claiming.{seeks_block}
 use Rattle.alloc_cache.specs.declared.cache.Cache.{Cache}
 use Rattle.gc_cycle.specs.Cycles.{collects, may_fill, sees_all_full, sees_free_cell}

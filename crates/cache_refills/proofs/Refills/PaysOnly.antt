@@ -12,7 +12,7 @@ use Rattle.gc_cycle.specs.Answering.{last_phase, later_or, phase_read}
 use Rattle.gc_cycle.specs.Mutating.{stays_calm}
 use Rattle.cache_refills.specs.Pace.Payment.{pays_cells}
 use Rattle.gc_cycle.specs.Sorts.{lowers_free, reads_phase, resumes}
-use Rattle.gc_cycle.proofs.TracingSpares.{Spares}
+use Rattle.gc_cycle.proofs.CleaningSpares.{Spares}
 
 pub pays-calm : (step : Step) → pays_cells step ≡ true → stays_calm step ≡ true
 pays-calm (AddStat which by down) e = ap (λ n. not (n == done_count)) (eqb-true which traced_count (and_parts (which == traced_count) (not down) e).0)

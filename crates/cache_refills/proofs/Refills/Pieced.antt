@@ -1,8 +1,8 @@
 -- A refill in pieces: what a piece saw, and what the steps before its search leave of that.
-use Rattle.std.proofs.Common.{ℕ, ◌≡◌, ◌<◌, ◌≤◌, ◌+◌, ◌-◌, List, [], ◌∷◌, ◌++◌, length, arith, refl, sym, ap, ◌∙◌, subst, Bool, true, false, not, Some, None, Option}
-use Rattle.std.specs.Prelude.{IfNone, IfSome}
+use Rattle.std.proofs.Common.{ℕ, ◌≡◌, ◌<◌, ◌≤◌, ◌+◌, ◌-◌, List, [], ◌∷◌, ◌++◌, length, arith, refl, sym, ap, ◌∙◌, subst, Bool, true, false, not, Some, None, Option, suc}
+use Rattle.std.specs.Prelude.{IfNone, IfSome, if◌then◌else◌}
 use Rattle.std.proofs.lemmas.Bool.{and_parts, false≢true}
-use Rattle.std.proofs.lemmas.List.{append-nil}
+use Rattle.std.proofs.lemmas.List.{append-nil, length-append}
 use Rattle.std.proofs.lemmas.List.FromFn.{length-range_with_len}
 use Rattle.mark_core.specs.Layout.{block_count}
 use Rattle.mark_core.specs.declared.kinds.Shape.{Shape}
@@ -21,15 +21,15 @@ use Rattle.alloc_cache.specs.Claiming.{blocks_tried, ClaimsFirst, Misses, seeks_
 use Rattle.alloc_cache.specs.declared.cache.Cache.{Cache}
 use Rattle.alloc_cache.proofs.Tried.{both-tried}
 use Rattle.gc_cycle.specs.declared.counts.Refill.{Refill}
-use Rattle.gc_cycle.specs.Events.{never}
+use Rattle.gc_cycle.specs.Events.{never, before_last, Sort}
 use Rattle.gc_cycle.specs.Mutating.{stays_calm}
 use Rattle.gc_cycle.specs.Polling.{saw_full}
-use Rattle.gc_cycle.specs.Sorts.{comes_in}
+use Rattle.gc_cycle.specs.Sorts.{comes_in, claims}
 use Rattle.gc_cycle.specs.Standing.{Mutates}
 use Rattle.gc_cycle.specs.Statistics.{PaysNumbers}
 use Rattle.gc_cycle.proofs.Refills.Answered.{mutates-same}
 use Rattle.gc_cycle.proofs.Sequences.{none-of-steps}
-use Rattle.cache_refills.specs.Pieces.{FindsBlock, LeavesBlocks, refill_of, SeesBlocks, SeesTo, takes_cells}
+use Rattle.cache_refills.specs.Pieces.{FindsBlock, LeavesBlocks, refill_of, SeesBlocks, SeesTo, takes_cells, IsShort}
 use Rattle.cache_refills.specs.Pace.Pacing.{kicks}
 use Rattle.cache_refills.specs.Refilling.{looks_for_end, prepares}
 use Rattle.cache_refills.specs.Stops.{marking_done}
@@ -41,6 +41,9 @@ use Rattle.cache_refills.proofs.Refills.Paced.{seeks-prepare}
 use Rattle.cache_refills.proofs.Refills.Passed.{unseen-full, unseen-join}
 use Rattle.cache_refills.proofs.Refills.Payment.{never-run}
 use Rattle.cache_refills.proofs.Refills.Rounds.{leads-prepared}
+use Rattle.gc_cycle.specs.declared.counts.Refill.TheVariants as refills
+use Rattle.cache_refills.proofs.Refills.Claimed.{claims-block}
+use Rattle.cache_refills.proofs.Refills.Popping.{before-first, calm-claims}
 
 -- steps that try no block
 
@@ -182,3 +185,49 @@ sees-later from most pieces.MarkingDone u v w r q i l s = (
 )
 sees-later from most pieces.Full u v w r q i l s =
     let same = ap length (later-tried u v w (blocks_tried (events v w)) r q l.untried refl) in omega (arith, same, s)
+
+-- A refill in pieces: how many steps a piece takes.
+-- how many events there are before the last one like f
+before-short : (f : Sort) (es : List Entry) → length (before_last f es) ≤ length es
+before-short f [] = omega arith
+before-short f (e ∷ es) = either (some_event f es) (before-short f es)
+  where
+    either : (b : Bool) → length (before_last f es) ≤ length es → length (if b then e ∷ before_last f es else []) ≤ suc (length es)
+    either true k = omega (arith, k)
+    either false k = omega arith
+
+before-long : (f : Sort) (xs ys : List Entry) → length (before_last f (xs ++ ys)) ≤ length xs + length (before_last f ys)
+before-long f [] ys = omega arith
+before-long f (x ∷ xs) ys = either (some_event f (xs ++ ys)) (before-long f xs ys)
+  where
+    either : (b : Bool) → length (before_last f (xs ++ ys)) ≤ length xs + length (before_last f ys) → length (if b then x ∷ before_last f (xs ++ ys) else []) ≤ suc (length xs) + length (before_last f ys)
+    either true k = omega (arith, k)
+    either false k = omega arith
+
+pub paid-short : (from most : ℕ) (h : Cache) (o : Piece) (r : Refill) (v x w : View) → refill_of o ≡ Some r → Ran v x → Ran x w → ClaimsFirst from (from + most) h v x → Only stays_calm x w → (r ≡ refills.Full → length (events x w) ≤ 5) → IsShort 0 most o (events v w)
+paid-short from most h (pieces.Cache k paid) r v x w e a b c o few =
+    let same = ap (λ es. length (before_last claims es)) (ran-events v x w a b) ∙ ap length (before-first claims (events v x) (events x w) (claims-block h v x c.claims) (calm-claims x w o)) in
+    let short = before-short claims (events v x) in
+    let long = c.few in
+    let low = c.within.0 in
+    let high = c.within.1 in
+    omega (arith, same, short, long, low, high)
+paid-short from most h pieces.Full r v x w e a b c o few =
+    let all = ap length (ran-events v x w a b) ∙ length-append (events v x) (events x w) in
+    let end = few (sym (some-same e)) in
+    let long = c.few in
+    let low = c.within.0 in
+    let high = c.within.1 in
+    omega (arith, all, end, long, low, high)
+paid-short from most h (pieces.Next n) r v x w e a b c o few = absurd (none-some r e)
+paid-short from most h pieces.Ended r v x w e a b c o few = absurd (none-some r e)
+paid-short from most h pieces.MarkingDone r v x w e a b c o few = absurd (none-some r e)
+
+-- steps before a search
+pub short-later : (before most : ℕ) (o : Piece) (u v w : View) → Ran u v → Ran v w → length (events u v) ≤ before → IsShort 0 most o (events v w) → IsShort before most o (events u w)
+short-later before most (pieces.Cache h paid) u v w r q l s =
+    let all = ap (λ es. length (before_last claims es)) (ran-events u v w r q) in let long = before-long claims (events u v) (events v w) in omega (arith, all, long, l, s)
+short-later before most (pieces.Next n) u v w r q l s = let all = ap length (ran-events u v w r q) ∙ length-append (events u v) (events v w) in omega (arith, all, l, s)
+short-later before most pieces.Ended u v w r q l s = let all = ap length (ran-events u v w r q) ∙ length-append (events u v) (events v w) in omega (arith, all, l, s)
+short-later before most pieces.MarkingDone u v w r q l s = let all = ap length (ran-events u v w r q) ∙ length-append (events u v) (events v w) in omega (arith, all, l, s)
+short-later before most pieces.Full u v w r q l s = let all = ap length (ran-events u v w r q) ∙ length-append (events u v) (events v w) in omega (arith, all, l, s)

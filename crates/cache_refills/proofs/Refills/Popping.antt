@@ -19,7 +19,7 @@ use Rattle.cache_refills.proofs.Causes.{after-none}
 use Rattle.cache_refills.proofs.Stops.Visits.{before-later, causes-join, up-to}
 use Rattle.gc_cycle.proofs.Sequences.{none-of-steps, some-none}
 use Rattle.gc_cycle.proofs.Since.{since-unlike}
-use Rattle.gc_cycle.proofs.Stops.Away.{stop-later}
+use Rattle.gc_cycle.proofs.Stops.Outside.{stop-later}
 
 prepares-unpopped : (step : Step) (n : ℕ) → prepares step ≡ true → pops step n ≡ false
 prepares-unpopped (Pop h) n e = absurd (false≢true e)

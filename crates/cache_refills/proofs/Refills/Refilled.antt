@@ -53,15 +53,15 @@ use Rattle.gc_cycle.specs.Standing.{Mutates}
 use Rattle.gc_cycle.proofs.Refills.Answered.{cached-still, ends-full}
 use Rattle.gc_cycle.proofs.Refills.KnownFull.{goes-on, mutates-still, phase-seen}
 use Rattle.cache_refills.proofs.Refills.Paced.{active-read}
-use Rattle.gc_cycle.proofs.Picked.{picked-none}
+use Rattle.gc_cycle.proofs.Changes.{picked-none}
 use Rattle.cache_refills.proofs.Refills.PaidFor.{pays-unclaimed}
 use Rattle.cache_refills.proofs.Refills.PaysOnly.{looked-before, pays-calm, pays-unlooked, pays-unlowered, pays-unresumed}
-use Rattle.gc_cycle.proofs.Longer.{later-moment, packet-widens, roots-right}
+use Rattle.gc_cycle.proofs.Turns.{later-moment, packet-widens, roots-right}
 use Rattle.cache_refills.proofs.Positions.{pays-inside, stays_inside, stored-more}
 use Rattle.gc_cycle.proofs.Refills.Retired.{retired-mutates, retired-only}
 use Rattle.gc_cycle.proofs.Searched.{both-widen, room-widens, work-widens}
 use Rattle.gc_cycle.proofs.Sequences.{none-of-steps, since-this, some-none}
-use Rattle.gc_cycle.proofs.TracingSpares.{untaken}
+use Rattle.gc_cycle.proofs.CleaningSpares.{untaken}
 
 -- before the last event like f
 before-this : (f : Sort) (xs : List Entry) (e : Entry) (ys : List Entry) → f e.step e.found ≡ true → some_event f ys ≡ false → before_last f (xs ++ (e ∷ ys)) ≡ xs

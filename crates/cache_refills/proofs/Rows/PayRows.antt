@@ -13,7 +13,7 @@ use Rattle.gc_cycle.specs.Events.{is_just}
 use Rattle.cache_refills.specs.Pace.Pacing.{due_seen, KicksOff}
 use Rattle.cache_refills.specs.Pace.Paying.{Pays, in_marking, in_idle, in_stop}
 use Rattle.gc_cycle.specs.Roots.{roots_scanned}
-use Rattle.gc_cycle.proofs.Rows.SmallLogs.{small, did, at_rest, claiming, flagged, marker, nil_roots, no_input_looks}
+use Rattle.gc_cycle.proofs.Rows.CycleRows.{small, did, at_rest, claiming, flagged, marker, nil_roots, no_input_looks}
 
 -- the numbers of cells marked last, rescanned last, traced and free
 abbrev numbers : ℕ → ℕ → ℕ → ℕ → List Entry

@@ -4,7 +4,7 @@ use Rattle.mark_core.specs.Numbers.{card_counter}
 use Rattle.mark_core.specs.declared.kinds.Step.TheVariants.{ClaimBlock, LeaveStep, RaiseStep, ReadCount, ReadFree, ReadPhase, ReadStat, ReleaseBlock, StoreNew, StoreRoot, Observe}
 use Rattle.cache_refills.specs.Stops.{stops_with_cause, stops_without_cause}
 use Rattle.cache_refills.specs.PartEvents.{polled_last}
-use Rattle.gc_cycle.proofs.Rows.SmallLogs.{small, double, did, flagged}
+use Rattle.gc_cycle.proofs.Rows.CycleRows.{small, double, did, flagged}
 
 -- the one block has an owner
 claimed_by_another : stops_with_cause small (did (ClaimBlock 0) 2 ∷ did LeaveStep 1 ∷ did RaiseStep 0 ∷ []) ≡ true

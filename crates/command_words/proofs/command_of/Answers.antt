@@ -8,7 +8,7 @@ use Rattle.clap.specs.Kinds.{FailsBy, HasKind}
 use Rattle.clap.specs.declared.error.Error.{Error}
 use Rattle.clap.specs.declared.error.kind.ErrorKind.TheVariants.{OutOfMemory}
 use Rattle.clap.specs.declared.parser.matches.ArgMatches.{ArgMatches}
-use Rattle.command_words.proofs.Answered.{asked_is, none_after_fault, none_with_dashes, some_entered}
+use Rattle.command_words.proofs.CommandTable.{asked_is, none_after_fault, none_with_dashes, some_entered}
 use Rattle.command_words.proofs.InRange.{all_in_range}
 use Rattle.command_words.proofs.command_of.Goals as goal
 

@@ -14,8 +14,7 @@ use Rattle.mark_core.specs.Seats.{has_used, used_in}
 use Rattle.mark_core.specs.Views.{makers}
 use Rattle.mark_core.specs.declared.seat.CacheState.{CacheState}
 use Rattle.mark_core.specs.declared.seat.SeatState.{SeatState}
-use Rattle.mark_core.proofs.Count.CountRange.{count-cons, count-same}
-use Rattle.mark_core.proofs.Count.CountTests.{bit}
+use Rattle.mark_core.proofs.Count.CountMoves.{count-cons, count-same, bit}
 use Rattle.gc_table.specs.Notes.{look}
 use Rattle.gc_table.specs.declared.view.View.{View}
 use Rattle.gc_cycle.specs.Finishing.{ones_noted}

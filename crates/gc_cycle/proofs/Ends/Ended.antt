@@ -15,7 +15,7 @@ use Rattle.mark_core.specs.Rules.WorldRules.{is_resting, IsCalm, NoneActive}
 use Rattle.mark_core.specs.declared.kinds.Phase.TheVariants.{Idle}
 use Rattle.mark_core.specs.declared.kinds.Shape.{Shape}
 use Rattle.mark_core.specs.declared.seat.SeatState.{SeatState}
-use Rattle.mark_core.proofs.Count.CountRange.{count-same}
+use Rattle.mark_core.proofs.Count.CountMoves.{count-same}
 use Rattle.mark_core.proofs.Formed.FormedWords.{word-in}
 use Rattle.mark_core.proofs.Notes.NotesBeside.{Sits, sits}
 use Rattle.mark_core.proofs.Notes.NotesKept.{single-word, word-found}
@@ -24,7 +24,7 @@ use Rattle.gc_table.specs.Rule.{Agrees, IsState}
 use Rattle.gc_table.specs.TableState.{TableState}
 use Rattle.gc_table.specs.declared.view.View.{View}
 use Rattle.gc_table.specs.Running.{Known}
-use Rattle.stop_world.proofs.Phases.{phase-is}
+use Rattle.stop_world.proofs.Passing.{phase-is}
 use Rattle.gc_cycle.specs.Ending.{InEach, is_used, IsCycleEnd, published_count}
 use Rattle.gc_cycle.specs.Finishing.{AllocsNoted, IsAloneIn, ones_noted}
 use Rattle.gc_cycle.specs.declared.counts.Counts.{Counts}

@@ -16,7 +16,7 @@ use Rattle.mark_core.specs.declared.kinds.Step.TheVariants.{Reset, StorePhase}
 use Rattle.mark_core.specs.declared.seat.SeatState.{SeatState}
 use Rattle.gc_table.specs.declared.view.Entry.{Entry}
 use Rattle.gc_table.specs.declared.view.View.{View}
-use Rattle.gc_table.proofs.Stands.StandsUsed.{reachable-used}
+use Rattle.gc_table.proofs.Stands.StandsStores.{reachable-used}
 use Rattle.packet_pools.specs.Counts.{count_of}
 use Rattle.packet_pools.specs.Seeking.{some_event}
 use Rattle.packet_pools.proofs.Counting.{count-join}
@@ -24,7 +24,7 @@ use Rattle.packet_pools.proofs.Searches.{some-right}
 use Rattle.gc_table.specs.Log.{all_steps, event, events, Only}
 use Rattle.gc_table.specs.Running.{Ran}
 use Rattle.gc_table.proofs.Running.{ran-events, ran-join, ran-only, ran-shape}
-use Rattle.stop_world.proofs.Phases.{phase-is}
+use Rattle.stop_world.proofs.Passing.{phase-is}
 use Rattle.gc_cycle.specs.Cycles.{collects_exactly, ends_exactly, lets_help, opens_in_sweep}
 use Rattle.gc_cycle.specs.DrainRounds.{DrainsBefore}
 use Rattle.gc_cycle.specs.Ending.{InEach, IsExact}

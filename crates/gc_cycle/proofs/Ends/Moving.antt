@@ -24,7 +24,7 @@ use Rattle.gc_table.specs.Running.{Alone, Known}
 use Rattle.gc_table.proofs.History.Log.{events-after}
 use Rattle.gc_table.proofs.Noticing.{alone-steady, found-noted, known-here}
 use Rattle.gc_table.proofs.Running.{ran-found}
-use Rattle.stop_world.proofs.Phases.{phase-is}
+use Rattle.stop_world.proofs.Passing.{phase-is}
 use Rattle.sweeper.specs.Freeing.{block_floor}
 use Rattle.gc_cycle.specs.Finishing.{IsAloneIn, IsMove}
 use Rattle.gc_cycle.specs.Standing.{IsAlone}

@@ -9,7 +9,7 @@ use Rattle.gc_cycle.specs.declared.counts.Helped.{Helped}
 use Rattle.gc_cycle.specs.declared.counts.HelpEnd.TheVariants.{NoWork, Swept}
 use Rattle.gc_cycle.specs.Helping.{HelpsAs, helped_to_the_end, waited}
 use Rattle.gc_cycle.specs.Polling.{offered_help, saw_resumed}
-use Rattle.gc_cycle.proofs.Rows.SmallLogs.{small, did, at_rest, drainer, flagged, no_input_looks, seen_by, sweeper}
+use Rattle.gc_cycle.proofs.Rows.CycleRows.{small, did, at_rest, drainer, flagged, no_input_looks, seen_by, sweeper}
 
 abbrev nothing_to_do : Helped
 nothing_to_do = record { traced = 0; rescanned = 0; swept = 0; ended = NoWork }

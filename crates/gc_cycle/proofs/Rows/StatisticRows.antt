@@ -14,7 +14,7 @@ use Rattle.gc_cycle.specs.OneCycle.{EndsCycle}
 use Rattle.gc_cycle.specs.declared.counts.Counts.{Counts}
 use Rattle.gc_cycle.specs.Statistics.{ChangesNumbers, given_up, gives_back, GivesUp, leaves_numbers, numbers_changed, taken, takes_off, tells}
 use Rattle.gc_cycle.proofs.Changes.{by-none, keeps-up, numbers-one}
-use Rattle.gc_cycle.proofs.Rows.SmallLogs.{did, marker, seen_by, stopper}
+use Rattle.gc_cycle.proofs.Rows.CycleRows.{did, marker, seen_by, stopper}
 
 -- a cache of two free cells
 abbrev two_cells : Cache

@@ -1,22 +1,22 @@
 -- If a heap has one seat, its log says what every word is.
-use Rattle.std.proofs.Common.{ℕ, ◌≡◌, ◌+◌, ◌<◌, ◌≤◌, List, [], ◌∷◌, ◌++◌, map, set, length, arith, refl, sym, ap, ◌∙◌, Bool, true, false, Option, Some, None, cond, eqb, eq-eqb, true≢false, length-append, length-set}
+use Rattle.std.proofs.Common.{ℕ, ◌≡◌, ◌+◌, ◌<◌, ◌≤◌, List, [], ◌∷◌, ◌++◌, map, set, length, arith, refl, sym, ap, ◌∙◌, Bool, true, false, Option, Some, None, cond, eqb, eq-eqb, true≢false, length-append, length-set, ◌%◌, ◌^◌, subst}
 use Rattle.std.specs.Prelude.{slice_get, slice_index, IsFalse, not, ◌&&◌}
 use Rattle.std.specs.List.{All}
 use Rattle.std.proofs.lemmas.Bool.{and_parts}
 use Rattle.std.proofs.lemmas.List.Elements.{All-rest}
 use Rattle.std.proofs.lemmas.Option.{slice_get_within}
 use lib.ListN.{get_elem?}
-use Rattle.atomic_table.specs.Table.{State}
+use Rattle.atomic_table.specs.Table.{State, opening, Allows}
 use Rattle.mark_core.specs.Effects.{place, seat_after}
 use Rattle.mark_core.specs.Laws.{IsCore}
 use Rattle.mark_core.specs.Layout.{address}
-use Rattle.mark_core.specs.Start.{start_seat}
+use Rattle.mark_core.specs.Start.{start_seat, start_words}
 use Rattle.mark_core.specs.Steps.{Core, failing_of, after_event, after_of, first_refused, run_of, start_core}
 use Rattle.mark_core.specs.Steps.WorldSteps.{may_be_joined}
 use Rattle.mark_core.specs.declared.kinds.Event.{Event}
 use Rattle.mark_core.specs.declared.kinds.Shape.{Shape}
 use Rattle.mark_core.specs.declared.kinds.Step.{Step}
-use Rattle.mark_core.specs.declared.kinds.Step.TheVariants.{Split, Join}
+use Rattle.mark_core.specs.declared.kinds.Step.TheVariants.{Split, Join, AddStat, EnterStep, Observe, RaiseStep, ReadStat}
 use Rattle.mark_core.specs.declared.seat.SeatState.{SeatState}
 use Rattle.mark_core.proofs.CoreKept.{core_kept, core-starts}
 use Rattle.plain_heap.specs.declared.operation.Op.{Op}
@@ -24,10 +24,16 @@ use Rattle.gc_table.specs.declared.view.Entry.{Entry}
 use Rattle.gc_table.specs.declared.view.View.{View}
 use Rattle.gc_table.specs.Entries.{event, is_logged}
 use Rattle.gc_table.specs.Past.{adds, entries_of, log_from, log_of, word_told}
-use Rattle.gc_table.specs.Rule.{Holds}
+use Rattle.gc_table.specs.Rule.{Holds, newcomer}
 use Rattle.gc_table.proofs.Joining.{some-at}
 use Rattle.gc_table.proofs.Records.{records-length}
 use Rattle.gc_table.proofs.History.Past.{Fits, after-long, first-allowed, run-first, run-long, some-there}
+use Rattle.mark_core.specs.Places.{counter_at, the_world}
+use Rattle.mark_core.specs.Shapes.{IsShape}
+use Rattle.gc_table.specs.Taking.{after}
+use Rattle.gc_table.proofs.Opening.{starts}
+use Rattle.gc_table.proofs.Rows.{small}
+use Rattle.mark_core.specs.Bits.{flag}
 
 -- the steps of a log as events of the first seat
 abbrev pub by_first : List Entry → List Event
@@ -87,3 +93,65 @@ one-told sh plan s v o alone live =
     let one : length (run_of past (start_core sh 1)).seats ≡ 1 = ap (λ (c : Core). length c.seats) o.led.leads ∙ (records-length sh 0 s.views ∙ ap length alone) in
     let same : past ≡ by_first v.log = only-one 0 past (start_core sh 1) (core-starts sh 1 o.whole.core.formed.shaped (omega arith) (omega arith)) refl o.led.fit o.led.allowed one ∙ ap by_first (sym log) in
     (sym (ap (λ (c : Core). c.words) o.led.leads) ∙ ap (λ es. (run_of es (start_core sh 1)).words) same, log ∙ ap (λ es. log_of sh es 0) same)
+
+-- What breaks the rule: a word that moved by no step, a step that moved no word, and an answer that was not found.
+-- a table with one seat
+abbrev table : List ℕ → View → State (Unit {0}) View
+table ws v = opening ws [] v
+
+-- the address of a counter
+abbrev at : ℕ → ℕ
+at which = address small (counter_at which)
+
+abbrev new : View
+new = newcomer small [] 0
+
+-- the seat runs, and then counts 7 objects traced
+abbrev inside : View
+inside = after EnterStep 0 new
+
+abbrev counted : View
+counted = after (AddStat 4 7 false) 0 inside
+
+abbrev words_inside : List ℕ
+words_inside = set (start_words small) (address small the_world) 1
+
+-- TRACED rose by no step
+rose_alone : Holds small [] (table (set (start_words small) (at 4) 1) new) → ⊥
+rose_alone h = let e : 1 ≡ 0 = ap (λ ws. slice_index ws (at 4)) (one-told small [] _ new h refl refl).0 in absurd (omega (arith, e))
+
+-- the seat says that it counted 7, and stored nothing
+counts_nothing : Holds small [] (table words_inside counted) → ⊥
+counts_nothing h = let e : 0 ≡ 7 = ap (λ ws. slice_index ws (at 4)) (one-told small [] _ counted h refl refl).0 in absurd (omega (arith, e))
+
+-- it counted 7, and lowered LAST besides
+lowers_last : Holds small [] (table (set (set words_inside (at 4) 7) (at 2) 18446744073709551615) counted) → ⊥
+lowers_last h = let e : 18446744073709551615 ≡ 0 = ap (λ ws. slice_index ws (at 2)) (one-told small [] _ counted h refl refl).0 in absurd (omega (arith, e))
+
+-- it read TRACED, and answered 1
+answers_one : Holds small [] (table (start_words small) (after (ReadStat 4) 1 new)) → ⊥
+answers_one h = let e : 1 ≡ 0 = ap (λ es. slice_index (map (λ (x : Entry). x.found) es) 0) (one-told small [] _ (after (ReadStat 4) 1 new) h refl refl).1 in absurd (omega (arith, e))
+
+-- it raised the flag, looked at WORLD, and answered a word without the flag
+sees_no_flag : Holds small [] (table (set (start_words small) (address small the_world) flag) (after Observe 0 (after RaiseStep 0 new))) → ⊥
+sees_no_flag h = let e : 0 ≡ flag = ap (λ es. slice_index (map (λ (x : Entry). x.found) es) 1) (one-told small [] _ (after Observe 0 (after RaiseStep 0 new)) h refl refl).1 in absurd (omega (arith, e))
+
+shaped : IsShape small
+shaped = grind arith
+
+begun : Holds small [] (table (start_words small) new)
+begun = starts small [] (start_words small) shaped refl
+
+-- so what the table asks of a read of TRACED that answers 1 is met by no view and no act
+refuses_one : Allows (Holds small []) 0 0 (new, []) (at 4) (λ n. n) (λ n m. m.0 ≡ after (ReadStat 4) 1 new) → ⊥
+refuses_one f =
+    let r = f (table (start_words small) new) begun refl refl (omega arith) in
+    let told : (after (ReadStat 4) 1 new).log ≡ log_of small (by_first (after (ReadStat 4) 1 new).log) 0 = subst (λ (v : View). v.log ≡ log_of small (by_first v.log) 0) r.4 (one-told small [] _ r.0 r.3 refl (ap (λ (v : View). v.state.spent) r.4)).1 in
+    let e : 1 ≡ 0 = ap (λ es. slice_index (map (λ (x : Entry). x.found) es) 0) told in absurd (omega (arith, e))
+
+-- no view and no act meets what the table asks of a step that adds 1 to TRACED and leaves the view
+refuses_more : Allows (Holds small []) 0 0 (new, []) (at 4) (λ n. (n + 1) % 2 ^ 64) (λ n m. m.0 ≡ new) → ⊥
+refuses_more f =
+    let r = f (table (start_words small) new) begun refl refl (omega arith) in
+    let told = one-told small [] _ r.0 r.3 refl (ap (λ (v : View). v.state.spent) r.4) in
+    let e : 1 ≡ 0 = ap (λ ws. slice_index ws (at 4)) (told.0 ∙ ap (λ (v : View). (run_of (by_first v.log) (start_core small 1)).words) r.4) in absurd (omega (arith, e))

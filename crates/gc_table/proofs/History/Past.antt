@@ -17,11 +17,14 @@ use Rattle.mark_core.specs.declared.kinds.Shape.{Shape}
 use Rattle.mark_core.specs.declared.kinds.Step.{Step}
 use Rattle.mark_core.specs.declared.kinds.Step.TheVariants.{Split, Join}
 use Rattle.mark_core.specs.declared.seat.SeatState.{SeatState}
-use Rattle.mark_core.proofs.CoreKept.{core_kept}
+use Rattle.mark_core.proofs.CoreKept.{core_kept, core-starts}
 use Rattle.gc_table.specs.declared.view.Entry.{Entry}
 use Rattle.gc_table.specs.Entries.{event, is_logged}
 use Rattle.gc_table.specs.Past.{word_told, entries_of, adds, log_from, log_of, LeadTo}
 use Rattle.gc_table.specs.Taking.{IsOwn}
+use Rattle.mark_core.specs.Shapes.{IsShape}
+use Rattle.gc_table.specs.Ends.{AreWords}
+use Rattle.gc_table.specs.Laws.{ClosedHeapsRan}
 
 pub own-logged : (step : Step) → IsOwn step → is_logged step ≡ true
 own-logged Split h = absurd h
@@ -150,3 +153,17 @@ pub run-sound : (n : ℕ) (es : List Event) (c : Core) → IsCore c → All Fits
 run-sound zero es c core fit = core
 run-sound (suc n) [] c core fit = core
 run-sound (suc n) (e ∷ es) c core fit = either_way c (run_of (take n es) (after_event c e)) (failing_part c e) core (λ ok. run-sound n es (after_event c e) (core_kept c e core (fit 0 e (omega arith)) ok) (All-rest Fits e es (e ∷ es) refl fit))
+
+-- What the seats of a closed heap did is a run of the core.
+pub closed_ran : ClosedHeapsRan
+closed_ran sh seats w e =
+    let shaped : IsShape sh = subst IsShape e.shape e.whole.core.formed.shaped in (
+      e.past,
+      record {
+        allowed = e.led.allowed;
+        parts = e.logs;
+        no_others = e.theirs;
+        sound = λ n. run-sound n e.past (start_core sh 1) (core-starts sh 1 shaped (omega arith) (omega arith)) e.led.fit;
+        ends = subst (λ (c : Core). AreWords sh c.words w) (sym e.led.leads) e.words;
+      },
+    )

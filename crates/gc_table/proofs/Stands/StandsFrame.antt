@@ -1,17 +1,32 @@
 -- The rule of what words stand for, put together after one seat has acted.
 use Rattle.std.proofs.Common.{ℕ, ◌≡◌, ◌≢◌, ◌+◌, ◌-◌, ◌*◌, ◌<◌, ◌≤◌, zero, suc, List, [], ◌∷◌, set, length, arith, refl, sym, ap, ◌∙◌, subst, true, Some, ◌⊎◌, inl, inr, ⊎_elim}
-use Rattle.std.specs.Prelude.{slice_get, slice_index, IsFalse}
+use Rattle.std.specs.Prelude.{slice_get, slice_index, IsFalse, slice_index_or, IsTrue}
 use Rattle.std.proofs.lemmas.Bool.{cases_eq}
 use Rattle.std.proofs.lemmas.List.{length-set}
 use Rattle.mark_core.specs.Seats.{makes, last_made}
-use Rattle.mark_core.specs.Rules.HeapRules.{section_of_cell}
-use Rattle.mark_core.proofs.Formed.FormedAfter.{set-cases, set-here, set-there}
+use Rattle.mark_core.specs.Rules.HeapRules.{section_of_cell, number_of_cell}
+use Rattle.mark_core.proofs.Formed.FormedLearns.{set-cases, set-here, set-there}
 use Rattle.mark_core.specs.declared.kinds.Shape.{Shape}
 use Rattle.mark_core.specs.declared.seat.SeatState.{SeatState}
 use Rattle.plain_heap.specs.PlainHeap.{variable}
-use Rattle.gc_table.specs.StandsFor.{object_count, objects_in, WordAgrees, IsCellOf, IsSection, SeatStands, Stands}
+use Rattle.gc_table.specs.StandsFor.{object_count, objects_in, WordAgrees, IsCellOf, IsSection, SeatStands, Stands, HoldsObject, IsForNextObject, StandsFor}
 use Rattle.gc_table.specs.declared.view.Meaning.{Meaning}
-use Rattle.gc_table.proofs.Stands.StandsAgree.{agrees-on, seat-on}
+use Rattle.gc_table.proofs.Stands.StandsAgree.{agrees-on, seat-on, Stays, holds-on, next-on, section-same, lent-agrees}
+use Rattle.std.proofs.lemmas.Option.{same_Some}
+use Rattle.mark_core.specs.Cells.{field}
+use Rattle.plain_heap.specs.declared.object.Ref.{Ref}
+use Rattle.plain_heap.specs.declared.object.Ref.TheVariants as refs
+use Rattle.plain_heap.specs.PlainStep.{followed, lent, field_of}
+use Rattle.gc_table.specs.PlainSteps.{heap_in, catalogue_seen, meaning_of}
+use Rattle.mark_core.specs.Layout.{Words, words_of}
+use Rattle.mark_core.specs.Steps.{Core}
+use Rattle.mark_core.proofs.Blocks.BlocksStopped.{Taken, within}
+use Rattle.mark_core.proofs.References.ReferencesRoots.{Used, UsedAfter}
+use Rattle.mark_core.proofs.Used.UsedKept.{used-back}
+use Rattle.mark_core.proofs.Used.UsedSeats.{IsMadeBy}
+use Rattle.mark_core.specs.declared.kinds.Step.{Step}
+use Rattle.mark_core.specs.declared.kinds.Step.TheVariants.{ReadCount}
+use Rattle.gc_table.proofs.Stands.StandsSeat.{Mutates, looks, got-used, last-used, root-used}
 
 -- an element that was written, and one of another place
 pub get-set_same : {X : Type 0} (xs : List X) (i : ℕ) (x y : X) → slice_get xs i ≡ Some x → slice_get (set xs i y) i ≡ Some y
@@ -110,3 +125,118 @@ stands-changed sh roots roots' ids ids' values values' fields fields' used used'
         let before : slice_get seats w ≡ Some s = set-there seats i w t s d f in
         seat-on sh ids ids' values values' (object_count ms) (object_count (set ms i n)) w s y (λ some. x.identities (s.got - 1) (x.other_got w s d before live some)) (x.other_making w s d before live) (λ c e. x.identities c (x.other_last w s d before live c e)) more
         (k.seats_agree w s y before (set-there ms i w n y d g) live)
+
+-- A cell that keeps its words still has its object, or is still made for the next one, after one section's meaning has changed.
+-- what cell c is, in words and meanings
+abbrev pub HasMeaning : Shape → List ℕ → List ℕ → List ℕ → List Meaning → ℕ → Type 0
+HasMeaning sh ids values fields ms c = (x : Meaning) × (slice_get ms (section_of_cell ids c) ≡ Some x) × IsCellOf sh ids values fields (object_count ms) x c
+
+-- the cells of the section that changed keep theirs by what is shown of its objects, and the other ones as they are
+pub cell-on : (sh : Shape) (ids ids' values values' fields fields' : List ℕ) (ms : List Meaning) (i : ℕ) (m n : Meaning) (c : ℕ) → slice_get ms i ≡ Some m → Stays sh ids ids' values values' fields fields' (object_count ms) (object_count (set ms i n)) c
+    → (section_of_cell ids c ≡ i → HoldsObject sh ids values fields (object_count ms) m c → slice_get n.heap.objects (number_of_cell ids c) ≡ slice_get m.heap.objects (number_of_cell ids c))
+    → (section_of_cell ids c ≡ i → IsForNextObject sh ids values fields m c → IsCellOf sh ids' values' fields' (object_count (set ms i n)) n c) → HasMeaning sh ids values fields ms c → HasMeaning sh ids' values' fields' (set ms i n) c
+cell-on sh ids ids' values values' fields fields' ms i m n c g k held next (x, there, cell) = of (cases_eq (section_of_cell ids c) i)
+  where
+    p : ℕ → ℕ
+    p = object_count ms
+
+    q : ℕ → ℕ
+    q = object_count (set ms i n)
+
+    place : section_of_cell ids' c ≡ section_of_cell ids c
+    place = section-same ids ids' c k.identity
+
+    own : section_of_cell ids c ≡ i → IsCellOf sh ids values fields p m c → IsCellOf sh ids' values' fields' q n c
+    own e (inl h) = inl (holds-on sh ids ids' values values' fields fields' p q m n c k (held e h) h)
+    own e (inr h) = next e h
+
+    other : IsCellOf sh ids values fields p x c → IsCellOf sh ids' values' fields' q x c
+    other (inl h) = inl (holds-on sh ids ids' values values' fields fields' p q x x c k refl h)
+    other (inr h) = inr (next-on sh ids ids' values values' fields fields' p q x x c k refl refl h)
+
+    of : (section_of_cell ids c ≡ i) ⊎ (section_of_cell ids c ≢ i) → HasMeaning sh ids' values' fields' (set ms i n) c
+    of (inl e) =
+        let same : m ≡ x = same_Some m x (sym g ∙ ap (λ j. slice_get ms j) (sym e) ∙ there) in
+        (n, ap (λ j. slice_get (set ms i n) j) (place ∙ e) ∙ get-set_same ms i m n g, own e (subst (λ (y : Meaning). IsCellOf sh ids values fields p y c) (sym same) cell))
+    of (inr d) = (x, ap (λ j. slice_get (set ms i n) j) place ∙ get-set_other ms i (section_of_cell ids c) n d ∙ there, other cell)
+
+-- the object of a cell that is named
+pub named-object : (sh : Shape) (ids values fields : List ℕ) (ms : List Meaning) (c : ℕ) → number_of_cell ids c < object_count ms (section_of_cell ids c) → HasMeaning sh ids values fields ms c
+    → (x : Meaning) × (slice_get ms (section_of_cell ids c) ≡ Some x) × HoldsObject sh ids values fields (object_count ms) x c
+named-object sh ids values fields ms c below (x, there, inl h) = (x, there, h)
+named-object sh ids values fields ms c below (x, there, inr h) = let count : object_count ms (section_of_cell ids c) ≡ length x.heap.objects = ap objects_in there in absurd (omega (arith, below, count, h.number))
+
+-- a field of a cell that a reference names agrees with what the plain heap finds there
+pub field-agrees : (sh : Shape) (ids values fields : List ℕ) (ms : List Meaning) (i c j : ℕ) (m : Meaning) (ref : Ref) → slice_get ms i ≡ Some m → j < sh.fields → WordAgrees ids (object_count ms) i (c + 1) ref → HasMeaning sh ids values fields ms c
+    → WordAgrees ids (object_count ms) i (field sh fields c j) (followed m.heap (catalogue_seen ms i) ref j)
+field-agrees sh ids values fields ms i c j m refs.Nil g l (inl z) cell = absurd (omega (arith, z.0))
+field-agrees sh ids values fields ms i c j m refs.Nil g l (inr (some, names, below)) cell = absurd names
+field-agrees sh ids values fields ms i c j m (refs.Own n) g l (inl z) cell = absurd (omega (arith, z.0))
+field-agrees sh ids values fields ms i c j m (refs.Own n) g l (inr (some, names, below)) cell =
+    let at : c + 1 - 1 ≡ c = omega arith in
+    let section : section_of_cell ids c ≡ i = subst (λ d. section_of_cell ids d ≡ i) at names.0 in
+    let number : number_of_cell ids c ≡ n = subst (λ d. number_of_cell ids d ≡ n) at names.1 in
+    let o = named-object sh ids values fields ms c (subst (λ d. number_of_cell ids d < object_count ms (section_of_cell ids d)) at below) cell in
+    let same : m ≡ o.0 = same_Some m o.0 (sym g ∙ ap (λ k. slice_get ms k) (sym section) ∙ o.1) in
+    let object_is : slice_get m.heap.objects n ≡ Some o.2.object = ap (λ (x : Meaning). slice_get x.heap.objects n) same ∙ ap (λ k. slice_get o.0.heap.objects k) (sym number) ∙ o.2.there in
+    subst (λ (r : Ref). WordAgrees ids (object_count ms) i (field sh fields c j) r) (sym (ap (λ x. field_of x j) object_is))
+    (subst (λ k. WordAgrees ids (object_count ms) k (field sh fields c j) (slice_index_or o.2.object.refs j refs.Nil)) section (o.2.each_field j l))
+field-agrees sh ids values fields ms i c j m (refs.Cat n) g l (inl z) cell = absurd (omega (arith, z.0))
+field-agrees sh ids values fields ms zero c j m (refs.Cat n) g l (inr (some, names, below)) cell = absurd names
+field-agrees sh ids values fields ms (suc i) c j m (refs.Cat n) g l (inr (some, names, below)) cell =
+    let at : c + 1 - 1 ≡ c = omega arith in
+    let section : section_of_cell ids c ≡ 0 = subst (λ d. section_of_cell ids d ≡ 0) at names.0 in
+    let number : number_of_cell ids c ≡ n = subst (λ d. number_of_cell ids d ≡ n) at names.1 in
+    let o = named-object sh ids values fields ms c (subst (λ d. number_of_cell ids d < object_count ms (section_of_cell ids d)) at below) cell in
+    let seen : slice_get ms 0 ≡ Some o.0 = ap (λ k. slice_get ms k) (sym section) ∙ o.1 in
+    let object_is : slice_get o.0.heap.objects n ≡ Some o.2.object = ap (λ k. slice_get o.0.heap.objects k) (sym number) ∙ o.2.there in
+    let is : followed m.heap (catalogue_seen ms (suc i)) (refs.Cat n) j ≡ lent (slice_index_or o.2.object.refs j refs.Nil) =
+    ap (λ y. followed m.heap (heap_in y) (refs.Cat n) j) seen ∙ ap (λ y. lent (field_of y j)) object_is in
+    subst (λ (r : Ref). WordAgrees ids (object_count ms) (suc i) (field sh fields c j) r) (sym is)
+    (lent-agrees ids (object_count ms) i (field sh fields c j) (slice_index_or o.2.object.refs j refs.Nil) (subst (λ k. WordAgrees ids (object_count ms) k (field sh fields c j) (slice_index_or o.2.object.refs j refs.Nil)) section (o.2.each_field j l)))
+
+-- A step of a mutator on its own section: what is to be shown of the words, the record and the meaning after it.
+-- the words become x, the record of the seat t, and the meaning of its section n
+pub record Moves (c : Core) (i : ℕ) (s : SeatState) (step : Step) (x : Words) (t : SeatState) (n : Meaning) (ms : List Meaning) : Type 0 where
+  pub numbered : IsSection c.shape i n
+  pub more : length (meaning_of ms i).heap.objects ≤ length n.heap.objects
+  pub identities_kept : (y : ℕ) → Used c y ≡ true → slice_index x.identities y ≡ slice_index (words_of c.shape c.words).identities y
+  pub other_roots : (w v : ℕ) → w ≢ i → v < 32 → slice_index x.roots (w * 32 + v) ≡ slice_index (words_of c.shape c.words).roots (w * 32 + v)
+  pub slots_nil : (j : ℕ) → slice_index x.roots (c.shape.sections * 32 + j) ≡ 0
+  pub own_roots : (v : ℕ) → v < 32 → WordAgrees x.identities (object_count (set ms i n)) i (slice_index x.roots (i * 32 + v)) (variable n.heap v)
+  pub cells : (y : ℕ) → y < c.shape.cells → UsedAfter c i s step y ≡ true → HasMeaning c.shape x.identities x.values x.fields (set ms i n) y
+  pub other_making : (w : ℕ) (o : SeatState) → w ≢ i → slice_get c.seats w ≡ Some o → IsFalse o.spent → (y part : ℕ) → makes o.cache y part ≡ true → slice_index x.values y ≡ slice_index (words_of c.shape c.words).values y
+  pub own_seat : IsFalse t.spent → SeatStands c.shape x.identities x.values (object_count (set ms i n)) i t n
+
+-- so the words stand for what they stood for, with the new meaning
+pub moved : (c : Core) (i : ℕ) (s : SeatState) (step : Step) (x : Words) (t : SeatState) (n : Meaning) (ms : List Meaning) → Taken c i s step → StandsFor c ms → Mutates c i s ms → Moves c i s step x t n ms
+    → Stands c.shape x.roots x.identities x.values x.fields (λ y. IsTrue (UsedAfter c i s step y)) (set c.seats i t) (set ms i n)
+moved c i s step x t n ms k st a move =
+    let w : Words = words_of c.shape c.words in
+    let used : ℕ → Type 0 = λ y. IsTrue (Used c y) in
+    let after : ℕ → Type 0 = λ y. IsTrue (UsedAfter c i s step y) in
+    let changes : Changes c.shape w.roots x.roots w.identities x.identities w.values x.values x.fields used after c.seats ms i t (meaning_of ms i) n =
+    record {
+      meaning = a.there;
+      numbered = move.numbered;
+      more = move.more;
+      identities = move.identities_kept;
+      roots_used = λ j some. root-used c j k.core some;
+      other_roots = move.other_roots;
+      slots_nil = move.slots_nil;
+      own_roots = move.own_roots;
+      cells = move.cells;
+      other_got = λ v o d g live some. got-used c v o ReadCount (looks c v o k.core g live) some;
+      other_making = move.other_making;
+      other_last = λ v o d g live y e. last-used c v o ReadCount y (looks c v o k.core g live) e;
+      own_seat = move.own_seat;
+      within = within c i s step k;
+    } in
+    stands-changed c.shape w.roots x.roots w.identities x.identities w.values x.values w.fields x.fields used after c.seats ms i t (meaning_of ms i) n changes st
+
+-- a cell in use after a step that makes none was in use before, and had its meaning
+pub had-meaning : (c : Core) (i : ℕ) (s : SeatState) (step : Step) (ms : List Meaning) (y : ℕ) → Taken c i s step → StandsFor c ms → (IsMadeBy c.shape step y → ⊥) → y < c.shape.cells → UsedAfter c i s step y ≡ true
+    → (Used c y ≡ true) × HasMeaning c.shape (words_of c.shape c.words).identities (words_of c.shape c.words).values (words_of c.shape c.words).fields ms y
+had-meaning c i s step ms y k st none h u =
+    let before : Used c y ≡ true = ⊎_elim (λ (e : Used c y ≡ true). e) (λ (e : IsMadeBy c.shape step y). absurd (none e)) (used-back c i s step y k u) in
+    (before, st.cells_agree y h before)

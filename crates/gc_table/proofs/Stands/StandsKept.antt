@@ -1,5 +1,5 @@
 -- Each event that is allowed, and meets what is asked besides, leads to a state that stands for the plain heaps after it.
-use Rattle.std.proofs.Common.{ℕ, ◌≡◌, ◌+◌, ◌*◌, ◌<◌, List, length, refl, sym, subst, Bool, true, false, cond, Option, Some, None, ◌⊎◌, inl, inr, ◌≤◌, [], ◌∷◌, ◌++◌, set, arith, ⊎_elim, ◌∙◌, eqb}
+use Rattle.std.proofs.Common.{ℕ, ◌≡◌, ◌+◌, ◌*◌, ◌<◌, List, length, refl, sym, subst, Bool, true, false, cond, Option, Some, None, ◌⊎◌, inl, inr, ◌≤◌, [], ◌∷◌, ◌++◌, set, arith, ⊎_elim, ◌∙◌, eqb, ap}
 use Rattle.std.specs.Prelude.{IsFalse, IfSome, slice_index, IsTrue, slice_get}
 use Rattle.std.proofs.lemmas.Bool.{false≢true, true≢false, and_parts}
 use Rattle.mark_core.specs.Bits.{flag}
@@ -11,20 +11,19 @@ use Rattle.mark_core.specs.declared.seat.CacheState.{CacheState}
 use Rattle.gc_table.specs.StandsFor.{WordAgrees, SeatStands, object_count, Stands, StandsIn, StandsFor}
 use Rattle.gc_table.specs.declared.view.Meaning.{Meaning}
 use Rattle.std.proofs.lemmas.List.{length-set, length-append}
-use Rattle.mark_core.specs.Layout.{Words, words_of}
+use Rattle.mark_core.specs.Layout.{Words, words_of, put_word}
 use Rattle.mark_core.specs.Start.{start_seat, spent_seat}
-use Rattle.mark_core.specs.Effects.{seat_after}
+use Rattle.mark_core.specs.Effects.{seat_after, written}
 use Rattle.mark_core.specs.Steps.{Core}
-use Rattle.mark_core.proofs.Acting.{found, words_left, seats_left}
-use Rattle.mark_core.proofs.Blocks.BlocksTaken.{Taken, kept-after}
-use Rattle.mark_core.proofs.Formed.FormedAfter.{set-cases, push-cases}
+use Rattle.mark_core.proofs.Known.{found, words_left, seats_left}
+use Rattle.mark_core.proofs.Blocks.BlocksStopped.{Taken, kept-after, words-read}
+use Rattle.mark_core.proofs.Formed.FormedLearns.{set-cases, push-cases}
 use Rattle.mark_core.proofs.References.ReferencesRoots.{Used, UsedAfter, stores_root, roots-same}
 use Rattle.mark_core.proofs.Used.UsedSeats.{IsMadeBy}
 use Rattle.mark_core.proofs.Used.UsedKept.{used-back}
 use Rattle.mark_core.specs.declared.kinds.Step.{Step}
-use Rattle.mark_core.specs.declared.kinds.Step.TheVariants.{Split, Join, ReadOwn, ReadCat, StoreField, StoreValue, StoreRoot, ClaimBlock, ReleaseBlock, ReadFree, StoreNew, PublishCells, ExchangeField, ExchangeValue, StoreSlot, ReadSlot}
+use Rattle.mark_core.specs.declared.kinds.Step.TheVariants.{Split, Join, ReadOwn, ReadCat, StoreField, StoreValue, StoreRoot, ClaimBlock, ReleaseBlock, ReadFree, StoreNew, PublishCells, ExchangeField, ExchangeValue, StoreSlot, ReadSlot, ReadField, ReadValue, ReadIdent, Reset, AddStat, ReadStat}
 use Rattle.gc_table.proofs.Stands.StandsFrame.{stands-same}
-use Rattle.gc_table.proofs.Stands.StandsWords.{stores_cell, identities-same, values-same, fields-same}
 use Rattle.std.proofs.lemmas.Option.{same_Some}
 use Rattle.plain_heap.specs.declared.operation.Op.{Op}
 use Rattle.gc_table.specs.PlainSteps.{meanings_after, AsksIn}
@@ -33,6 +32,48 @@ use Rattle.gc_table.proofs.Stands.StandsNew.{store-new}
 use Rattle.gc_table.proofs.Stands.StandsReads.{read-own, read-cat, read-slot}
 use Rattle.gc_table.proofs.Stands.StandsRoots.{store-root}
 use Rattle.gc_table.proofs.Stands.StandsStores.{store-field, store-value}
+use Rattle.mark_core.proofs.Writing.RegionWrites.{identities-kept, fields-kept}
+use Rattle.mark_core.proofs.Writing.Writes.{at_counter}
+
+-- Which steps change the identities, values and fields of cells.
+-- the step stores a word of an object or of a new cell
+abbrev pub stores_cell : Step → Bool
+stores_cell (StoreField v i w) = true
+stores_cell (StoreValue v n) = true
+stores_cell (ExchangeField v i x y) = true
+stores_cell (ExchangeValue v m n) = true
+stores_cell (StoreNew c part word) = true
+stores_cell step = false
+
+-- every other step leaves the identities
+pub identities-same : (c : Core) (i : ℕ) (s : SeatState) (step : Step) → Taken c i s step → stores_cell step ≡ false → (words_left c s step).identities ≡ (words_of c.shape c.words).identities
+identities-same c i s (ReadIdent x) k e = ap (λ (w : Words). w.identities) (words-read c i s (ReadIdent x) k refl)
+identities-same c i s (StoreNew x part word) k e = absurd (true≢false e)
+identities-same c i s step k e = identities-kept c.shape s step (written c.shape s step (found c s step)) (words_of c.shape c.words) refl
+
+-- a step that stores in no cell leaves the fields
+pub fields-same : (c : Core) (i : ℕ) (s : SeatState) (step : Step) → Taken c i s step → stores_cell step ≡ false → (words_left c s step).fields ≡ (words_of c.shape c.words).fields
+fields-same c i s (ReadField x j) k e = ap (λ (w : Words). w.fields) (words-read c i s (ReadField x j) k refl)
+fields-same c i s (ReadOwn x j) k e = ap (λ (w : Words). w.fields) (words-read c i s (ReadOwn x j) k refl)
+fields-same c i s (StoreField v j o) k e = absurd (true≢false e)
+fields-same c i s (ExchangeField v j y o) k e = absurd (true≢false e)
+fields-same c i s (StoreNew x part word) k e = absurd (true≢false e)
+fields-same c i s step k e = fields-kept c.shape s step (written c.shape s step (found c s step)) (words_of c.shape c.words) refl
+
+-- a step that stores in no cell leaves the values
+pub values-same : (c : Core) (i : ℕ) (s : SeatState) (step : Step) → Taken c i s step → stores_cell step ≡ false → (words_left c s step).values ≡ (words_of c.shape c.words).values
+values-same c i s (ReadValue x) k e = ap (λ (w : Words). w.values) (words-read c i s (ReadValue x) k refl)
+values-same c i s (StoreValue v n) k e = absurd (true≢false e)
+values-same c i s (ExchangeValue v m n) k e = absurd (true≢false e)
+values-same c i s (StoreNew x part word) k e = absurd (true≢false e)
+values-same c i s (Reset which) k e =
+    let w : Words = words_of c.shape c.words in at_counter (λ at. (put_word at (written c.shape s (Reset which) (found c s (Reset which))) w).values ≡ w.values) which (λ i h. refl) (λ i. refl)
+values-same c i s (AddStat which by down) k e =
+    let w : Words = words_of c.shape c.words in
+    at_counter (λ at. (put_word at (written c.shape s (AddStat which by down) (found c s (AddStat which by down))) w).values ≡ w.values) which (λ i h. refl) (λ i. refl)
+values-same c i s (ReadStat which) k e =
+    let w : Words = words_of c.shape c.words in at_counter (λ at. (put_word at (written c.shape s (ReadStat which) (found c s (ReadStat which))) w).values ≡ w.values) which (λ i h. refl) (λ i. refl)
+values-same c i s step k e = refl
 
 -- What a seat has at hand after the steps that leave the words of cells.
 -- a cache in which nothing further is made

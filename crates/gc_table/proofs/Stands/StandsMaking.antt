@@ -9,9 +9,9 @@ use Rattle.mark_core.specs.Cells.{field}
 use Rattle.mark_core.specs.Rules.HeapRules.{section_of_cell, NumbersBelow}
 use Rattle.mark_core.specs.Steps.MutatorSteps.{with_making}
 use Rattle.mark_core.specs.Steps.{Core}
-use Rattle.mark_core.proofs.Blocks.BlocksTaken.{Taken}
+use Rattle.mark_core.proofs.Blocks.BlocksStopped.{Taken}
 use Rattle.mark_core.proofs.Caches.CachesAt.{maker-at}
-use Rattle.mark_core.proofs.Formed.FormedAfter.{one-of}
+use Rattle.mark_core.proofs.Formed.FormedLearns.{one-of}
 use Rattle.mark_core.proofs.References.ReferencesRoots.{Used}
 use Rattle.mark_core.specs.declared.kinds.Shape.{Shape}
 use Rattle.mark_core.specs.declared.kinds.Step.{Step}
@@ -22,9 +22,7 @@ use Rattle.gc_table.specs.StandsFor.{object_count, IsForNextObject, SeatStands, 
 use Rattle.gc_table.specs.declared.view.Meaning.{Meaning}
 use Rattle.gc_table.specs.PlainSteps.{meaning_of}
 use Rattle.gc_table.proofs.Stands.StandsAgree.{Stays, agrees-on}
-use Rattle.gc_table.proofs.Stands.StandsCells.{cell-on}
-use Rattle.gc_table.proofs.Stands.StandsFrame.{counts-grow}
-use Rattle.gc_table.proofs.Stands.StandsMoves.{Moves, had-meaning}
+use Rattle.gc_table.proofs.Stands.StandsFrame.{cell-on, Moves, had-meaning, counts-grow}
 use Rattle.gc_table.proofs.Stands.StandsSeat.{Mutates, looks, making-is-free, free-not-used, free-apart}
 use Rattle.mark_core.specs.Numbers.{value_bound, section_span}
 

@@ -11,7 +11,7 @@ use Rattle.mark_core.specs.Rules.HeapRules.{section_of_cell, number_of_cell}
 use Rattle.mark_core.specs.Steps.MutatorSteps.{with_made, with_making}
 use Rattle.mark_core.specs.Steps.{Core}
 use Rattle.mark_core.specs.Laws.{IsCore}
-use Rattle.mark_core.proofs.Blocks.BlocksTaken.{Taken, mine as own-fact}
+use Rattle.mark_core.proofs.Blocks.BlocksStopped.{Taken, mine as own-fact}
 use Rattle.mark_core.proofs.Caches.CachesMakes.{made_makes}
 use Rattle.mark_core.proofs.Writing.Places.{region-length}
 use Rattle.mark_core.proofs.References.ReferencesFields.{new-fields}
@@ -26,15 +26,11 @@ use Rattle.gc_table.specs.StandsFor.{object_count, SeatStands, StandsFor, Stands
 use Rattle.gc_table.specs.declared.view.Meaning.{Meaning}
 use Rattle.gc_table.specs.PlainSteps.{meaning_of, own_section, changed, with_part, AsksIn}
 use Rattle.gc_table.proofs.Stands.StandsAgree.{Stays, agrees-on}
-use Rattle.gc_table.proofs.Stands.StandsCells.{HasMeaning, cell-on}
-use Rattle.gc_table.proofs.Stands.StandsFrame.{counts-grow, get-set_same}
+use Rattle.gc_table.proofs.Stands.StandsFrame.{HasMeaning, cell-on, Moves, moved, counts-grow, get-set_same}
 use Rattle.gc_table.proofs.Stands.StandsMaking.{no-next, all-made, NewWords, part-moves}
-use Rattle.gc_table.proofs.Stands.StandsMoves.{Moves, moved}
 use Rattle.gc_table.proofs.Stands.StandsSeat.{Mutates, names-used, got-used, root-used, free-not-used, mutates}
-use Rattle.mark_core.proofs.Acting.{words_left, seats_left}
-use Rattle.mark_core.proofs.Caches.CachesFacts.{all-facts}
-use Rattle.mark_core.proofs.Caches.CachesNext.{next-free, next-makes}
-use Rattle.mark_core.proofs.Caches.CachesSeat.{CacheFacts}
+use Rattle.mark_core.proofs.Known.{words_left, seats_left}
+use Rattle.mark_core.proofs.Caches.CachesSeat.{all-facts, CacheFacts, next-free, next-makes}
 use Rattle.mark_core.proofs.Pool.PoolBits.{same_place}
 use Rattle.plain_heap.specs.declared.operation.Op.{Op}
 use Rattle.gc_table.proofs.Stands.StandsStores.{values-length}

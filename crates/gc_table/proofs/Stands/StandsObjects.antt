@@ -6,14 +6,14 @@ use Rattle.std.proofs.lemmas.List.{length-set}
 use Rattle.std.proofs.lemmas.Option.{same_Some}
 use Rattle.mark_core.specs.Layout.{Words, words_of}
 use Rattle.mark_core.specs.Bits.{cell_of}
-use Rattle.mark_core.proofs.Formed.FormedAfter.{set-cases}
+use Rattle.mark_core.proofs.Formed.FormedLearns.{set-cases}
 use Rattle.mark_core.specs.Seats.{is_the, has_making}
 use Rattle.mark_core.specs.Views.{makers}
 use Rattle.mark_core.specs.Cells.{field}
 use Rattle.mark_core.specs.Rules.HeapRules.{section_of_cell, number_of_cell, NamesInUse}
 use Rattle.mark_core.specs.Steps.MutatorSteps.{has_own, may_change, seat_variable as word_in}
 use Rattle.mark_core.specs.Steps.{Core}
-use Rattle.mark_core.proofs.Blocks.BlocksTaken.{Taken, mine as own-fact}
+use Rattle.mark_core.proofs.Blocks.BlocksStopped.{Taken, mine as own-fact}
 use Rattle.mark_core.proofs.References.ReferencesRoots.{Used, seat-formed}
 use Rattle.mark_core.proofs.Used.UsedSeats.{IsMadeBy}
 use Rattle.mark_core.specs.declared.kinds.Step.{Step}
@@ -29,9 +29,7 @@ use Rattle.gc_table.specs.StandsFor.{object_count, WordAgrees, HoldsObject, Seat
 use Rattle.gc_table.specs.declared.view.Meaning.{Meaning}
 use Rattle.gc_table.specs.PlainSteps.{meaning_of}
 use Rattle.gc_table.proofs.Stands.StandsAgree.{Stays, next-on, agrees-on}
-use Rattle.gc_table.proofs.Stands.StandsCells.{HasMeaning, cell-on, named-object}
-use Rattle.gc_table.proofs.Stands.StandsFrame.{get-set_same, get-set_other, counts-grow}
-use Rattle.gc_table.proofs.Stands.StandsMoves.{Moves, had-meaning}
+use Rattle.gc_table.proofs.Stands.StandsFrame.{HasMeaning, cell-on, named-object, Moves, had-meaning, get-set_same, get-set_other, counts-grow}
 use Rattle.gc_table.proofs.Stands.StandsSeat.{Mutates, env-agrees, looks, names-used, making-is-free, free-not-used}
 use Rattle.mark_core.specs.Numbers.{value_bound}
 

@@ -9,12 +9,11 @@ use Rattle.mark_core.specs.Bits.{nil_or, reference_in}
 use Rattle.mark_core.specs.Seats.{is_the, may_mutate}
 use Rattle.mark_core.specs.Cells.{field}
 use Rattle.mark_core.specs.Steps.{Core}
-use Rattle.mark_core.proofs.Acting.{found, words_left, seats_left}
-use Rattle.mark_core.proofs.AtSeat.{roots-length}
-use Rattle.mark_core.proofs.Blocks.BlocksTaken.{Taken, in-place, words-read}
-use Rattle.mark_core.proofs.Writing.Regions.{words-get}
-use Rattle.mark_core.proofs.References.ReferencesNames.{known-used}
-use Rattle.mark_core.proofs.References.ReferencesRoots.{Used, UsedAfter, read-whole, read-field}
+use Rattle.mark_core.proofs.Known.{found, words_left, seats_left}
+use Rattle.mark_core.proofs.HeldBlock.{roots-length}
+use Rattle.mark_core.proofs.Blocks.BlocksStopped.{Taken, in-place, words-read}
+use Rattle.mark_core.proofs.Writing.Places.{words-get}
+use Rattle.mark_core.proofs.References.ReferencesRoots.{known-used, Used, UsedAfter, read-whole, read-field}
 use Rattle.mark_core.proofs.Used.UsedSeats.{IsMadeBy}
 use Rattle.mark_core.proofs.Writing.Writes.{only_reads}
 use Rattle.mark_core.specs.declared.kinds.Step.{Step}
@@ -27,9 +26,7 @@ use Rattle.gc_table.specs.StandsFor.{object_count, WordAgrees, SeatStands, Stand
 use Rattle.gc_table.specs.declared.view.Meaning.{Meaning}
 use Rattle.gc_table.specs.PlainSteps.{heap_in, catalogue_seen, own_section, meaning_of, no_meaning, changed, with_got, known_as}
 use Rattle.gc_table.proofs.Stands.StandsAgree.{Stays, next-on, agrees-on, lent-agrees}
-use Rattle.gc_table.proofs.Stands.StandsCells.{cell-on, field-agrees}
-use Rattle.gc_table.proofs.Stands.StandsFrame.{counts-grow}
-use Rattle.gc_table.proofs.Stands.StandsMoves.{Moves, moved, had-meaning}
+use Rattle.gc_table.proofs.Stands.StandsFrame.{cell-on, field-agrees, Moves, moved, had-meaning, counts-grow}
 use Rattle.gc_table.proofs.Stands.StandsSeat.{Mutates, mutates, known-agrees}
 
 -- only the register has changed

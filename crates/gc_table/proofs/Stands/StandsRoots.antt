@@ -10,9 +10,9 @@ use Rattle.mark_core.specs.Rules.HeapRules.{section_of_cell, number_of_cell}
 use Rattle.mark_core.specs.Steps.MutatorSteps.{names_last}
 use Rattle.mark_core.specs.Effects.{seat_after}
 use Rattle.mark_core.specs.Steps.{Core}
-use Rattle.mark_core.proofs.Acting.{found, words_left, seats_left}
-use Rattle.mark_core.proofs.AtSeat.{roots-length}
-use Rattle.mark_core.proofs.Blocks.BlocksTaken.{Taken}
+use Rattle.mark_core.proofs.Known.{found, words_left, seats_left}
+use Rattle.mark_core.proofs.HeldBlock.{roots-length}
+use Rattle.mark_core.proofs.Blocks.BlocksStopped.{Taken}
 use Rattle.mark_core.proofs.References.ReferencesRoots.{seat-formed}
 use Rattle.mark_core.specs.declared.kinds.Step.{Step}
 use Rattle.mark_core.specs.declared.kinds.Step.TheVariants.{StoreRoot}
@@ -28,9 +28,7 @@ use Rattle.gc_table.specs.StandsFor.{object_count, objects_in, WordAgrees, IsFor
 use Rattle.gc_table.specs.declared.view.Meaning.{Meaning}
 use Rattle.gc_table.specs.PlainSteps.{catalogue_seen, own_section, meaning_of, changed, with_got, stepped, IsAssignment, AsksIn}
 use Rattle.gc_table.proofs.Stands.StandsAgree.{Stays, next-on, agrees-on}
-use Rattle.gc_table.proofs.Stands.StandsCells.{cell-on}
-use Rattle.gc_table.proofs.Stands.StandsFrame.{get-set_same, counts-grow}
-use Rattle.gc_table.proofs.Stands.StandsMoves.{Moves, moved, had-meaning}
+use Rattle.gc_table.proofs.Stands.StandsFrame.{cell-on, Moves, moved, had-meaning, get-set_same, counts-grow}
 use Rattle.gc_table.proofs.Stands.StandsSeat.{Mutates, mutates, env-agrees}
 use Rattle.mark_core.specs.Numbers.{value_bound, section_span}
 

@@ -1,36 +1,40 @@
 -- What is known of the cells that a seat names and makes, and of a mutator's section.
-use Rattle.std.proofs.Common.{ℕ, ◌≡◌, ◌+◌, ◌-◌, ◌*◌, ◌%◌, ◌<◌, ◌≤◌, suc, List, [], ◌∷◌, get_or, length, arith, refl, sym, ap, ◌∙◌, subst, Bool, true, false, ◌||◌, cond, eqb, Option, Some, None, ◌⊎◌, inl, inr, ⊎_elim}
+use Rattle.std.proofs.Common.{ℕ, ◌≡◌, ◌+◌, ◌-◌, ◌*◌, ◌%◌, ◌<◌, ◌≤◌, suc, List, [], ◌∷◌, get_or, length, arith, refl, sym, ap, ◌∙◌, subst, Bool, true, false, ◌||◌, cond, eqb, Option, Some, None, ◌⊎◌, inl, inr, ⊎_elim, ◌&&◌}
 use Rattle.std.specs.Prelude.{IsTrue, IsFalse, IfSome, slice_get, slice_index, nat_lt, is_none, unwrap_or, if◌then◌else◌}
 use Rattle.std.specs.List.{list_any}
-use Rattle.std.proofs.lemmas.Bool.{true≢false, false≢true, or_cases, or_left, eqb-true, ltb-true, cases_Bool}
+use Rattle.std.proofs.lemmas.Bool.{true≢false, false≢true, or_cases, or_left, eqb-true, ltb-true, cases_Bool, and_parts}
 use Rattle.std.proofs.lemmas.List.{get_or_past}
-use Rattle.std.proofs.lemmas.Option.{slice_get-get_or}
+use Rattle.std.proofs.lemmas.Option.{slice_get-get_or, same_Some}
 use Rattle.mark_core.specs.Layout.{words_of}
 use Rattle.mark_core.specs.Bits.{nil_or}
 use Rattle.mark_core.specs.Seats.{free_in, used_in, makes, last_made, may_mutate}
 use Rattle.mark_core.specs.Views.{makers, maker_of}
 use Rattle.mark_core.specs.Rules.HeapRules.{NamesInUse, EnvIsRoots}
-use Rattle.mark_core.specs.Steps.MutatorSteps.{knows_cell}
+use Rattle.mark_core.specs.Steps.MutatorSteps.{knows_cell, in_variables}
 use Rattle.mark_core.specs.WellFormed.{IsCache}
 use Rattle.mark_core.specs.Steps.{Core}
 use Rattle.mark_core.specs.Laws.{IsCore}
-use Rattle.mark_core.proofs.Blocks.BlocksTaken.{Taken, mine as own-fact}
+use Rattle.mark_core.proofs.Blocks.BlocksStopped.{Taken, mine as own-fact}
 use Rattle.mark_core.proofs.Caches.CachesAt.{caching, maker-at}
-use Rattle.mark_core.proofs.Caches.CachesFacts.{all-facts}
-use Rattle.mark_core.proofs.Caches.CachesNext.{making-free, free-block}
-use Rattle.mark_core.proofs.Caches.CachesOwners.{free-unused, same-seat}
-use Rattle.mark_core.proofs.Caches.CachesSeat.{CacheFacts}
+use Rattle.mark_core.proofs.Caches.CachesSeat.{all-facts, CacheFacts, making-free, free-block}
+use Rattle.mark_core.proofs.Caches.CachesClaims.{free-unused, same-seat}
 use Rattle.mark_core.proofs.References.ReferencesEnv.{section-is}
 use Rattle.mark_core.proofs.References.ReferencesRoots.{Used, own-used, seat-formed, mutator-is}
 use Rattle.mark_core.specs.declared.kinds.Shape.{Shape}
 use Rattle.mark_core.specs.declared.kinds.Step.{Step}
-use Rattle.mark_core.specs.declared.kinds.Step.TheVariants.{ReadCount}
+use Rattle.mark_core.specs.declared.kinds.Step.TheVariants.{ReadCount, StoreField, StoreValue, StoreRoot}
 use Rattle.mark_core.specs.declared.seat.SeatState.{SeatState}
 use Rattle.mark_core.specs.declared.seat.CacheState.{CacheState}
-use Rattle.plain_heap.specs.PlainHeap.{variable}
-use Rattle.gc_table.specs.StandsFor.{object_count, WordAgrees, SeatStands, StandsFor}
+use Rattle.plain_heap.specs.PlainHeap.{variable, Heap}
+use Rattle.gc_table.specs.StandsFor.{object_count, WordAgrees, SeatStands, StandsFor, IsSection}
 use Rattle.gc_table.specs.declared.view.Meaning.{Meaning}
-use Rattle.gc_table.specs.PlainSteps.{own_section, meaning_of, no_meaning, place_of, known_as}
+use Rattle.gc_table.specs.PlainSteps.{own_section, meaning_of, no_meaning, place_of, known_as, catalogue_seen, IsSet, IsAssignment, AsksIn, changes_heap}
+use Rattle.mark_core.proofs.Known.{Acted, acts}
+use Rattle.plain_heap.specs.declared.operation.Op.{Op}
+use Rattle.plain_heap.specs.declared.operation.Op.TheVariants as ops
+use Rattle.plain_heap.specs.PlainStep.{IsInRange}
+use Rattle.gc_table.specs.Laws.{PlainStepsAreInRange}
+use Rattle.mark_core.specs.Numbers.{value_bound}
 
 -- any seat that isn't spent may look at a count
 pub looks : (c : Core) (w : ℕ) (s : SeatState) → IsCore c → slice_get c.seats w ≡ Some s → IsFalse s.spent → Taken c w s ReadCount
@@ -169,3 +173,41 @@ known-agrees c i s step ms x k st a e = of (eqb s.got (x + 1)) refl
         let place : place_of s.env (x + 1) 0 ≡ r.0 = r.1 ∙ omega arith in
         subst (λ q. WordAgrees ids (object_count ms) i (x + 1) q) (sym (ap (λ (b : Bool). if b then m.got else variable m.heap (place_of s.env (x + 1) 0)) f ∙ ap (λ p. variable m.heap p) place))
         (subst (λ word. WordAgrees ids (object_count ms) i word (variable m.heap r.0)) r.3 (env-agrees c i s step ms r.0 k st a h))
+
+-- The plain step of a store is in range.
+set_range : (fields v i : ℕ) (heap : Heap) (o : Option ℕ) (op : Op) → v < 32 → i < fields → in_variables o ≡ true → IsSet heap v i o op → IsInRange fields op
+set_range fields v i heap None op hv hi h (u, below, nil, is) = subst (IsInRange fields) (sym is) (hv, hi, below)
+set_range fields v i heap (Some w) op hv hi h is = subst (IsInRange fields) (sym is) (hv, hi, ltb-true w 32 h)
+
+assignment_range : (fields v r : ℕ) (s : SeatState) (m : Meaning) (catalogue : Option Heap) (op : Op) → v < 32 → m.heap.fields ≡ fields → m.value < value_bound → IsAssignment s m catalogue v r op → IsInRange fields op
+assignment_range fields v r s m catalogue (ops.New u n) hv f few (e, value, last, room) = (omega (arith, e, hv), omega (arith, value, few))
+assignment_range fields v r s m catalogue (ops.Nil u) hv f few (e, nil) = omega (arith, e, hv)
+assignment_range fields v r s m catalogue (ops.Let u x) hv f few (e, h, word) = (omega (arith, e, hv), h)
+assignment_range fields v r s m catalogue (ops.Get u x j) hv f few (e, word, is, hx, hj) = (omega (arith, e, hv), hx, omega (arith, hj, f))
+assignment_range fields v r s m catalogue (ops.Cat u x) hv f few (e, word, is, hx) = (omega (arith, e, hv), hx)
+assignment_range fields v r s m catalogue (ops.Set u x y) hv f few z = absurd z
+assignment_range fields v r s m catalogue (ops.Put u x) hv f few z = absurd z
+assignment_range fields v r s m catalogue (ops.Say u) hv f few z = absurd z
+assignment_range fields v r s m catalogue (ops.Sum u x y) hv f few z = absurd z
+assignment_range fields v r s m catalogue ops.Collect hv f few z = absurd z
+
+range_at : (c : Core) (i : ℕ) (s : SeatState) (step : Step) (op : Op) (ms : List Meaning) → Taken c i s step → StandsFor c ms → AsksIn s ms step op → changes_heap step ≡ true → IsInRange c.shape.fields op
+range_at c i s (StoreField v j o) op ms k st asks e =
+    let a = and_parts (nat_lt v 32 && nat_lt j c.shape.fields && in_variables o) (may_mutate s) k.ok.0 in
+    let b = and_parts (nat_lt v 32 && nat_lt j c.shape.fields) (in_variables o) a.0 in
+    let d = and_parts (nat_lt v 32) (nat_lt j c.shape.fields) b.0 in
+    set_range c.shape.fields v j (meaning_of ms (own_section s)).heap o op (ltb-true v 32 d.0) (ltb-true j c.shape.fields d.1) b.1 asks.1
+range_at c i s (StoreValue v n) op ms k st asks e = let a = and_parts (nat_lt v 32) (may_mutate s) k.ok.0 in subst (IsInRange c.shape.fields) (sym asks.1) (ltb-true v 32 a.0, omega (arith, asks.2))
+range_at c i s (StoreRoot v r) op ms k st asks e =
+    let a = and_parts (nat_lt v 32) (may_mutate s) k.ok.0 in
+    let own : Mutates c i s ms = mutates c i s (StoreRoot v r) ms k st a.1 in
+    let asked : IsAssignment s (meaning_of ms i) (catalogue_seen ms i) v r op = subst (λ (o : ℕ). IsAssignment s (meaning_of ms o) (catalogue_seen ms o) v r op) own.own asks.1 in
+    let formed : IsSection c.shape i (meaning_of ms i) = st.numbered i (meaning_of ms i) own.there in
+    assignment_range c.shape.fields v r s (meaning_of ms i) (catalogue_seen ms i) op (ltb-true v 32 a.0) formed.2 formed.3 asked
+range_at c i s step op ms k st asks e = absurd (false≢true e)
+
+pub steps_in_range : PlainStepsAreInRange
+steps_in_range c e s op ms k st g asks f h =
+    let r : (x : SeatState) × Acted c e x = acts c e k f in
+    let same : r.0 ≡ s = same_Some r.0 s (sym r.1.seat ∙ g) in
+    range_at c e.seat s e.step op ms (subst (λ (x : SeatState). Taken c e.seat x e.step) same (record { core = k; got = r.1.seat; live = r.1.live; ok = r.1.ok })) st asks h

@@ -8,9 +8,9 @@ use Rattle.std.proofs.lemmas.List.FromFn.{length-map-range_with_len}
 use Rattle.std.proofs.lemmas.Option.{same_Some}
 use Rattle.mark_core.specs.Layout.{Words, words_of}
 use Rattle.mark_core.specs.Start.{start_words, start_seat}
-use Rattle.mark_core.proofs.Acting.{some_none}
-use Rattle.mark_core.proofs.Formed.FormedStart.{seat-at}
-use Rattle.mark_core.proofs.References.ReferencesStart.{no-root, none-used}
+use Rattle.mark_core.proofs.Known.{some_none}
+use Rattle.mark_core.proofs.Formed.FormedSeats.{seat-at}
+use Rattle.mark_core.proofs.References.ReferencesRoots.{no-root, none-used}
 use Rattle.mark_core.specs.declared.kinds.Shape.{Shape}
 use Rattle.mark_core.specs.declared.seat.SeatState.{SeatState}
 use Rattle.plain_heap.specs.declared.object.Ref.TheVariants as refs

@@ -1,28 +1,26 @@
 -- 18: a field or the value of an object is stored.
-use Rattle.std.proofs.Common.{ℕ, ◌≡◌, ◌≢◌, ◌+◌, ◌-◌, ◌*◌, ◌<◌, List, set, get_or, length, arith, refl, sym, ap, ◌∙◌, subst, true, ◌&&◌, Option, Some, None, inl, ⊎_elim}
-use Rattle.std.specs.Prelude.{IsFalse, IsTrue, slice_index_or, nat_lt}
-use Rattle.std.proofs.lemmas.Bool.{and_parts, ltb-true, cases_eq}
-use Rattle.std.proofs.lemmas.List.{get_or-set_same, get_or-set_other, length-set}
+use Rattle.std.proofs.Common.{ℕ, ◌≡◌, ◌≢◌, ◌+◌, ◌-◌, ◌*◌, ◌<◌, List, set, get_or, length, arith, refl, sym, ap, ◌∙◌, subst, true, ◌&&◌, Option, Some, None, inl, ⊎_elim, ◌/◌, [], ◌∷◌, Bool, false, cond}
+use Rattle.std.specs.Prelude.{IsFalse, IsTrue, slice_index_or, nat_lt, slice_get, unwrap_or, slice_index}
+use Rattle.std.proofs.lemmas.Bool.{and_parts, ltb-true, cases_eq, cases_Bool}
+use Rattle.std.proofs.lemmas.List.{get_or-set_same, get_or-set_other, length-set, set-get_or}
 use Rattle.mark_core.specs.Layout.{Words, words_of, region_sizes}
-use Rattle.mark_core.specs.Bits.{cell_of}
-use Rattle.mark_core.specs.Seats.{may_mutate}
-use Rattle.mark_core.specs.Cells.{field}
+use Rattle.mark_core.specs.Bits.{cell_of, cell_bit}
+use Rattle.mark_core.specs.Seats.{may_mutate, is_phase}
+use Rattle.mark_core.specs.Cells.{field, is_swept_block, IsCellPath}
 use Rattle.mark_core.specs.Rules.HeapRules.{number_of_cell}
 use Rattle.mark_core.specs.Steps.MutatorSteps.{in_variables, variable_or_nil, seat_variable as word_in}
 use Rattle.mark_core.specs.Effects.{seat_after}
 use Rattle.mark_core.specs.Steps.{Core}
 use Rattle.mark_core.specs.Laws.{IsCore}
-use Rattle.mark_core.proofs.Acting.{found, words_left, seats_left}
-use Rattle.mark_core.proofs.AtSeat.{allocs-length}
-use Rattle.mark_core.proofs.Blocks.BlocksTaken.{Taken, in-place}
-use Rattle.mark_core.proofs.Core.{all-makers}
-use Rattle.mark_core.proofs.Known.{in_use-below}
+use Rattle.mark_core.proofs.Known.{found, words_left, seats_left, all-makers, in_use-below}
+use Rattle.mark_core.proofs.HeldBlock.{allocs-length}
+use Rattle.mark_core.proofs.Blocks.BlocksStopped.{Taken, in-place}
 use Rattle.mark_core.proofs.Writing.Places.{region-length}
 use Rattle.mark_core.proofs.Pool.PoolBits.{same_place}
 use Rattle.mark_core.proofs.References.ReferencesRoots.{Used, UsedAfter}
-use Rattle.mark_core.specs.Views.{makers}
+use Rattle.mark_core.specs.Views.{makers, blocks}
 use Rattle.mark_core.specs.declared.kinds.Step.{Step}
-use Rattle.mark_core.specs.declared.kinds.Step.TheVariants.{StoreField, StoreValue}
+use Rattle.mark_core.specs.declared.kinds.Step.TheVariants.{StoreField, StoreValue, ReadOwn, ReadCat, StoreRoot, StoreNew, ReadSlot}
 use Rattle.mark_core.specs.declared.seat.SeatState.{SeatState}
 use Rattle.plain_heap.specs.declared.object.Ref.{Ref}
 use Rattle.plain_heap.specs.declared.object.Ref.TheVariants as refs
@@ -33,11 +31,17 @@ use Rattle.plain_heap.specs.PlainHeap.{Heap, variable}
 use Rattle.plain_heap.specs.PlainStep.{heap_after, replaced, with_field, with_value}
 use Rattle.gc_table.specs.StandsFor.{object_count, WordAgrees, Stands, StandsIn, StandsFor}
 use Rattle.gc_table.specs.declared.view.Meaning.{Meaning}
-use Rattle.gc_table.specs.PlainSteps.{catalogue_seen, own_section, meaning_of, changed, stepped, IsSet, AsksIn}
-use Rattle.gc_table.proofs.Stands.StandsMoves.{moved}
+use Rattle.gc_table.specs.PlainSteps.{catalogue_seen, own_section, meaning_of, changed, stepped, IsSet, AsksIn, no_meaning, changed_by, meaning_after}
+use Rattle.gc_table.proofs.Stands.StandsFrame.{moved}
 use Rattle.gc_table.proofs.Stands.StandsObjects.{owned, Owns, owns, stored-object, with_object, Rewrites, object-moves}
 use Rattle.gc_table.proofs.Stands.StandsSeat.{Mutates, mutates, env-agrees}
 use Rattle.mark_core.specs.Numbers.{value_bound}
+use Rattle.std.proofs.lemmas.Option.{get_or_from_slice_get}
+use Rattle.mark_core.specs.declared.kinds.Shape.{Shape}
+use Rattle.gc_table.specs.Laws.{OneMeaningChanges, OneCellIsNext}
+use Rattle.mark_core.specs.Closed.{IsReachableIn}
+use Rattle.mark_core.proofs.Consequences.Closing.{goes-to, Kept, kept-below, path-kept}
+use Rattle.mark_core.specs.declared.kinds.Phase.TheVariants.{Sweep}
 
 -- a cell in use exists
 pub used-exists : (c : Core) → IsCore c → (x : ℕ) → Used c x ≡ true → x < c.shape.cells
@@ -152,3 +156,48 @@ store-value c i s v n op ms alone k st asks =
     (object-moves c i s step v ms y (set w.values y n) w.fields object s.owes k st a (λ z f. f) own (value_rewrites c i s v n y ms k.core small own)) in
     subst (λ (z : ℕ). StandsIn c.shape (words_left c s step) (seats_left c i s step) (changed ms z (stepped (catalogue_seen ms z) op))) (sym a.own)
     (subst (λ (z : ℕ). P z (heap_after m.heap (catalogue_seen ms i) op)) (sym own.cell) (subst (P y) (sym heap_is) base))
+
+-- One meaning changes at a step, and one cell of a section is made for the next object.
+-- the section that changes is the seat's own
+own_changes : (sh : Shape) (s : SeatState) (step : Step) (op : Op) (ms : List Meaning) (w : ℕ) (m : Meaning) → s.section ≡ Some w → slice_get ms w ≡ Some m → changed_by sh s step op ms ≡ set ms w (meaning_after sh s (catalogue_seen ms w) step op m)
+own_changes sh s step op ms w m e g =
+    let own : own_section s ≡ w = ap (λ (o : Option ℕ). unwrap_or o 0) e in
+    let mine : meaning_of ms w ≡ m = get_or_from_slice_get ms w m no_meaning g in
+    ap (λ (k : ℕ). set ms k (meaning_after sh s (catalogue_seen ms k) step op (meaning_of ms k))) own ∙ ap (λ (x : Meaning). set ms w (meaning_after sh s (catalogue_seen ms w) step op x)) mine
+
+pub one_changes : OneMeaningChanges
+one_changes sh s (StoreField v i o) op ms w m e g = own_changes sh s (StoreField v i o) op ms w m e g
+one_changes sh s (StoreValue v n) op ms w m e g = own_changes sh s (StoreValue v n) op ms w m e g
+one_changes sh s (StoreRoot v r) op ms w m e g = own_changes sh s (StoreRoot v r) op ms w m e g
+one_changes sh s (ReadOwn x i) op ms w m e g = own_changes sh s (ReadOwn x i) op ms w m e g
+one_changes sh s (ReadCat v) op ms w m e g = own_changes sh s (ReadCat v) op ms w m e g
+one_changes sh s (ReadSlot k) op ms w m e g = own_changes sh s (ReadSlot k) op ms w m e g
+one_changes sh s (StoreNew x part word) op ms w m e g = own_changes sh s (StoreNew x part word) op ms w m e g
+one_changes sh s step op ms w m e g = sym (subst (λ (x : Meaning). set ms w x ≡ ms) (get_or_from_slice_get ms w m m g) (set-get_or ms w m))
+
+pub one_next : OneCellIsNext
+one_next c m x y k u v e a b = k.sound.caches.distinct x (used-exists c k x u) y (used-exists c k y v) u v (omega (arith, e, a.number, b.number))
+
+-- Every reachable cell is in use, and what it names is in use.
+either_used : (b u m : Bool) → (m ≡ true → u ≡ true) → cond b u m ≡ true → u ≡ true
+either_used true u m f e = e
+either_used false u m f e = f e
+
+-- a cell that the sweep keeps is in use
+kept_used : (c : Core) (x : ℕ) → IsCore c → Kept c x ≡ true → Used c x ≡ true
+kept_used c x k e =
+    let w : Words = words_of c.shape c.words in
+    either_used (is_swept_block w.next_block (blocks c.seats) (x / 64)) (Used c x) (cell_bit w.marks x) (k.sound.marks.marked_in_use x (kept-below c x k e)) e
+
+path_used : (c : Core) → IsCore c → is_phase (words_of c.shape c.words).phase Sweep ≡ false → (x : ℕ) (ds : List ℕ) → IsCellPath c.shape (words_of c.shape c.words).roots (words_of c.shape c.words).fields (x ∷ ds) → Used c x ≡ true
+path_used c k e x [] p = goes-to (Used c) (slice_index (words_of c.shape c.words).roots p.0) x p.2 (k.sound.references.roots_in_use p.0 0 p.1)
+path_used c k e x (d ∷ ds) p =
+    let u : Used c d ≡ true = path_used c k e d ds p.1 in
+    goes-to (Used c) (field c.shape (words_of c.shape c.words).fields d p.0.0) x p.0.2 (k.sound.references.fields_in_use e d (used-exists c k d u) u p.0.0 p.0.1)
+
+pub reachable-used : (c : Core) (x : ℕ) → IsCore c → IsReachableIn c x → Used c x ≡ true
+reachable-used c x k r =
+    ⊎_elim
+    (λ (e : is_phase (words_of c.shape c.words).phase Sweep ≡ true). kept_used c x k (path-kept c k e x r.0 r.1))
+    (λ (e : is_phase (words_of c.shape c.words).phase Sweep ≡ false). path_used c k e x r.0 r.1)
+    (cases_Bool (is_phase (words_of c.shape c.words).phase Sweep))

@@ -17,19 +17,17 @@ use Rattle.gc_table.specs.Sections.{seen_by, meaning_by, section_after, start_se
 use Rattle.gc_table.specs.TableState.{TableState, meanings_of, section_at, with_section, state_after}
 use Rattle.gc_table.proofs.Stands.StandsKept.{stands_kept}
 use Rattle.gc_table.proofs.Stands.StandsSeat.{Mutates, mutates}
-use Rattle.gc_table.proofs.State.StateSeen.{meaning-at, seen-is}
+use Rattle.gc_table.proofs.State.StateStores.{meaning-at, seen-is, meaning-told}
 use Rattle.gc_table.proofs.State.StateSteps.{Goes, event, taken, may-happen, sections_left, sections-left, kept-whole, each-left, some-same}
-use Rattle.gc_table.proofs.State.StateStores.{meaning-told}
 use Rattle.mark_core.specs.Start.{start_seat, spent_seat}
 use Rattle.mark_core.specs.Effects.{seat_after}
 use Rattle.mark_core.specs.Steps.{Core, AllTrue}
 use Rattle.mark_core.proofs.Pool.PoolsKept.{shape-kept}
 use Rattle.mark_core.specs.Layout.{words_of}
 use Rattle.mark_core.specs.Parts.{parts}
-use Rattle.mark_core.proofs.Acting.{Acted, found, seats_left}
-use Rattle.mark_core.proofs.Core.{acts}
+use Rattle.mark_core.proofs.Known.{Acted, found, seats_left, acts}
 use Rattle.gc_table.specs.Laws.{EventsKeepRule}
-use Rattle.mark_core.proofs.Blocks.BlocksTaken.{within}
+use Rattle.mark_core.proofs.Blocks.BlocksStopped.{within}
 use Rattle.mark_core.proofs.CoreKept.{core_kept}
 use Rattle.mark_core.proofs.Swept.SweptKept.{swept_kept_by}
 use Rattle.mark_core.specs.declared.kinds.Shape.{Shape}

@@ -9,10 +9,10 @@ use Rattle.mark_core.specs.Parts.{parts}
 use Rattle.mark_core.specs.Seats.{may_mutate}
 use Rattle.mark_core.specs.Rules.HeapRules.{section_of_cell, number_of_cell}
 use Rattle.mark_core.specs.Steps.{Core, AllTrue}
-use Rattle.mark_core.proofs.Acting.{found}
-use Rattle.mark_core.proofs.Blocks.BlocksTaken.{Taken, in-place}
-use Rattle.mark_core.proofs.References.ReferencesNames.{known-used}
-use Rattle.mark_core.proofs.Writing.Regions.{words-get}
+use Rattle.mark_core.proofs.Known.{found}
+use Rattle.mark_core.proofs.Blocks.BlocksStopped.{Taken, in-place}
+use Rattle.mark_core.proofs.References.ReferencesRoots.{known-used}
+use Rattle.mark_core.proofs.Writing.Places.{words-get}
 use Rattle.mark_core.specs.declared.kinds.Shape.{Shape}
 use Rattle.mark_core.specs.declared.kinds.Step.{Step}
 use Rattle.mark_core.specs.declared.kinds.Step.TheVariants.{ReadOwn, ReadValue, ReadIdent, ReadCat, ReadStat, ReadSeason}
@@ -32,11 +32,11 @@ use Rattle.mark_core.specs.declared.kinds.Shape.{Shape}
 use Rattle.gc_table.specs.Reads.{Reads}
 use Rattle.gc_table.specs.TableState.{TableState, meanings_of}
 use Rattle.gc_table.specs.Rule.{IsState, Agrees}
-use Rattle.gc_table.proofs.Stands.StandsCells.{HasMeaning, named-object}
-use Rattle.gc_table.proofs.Stands.StandsNamed.{ref-of}
+use Rattle.gc_table.proofs.Stands.StandsFrame.{HasMeaning, named-object}
+use Rattle.gc_table.proofs.Stands.StandsReached.{ref-of}
 use Rattle.gc_table.proofs.Stands.StandsReads.{own-found, cat-found}
 use Rattle.gc_table.proofs.Stands.StandsSeat.{Mutates, known-agrees}
-use Rattle.gc_table.proofs.State.StatePlain.{Acts, acts-taken, own-section, Views, views}
+use Rattle.gc_table.proofs.State.StateStores.{Acts, acts-taken, own-section, Views, views}
 use Rattle.mark_core.specs.Numbers.{first_position, last_count, named_number, section_span}
 
 -- the object that a reference to a cell names has the cell's value

@@ -9,12 +9,12 @@ use Rattle.std.proofs.lemmas.Option.{same_Some, slice_get_within}
 use Rattle.mark_core.specs.Shapes.{IsShape}
 use Rattle.mark_core.specs.Layout.{words_of, region_base, region_sizes, pool_words}
 use Rattle.mark_core.specs.Start.{start_words, start_seats, full_pool, packet_bits}
-use Rattle.mark_core.proofs.Acting.{some_none}
+use Rattle.mark_core.proofs.Known.{some_none}
 use Rattle.mark_core.proofs.CoreKept.{core-starts}
-use Rattle.mark_core.proofs.Formed.FormedStart.{seat-at}
+use Rattle.mark_core.proofs.Formed.FormedSeats.{seat-at}
 use Rattle.mark_core.proofs.Pool.PoolStart.{in-gap, past-gap, gap, singles, tail_words}
-use Rattle.mark_core.proofs.References.ReferencesStart.{none-used}
-use Rattle.mark_core.proofs.Writing.Regions.{words-get}
+use Rattle.mark_core.proofs.References.ReferencesRoots.{none-used}
+use Rattle.mark_core.proofs.Writing.Places.{words-get}
 use Rattle.mark_core.proofs.Swept.SweptStart.{swept_starts}
 use Rattle.mark_core.specs.declared.kinds.Shape.{Shape}
 use Rattle.mark_core.specs.declared.seat.SeatState.{SeatState}

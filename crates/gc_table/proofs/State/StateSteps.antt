@@ -5,8 +5,8 @@ use Rattle.mark_core.specs.Layout.{Words, words_of}
 use Rattle.mark_core.specs.Parts.{parts}
 use Rattle.mark_core.specs.Steps.{AllTrue, first_false, failing_of, failing_part}
 use Rattle.mark_core.specs.Laws.{NumbersFit}
-use Rattle.mark_core.proofs.Acting.{words_left, seats_left}
-use Rattle.mark_core.proofs.Blocks.BlocksTaken.{Taken, kept-after}
+use Rattle.mark_core.proofs.Known.{words_left, seats_left}
+use Rattle.mark_core.proofs.Blocks.BlocksStopped.{Taken, kept-after}
 use Rattle.mark_core.specs.declared.kinds.Shape.{Shape}
 use Rattle.mark_core.specs.declared.kinds.Event.{Event}
 use Rattle.mark_core.specs.declared.kinds.Step.{Step}

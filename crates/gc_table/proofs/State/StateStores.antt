@@ -1,18 +1,18 @@
 -- What the words of a section mean after a step is told without its plain step: the record of the seat says which one it is.
-use Rattle.std.proofs.Common.{ℕ, ◌≡◌, ◌+◌, ◌-◌, ◌*◌, ◌<◌, zero, suc, List, get_or, length, arith, refl, sym, ap, ◌∙◌, subst, Bool, true, false, not, ◌&&◌, eqb, Option, Some, None, inl, inr}
-use Rattle.std.specs.Prelude.{IfSome, slice_index, if◌then◌else◌}
+use Rattle.std.proofs.Common.{ℕ, ◌≡◌, ◌+◌, ◌-◌, ◌*◌, ◌<◌, zero, suc, List, get_or, length, arith, refl, sym, ap, ◌∙◌, subst, Bool, true, false, not, ◌&&◌, eqb, Option, Some, None, inl, inr, ◌%◌, [], ◌∷◌}
+use Rattle.std.specs.Prelude.{IfSome, slice_index, if◌then◌else◌, IsTrue, IsFalse, slice_get, unwrap_or}
 use Rattle.std.specs.List.{list_any}
-use Rattle.std.proofs.lemmas.Bool.{and_parts, or_left, or_right, not-true, eqb-true, eqb-false, eq-eqb, false_from_ne_true}
+use Rattle.std.proofs.lemmas.Bool.{and_parts, or_left, or_right, not-true, eqb-true, eqb-false, eq-eqb, false_from_ne_true, true≢false, ne_eqb}
 use Rattle.std.proofs.lemmas.List.Folds.{list_any_at}
 use Rattle.mark_core.specs.Layout.{words_of}
-use Rattle.mark_core.specs.Seats.{is_the, last_made, may_mutate}
+use Rattle.mark_core.specs.Seats.{is_the, last_made, may_mutate, has_turn}
 use Rattle.mark_core.specs.Rules.HeapRules.{section_of_cell, number_of_cell}
 use Rattle.mark_core.specs.Steps.MutatorSteps.{names_last, knows_cell, seat_variable as word_in}
-use Rattle.mark_core.specs.Steps.{Core}
-use Rattle.mark_core.proofs.Blocks.BlocksTaken.{Taken}
+use Rattle.mark_core.specs.Steps.{Core, AllTrue}
+use Rattle.mark_core.proofs.Blocks.BlocksStopped.{Taken, mine as own-fact}
 use Rattle.mark_core.proofs.References.ReferencesRoots.{seat-formed}
 use Rattle.mark_core.specs.declared.kinds.Step.{Step}
-use Rattle.mark_core.specs.declared.kinds.Step.TheVariants.{StoreField, StoreValue, StoreRoot}
+use Rattle.mark_core.specs.declared.kinds.Step.TheVariants.{StoreField, StoreValue, StoreRoot, ReadCount}
 use Rattle.mark_core.specs.declared.seat.SeatState.{SeatState}
 use Rattle.plain_heap.specs.declared.object.Ref.{Ref}
 use Rattle.plain_heap.specs.declared.object.Ref.TheVariants as refs
@@ -23,12 +23,21 @@ use Rattle.plain_heap.specs.Paths.{Name, Names}
 use Rattle.plain_heap.specs.PlainStep.{heap_after, assigned, with_new, with_field, stored_at, followed, lent_variable}
 use Rattle.gc_table.specs.StandsFor.{object_count, objects_in, WordAgrees, SeatStands, StandsFor}
 use Rattle.gc_table.specs.declared.view.Meaning.{Meaning}
-use Rattle.gc_table.specs.PlainSteps.{meaning_of, known_as, with_got, IsSet, IsAssignment, meaning_after, Asks}
-use Rattle.gc_table.specs.Sections.{named_by, stored_ref, rooted, meaning_by}
+use Rattle.gc_table.specs.PlainSteps.{meaning_of, known_as, with_got, IsSet, IsAssignment, meaning_after, Asks, catalogue_seen, changes_heap, heap_in, own_section}
+use Rattle.gc_table.specs.Sections.{named_by, stored_ref, rooted, meaning_by, seen_by, section_after, planned, seen_of, season_of}
 use Rattle.gc_table.proofs.Stands.StandsAgree.{nil-is}
 use Rattle.gc_table.proofs.Stands.StandsRoots.{last-is}
-use Rattle.gc_table.proofs.Stands.StandsSeat.{Mutates, mutates, env-agrees, known-agrees}
+use Rattle.gc_table.proofs.Stands.StandsSeat.{Mutates, mutates, env-agrees, known-agrees, mutates-in, looks}
 use Rattle.mark_core.specs.Numbers.{section_span}
+use Rattle.std.proofs.lemmas.Option.{get_or_from_slice_get, slice_get-map, slice_get-get_or}
+use Rattle.mark_core.specs.Parts.{parts}
+use Rattle.mark_core.specs.declared.kinds.Shape.{Shape}
+use Rattle.gc_table.specs.declared.view.View.{View}
+use Rattle.gc_table.specs.TableState.{TableState, no_section, meanings_of, section_at}
+use Rattle.gc_table.specs.Rule.{IsState, Agrees}
+use Rattle.std.specs.Option.{option_map}
+use Rattle.std.proofs.lemmas.List.{length-map}
+use Rattle.gc_table.specs.declared.view.SectionState.{SectionState}
 
 -- an object has one reference in a section
 pub names-ref : (w : ℕ) (a b : Ref) (name : Name) → Names w a name → Names w b name → a ≡ b
@@ -152,3 +161,106 @@ meaning-told c i s (StoreRoot v r) op ms catalogue k st asks =
     let a : Mutates c i s ms = mutates c i s (StoreRoot v r) ms k st (and_parts _ (may_mutate s) k.ok.0).1 in
     ap (λ (x : Heap). with_got refs.Nil (record (meaning_of ms i) { heap = x })) (root_told c i s (StoreRoot v r) ms catalogue v r op k st a asks.1)
 meaning-told c i s step op ms catalogue k st asks = refl
+
+-- What a mutator's view says of its section is what the state has there, and a store changes the plain heap of the view by its plain step.
+-- What a mutator sees of the catalogue by the plan is what is there.
+-- what the words of a section mean, looked up in either order
+pub meaning-at : (xs : List SectionState) (w : ℕ) → meaning_of (meanings_of xs) w ≡ (section_at xs w).meaning
+meaning-at [] w = refl
+meaning-at (x ∷ xs) zero = refl
+meaning-at (x ∷ xs) (suc w) = meaning-at xs w
+
+pub meaning-there : (xs : List SectionState) (w : ℕ) → w < length xs → slice_get (meanings_of xs) w ≡ Some (section_at xs w).meaning
+meaning-there xs w h = slice_get-map (λ (x : SectionState). x.meaning) xs w ∙ ap (option_map (λ (x : SectionState). x.meaning)) (slice_get-get_or xs w no_section h)
+
+pub sections-length : (x : TableState) → IsState x → length x.sections ≡ x.core.shape.sections
+sections-length x k = k.sections
+
+-- there is a meaning for each section
+pub meanings-length : (x : TableState) → IsState x → length (meanings_of x.sections) ≡ x.core.shape.sections
+meanings-length x k = length-map x.sections (λ (y : SectionState). y.meaning) ∙ k.sections
+
+-- a warehouse has its turn in odd seasons
+warehouse_turn : (w : ℕ) (o : Option ℕ) → has_turn (Some (suc w)) o ≡ true → (z : ℕ) × (o ≡ Some z) × (z % 2 ≡ 1)
+warehouse_turn w None e = absurd (true≢false (sym e))
+warehouse_turn w (Some z) e = (z, refl, eqb-true (z % 2) (if eqb (suc w) 0 then 0 else 1) e ∙ ap (λ (b : Bool). if b then 0 else 1) (ne_eqb (suc w) 0 (λ n. omega (arith, n))))
+
+-- the season that a mutator has read is the season
+pub season-read : (x : TableState) (i : ℕ) (s : SeatState) (z : ℕ) → Taken x.core i s ReadCount → s.active ≡ true → s.season_seen ≡ Some z → (words_of x.core.shape x.core.words).season ≡ z
+season-read x i s z k a e =
+    let season : ℕ = (words_of x.core.shape x.core.words).season in
+    let known : IsTrue s.active → IfSome s.season_seen (λ y. season ≡ y) = own-fact x.core i s ReadCount (λ (t : SeatState). IsTrue t.active → IfSome t.season_seen (λ y. season ≡ y)) k k.core.sound.season.season_known in
+    subst (λ (o : Option ℕ). IfSome o (λ y. season ≡ y)) e (known a)
+
+seen_at : (x : TableState) (i w : ℕ) (s : SeatState) → IsState x → Taken x.core i s ReadCount → s.active ≡ true → s.section ≡ Some w → has_turn (Some w) s.season_seen ≡ true → w < length x.sections
+    → seen_of x.core.shape x.plan (Some w) (season_of s) ≡ catalogue_seen (meanings_of x.sections) w
+seen_at x i zero s k t a e turn h = refl
+seen_at x i (suc w) s k t a e turn h =
+    let seen = warehouse_turn w s.season_seen turn in
+    let season : ℕ = (words_of x.core.shape x.core.words).season in
+    let now : season ≡ seen.0 = season-read x i s seen.0 t a seen.1 in
+    let read : season_of s ≡ season = ap (λ (o : Option ℕ). unwrap_or o 0) seen.1 ∙ sym now in
+    let there : (section_at x.sections 0).meaning.heap ≡ planned x.core.shape x.plan season = k.told.seasons.planned_there (ap (λ n. n % 2) now ∙ seen.2) in
+    ap (λ n. Some (planned x.core.shape x.plan n)) read ∙ ap (λ n. Some n) (sym there) ∙ sym (ap heap_in (meaning-there x.sections 0 (omega (arith, h))))
+
+-- a mutator sees the catalogue as it is
+pub seen-is : (x : TableState) (i : ℕ) (s : SeatState) → IsState x → slice_get x.core.seats i ≡ Some s → IsFalse s.spent → may_mutate s ≡ true → seen_by x.core.shape x.plan s ≡ catalogue_seen (meanings_of x.sections) (own_section s)
+seen-is x i s k g live may =
+    let t : Taken x.core i s ReadCount = looks x.core i s k.core g live in
+    let a : Mutates x.core i s (meanings_of x.sections) = mutates-in x.core i s ReadCount (meanings_of x.sections) t (meanings-length x k) may in
+    let b = and_parts s.active (has_turn s.section s.season_seen) may in
+    let turn : has_turn (Some i) s.season_seen ≡ true = subst (λ (o : Option ℕ). has_turn o s.season_seen ≡ true) a.section b.1 in
+    ap (λ (o : Option ℕ). seen_of x.core.shape x.plan o (season_of s)) a.section
+    ∙ seen_at x i i s k t a.active a.section turn (omega (arith, a.inside, sections-length x k)) ∙ ap (λ n. catalogue_seen (meanings_of x.sections) n) (sym a.own)
+
+-- the seat of this view may take the step
+pub record Acts (x : TableState) (i : ℕ) (v : View) (step : Step) : Type 0 where
+  pub whole : IsState x
+  pub agrees : Agrees x i v
+  pub live : IsFalse v.state.spent
+  pub ok : AllTrue (parts x.core.shape (words_of x.core.shape x.core.words) x.core.seats v.state step)
+
+pub acts-taken : (x : TableState) (i : ℕ) (v : View) (step : Step) → Acts x i v step → Taken x.core i v.state step
+acts-taken x i v step k = record { core = k.whole.core; got = k.agrees.seat; live = k.live; ok = k.ok }
+
+-- the view has its own section
+pub own-section : (x : TableState) (i w : ℕ) (v : View) → Agrees x i v → v.state.section ≡ Some w → section_at x.sections w ≡ v.own
+own-section x i w v k e = get_or_from_slice_get x.sections w v.own no_section (k.own w e)
+
+-- what the view of a mutator says
+pub record Views (x : TableState) (i : ℕ) (v : View) : Type 0 where
+  pub mutates : Mutates x.core i v.state (meanings_of x.sections)
+  pub meaning : meaning_of (meanings_of x.sections) i ≡ v.own.meaning
+  pub seen : seen_by v.shape v.plan v.state ≡ catalogue_seen (meanings_of x.sections) i
+
+pub views : (x : TableState) (i : ℕ) (v : View) (step : Step) → Acts x i v step → may_mutate v.state ≡ true → Views x i v
+views x i v step k may =
+    let a : Mutates x.core i v.state (meanings_of x.sections) = mutates-in x.core i v.state step (meanings_of x.sections) (acts-taken x i v step k) (meanings-length x k.whole) may in
+    record {
+      mutates = a;
+      meaning = meaning-at x.sections i ∙ ap (λ y. y.meaning) (own-section x i i v k.agrees a.section);
+      seen =
+          ap (λ (sh : Shape). seen_by sh v.plan v.state) k.agrees.shape ∙ ap (λ (p : List (List Op)). seen_by x.core.shape p v.state) k.agrees.plan
+          ∙ seen-is x i v.state k.whole k.agrees.seat k.live may ∙ ap (λ n. catalogue_seen (meanings_of x.sections) n) a.own;
+    }
+
+-- the meaning after a step of a mutator, told with its plain step
+told_by : (x : TableState) (i : ℕ) (v : View) (step : Step) (op : Op) → IsFalse x.core.shape.sharing → Acts x i v step → may_mutate v.state ≡ true → Asks v.state v.own.meaning (seen_by v.shape v.plan v.state) step op
+    → meaning_after x.core.shape v.state (seen_by v.shape v.plan v.state) step op v.own.meaning ≡ meaning_by x.core.shape v.state (seen_by v.shape v.plan v.state) step v.own.meaning
+told_by x i v step op alone k may asks =
+    let catalogue : Option Heap = seen_by v.shape v.plan v.state in
+    let same : meaning_of (meanings_of x.sections) i ≡ v.own.meaning = (views x i v step k may).meaning in
+    subst (λ (m : Meaning). meaning_after x.core.shape v.state catalogue step op m ≡ meaning_by x.core.shape v.state catalogue step m) same
+    (meaning-told x.core i v.state step op (meanings_of x.sections) catalogue (acts-taken x i v step k) (k.whole.stands alone) (subst (λ (m : Meaning). Asks v.state m catalogue step op) (sym same) asks))
+
+plain_of : (x : TableState) (i : ℕ) (v : View) (step : Step) (op : Op) → IsFalse x.core.shape.sharing → Acts x i v step → Asks v.state v.own.meaning (seen_by v.shape v.plan v.state) step op → IsTrue (changes_heap step)
+    → (section_after v.shape v.plan v.state step v.own).meaning.heap ≡ heap_after v.own.meaning.heap (seen_by v.shape v.plan v.state) op
+plain_of x i v (StoreField a j o) op alone k asks c = sym (ap (λ (m : Meaning). m.heap) (told_by x i v (StoreField a j o) op alone k (and_parts _ (may_mutate v.state) k.ok.0).1 asks))
+plain_of x i v (StoreValue a n) op alone k asks c = sym (ap (λ (m : Meaning). m.heap) (told_by x i v (StoreValue a n) op alone k (and_parts _ (may_mutate v.state) k.ok.0).1 asks))
+plain_of x i v (StoreRoot a r) op alone k asks c = sym (ap (λ (m : Meaning). m.heap) (told_by x i v (StoreRoot a r) op alone k (and_parts _ (may_mutate v.state) k.ok.0).1 asks))
+plain_of x i v step op alone k asks c = absurd (true≢false (sym c))
+
+-- a store changes the plain heap by its plain step
+pub plain-by : (x : TableState) (i : ℕ) (v : View) (step : Step) (op : Op) → IsFalse v.shape.sharing → IsState x → Agrees x i v → IsFalse v.state.spent → AllTrue (parts x.core.shape (words_of x.core.shape x.core.words) x.core.seats v.state step)
+    → Asks v.state v.own.meaning (seen_by v.shape v.plan v.state) step op → IsTrue (changes_heap step) → (section_after v.shape v.plan v.state step v.own).meaning.heap ≡ heap_after v.own.meaning.heap (seen_by v.shape v.plan v.state) op
+plain-by x i v step op alone whole agrees live ok asks c = plain_of x i v step op (subst (λ (sh : Shape). IsFalse sh.sharing) agrees.shape alone) (record { whole = whole; agrees = agrees; live = live; ok = ok }) asks c

@@ -7,8 +7,8 @@ use Rattle.std.specs.Option.{option_map}
 use Rattle.mark_core.specs.Layout.{words_of}
 use Rattle.mark_core.specs.Seats.{has_turn, may_mutate}
 use Rattle.mark_core.specs.Rules.HeapRules.{section_of_cell, number_of_cell}
-use Rattle.mark_core.proofs.Blocks.BlocksTaken.{mine}
-use Rattle.mark_core.proofs.Caches.CachesNext.{next-makes}
+use Rattle.mark_core.proofs.Blocks.BlocksStopped.{mine}
+use Rattle.mark_core.proofs.Caches.CachesSeat.{next-makes}
 use Rattle.mark_core.proofs.References.ReferencesRoots.{Used}
 use Rattle.mark_core.specs.declared.kinds.Step.{Step}
 use Rattle.mark_core.specs.declared.kinds.Step.TheVariants.{StoreNew, StoreField, StoreValue, StoreRoot}
@@ -23,12 +23,11 @@ use Rattle.gc_table.specs.declared.view.Place.{Place}
 use Rattle.gc_table.specs.declared.view.PlainStep.{PlainStep}
 use Rattle.gc_table.specs.declared.view.SectionState.{SectionState}
 use Rattle.gc_table.proofs.Told.ApartHeaps.{reach-more, before-next, heaps-now, before-late, heaps-set}
-use Rattle.gc_table.proofs.Stands.StandsNamed.{heap-there}
-use Rattle.gc_table.proofs.Stands.StandsReached.{objects_have_cells}
+use Rattle.gc_table.proofs.Stands.StandsReached.{heap-there, objects_have_cells}
 use Rattle.gc_table.proofs.Stands.StandsSeat.{making-is-free, free-not-used}
 use Rattle.gc_table.proofs.Stands.StandsStores.{used-exists}
 use Rattle.gc_table.proofs.State.StateSteps.{Goes, taken, event, kept-whole, each-left}
-use Rattle.mark_core.proofs.Formed.FormedAfter.{push-cases}
+use Rattle.mark_core.proofs.Formed.FormedLearns.{push-cases}
 use Rattle.mark_core.specs.declared.kinds.Shape.{Shape}
 use Rattle.plain_heap.specs.declared.operation.Op.{Op}
 

@@ -9,11 +9,10 @@ use Rattle.mark_core.specs.Views.{standings, standing_of}
 use Rattle.mark_core.specs.Effects.{seat_after, written}
 use Rattle.mark_core.specs.Strong.{IsStrongSeat}
 use Rattle.mark_core.specs.Steps.{Core}
-use Rattle.mark_core.proofs.Acting.{found, seats_left, words_left, some_none}
-use Rattle.mark_core.proofs.AtSeat.{of-view}
-use Rattle.mark_core.proofs.Blocks.BlocksStopped.{AllStill, sweeping, still-while-knows}
-use Rattle.mark_core.proofs.Blocks.BlocksTaken.{Taken, mine, words-read}
-use Rattle.mark_core.proofs.Locals.{local-kept}
+use Rattle.mark_core.proofs.Known.{found, seats_left, words_left, some_none}
+use Rattle.mark_core.proofs.HeldBlock.{of-view}
+use Rattle.mark_core.proofs.Blocks.BlocksStopped.{AllStill, sweeping, still-while-knows, Taken, mine, words-read}
+use Rattle.mark_core.proofs.Doing.{local-kept}
 use Rattle.mark_core.proofs.World.WorldReading.{numbers-of}
 use Rattle.mark_core.proofs.World.WorldSeats.{bare-out}
 use Rattle.mark_core.proofs.World.WorldTally.{Fits}
@@ -27,11 +26,9 @@ use Rattle.mark_core.specs.Bits.{cell_bit}
 use Rattle.mark_core.specs.Steps.WorldSteps.{is_move, phase_after}
 use Rattle.mark_core.specs.Closed.{IsReachableIn}
 use Rattle.mark_core.proofs.Blocks.BlocksWords.{statistic}
-use Rattle.mark_core.proofs.Caches.CachesFacts.{all-facts}
-use Rattle.mark_core.proofs.Caches.CachesNext.{next-free}
-use Rattle.mark_core.proofs.Caches.CachesSeat.{CacheFacts}
+use Rattle.mark_core.proofs.Caches.CachesSeat.{all-facts, CacheFacts, next-free}
 use Rattle.mark_core.proofs.References.ReferencesRoots.{mutator-is, seat-formed}
-use Rattle.mark_core.proofs.Used.UsedCells.{alloc-on}
+use Rattle.mark_core.proofs.Used.UsedKept.{alloc-on}
 use Rattle.mark_core.proofs.Writing.Writes.{phase-kept, at_part}
 use Rattle.gc_table.specs.PlainSteps.{HasSeenPhase}
 use Rattle.gc_table.specs.TableState.{TableState, no_section, section_at, with_section, state_after}
@@ -40,14 +37,14 @@ use Rattle.gc_table.proofs.Stands.StandsSeat.{free-not-used}
 use Rattle.gc_table.proofs.State.StateSteps.{Goes, taken, event, may-happen, sections_left, kept-whole, each-left}
 use Rattle.mark_core.specs.Numbers.{done_count, last_count}
 use Rattle.std.proofs.lemmas.Option.{same_Some, slice_get-get_or, get_or_from_slice_get}
-use Rattle.mark_core.proofs.Consequences.Filling.{full-reachable}
-use Rattle.mark_core.proofs.Sweeps.SweepsPhase.{phase-came}
-use Rattle.mark_core.proofs.Sweeps.SweepsUsed.{none-used, use-published}
+use Rattle.mark_core.proofs.Consequences.Closing.{full-reachable}
+use Rattle.mark_core.proofs.Sweeps.SweepsKept.{phase-came}
+use Rattle.mark_core.proofs.Sweeps.SweepsSpared.{none-used, use-published}
 use Rattle.gc_table.specs.declared.view.SectionState.{SectionState}
 use Rattle.gc_table.specs.Sections.{section_after}
 use Rattle.gc_table.specs.Told.{EachSection, Fullness}
 use Rattle.gc_table.proofs.Stands.StandsFrame.{get-set_same, get-set_other}
-use Rattle.gc_table.proofs.Stands.StandsUsed.{reachable-used}
+use Rattle.gc_table.proofs.Stands.StandsStores.{reachable-used}
 
 -- In a heap that was found full an active seat has seen nothing of the phase, or that it is full.
 abbrev pub SeesFull : SeatState → Type 0

@@ -5,8 +5,8 @@ use Rattle.std.proofs.lemmas.List.{length-set, length-append, get_or-set_same, g
 use Rattle.std.proofs.lemmas.Option.{slice_get-get_or}
 use Rattle.mark_core.specs.Bits.{flag}
 use Rattle.mark_core.specs.Rules.HeapRules.{section_of_cell, number_of_cell}
-use Rattle.mark_core.proofs.Acting.{some_none, words_left, seats_left, found}
-use Rattle.mark_core.proofs.Formed.FormedAfter.{set-here, set-there, push-cases}
+use Rattle.mark_core.proofs.Known.{some_none, words_left, seats_left, found}
+use Rattle.mark_core.proofs.Formed.FormedLearns.{set-here, set-there, push-cases}
 use Rattle.mark_core.specs.declared.kinds.Shape.{Shape}
 use Rattle.mark_core.specs.declared.seat.SeatState.{SeatState}
 use Rattle.gc_table.specs.declared.view.Place.{Place}
@@ -20,10 +20,8 @@ use Rattle.std.proofs.lemmas.Bool.{true≢false, and_parts, eqb-true, ne_eqb, eq
 use Rattle.mark_core.specs.Layout.{Words, words_of, put_word, region_sizes}
 use Rattle.mark_core.specs.Seats.{free_in, may_mutate}
 use Rattle.mark_core.specs.Steps.MutatorSteps.{fits_part, with_making, with_made}
-use Rattle.mark_core.proofs.Blocks.BlocksTaken.{Taken, within, mine as own-fact}
-use Rattle.mark_core.proofs.Caches.CachesFacts.{all-facts}
-use Rattle.mark_core.proofs.Caches.CachesNext.{next-free}
-use Rattle.mark_core.proofs.Caches.CachesSeat.{CacheFacts}
+use Rattle.mark_core.proofs.Blocks.BlocksStopped.{Taken, within, mine as own-fact}
+use Rattle.mark_core.proofs.Caches.CachesSeat.{all-facts, CacheFacts, next-free}
 use Rattle.mark_core.proofs.Writing.Places.{region-length}
 use Rattle.mark_core.proofs.References.ReferencesRoots.{Used, UsedAfter, seat-formed}
 use Rattle.mark_core.proofs.Used.UsedKept.{used-back}
@@ -33,9 +31,9 @@ use Rattle.mark_core.specs.declared.kinds.Step.TheVariants.{StoreNew, StoreField
 use Rattle.gc_table.specs.PlainSteps.{with_part}
 use Rattle.gc_table.specs.Sections.{season_of, section_after}
 use Rattle.gc_table.proofs.Stands.StandsSeat.{Mutates, mutates-in, free-below, free-not-used}
-use Rattle.gc_table.proofs.State.StateSeen.{meanings-length}
+use Rattle.gc_table.proofs.State.StateStores.{meanings-length}
 use Rattle.mark_core.specs.Effects.{seat_after}
-use Rattle.gc_table.proofs.Stands.StandsWords.{identities-same}
+use Rattle.gc_table.proofs.Stands.StandsKept.{identities-same}
 
 -- 23: each word of a new cell, by its number: the last one adds a place, and the others add none.
 -- Where objects lie once the last word of a new cell makes it the place of the next object of its section.

@@ -8,7 +8,7 @@ use Rattle.mark_core.specs.Views.{makers}
 use Rattle.mark_core.specs.Cells.{in_use}
 use Rattle.mark_core.specs.Rules.HeapRules.{section_of_cell, number_of_cell}
 use Rattle.mark_core.specs.Start.{start_seat, spent_seat}
-use Rattle.mark_core.proofs.Formed.FormedAfter.{set-cases, push-cases}
+use Rattle.mark_core.proofs.Formed.FormedLearns.{set-cases, push-cases}
 use Rattle.mark_core.specs.declared.kinds.Shape.{Shape}
 use Rattle.mark_core.specs.declared.seat.SeatState.{SeatState}
 use Rattle.gc_table.specs.declared.view.Place.{Place}

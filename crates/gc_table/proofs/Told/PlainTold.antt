@@ -11,7 +11,7 @@ use Rattle.gc_table.specs.PlainSteps.{Asks, changes_heap}
 use Rattle.gc_table.specs.Sections.{seen_by, section_after}
 use Rattle.gc_table.specs.Rule.{IsPossible}
 use Rattle.gc_table.specs.Taking.{May}
-use Rattle.gc_table.proofs.State.StatePlain.{plain-by}
+use Rattle.gc_table.proofs.State.StateStores.{plain-by}
 
 pub plain-told : (v : View) (step : Step) (op : Op) → IsFalse v.shape.sharing → ∥ IsPossible v ∥₁ → May step v → Asks v.state v.own.meaning (seen_by v.shape v.plan v.state) step op → IsTrue (changes_heap step)
     → (section_after v.shape v.plan v.state step v.own).meaning.heap ≡ heap_after v.own.meaning.heap (seen_by v.shape v.plan v.state) op

@@ -10,8 +10,8 @@ use Rattle.mark_core.specs.Seats.{takes_part}
 use Rattle.mark_core.specs.Effects.{written}
 use Rattle.mark_core.specs.Steps.{Core}
 use Rattle.mark_core.specs.Laws.{IsCore}
-use Rattle.mark_core.proofs.Acting.{found, words_left}
-use Rattle.mark_core.proofs.Blocks.BlocksTaken.{Taken, words-read}
+use Rattle.mark_core.proofs.Known.{found, words_left}
+use Rattle.mark_core.proofs.Blocks.BlocksStopped.{Taken, words-read}
 use Rattle.mark_core.proofs.Writing.Places.{region-length}
 use Rattle.mark_core.proofs.Writing.Ranges.{either}
 use Rattle.mark_core.proofs.Writing.Writes.{at_part}

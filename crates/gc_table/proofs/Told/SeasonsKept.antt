@@ -9,9 +9,9 @@ use Rattle.mark_core.specs.Seats.{has_turn, may_mutate}
 use Rattle.mark_core.specs.Steps.MutatorSteps.{in_variables}
 use Rattle.mark_core.specs.Effects.{written}
 use Rattle.mark_core.specs.Steps.{Core}
-use Rattle.mark_core.proofs.Writing.Regions.{words-get}
-use Rattle.mark_core.proofs.Acting.{found, words_left}
-use Rattle.mark_core.proofs.Blocks.BlocksTaken.{Taken, words-read, mine as own-fact}
+use Rattle.mark_core.proofs.Writing.Places.{words-get}
+use Rattle.mark_core.proofs.Known.{found, words_left}
+use Rattle.mark_core.proofs.Blocks.BlocksStopped.{Taken, words-read, mine as own-fact}
 use Rattle.mark_core.proofs.Writing.Writes.{season-kept}
 use Rattle.mark_core.specs.declared.kinds.Shape.{Shape}
 use Rattle.mark_core.specs.declared.kinds.Step.{Step}

@@ -11,8 +11,8 @@ use Rattle.mark_core.specs.Closed.{IsReachableIn}
 use Rattle.mark_core.specs.Sound.{some_exact}
 use Rattle.mark_core.specs.Effects.{seat_after}
 use Rattle.mark_core.specs.Steps.{Core}
-use Rattle.mark_core.proofs.Acting.{found, words_left, seats_left}
-use Rattle.mark_core.proofs.Blocks.BlocksTaken.{Taken, within, mine}
+use Rattle.mark_core.proofs.Known.{found, words_left, seats_left}
+use Rattle.mark_core.proofs.Blocks.BlocksStopped.{Taken, within, mine}
 use Rattle.mark_core.proofs.Exacts.ExactsKept.{ExactSound, exact-kept_by}
 use Rattle.mark_core.proofs.References.ReferencesRoots.{Used, UsedAfter, stores_root}
 use Rattle.mark_core.proofs.Used.UsedSeats.{IsMadeBy}
@@ -29,7 +29,7 @@ use Rattle.gc_table.specs.Sections.{section_after}
 use Rattle.gc_table.specs.TableState.{TableState, no_section, section_at, with_section, state_after}
 use Rattle.gc_table.specs.Told.{IsSettled}
 use Rattle.gc_table.proofs.ReachStill.{ReachedAfter, reach-still}
-use Rattle.gc_table.proofs.Stands.StandsWords.{stores_cell}
+use Rattle.gc_table.proofs.Stands.StandsKept.{stores_cell}
 use Rattle.gc_table.proofs.State.StateSteps.{Goes, event, taken, may-happen, sections_left, kept-whole}
 
 -- the first section that a step leaves is the one that was there, or the catalogue's own after the step

@@ -6,9 +6,9 @@ use Rattle.std.proofs.lemmas.Option.{same_Some}
 use Rattle.mark_core.specs.Layout.{words_of}
 use Rattle.mark_core.specs.Seats.{has_turn, may_mutate}
 use Rattle.mark_core.specs.Steps.{Core}
-use Rattle.mark_core.proofs.Acting.{words_left}
-use Rattle.mark_core.proofs.Blocks.BlocksTaken.{Taken}
-use Rattle.mark_core.proofs.Formed.FormedAfter.{EachAt, each-push}
+use Rattle.mark_core.proofs.Known.{words_left}
+use Rattle.mark_core.proofs.Blocks.BlocksStopped.{Taken}
+use Rattle.mark_core.proofs.Formed.FormedLearns.{EachAt, each-push}
 use Rattle.mark_core.specs.declared.kinds.Shape.{Shape}
 use Rattle.mark_core.specs.declared.kinds.Step.{Step}
 use Rattle.mark_core.specs.declared.kinds.Step.TheVariants.{StoreField, StoreValue, StoreRoot, StoreNew, NextSeason}

@@ -1,26 +1,35 @@
 -- A seat is exact while it knows that the world is stopped, and a seat that is spent or has no section has no variable and no cache: kept by each step that is
 -- allowed.
-use Rattle.std.proofs.Common.{ℕ, ◌≡◌, ◌<◌, replicate, get_or, length, refl, sym, ap, ◌∙◌, Bool, true, false, ◌||◌, Option, Some, None, ⊎_elim}
-use Rattle.std.specs.Prelude.{IsTrue, IsFalse, is_none, is_some}
-use Rattle.std.specs.List.{All}
+use Rattle.std.proofs.Common.{ℕ, ◌≡◌, ◌<◌, replicate, get_or, length, refl, sym, ap, ◌∙◌, Bool, true, false, ◌||◌, Option, Some, None, ⊎_elim, List, set, subst}
+use Rattle.std.specs.Prelude.{IsTrue, IsFalse, is_none, is_some, IfSome}
+use Rattle.std.specs.List.{All, AllPairs}
 use Rattle.std.proofs.lemmas.Bool.{cases_Bool, and_parts, false≢true}
-use Rattle.std.proofs.lemmas.List.Elements.{All-replicate}
+use Rattle.std.proofs.lemmas.List.Elements.{All-replicate, All-map}
 use Rattle.mark_core.specs.Layout.{Words, words_of}
 use Rattle.mark_core.specs.Steps.MutatorSteps.{with_free, without_used}
 use Rattle.mark_core.specs.Seats.{is_phase, has_turn}
 use Rattle.mark_core.specs.Effects.{written, seat_after}
-use Rattle.mark_core.specs.Steps.{Core}
+use Rattle.mark_core.specs.Steps.{Core, failing_part, after_event}
 use Rattle.mark_core.specs.Laws.{IsCore}
-use Rattle.mark_core.proofs.Acting.{found, words_left, seats_left}
-use Rattle.mark_core.proofs.Locals.{local-kept}
+use Rattle.mark_core.proofs.Known.{found, words_left, seats_left}
+use Rattle.mark_core.proofs.Doing.{local-kept}
 use Rattle.mark_core.proofs.Writing.Writes.{phase-kept}
-use Rattle.mark_core.proofs.Blocks.BlocksTaken.{Taken, mine, words-read}
-use Rattle.mark_core.proofs.Blocks.BlocksStopped.{still-known, knower, not-still}
+use Rattle.mark_core.proofs.Blocks.BlocksStopped.{Taken, mine, words-read, kept-after, still-known, knower, not-still}
 use Rattle.mark_core.specs.declared.kinds.Phase.{Phase}
 use Rattle.mark_core.specs.declared.kinds.Phase.TheVariants.{Idle, Marking, Drain, Sweep, Clear, Full}
 use Rattle.mark_core.specs.declared.kinds.Step.{Step}
 use Rattle.mark_core.specs.declared.kinds.Step.TheVariants.{ReadPhase, StoreRoot, ClaimBlock, ReleaseBlock, ReadFree, StoreNew, PublishCells, Observe, DropStep, StorePhase}
 use Rattle.mark_core.specs.declared.seat.SeatState.{SeatState}
+use Rattle.std.proofs.lemmas.List.{map-set}
+use Rattle.mark_core.specs.Views.{blocks}
+use Rattle.mark_core.specs.Strong.{IsStrongBlock, overlap}
+use Rattle.mark_core.proofs.Blocks.BlocksStretch.{hand-others, none-right}
+use Rattle.mark_core.proofs.Blocks.BlocksSteps.{Hand, hand-at}
+use Rattle.mark_core.specs.declared.kinds.Event.{Event}
+use Rattle.mark_core.specs.Shapes.{IsShape}
+use Rattle.mark_core.specs.Start.{start_words, start_seats}
+use Rattle.mark_core.proofs.Pool.PoolStart.{each-seat}
+use Rattle.mark_core.specs.declared.kinds.Shape.{Shape}
 
 -- an exact seat knows
 abbrev pub ExactKnows : SeatState → Type 0
@@ -145,3 +154,50 @@ marking-calm c i s step t e =
     let was = ap (λ p. is_phase p Marking) (sym (phase-kept c.shape s step (written c.shape s step (found c s step)) w refl)) ∙ e in
     let all = t.core.strong.no_exact_in_marking was in
     none-exact c i s step all (mine c i s step NotExact t all)
+
+-- Each event that is allowed keeps the facts of the blocks in hand, of exact seats and of spent ones.
+-- the facts of the blocks in hand, of exact seats and of spent ones
+pub record BlocksSound (w : Words) (seats : List SeatState) : Type 0 where
+  pub blocks_strong : All (λ b. IfSome b (IsStrongBlock w.phase w.next_block w.allocs w.marks)) (blocks seats)
+  pub one_block_one_seat : AllPairs (λ x y. IsFalse (overlap x y)) (blocks seats)
+  pub exact_needs_knows : All ExactKnows seats
+  pub no_exact_in_marking : IsTrue (is_phase w.phase Marking) → All NotExact seats
+  pub env_of_spent : All SpentNames seats
+  pub cache_of_spent : All SpentCache seats
+
+blocks_at : (c : Core) (i : ℕ) (s : SeatState) (step : Step) → Taken c i s step → BlocksSound (words_left c s step) (seats_left c i s step)
+blocks_at c i s step t =
+    let v : Words = words_left c s step in
+    let x : SeatState = seat_after c.shape s step (found c s step) in
+    let own : Hand v (blocks (set c.seats i x)) = subst (Hand v) (sym (map-set (λ (y : SeatState). y.block) c.seats i x)) (hand-at c i s step t) in
+    let all : Hand v (blocks (seats_left c i s step)) = hand-others v.phase v.next_block v.allocs v.marks c.shape step (set c.seats i x) own in
+    record {
+      blocks_strong = all.strong;
+      one_block_one_seat = all.apart;
+      exact_needs_knows = exact-knows c i s step t;
+      no_exact_in_marking = marking-calm c i s step t;
+      env_of_spent = spent-names c i s step t;
+      cache_of_spent = spent-cache c i s step t;
+    }
+
+-- each event that is allowed keeps these facts
+pub blocks-kept_by : (c : Core) (e : Event) → IsCore c → failing_part c e ≡ None → BlocksSound (words_of (after_event c e).shape (after_event c e).words) (after_event c e).seats
+blocks-kept_by c e k f = kept-after (λ sh w seats. BlocksSound w seats) c e k f (λ s a t. blocks_at c e.seat s e.step t)
+
+-- In the state in which nothing has happened no block is in hand, no seat is exact, and no seat names anything.
+-- no block is in hand
+pub no-blocks : (sh : Shape) (n : ℕ) → All (λ b. b ≡ None) (blocks (start_seats sh n))
+no-blocks sh n = All-map (λ b. b ≡ None) (λ (s : SeatState). s.block) (start_seats sh n) (each-seat (λ (s : SeatState). s.block ≡ None) sh n (λ k. refl))
+
+pub blocks-starts : (sh : Shape) (n : ℕ) → IsShape sh → BlocksSound (words_of sh (start_words sh)) (start_seats sh n)
+blocks-starts sh n z =
+    let w : Words = words_of sh (start_words sh) in
+    let none = none-right w.phase w.next_block w.allocs w.marks (blocks (start_seats sh n)) (no-blocks sh n) in
+    record {
+      blocks_strong = none.strong;
+      one_block_one_seat = none.apart;
+      exact_needs_knows = each-seat ExactKnows sh n (λ k e. absurd (false≢true e));
+      no_exact_in_marking = λ e. each-seat NotExact sh n (λ k. refl);
+      env_of_spent = each-seat SpentNames sh n (λ k e. All-replicate (λ r. r ≡ 0) 32 0 refl);
+      cache_of_spent = each-seat SpentCache sh n (λ k e. refl);
+    }

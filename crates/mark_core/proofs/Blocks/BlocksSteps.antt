@@ -13,20 +13,16 @@ use Rattle.mark_core.specs.Steps.SweepSteps.{own_block, survivors, untouched, st
 use Rattle.mark_core.specs.Rules.WorldRules.{IsCalm}
 use Rattle.mark_core.specs.Effects.{written, seat_after}
 use Rattle.mark_core.specs.Steps.{Core}
-use Rattle.mark_core.proofs.Writing.Regions.{words-get}
-use Rattle.mark_core.proofs.Acting.{found, words_left}
+use Rattle.mark_core.proofs.Writing.Places.{words-get}
+use Rattle.mark_core.proofs.Known.{found, words_left}
 use Rattle.mark_core.proofs.Writing.Frames.{block-kept}
 use Rattle.mark_core.proofs.Writing.Writes.{phase-kept, next_block-kept}
 use Rattle.mark_core.proofs.Writing.RegionWrites.{allocs-kept, marks-kept}
-use Rattle.mark_core.proofs.Count.CountTests.{follows}
-use Rattle.mark_core.proofs.Blocks.BlocksTaken.{Taken, within, own-record, mine, in-place}
-use Rattle.mark_core.proofs.Blocks.BlocksOthers.{Others}
+use Rattle.mark_core.proofs.Count.CountMoves.{follows}
+use Rattle.mark_core.proofs.Blocks.BlocksStopped.{Taken, within, own-record, mine, in-place, AllStill, tracing, in-time, still-stopped, stopped-time, not-still, none-in-hand, Others, alone-holds}
 use Rattle.mark_core.proofs.Blocks.BlocksWords.{SameHeap, heap-left}
-use Rattle.mark_core.proofs.Blocks.BlocksStopped.{AllStill, tracing, in-time, still-stopped, stopped-time, not-still, none-in-hand}
-use Rattle.mark_core.proofs.Blocks.BlocksAlone.{alone-holds}
-use Rattle.mark_core.proofs.Blocks.BlocksHand.{IsBlock, AreApart, InHand, hand-set, own-apart, none-right}
+use Rattle.mark_core.proofs.Blocks.BlocksStretch.{IsBlock, AreApart, InHand, hand-set, own-apart, none-right, some-taken, end-counted, rest-apart}
 use Rattle.mark_core.proofs.Blocks.BlocksWrites.{later, reads-marks, reads-allocs, apart-marks, apart-allocs, apart-stored, stores, other-allocs, other-marks, may-store-some, takes, takes-apart, goes-on}
-use Rattle.mark_core.proofs.Blocks.BlocksStretch.{some-taken, end-counted, rest-apart}
 use Rattle.mark_core.proofs.Basics.{none-is}
 use Rattle.mark_core.specs.declared.kinds.Phase.{Phase}
 use Rattle.mark_core.specs.declared.kinds.Phase.TheVariants.{Idle, Marking, Drain, Sweep, Clear, Full}

@@ -6,10 +6,10 @@ use Rattle.mark_core.specs.Layout.{Words, words_of, put_word}
 use Rattle.mark_core.specs.Places.{counter_at}
 use Rattle.mark_core.specs.Effects.{written}
 use Rattle.mark_core.specs.Steps.{Core}
-use Rattle.mark_core.proofs.Acting.{found, words_left}
+use Rattle.mark_core.proofs.Known.{found, words_left}
 use Rattle.mark_core.proofs.Writing.Writes.{phase-kept, next_block-kept}
 use Rattle.mark_core.proofs.Writing.RegionWrites.{roots-kept, allocs-kept, marks-kept, fields-kept}
-use Rattle.mark_core.proofs.Blocks.BlocksTaken.{Taken, words-read}
+use Rattle.mark_core.proofs.Blocks.BlocksStopped.{Taken, words-read}
 use Rattle.mark_core.specs.declared.kinds.Step.{Step}
 use Rattle.mark_core.specs.declared.kinds.Step.TheVariants.{ReadAlloc, ReadField, ReadRoot, SetMark, ReadMarks, ReadPhase, ReadOwn, ReadCat, StoreField, StoreRoot, ReadFree, StoreNew, PublishCells, StorePhase, NextBlock, ReadBlockMarks, StoreAlloc, ClearMarks, Reset, AddStat, ReadStat, ExchangeField, LoadSlot, StoreSlot, ReadSlot}
 use Rattle.mark_core.specs.declared.seat.SeatState.{SeatState}

@@ -7,8 +7,7 @@ use Rattle.mark_core.specs.Seats.{is_phase, block_in_hand, may_store}
 use Rattle.mark_core.specs.Steps.ColourSteps.{with_alloc_word}
 use Rattle.mark_core.specs.Steps.SweepSteps.{with_mark_word, with_stored, untouched, next_in_stretch}
 use Rattle.mark_core.specs.Strong.{IsStrongBlock}
-use Rattle.mark_core.proofs.Blocks.BlocksHand.{IsBlock, AreApart}
-use Rattle.mark_core.proofs.Blocks.BlocksStretch.{apart-from, firsts-differ}
+use Rattle.mark_core.proofs.Blocks.BlocksStretch.{IsBlock, AreApart, apart-from, firsts-differ}
 use Rattle.mark_core.specs.declared.kinds.Phase.TheVariants.{Sweep, Clear}
 use Rattle.mark_core.specs.declared.seat.BlockState.{BlockState}
 

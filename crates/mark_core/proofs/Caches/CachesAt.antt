@@ -2,12 +2,12 @@
 use Rattle.std.proofs.Common.{ℕ, ◌≡◌, ◌+◌, ◌<◌, List, set, get_or, length, arith, refl, sym, ap, ◌∙◌, subst, Bool, true, false, Option, Some, None, cond, eqb}
 use Rattle.std.specs.Prelude.{IfSome, slice_get, slice_index, unwrap_or, is_some, is_none, nat_lt, bit_or}
 use Rattle.std.specs.Option.{option_map}
-use Rattle.std.proofs.lemmas.Bool.{and_parts, ltb-true, eqb-true, false≢true}
+use Rattle.std.proofs.lemmas.Bool.{and_parts, ltb-true, eqb-true, false≢true, ne_eqb, true≢false}
 use Rattle.std.proofs.lemmas.List.{set-get_or, length-map}
 use Rattle.std.proofs.lemmas.List.Elements.{All-map}
 use Rattle.std.proofs.lemmas.Option.{slice_get-map, slice_get-get_or, slice_get_within, get_or_from_slice_get}
-use Rattle.mark_core.specs.Layout.{Words, words_of, region_sizes, block_count}
-use Rattle.mark_core.specs.Seats.{cache_block}
+use Rattle.mark_core.specs.Layout.{Words, words_of, region_sizes, block_count, region_base}
+use Rattle.mark_core.specs.Seats.{cache_block, is_the, makes, used_in}
 use Rattle.mark_core.specs.Views.{Maker, makers, maker_of}
 use Rattle.mark_core.specs.Rules.HeapRules.{Caches}
 use Rattle.mark_core.specs.Steps.MutatorSteps.{cached_block, with_free, without_used, used_bits}
@@ -15,15 +15,11 @@ use Rattle.mark_core.specs.Parts.{parts}
 use Rattle.mark_core.specs.Effects.{seat_after}
 use Rattle.mark_core.specs.Steps.{Core, AllTrue}
 use Rattle.mark_core.specs.Laws.{IsCore}
-use Rattle.mark_core.proofs.Writing.Places.{region-length}
-use Rattle.mark_core.proofs.Writing.Regions.{words-get}
-use Rattle.mark_core.proofs.Acting.{found, words_left}
-use Rattle.mark_core.proofs.Core.{in_range}
-use Rattle.mark_core.proofs.Known.{HasCache}
-use Rattle.mark_core.proofs.Formed.FormedAfter.{each-read}
+use Rattle.mark_core.proofs.Writing.Places.{region-length, words-get}
+use Rattle.mark_core.proofs.Known.{found, words_left, in_range, HasCache}
+use Rattle.mark_core.proofs.Formed.FormedLearns.{each-read, one-of}
 use Rattle.mark_core.proofs.Formed.FormedWords.{word-in}
-use Rattle.mark_core.proofs.Caches.CachesSeat.{CacheFacts}
-use Rattle.mark_core.proofs.Caches.CachesFacts.{all-facts}
+use Rattle.mark_core.proofs.Caches.CachesSeat.{CacheFacts, all-facts}
 use Rattle.mark_core.proofs.Caches.CachesSteps.{Caching, with_cache, claimed_cache, claims-kept, releases-kept, frees-kept}
 use Rattle.mark_core.proofs.Caches.CachesPublish.{publish-kept}
 use Rattle.mark_core.proofs.Basics.{none-is}
@@ -31,6 +27,12 @@ use Rattle.mark_core.specs.declared.kinds.Shape.{Shape}
 use Rattle.mark_core.specs.declared.kinds.Step.TheVariants.{ClaimBlock, ReleaseBlock, ReadFree, PublishCells}
 use Rattle.mark_core.specs.declared.seat.SeatState.{SeatState}
 use Rattle.mark_core.specs.declared.seat.CacheState.{CacheState}
+use Rattle.std.specs.List.{All}
+use Rattle.mark_core.specs.Shapes.{IsShape}
+use Rattle.mark_core.specs.Cells.{in_use}
+use Rattle.mark_core.specs.Start.{start_words, start_seats, full_pool}
+use Rattle.mark_core.proofs.Pool.PoolStart.{gap, singles, tail_words, in-gap, each-seat}
+use Rattle.mark_core.proofs.References.ReferencesRoots.{unpublished, none-used}
 
 -- the rule over these words and these makers
 abbrev pub CachesOf : Shape → Words → List Maker → Type 0
@@ -114,3 +116,33 @@ publish-at c i s k g ok =
     let ms : List Maker = set (makers c.seats) i (with_cache (maker_of s) (without_used s.cache)) in
     subst (λ v. Caches c.shape w.owners (set w.allocs b (bit_or v (used_bits s.cache))) w.identities w.fields ms) word
     (publish-kept c.shape w.owners w.allocs w.identities w.fields (makers c.seats) i b (maker_of s) (caching c k) (maker-at c.seats i s g) hb (block_named s.cache ok.0))
+
+-- The state in which nothing has happened meets the rule of caches.
+abbrev Bare : Maker → Type 0
+Bare m = m.cache ≡ None
+
+-- no seat has a cache
+all_bare : (sh : Shape) (n : ℕ) → All Bare (makers (start_seats sh n))
+all_bare sh n = All-map Bare maker_of (start_seats sh n) (each-seat (λ (s : SeatState). s.cache ≡ None) sh n (λ k. refl))
+
+-- no block has an owner
+no_owner : (sh : Shape) (b : ℕ) → b < block_count sh → slice_index (words_of sh (start_words sh)).owners b ≡ 0
+no_owner sh b h =
+    sym (words-get (region_sizes sh) 3 (start_words sh) b 0 h) ∙ in-gap (singles sh) (full_pool sh) (tail_words sh) 11 (gap sh) (region_base (region_sizes sh) 3 + b) refl (omega arith) (omega (arith, h))
+
+-- so the rule of caches is met at the start
+pub caches-starts : (sh : Shape) (n : ℕ) → IsShape sh → CachesOf sh (words_of sh (start_words sh)) (makers (start_seats sh n))
+caches-starts sh n k =
+    let w : Words = words_of sh (start_words sh) in
+    let ms : List Maker = makers (start_seats sh n) in
+    let never = λ (c : ℕ) (h : c < sh.cells) (P : Type 0) (u : in_use w.allocs ms c ≡ true). absurd {A = P} (true≢false (sym u ∙ none-used sh n k c h)) in
+    record {
+      owned = λ i m e b h. ap (λ o. is_the (cache_block o) b) (one-of Bare ms i m e (all_bare sh n)) ∙ sym (ne_eqb (slice_index w.owners b) (i + 1) (λ z. omega (arith, z, no_owner sh b h)));
+      owners_exist = λ b h. omega (arith, no_owner sh b h);
+      unpublished = λ i d l c h e. unpublished sh k c h;
+      making_nil = λ i d l c part j e. absurd (false≢true (sym (ap (λ o. makes o c part) (all_bare sh n i d l)) ∙ e));
+      used_own = λ i d l c h e. absurd (false≢true (sym (ap (λ o. used_in o c) (all_bare sh n i d l)) ∙ e));
+      distinct = λ c h d g u. never c h _ u;
+      numbers_below = λ i d l live c h u. never c h _ u;
+      sections_seated = λ c h u. never c h _ u;
+    }

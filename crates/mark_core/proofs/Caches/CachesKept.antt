@@ -17,9 +17,8 @@ use Rattle.mark_core.specs.Steps.{Core, AllTrue, failing_part, after_event}
 use Rattle.mark_core.specs.Strong.{IsStrongBlock}
 use Rattle.mark_core.specs.Laws.{IsCore}
 use Rattle.mark_core.proofs.Writing.Ranges.{either, IsPlace, placed}
-use Rattle.mark_core.proofs.Acting.{found, words_left, Acted, seats_left}
-use Rattle.mark_core.proofs.Core.{in_range, acts}
-use Rattle.mark_core.proofs.Formed.FormedAfter.{one-of, one-read}
+use Rattle.mark_core.proofs.Known.{found, words_left, Acted, seats_left, in_range, acts}
+use Rattle.mark_core.proofs.Formed.FormedLearns.{one-of, one-read}
 use Rattle.mark_core.proofs.Caches.CachesMakes.{making-zero, zero_stays, zero_there}
 use Rattle.mark_core.proofs.Caches.CachesStores.{Storing, part-kept, made-kept}
 use Rattle.mark_core.proofs.Caches.CachesPublish.{free-kept, field-kept, push-kept, end-kept}
@@ -32,7 +31,7 @@ use Rattle.mark_core.specs.Numbers.{section_span, value_bound}
 use Rattle.std.proofs.lemmas.Option.{slice_get_within, get_or_from_slice_get}
 use Rattle.mark_core.specs.Steps.WorldSteps.{other_has_nothing}
 use Rattle.mark_core.specs.Start.{start_seat, spent_seat}
-use Rattle.mark_core.proofs.Writing.Regions.{words-get}
+use Rattle.mark_core.proofs.Writing.Places.{words-get}
 use Rattle.mark_core.proofs.Writing.Frames.{maker-kept, projection-kept}
 use Rattle.mark_core.proofs.Writing.RegionWrites.{owners-kept, allocs-kept, identities-kept, fields-kept}
 use Rattle.mark_core.proofs.Pool.PoolsKept.{shape-kept}

@@ -13,20 +13,15 @@ use Rattle.mark_core.specs.Cells.{in_use}
 use Rattle.mark_core.specs.Rules.HeapRules.{Caches, CachesUnpublished, MakesNil, UsedOwn}
 use Rattle.mark_core.specs.Steps.MutatorSteps.{used_bits, without_used}
 use Rattle.mark_core.specs.WellFormed.{IsCache}
-use Rattle.mark_core.proofs.Acting.{some_none}
-use Rattle.mark_core.proofs.Locals.{all-push}
-use Rattle.mark_core.proofs.Known.{HasCache}
-use Rattle.mark_core.proofs.Formed.FormedAfter.{one-of, each-push}
-use Rattle.mark_core.proofs.Caches.CachesNext.{making-free, free-block}
-use Rattle.mark_core.proofs.Caches.CachesSeat.{CacheFacts}
-use Rattle.mark_core.proofs.Caches.CachesOwners.{Owns, same-seat, free-unused}
-use Rattle.mark_core.proofs.Caches.CachesClaims.{owns-same}
-use Rattle.mark_core.proofs.Caches.CachesNames.{Names, names-less, names-fewer, names-push, names-spent}
-use Rattle.mark_core.proofs.Caches.CachesUses.{use-fewer, use-published, use-made, use-mine, use-push, bit-set}
+use Rattle.mark_core.proofs.Known.{some_none, HasCache}
+use Rattle.mark_core.proofs.Doing.{all-push}
+use Rattle.mark_core.proofs.Formed.FormedLearns.{one-of, each-push}
+use Rattle.mark_core.proofs.Caches.CachesSeat.{making-free, free-block, CacheFacts}
+use Rattle.mark_core.proofs.Caches.CachesClaims.{Owns, same-seat, free-unused, owns-same}
+use Rattle.mark_core.proofs.Caches.CachesSteps.{Names, names-less, names-fewer, names-push, names-spent, use-fewer, use-published, use-made, use-mine, use-push, bit-set, Caching, with_cache, names-of, caches-set}
 use Rattle.mark_core.proofs.Caches.CachesMakes.{unpublished-fewer, making-other, published_block, published_free, published_makes}
-use Rattle.mark_core.proofs.Caches.CachesSteps.{Caching, with_cache, names-of, caches-set}
 use Rattle.mark_core.proofs.Writing.CellBits.{bit-either, bit-first}
-use Rattle.mark_core.proofs.Used.UsedBits.{published-none}
+use Rattle.mark_core.proofs.Used.UsedSeats.{published-none}
 use Rattle.mark_core.specs.declared.kinds.Shape.{Shape}
 use Rattle.mark_core.specs.declared.seat.CacheState.{CacheState}
 

@@ -1,27 +1,118 @@
 -- The rule of caches after a seat claims a block, gives it up, or reads which of its cells are free.
-use Rattle.std.proofs.Common.{ℕ, ◌≡◌, ◌≢◌, ◌+◌, ◌<◌, ◌≤◌, List, set, length, arith, refl, sym, ap, ◌∙◌, Bool, true, false, ◌||◌, Option, Some, None, cond}
-use Rattle.std.specs.Prelude.{IfSome, slice_get, slice_index, nat_lt}
-use Rattle.std.specs.List.{All}
-use Rattle.std.proofs.lemmas.Bool.{or_right, false≢true}
-use Rattle.std.proofs.lemmas.List.{length-set}
-use Rattle.mark_core.specs.Shapes.{IsShape, EachBlock}
+use Rattle.std.proofs.Common.{ℕ, ◌≡◌, ◌≢◌, ◌+◌, ◌<◌, ◌≤◌, List, set, length, arith, refl, sym, ap, ◌∙◌, Bool, true, false, ◌||◌, Option, Some, None, cond, ◌/◌, ◌%◌, [], ◌∷◌, ◌++◌, get_or, ⊎_elim}
+use Rattle.std.specs.Prelude.{IfSome, slice_get, slice_index, nat_lt, IsTrue, IsFalse}
+use Rattle.std.specs.List.{All, list_any}
+use Rattle.std.proofs.lemmas.Bool.{or_right, false≢true, or_cases, or_left, cases_eq, true≢false}
+use Rattle.std.proofs.lemmas.List.{length-set, get_or-set_same, get_or-set_other, length-append}
+use Rattle.mark_core.specs.Shapes.{IsShape, EachBlock, EachCell}
 use Rattle.mark_core.specs.Layout.{block_count}
-use Rattle.mark_core.specs.Seats.{cache_block, free_in, used_in}
+use Rattle.mark_core.specs.Seats.{cache_block, free_in, used_in, is_the}
 use Rattle.mark_core.specs.Views.{Maker}
-use Rattle.mark_core.specs.Cells.{in_use}
-use Rattle.mark_core.specs.Rules.HeapRules.{Caches, CachesUnpublished, MakesNil, UsedOwn}
+use Rattle.mark_core.specs.Cells.{in_use, used_by}
+use Rattle.mark_core.specs.Rules.HeapRules.{Caches, CachesUnpublished, MakesNil, UsedOwn, section_of_cell, number_of_cell}
 use Rattle.mark_core.specs.Steps.MutatorSteps.{with_free}
 use Rattle.mark_core.proofs.Known.{HasCache}
-use Rattle.mark_core.proofs.Formed.FormedAfter.{EachAt, one-of, all-but}
+use Rattle.mark_core.proofs.Formed.FormedLearns.{EachAt, one-of, all-but}
 use Rattle.mark_core.proofs.Caches.CachesSeat.{CacheFacts}
-use Rattle.mark_core.proofs.Caches.CachesOwners.{Owns}
-use Rattle.mark_core.proofs.Caches.CachesClaims.{owns-same, owns-set, claims, releases, owners-set}
-use Rattle.mark_core.proofs.Caches.CachesNames.{Names, names-fewer}
-use Rattle.mark_core.proofs.Caches.CachesUses.{use-fewer, use-published}
+use Rattle.mark_core.proofs.Caches.CachesClaims.{Owns, used-any, owns-same, owns-set, claims, releases, owners-set}
 use Rattle.mark_core.proofs.Caches.CachesMakes.{unpublished-read, free_makes, free_block}
-use Rattle.mark_core.proofs.Used.UsedBits.{free-used, empty-set}
+use Rattle.mark_core.proofs.Used.UsedSeats.{free-used, empty-set}
 use Rattle.mark_core.specs.declared.kinds.Shape.{Shape}
 use Rattle.mark_core.specs.declared.seat.CacheState.{CacheState}
+use Rattle.mark_core.specs.Bits.{has_bit, cell_bit}
+use Rattle.mark_core.proofs.Consequences.SomePasses.{any-unset, any-push}
+use Rattle.std.proofs.lemmas.List.Elements.{All-set}
+use Rattle.mark_core.proofs.Doing.{all-push}
+
+-- The identities of the cells in use: no two are the same, and each is one that its section's seat has given. What a step leaves of these rules.
+-- the number of each cell in use of the seat's section was given
+abbrev pub Given : Shape → List ℕ → (ℕ → Bool) → Maker → Type 0
+Given sh ids used m = IsFalse m.spent → EachCell sh (λ c. IsTrue (used c) → IsTrue (is_the m.section (section_of_cell ids c)) → number_of_cell ids c < m.made)
+
+-- the rules of identities, over any set of cells in use
+pub record Names (sh : Shape) (ids : List ℕ) (used : ℕ → Bool) (ms : List Maker) : Type 0 where
+  pub distinct : EachCell sh (λ c. EachCell sh (λ d. IsTrue (used c) → IsTrue (used d) → slice_index ids c ≡ slice_index ids d → c ≡ d))
+  pub numbers_below : All (Given sh ids used) ms
+  pub sections_seated : EachCell sh (λ c. IsTrue (used c) → section_of_cell ids c < sh.sections → section_of_cell ids c < length ms)
+
+-- what the rules read of the seat stays
+abbrev pub SameName : Maker → Maker → Type 0
+SameName m n = (n.section ≡ m.section) × (n.made ≡ m.made) × (n.spent ≡ m.spent)
+
+given_fewer : (sh : Shape) (ids : List ℕ) (used used' : ℕ → Bool) (m n : Maker) → ((c : ℕ) → c < sh.cells → used' c ≡ true → used c ≡ true) → SameName m n → Given sh ids used m → Given sh ids used' n
+given_fewer sh ids used used' m n less same k live c h u s =
+    let a : number_of_cell ids c < m.made = k (sym same.2 ∙ live) c h (less c h u) (ap (λ o. is_the o (section_of_cell ids c)) (sym same.0) ∙ s) in
+    omega (arith, a, same.1)
+
+-- no further cell is in use
+pub names-less : (sh : Shape) (ids : List ℕ) (used used' : ℕ → Bool) (ms : List Maker) → ((c : ℕ) → c < sh.cells → used' c ≡ true → used c ≡ true) → Names sh ids used ms → Names sh ids used' ms
+names-less sh ids used used' ms less k =
+    record {
+      distinct = λ c hc d hd u v e. k.distinct c hc d hd (less c hc u) (less d hd v) e;
+      numbers_below = λ j d h. given_fewer sh ids used used' (get_or ms j d) (get_or ms j d) less (refl, refl, refl) (k.numbers_below j d h);
+      sections_seated = λ c hc u l. k.sections_seated c hc (less c hc u) l;
+    }
+
+-- one seat's record changed, and its numbers are still those that were given
+names_set : (sh : Shape) (ids : List ℕ) (used : ℕ → Bool) (ms : List Maker) (i : ℕ) (n : Maker) → Given sh ids used n → Names sh ids used ms → Names sh ids used (set ms i n)
+names_set sh ids used ms i n mine k =
+    record { distinct = k.distinct; numbers_below = All-set (Given sh ids used) ms i n mine k.numbers_below; sections_seated = λ c hc u l. rw length-set (k.sections_seated c hc u l) }
+
+pub names-fewer : (sh : Shape) (ids : List ℕ) (used used' : ℕ → Bool) (ms : List Maker) (i : ℕ) (m n : Maker) → slice_get ms i ≡ Some m → SameName m n → ((c : ℕ) → c < sh.cells → used' c ≡ true → used c ≡ true) → Names sh ids used ms → Names sh ids used' (set ms i n)
+names-fewer sh ids used used' ms i m n g same less k =
+    names_set sh ids used' ms i n (given_fewer sh ids used used' m n less same (one-of (Given sh ids used) ms i m g k.numbers_below)) (names-less sh ids used used' ms less k)
+
+-- a seat that has ended gives no more numbers
+pub names-spent : (sh : Shape) (ids : List ℕ) (used used' : ℕ → Bool) (ms : List Maker) (i : ℕ) (n : Maker) → ((c : ℕ) → c < sh.cells → used' c ≡ true → used c ≡ true) → n.spent ≡ true → Names sh ids used ms → Names sh ids used' (set ms i n)
+names-spent sh ids used used' ms i n less ended k = names_set sh ids used' ms i n (λ live. absurd (true≢false (sym ended ∙ live))) (names-less sh ids used used' ms less k)
+
+-- a further seat, of the next section or of none
+pub names-push : (sh : Shape) (ids : List ℕ) (used used' : ℕ → Bool) (ms : List Maker) (n : Maker) → ((c : ℕ) → c < sh.cells → used' c ≡ true → used c ≡ true) → ((z : ℕ) → is_the n.section z ≡ true → (z ≡ length ms) × (z < sh.sections)) → Names sh ids used ms
+    → Names sh ids used' (ms ++ n ∷ [])
+names-push sh ids used used' ms n less next k =
+    let after : Names sh ids used' ms = names-less sh ids used used' ms less k in
+    let mine : Given sh ids used' n = λ live c h u s. let a = next (section_of_cell ids c) s in absurd (omega (arith, a.0, after.sections_seated c h u a.1)) in
+    record {
+      distinct = after.distinct;
+      numbers_below = all-push (Given sh ids used') ms n after.numbers_below mine;
+      sections_seated = λ c hc u l. rw length-append (omega (arith, after.sections_seated c hc u l));
+    }
+
+-- Which cells are in use, when one seat's cache changed or the allocation bits did.
+-- why a cell is in use after one seat's record changed
+pub use-set : (P : Type 0) (allocs : List ℕ) (ms : List Maker) (i c : ℕ) (n : Maker) → (cell_bit allocs c ≡ true → P) → (used_in n.cache c ≡ true → P) → (list_any (used_by c) ms ≡ true → P) → in_use allocs (set ms i n) c ≡ true → P
+use-set P allocs ms i c n f g h e =
+    ⊎_elim f (λ (a : list_any (used_by c) (set ms i n) ≡ true). ⊎_elim g h (any-unset (used_by c) ms i n a)) (or_cases (cell_bit allocs c) (list_any (used_by c) (set ms i n)) e)
+
+pub use-published : (allocs : List ℕ) (ms : List Maker) (c : ℕ) → cell_bit allocs c ≡ true → in_use allocs ms c ≡ true
+use-published allocs ms c e = or_left (cell_bit allocs c) (list_any (used_by c) ms) e
+
+pub use-made : (allocs : List ℕ) (ms : List Maker) (c : ℕ) → list_any (used_by c) ms ≡ true → in_use allocs ms c ≡ true
+use-made allocs ms c e = or_right (cell_bit allocs c) (list_any (used_by c) ms) e
+
+pub use-mine : (allocs : List ℕ) (ms : List Maker) (i c : ℕ) (m : Maker) → slice_get ms i ≡ Some m → used_in m.cache c ≡ true → in_use allocs ms c ≡ true
+use-mine allocs ms i c m g e = use-made allocs ms c (used-any ms i c m g e)
+
+-- no further cell is in use, if the seat uses no further one and no further one is published
+pub use-fewer : (allocs allocs' : List ℕ) (ms : List Maker) (i c : ℕ) (m n : Maker) → slice_get ms i ≡ Some m → (used_in n.cache c ≡ true → used_in m.cache c ≡ true) → (cell_bit allocs' c ≡ true → in_use allocs ms c ≡ true) → in_use allocs' (set ms i n) c ≡ true
+    → in_use allocs ms c ≡ true
+use-fewer allocs allocs' ms i c m n g used bits e = use-set (in_use allocs ms c ≡ true) allocs' ms i c n bits (λ a. use-mine allocs ms i c m g (used a)) (use-made allocs ms c) e
+
+-- no further cell is in use, when a seat without a cache is added
+pub use-push : (allocs : List ℕ) (ms : List Maker) (c : ℕ) (n : Maker) → used_in n.cache c ≡ false → in_use allocs (ms ++ n ∷ []) c ≡ true → in_use allocs ms c ≡ true
+use-push allocs ms c n none e =
+    ⊎_elim
+    (use-published allocs ms c)
+    (λ (a : list_any (used_by c) (ms ++ n ∷ []) ≡ true). ⊎_elim (λ (b : used_by c n ≡ true). absurd (false≢true (sym none ∙ b))) (use-made allocs ms c) (any-push (used_by c) ms n a))
+    (or_cases (cell_bit allocs c) (list_any (used_by c) (ms ++ n ∷ [])) e)
+
+-- a word of the allocation bits was replaced
+pub bit-set : (P : Type 0) (allocs : List ℕ) (b v c : ℕ) → b < length allocs → (b ≡ c / 64 → has_bit v (c % 64) ≡ true → P) → (cell_bit allocs c ≡ true → P) → cell_bit (set allocs b v) c ≡ true → P
+bit-set P allocs b v c h here there e =
+    ⊎_elim
+    (λ (s : c / 64 ≡ b). here (sym s) (ap (λ x. has_bit x (c % 64)) (sym (ap (λ k. get_or (set allocs b v) k 0) s ∙ get_or-set_same allocs b v 0 h)) ∙ e))
+    (λ d. there (ap (λ x. has_bit x (c % 64)) (sym (get_or-set_other allocs b (c / 64) v 0 d)) ∙ e))
+    (cases_eq (c / 64) b)
 
 -- a state that meets the rule of caches, with what is known of the caches themselves
 pub record Caching (sh : Shape) (owners allocs ids fields : List ℕ) (ms : List Maker) : Type 0 where

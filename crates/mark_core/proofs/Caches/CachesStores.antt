@@ -7,23 +7,19 @@ use Rattle.std.proofs.lemmas.Option.{slice_get_within}
 use Rattle.mark_core.specs.Seats.{is_the, free_in, used_in}
 use Rattle.mark_core.specs.Views.{Maker}
 use Rattle.mark_core.specs.Rules.HeapRules.{section_of_cell, number_of_cell, Caches, CachesUnpublished, MakesNil, UsedOwn}
-use Rattle.mark_core.proofs.Formed.FormedAfter.{one-of, all-but}
-use Rattle.mark_core.proofs.Caches.CachesNames.{Given, Names}
+use Rattle.mark_core.proofs.Formed.FormedLearns.{one-of, all-but}
+use Rattle.mark_core.proofs.Caches.CachesSteps.{Given, Names, use-set, use-published, use-mine, use-made, Caching, with_cache, names-of, caches-set, cache-set}
 use Rattle.mark_core.specs.declared.kinds.Shape.{Shape}
 use Rattle.mark_core.specs.Numbers.{section_span}
 use Rattle.std.specs.List.{All}
 use Rattle.mark_core.specs.Bits.{has_bit, with_bit, without_bit, complement}
 use Rattle.mark_core.specs.Cells.{in_use, field}
 use Rattle.mark_core.specs.Steps.MutatorSteps.{with_making, with_made}
-use Rattle.mark_core.proofs.Caches.CachesNext.{is_next, next-free, next-makes, free-block}
-use Rattle.mark_core.proofs.Caches.CachesSeat.{CacheFacts}
-use Rattle.mark_core.proofs.Caches.CachesOwners.{free-unused}
-use Rattle.mark_core.proofs.Caches.CachesClaims.{owns-same}
-use Rattle.mark_core.proofs.Caches.CachesUses.{use-set, use-published, use-mine, use-made}
+use Rattle.mark_core.proofs.Caches.CachesSeat.{is_next, next-free, next-makes, free-block, CacheFacts}
+use Rattle.mark_core.proofs.Caches.CachesClaims.{free-unused, owns-same}
 use Rattle.mark_core.proofs.Caches.CachesMakes.{making-next, making_block, made_block, made_makes}
-use Rattle.mark_core.proofs.Caches.CachesSteps.{Caching, with_cache, names-of, caches-set, cache-set}
 use Rattle.mark_core.proofs.Writing.CellBits.{with_other, bit-first}
-use Rattle.mark_core.proofs.Used.UsedBits.{making-used}
+use Rattle.mark_core.proofs.Used.UsedSeats.{making-used}
 use Rattle.mark_core.specs.declared.seat.CacheState.{CacheState}
 
 -- The identities of the cells in use, once a new cell has got its own.

@@ -1,32 +1,132 @@
 -- A field of a scanned cell is nil, goes to a marked cell or to a value in hand, or is still to be read: by what step this changes.
-use Rattle.std.proofs.Common.{ℕ, ◌≡◌, ◌+◌, ◌-◌, ◌<◌, ◌≤◌, List, arith, refl, sym, ap, ◌∙◌, Bool, true, false, not, cond, eqb, ◌&&◌, ◌||◌, Option, Some, None, ⊎_elim}
-use Rattle.std.specs.Prelude.{is_some, nat_le}
+use Rattle.std.proofs.Common.{ℕ, ◌≡◌, ◌+◌, ◌-◌, ◌<◌, ◌≤◌, List, arith, refl, sym, ap, ◌∙◌, Bool, true, false, not, cond, eqb, ◌&&◌, ◌||◌, Option, Some, None, ⊎_elim, set, get_or}
+use Rattle.std.specs.Prelude.{is_some, nat_le, slice_get, slice_index}
 use Rattle.std.specs.List.{list_any}
-use Rattle.std.proofs.lemmas.Bool.{true≢false, false≢true, cases_eq, cases_Bool, and_parts, and_from, not-true, or_cases, or_left, or_right, or_parts, eqb-true, eq-eqb, leb-true, le-leb, lt-ltb}
+use Rattle.std.proofs.lemmas.Bool.{true≢false, false≢true, cases_eq, cases_Bool, and_parts, and_from, not-true, or_cases, or_left, or_right, or_parts, eqb-true, eq-eqb, leb-true, le-leb, lt-ltb, false_from_ne_true}
 use Rattle.mark_core.specs.Layout.{Words, words_of}
 use Rattle.mark_core.specs.Bits.{cell_bit, nil_or, cell_of}
-use Rattle.mark_core.specs.Seats.{is_the, scans, scan_left, may_scan}
-use Rattle.mark_core.specs.Views.{grasps, makers}
+use Rattle.mark_core.specs.Seats.{is_the, scans, scan_left, may_scan, left_in, work_in_hand}
+use Rattle.mark_core.specs.Views.{grasps, makers, grasp_of, hands, Grasp}
 use Rattle.mark_core.specs.Cells.{field, in_use}
-use Rattle.mark_core.specs.Rules.ColourRules.{is_marked_soon, has_value, will_read, is_unread_by}
+use Rattle.mark_core.specs.Rules.ColourRules.{is_marked_soon, has_value, will_read, is_unread_by, tends, cleans_card, IsWaiting, popped_is}
 use Rattle.mark_core.specs.Steps.ColourSteps.{scan_after}
-use Rattle.mark_core.specs.Steps.{Core}
-use Rattle.mark_core.proofs.Acting.{found, words_left, seats_left}
+use Rattle.mark_core.specs.Steps.{Core, AllTrue, others_after}
+use Rattle.mark_core.proofs.Known.{found, words_left, seats_left}
 use Rattle.mark_core.proofs.Hands.HandsRight.{HandRight, free-from}
-use Rattle.mark_core.proofs.Hands.HandsKept.{hands-now}
-use Rattle.mark_core.proofs.Marks.MarksIdle.{at-seat, lacks-from}
-use Rattle.mark_core.proofs.Marks.MarksWords.{found-word}
+use Rattle.mark_core.proofs.Hands.HandsApart.{hands-now}
+use Rattle.mark_core.proofs.Marks.MarksIdle.{at-seat, lacks-from, found-word, left-works, idle-cleaning}
 use Rattle.mark_core.proofs.Marks.MarksHands.{may-load}
 use Rattle.mark_core.proofs.Marks.MarksComes.{comes-marked, use-below, loaded-field}
-use Rattle.mark_core.proofs.Colours.ColoursHands.{same-number}
-use Rattle.mark_core.proofs.Colours.ColoursSeats.{grasp-moved, grasp-new, grasp-after, ends-untested}
-use Rattle.mark_core.proofs.Colours.ColoursWaiting.{seat_left}
+use Rattle.mark_core.proofs.Colours.ColoursHands.{same-number, tends-cases, some-popped}
 use Rattle.mark_core.proofs.Basics.{some-number}
-use Rattle.mark_core.proofs.Blocks.BlocksTaken.{Taken}
+use Rattle.mark_core.proofs.Blocks.BlocksStopped.{Taken}
 use Rattle.mark_core.specs.declared.kinds.Shape.{Shape}
 use Rattle.mark_core.specs.declared.kinds.Step.{Step}
-use Rattle.mark_core.specs.declared.kinds.Step.TheVariants.{ReadAlloc, ReadField, ReadRoot, SetMark, LoadSlot}
+use Rattle.mark_core.specs.declared.kinds.Step.TheVariants.{ReadAlloc, ReadField, ReadRoot, SetMark, LoadSlot, Join}
 use Rattle.mark_core.specs.declared.seat.SeatState.{SeatState}
+use Rattle.mark_core.specs.Rules.ColourRules.IsWaiting.{queued, tended, dirty, cleaned}
+use Rattle.mark_core.specs.Effects.{written, seat_after}
+use Rattle.mark_core.proofs.Writing.Frames.{changes_grasp, grasp-kept}
+use Rattle.mark_core.proofs.Writing.RegionWrites.{touches_cards, cards-kept}
+use Rattle.mark_core.proofs.Marks.MarksQueues.{fills}
+use Rattle.mark_core.proofs.Colours.ColoursQueued.{QueuedNow, queued-stays}
+use Rattle.mark_core.specs.Cards.{card_of}
+use Rattle.std.proofs.lemmas.Option.{slice_get_within, get_or_from_slice_get}
+use Rattle.mark_core.specs.Steps.WorldSteps.{has_nothing, other_has_nothing}
+use Rattle.mark_core.specs.Parts.{parts}
+use Rattle.mark_core.proofs.Marks.MarksAny.{any-after, EndsUntested}
+use Rattle.mark_core.proofs.Consequences.SomePasses.{any-map, any-new, any-old}
+use Rattle.mark_core.proofs.Hands.HandsCleaning.{done-cleans}
+
+-- What follows from each way in which a grey cell waits, when the record of one seat is replaced.
+-- Some seat tends a cell or cleans its card, when one seat is replaced, and a seat without work does neither.
+-- a test that some grasp passes: that of the seat which is replaced, or that of one that stays
+pub grasp-moved : (f : Grasp → Bool) (seats : List SeatState) (i : ℕ) (s t : SeatState) (P : Type 0) → slice_get seats i ≡ Some s → (f (grasp_of s) ≡ true → P) → (list_any f (grasps (set seats i t)) ≡ true → P) → list_any f (grasps seats) ≡ true → P
+grasp-moved f seats i s t P g own other e =
+    ⊎_elim
+    (λ (a : f (grasp_of (get_or seats i s)) ≡ true). own (ap (λ (x : SeatState). f (grasp_of x)) (sym (get_or_from_slice_get seats i s s g)) ∙ a))
+    (λ (b : list_any (λ (x : SeatState). f (grasp_of x)) (set seats i t) ≡ true). other (any-map f grasp_of (set seats i t) ∙ b))
+    (any-old (λ (x : SeatState). f (grasp_of x)) seats i t s (sym (any-map f grasp_of seats) ∙ e))
+
+pub grasp-new : (f : Grasp → Bool) (seats : List SeatState) (i : ℕ) (s t : SeatState) → slice_get seats i ≡ Some s → f (grasp_of t) ≡ true → list_any f (grasps (set seats i t)) ≡ true
+grasp-new f seats i s t g e = any-map f grasp_of (set seats i t) ∙ any-new (λ (x : SeatState). f (grasp_of x)) seats i t (slice_get_within seats i s g) e
+
+pub grasp-after : (f : Grasp → Bool) (sh : Shape) (step : Step) (seats : List SeatState) (i : ℕ) (s t : SeatState) → slice_get seats i ≡ Some s → (f (grasp_of s) ≡ true → f (grasp_of t) ≡ true) → EndsUntested (λ (x : SeatState). f (grasp_of x)) seats s t step
+    → list_any f (grasps seats) ≡ true → list_any f (grasps (others_after sh step (set seats i t))) ≡ true
+grasp-after f sh step seats i s t g k u e =
+    any-map f grasp_of (others_after sh step (set seats i t))
+    ∙ any-after (λ (x : SeatState). f (grasp_of x)) sh step seats i s t (slice_get_within seats i s g) (get_or_from_slice_get seats i s s g) k u (sym (any-map f grasp_of seats) ∙ e)
+
+-- a seat without work tends no cell
+pub idle-tends : (fields : ℕ) (s : SeatState) (x : ℕ) (P : Type 0) → work_in_hand fields s ≡ false → tends x (grasp_of s) ≡ true → P
+idle-tends fields s x P e =
+    let free = free-from fields s e in
+    tends-cases P (popped_is s.popped x) (is_the s.fresh x) (left_in s.cleaning x)
+    (λ h. absurd (true≢false (sym (some-popped s.popped x h) ∙ free.popped)))
+    (λ h. absurd (true≢false (sym (some-number s.fresh x h) ∙ free.fresh)))
+    (λ h. left-works s.cleaning x P (idle-cleaning fields s e) h)
+
+-- a seat without work cleans no card
+pub idle-cleans : (fields : ℕ) (s : SeatState) (card : ℕ) (P : Type 0) → work_in_hand fields s ≡ false → cleans_card card (grasp_of s) ≡ true → P
+idle-cleans fields s card P e f = absurd (true≢false (sym f ∙ done-cleans s.cleaning card (idle-cleaning fields s e)))
+
+-- a seat that is joined into another passes no test that takes work or a debt
+pub ends-untested : (f : Grasp → Bool) (c : Core) (s : SeatState) (step : Step) (old : ℕ) → ((o : SeatState) → has_nothing c.shape o ≡ true → f (grasp_of o) ≡ true → ⊥) → AllTrue (parts c.shape (words_of c.shape c.words) c.seats s step)
+    → EndsUntested (λ (x : SeatState). f (grasp_of x)) c.seats s (seat_after c.shape s step old) step
+ends-untested f c s (Join other) old k ok = (refl, λ o g. false_from_ne_true (f (grasp_of o)) (k o (ap (other_has_nothing c.shape) (sym g) ∙ (and_parts (has_nothing c.shape s) _ ok.1.0).1)))
+ends-untested f c s step old k ok = tt
+
+-- the cell waits, and waits after a step
+abbrev pub WaitsNow : Core → ℕ → Type 0
+WaitsNow c x = IsWaiting c.shape (words_of c.shape c.words).cards (words_of c.shape c.words).heads (words_of c.shape c.words).entries (hands c.seats) (grasps c.seats) x
+
+abbrev pub WaitsAfter : Core → ℕ → SeatState → Step → ℕ → Type 0
+WaitsAfter c i s step x = IsWaiting c.shape (words_left c s step).cards (words_left c s step).heads (words_left c s step).entries (hands (seats_left c i s step)) (grasps (seats_left c i s step)) x
+
+-- the seat's record after its step
+abbrev pub seat_left : Core → SeatState → Step → SeatState
+seat_left c s step = seat_after c.shape s step (found c s step)
+
+-- what follows from each way to wait, when the record of seat i becomes t
+pub waits-moved : (c : Core) (i : ℕ) (s t : SeatState) (x : ℕ) (P : Type 0) → slice_get c.seats i ≡ Some s → (QueuedNow c x → P) → (tends x (grasp_of s) ≡ true → P) → (list_any (tends x) (grasps (set c.seats i t)) ≡ true → P)
+    → (slice_index (words_of c.shape c.words).cards (card_of x) ≡ 1 → P) → (cleans_card (card_of x) (grasp_of s) ≡ true → P) → (list_any (cleans_card (card_of x)) (grasps (set c.seats i t)) ≡ true → P) → WaitsNow c x → P
+waits-moved c i s t x P g fq ft fo fd fc fr (queued q) = fq q
+waits-moved c i s t x P g fq ft fo fd fc fr (tended e) = grasp-moved (tends x) c.seats i s t P g ft fo e
+waits-moved c i s t x P g fq ft fo fd fc fr (dirty e) = fd e
+waits-moved c i s t x P g fq ft fo fd fc fr (cleaned e) = grasp-moved (cleans_card (card_of x)) c.seats i s t P g fc fr e
+
+-- a step of one seat that leaves the packets and the cards
+pub waits-handed : (c : Core) (i : ℕ) (s : SeatState) (step : Step) (x : ℕ) (P : Type 0) → Taken c i s step → fills step ≡ false → touches_cards step ≡ false → seats_left c i s step ≡ set c.seats i (seat_left c s step) → (WaitsAfter c i s step x → P)
+    → (tends x (grasp_of s) ≡ true → P) → (cleans_card (card_of x) (grasp_of s) ≡ true → P) → WaitsNow c x → P
+waits-handed c i s step x P a f d same done own clean =
+    waits-moved c i s (seat_left c s step) x P a.got
+    (λ q. done (queued (queued-stays c i s step a.core a.got a.ok f x q)))
+    own
+    (λ e. done (tended (rw same e)))
+    (λ e. done (dirty (rw (cards-kept c.shape s step (written c.shape s step (found c s step)) (words_of c.shape c.words) d) e)))
+    clean
+    (λ e. done (cleaned (rw same e)))
+
+-- the seat tends the cell, or cleans its card, after its step
+pub tends-now : (c : Core) (i : ℕ) (s : SeatState) (step : Step) (x : ℕ) → Taken c i s step → seats_left c i s step ≡ set c.seats i (seat_left c s step) → tends x (grasp_of (seat_left c s step)) ≡ true → WaitsAfter c i s step x
+tends-now c i s step x a same e = tended (rw same (grasp-new (tends x) c.seats i s (seat_left c s step) a.got e))
+
+pub cleans-now : (c : Core) (i : ℕ) (s : SeatState) (step : Step) (x : ℕ) → Taken c i s step → seats_left c i s step ≡ set c.seats i (seat_left c s step) → cleans_card (card_of x) (grasp_of (seat_left c s step)) ≡ true → WaitsAfter c i s step x
+cleans-now c i s step x a same e = cleaned (rw same (grasp-new (cleans_card (card_of x)) c.seats i s (seat_left c s step) a.got e))
+
+-- a step that leaves the packets, the cards, and what its seat has in hand
+pub waits-still : (c : Core) (i : ℕ) (s : SeatState) (step : Step) (x : ℕ) → Taken c i s step → fills step ≡ false → touches_cards step ≡ false → changes_grasp step ≡ false → WaitsNow c x → WaitsAfter c i s step x
+waits-still c i s step x a f d g (queued q) = queued (queued-stays c i s step a.core a.got a.ok f x q)
+waits-still c i s step x a f d g (tended e) =
+    let same = grasp-kept c.shape s step (found c s step) g in
+    tended (grasp-after (tends x) c.shape step c.seats i s (seat_left c s step) a.got (λ h. ap (tends x) same ∙ h) (ends-untested (tends x) c s step (found c s step) (λ o n h. idle-tends c.shape.fields o x ⊥ (lacks-from c.shape o n).work h) a.ok) e)
+waits-still c i s step x a f d g (dirty e) = dirty (rw (cards-kept c.shape s step (written c.shape s step (found c s step)) (words_of c.shape c.words) d) e)
+waits-still c i s step x a f d g (cleaned e) =
+    let same = grasp-kept c.shape s step (found c s step) g in
+    cleaned
+    (grasp-after (cleans_card (card_of x)) c.shape step c.seats i s (seat_left c s step) a.got (λ h. ap (cleans_card (card_of x)) same ∙ h)
+    (ends-untested (cleans_card (card_of x)) c s step (found c s step) (λ o n h. idle-cleans c.shape.fields o (card_of x) ⊥ (lacks-from c.shape o n).work h) a.ok)
+    e)
 
 -- field j of cell x, which holds this word, is done or will be read
 abbrev pub is_done : List ℕ → List SeatState → ℕ → ℕ → ℕ → Bool

@@ -9,8 +9,7 @@ use Rattle.mark_core.specs.Bits.{has_bit, without_bit, complement}
 use Rattle.mark_core.specs.Seats.{left_in, is_the, is_unpublished}
 use Rattle.mark_core.specs.Rules.ColourRules.{popped_is, cleans}
 use Rattle.mark_core.specs.Steps.ColourSteps.{popped_after, cleaning_after, seen_in, without_cell, fresh_off, popped_off, redirty_off, known_in}
-use Rattle.mark_core.proofs.Hands.HandsBits.{card-has}
-use Rattle.mark_core.proofs.Hands.HandsCleaning.{IsOfCard}
+use Rattle.mark_core.proofs.Hands.HandsCleaning.{card-has, IsOfCard}
 use Rattle.mark_core.proofs.Writing.CellBits.{some-bit, bit-both}
 use Rattle.mark_core.specs.declared.seat.Cleaning.{Cleaning}
 use mir.Syntax.{w64}

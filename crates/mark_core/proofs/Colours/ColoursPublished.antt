@@ -23,18 +23,14 @@ use Rattle.mark_core.specs.Steps.{Core, failing_part, after_event}
 use Rattle.mark_core.specs.Laws.{IsCore}
 use Rattle.mark_core.proofs.Writing.Places.{region-length}
 use Rattle.mark_core.proofs.Writing.Ranges.{placed}
-use Rattle.mark_core.proofs.Core.{in_range}
-use Rattle.mark_core.proofs.Acting.{found, words_left, seats_left}
-use Rattle.mark_core.proofs.Marks.MarksIdle.{lacks-from}
-use Rattle.mark_core.proofs.Marks.MarksWords.{marks-from}
+use Rattle.mark_core.proofs.Known.{in_range, found, words_left, seats_left}
+use Rattle.mark_core.proofs.Marks.MarksIdle.{lacks-from, marks-from}
 use Rattle.mark_core.proofs.Colours.ColoursHands.{same-number}
-use Rattle.mark_core.proofs.Colours.ColoursSeats.{grasp-moved, grasp-new, grasp-after, ends-untested}
-use Rattle.mark_core.proofs.Colours.ColoursWaiting.{seat_left}
+use Rattle.mark_core.proofs.Colours.ColoursFields.{grasp-moved, grasp-new, grasp-after, ends-untested, seat_left, done-nil}
 use Rattle.mark_core.proofs.Colours.ColoursWaits.{waiting-after}
 use Rattle.mark_core.proofs.Colours.ColoursUnpublished.{tracing-before, waits-new}
-use Rattle.mark_core.proofs.Colours.ColoursFields.{done-nil}
 use Rattle.mark_core.proofs.Colours.ColoursScanned.{AccountedNow, AccountedAfter, ScannedNow, ScannedAfter, field-after, scanned-stays, leaves-scanned, lost-fields}
-use Rattle.mark_core.proofs.Blocks.BlocksTaken.{Taken, kept-after}
+use Rattle.mark_core.proofs.Blocks.BlocksStopped.{Taken, kept-after}
 use Rattle.mark_core.specs.declared.kinds.Shape.{Shape}
 use Rattle.mark_core.specs.declared.kinds.Event.{Event}
 use Rattle.mark_core.specs.declared.kinds.Step.{Step}

@@ -11,8 +11,8 @@ use Rattle.mark_core.specs.Views.{hands}
 use Rattle.mark_core.specs.Parts.{parts}
 use Rattle.mark_core.specs.Steps.{Core, AllTrue}
 use Rattle.mark_core.specs.Laws.{IsCore}
-use Rattle.mark_core.proofs.Acting.{found, words_left, seats_left}
-use Rattle.mark_core.proofs.Marks.MarksEntries.{Pushes, entry-stays}
+use Rattle.mark_core.proofs.Known.{found, words_left, seats_left}
+use Rattle.mark_core.proofs.Marks.MarksBefore.{Pushes, entry-stays}
 use Rattle.mark_core.proofs.Marks.MarksQueues.{fills, pushes-on, pops-off, popped-back, lengths-stay, entries-stay}
 use Rattle.mark_core.specs.declared.kinds.Shape.{Shape}
 use Rattle.mark_core.specs.declared.kinds.Step.{Step}

@@ -14,18 +14,14 @@ use Rattle.mark_core.specs.Rules.ColourRules.{popped_is, will_read, is_unread_by
 use Rattle.mark_core.specs.Steps.ColourSteps.{scan_after}
 use Rattle.mark_core.specs.Effects.{written}
 use Rattle.mark_core.specs.Steps.{Core}
-use Rattle.mark_core.proofs.Acting.{found, words_left, seats_left}
+use Rattle.mark_core.proofs.Known.{found, words_left, seats_left}
 use Rattle.mark_core.proofs.Writing.RegionWrites.{fields-kept}
-use Rattle.mark_core.proofs.Hands.HandsApart.{HandApart, IsOnce}
-use Rattle.mark_core.proofs.Hands.HandsKept.{apart-now}
-use Rattle.mark_core.proofs.Marks.MarksIdle.{at-seat}
-use Rattle.mark_core.proofs.Marks.MarksWords.{found-word, marks-grow}
+use Rattle.mark_core.proofs.Hands.HandsApart.{HandApart, IsOnce, apart-now}
+use Rattle.mark_core.proofs.Marks.MarksIdle.{at-seat, found-word, marks-grow}
 use Rattle.mark_core.proofs.Marks.MarksHands.{may-load}
-use Rattle.mark_core.proofs.Colours.ColoursSeats.{grasp-new}
-use Rattle.mark_core.proofs.Colours.ColoursWaiting.{seat_left}
+use Rattle.mark_core.proofs.Colours.ColoursFields.{grasp-new, seat_left, is_done, done-cases, done-nil, done-marked, done-valued, done-read, value-after, read-after, Loads, loaded-done}
 use Rattle.mark_core.proofs.Colours.ColoursWaits.{Leaves}
-use Rattle.mark_core.proofs.Colours.ColoursFields.{is_done, done-cases, done-nil, done-marked, done-valued, done-read, value-after, read-after, Loads, loaded-done}
-use Rattle.mark_core.proofs.Blocks.BlocksTaken.{Taken}
+use Rattle.mark_core.proofs.Blocks.BlocksStopped.{Taken}
 use Rattle.mark_core.specs.declared.kinds.Shape.{Shape}
 use Rattle.mark_core.specs.declared.kinds.Step.{Step}
 use Rattle.mark_core.specs.declared.kinds.Step.TheVariants.{ReadAlloc, ReadField, ReadOwn, StoreField, StoreNew, ExchangeField}

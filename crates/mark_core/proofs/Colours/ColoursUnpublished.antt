@@ -13,18 +13,17 @@ use Rattle.mark_core.specs.Start.{start_words, start_seats}
 use Rattle.mark_core.specs.Effects.{written}
 use Rattle.mark_core.specs.Steps.{Core, failing_part, after_event}
 use Rattle.mark_core.specs.Laws.{IsCore}
-use Rattle.mark_core.proofs.Acting.{found, words_left, seats_left}
+use Rattle.mark_core.proofs.Known.{found, words_left, seats_left}
 use Rattle.mark_core.proofs.Writing.Writes.{phase-kept}
-use Rattle.mark_core.proofs.Count.CountTests.{follows}
-use Rattle.mark_core.proofs.Marks.MarksIdle.{block-stops}
-use Rattle.mark_core.proofs.Marks.MarksWords.{MarksIt, marks-from, found-word}
-use Rattle.mark_core.proofs.Colours.ColoursWaiting.{WaitsNow, WaitsAfter, seat_left, tends-now}
+use Rattle.mark_core.proofs.Count.CountMoves.{follows}
+use Rattle.mark_core.proofs.Marks.MarksIdle.{block-stops, MarksIt, marks-from, found-word}
+use Rattle.mark_core.proofs.Colours.ColoursFields.{WaitsNow, WaitsAfter, seat_left, tends-now}
 use Rattle.mark_core.proofs.Colours.ColoursWaits.{fresh-tends, waiting-after}
 use Rattle.mark_core.proofs.Writing.CellBits.{no-bit}
 use Rattle.mark_core.proofs.Basics.{all-zero}
 use Rattle.mark_core.proofs.Blocks.BlocksWrites.{may-store-some}
-use Rattle.mark_core.proofs.Blocks.BlocksTaken.{Taken, kept-after}
-use Rattle.mark_core.proofs.Used.UsedCells.{alloc-on}
+use Rattle.mark_core.proofs.Blocks.BlocksStopped.{Taken, kept-after}
+use Rattle.mark_core.proofs.Used.UsedKept.{alloc-on}
 use Rattle.mark_core.specs.declared.kinds.Shape.{Shape}
 use Rattle.mark_core.specs.declared.kinds.Event.{Event}
 use Rattle.mark_core.specs.declared.kinds.Phase.{Phase}

@@ -17,22 +17,19 @@ use Rattle.mark_core.specs.Steps.{Core}
 use Rattle.mark_core.specs.Laws.{IsCore}
 use Rattle.mark_core.proofs.Writing.Places.{region-length}
 use Rattle.mark_core.proofs.Writing.Ranges.{placed}
-use Rattle.mark_core.proofs.Core.{in_range}
-use Rattle.mark_core.proofs.Acting.{found, words_left}
+use Rattle.mark_core.proofs.Known.{in_range, found, words_left}
 use Rattle.mark_core.proofs.Hands.HandsRight.{HandRight}
 use Rattle.mark_core.proofs.Hands.HandsCleaning.{left-dirtied}
-use Rattle.mark_core.proofs.Hands.HandsKept.{hands-now}
-use Rattle.mark_core.proofs.Marks.MarksIdle.{at-seat}
-use Rattle.mark_core.proofs.Marks.MarksWords.{found-word}
+use Rattle.mark_core.proofs.Hands.HandsApart.{hands-now}
+use Rattle.mark_core.proofs.Marks.MarksIdle.{at-seat, found-word}
 use Rattle.mark_core.proofs.Marks.MarksQueues.{pushed-packet}
 use Rattle.mark_core.proofs.Marks.MarksHands.{HandPublished, field-cell, may-load}
 use Rattle.mark_core.proofs.Marks.MarksBefore.{published-now}
 use Rattle.mark_core.proofs.Colours.ColoursQueued.{queued-stays, queued-pushed, queued-new, queued-popped}
 use Rattle.mark_core.proofs.Colours.ColoursHands.{tends-cases, tends-popped, tends-left, same-number, some-popped, same-popped, popped-read, left-seen, cleans-read, left-other, cleans-without, fresh-other, popped-other, cleans-other, found-cleans, found-left}
-use Rattle.mark_core.proofs.Colours.ColoursSeats.{idle-tends, idle-cleans}
-use Rattle.mark_core.proofs.Colours.ColoursWaiting.{WaitsNow, WaitsAfter, seat_left, waits-moved, waits-handed, tends-now, cleans-now, waits-still}
+use Rattle.mark_core.proofs.Colours.ColoursFields.{idle-tends, idle-cleans, WaitsNow, WaitsAfter, seat_left, waits-moved, waits-handed, tends-now, cleans-now, waits-still}
 use Rattle.mark_core.proofs.Basics.{some-number, or-second}
-use Rattle.mark_core.proofs.Blocks.BlocksTaken.{Taken}
+use Rattle.mark_core.proofs.Blocks.BlocksStopped.{Taken}
 use Rattle.mark_core.specs.declared.kinds.Shape.{Shape}
 use Rattle.mark_core.specs.declared.kinds.Phase.{Phase}
 use Rattle.mark_core.specs.declared.kinds.Phase.TheVariants.{Sweep}

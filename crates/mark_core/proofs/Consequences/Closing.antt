@@ -1,36 +1,50 @@
 -- A drain in which nothing is left to do has marked every reachable cell.
-use Rattle.std.proofs.Common.{ℕ, ◌≡◌, ◌+◌, ◌-◌, ◌<◌, ◌≤◌, List, [], ◌∷◌, get_or, length, arith, refl, sym, ◌∙◌, subst, Bool, true, false, not, ◌||◌, ◌&&◌, eqb, Option, Some, None, ⊎_elim}
-use Rattle.std.specs.Prelude.{is_some, IsTrue, IsFalse, slice_index}
+use Rattle.std.proofs.Common.{ℕ, ◌≡◌, ◌+◌, ◌-◌, ◌<◌, ◌≤◌, List, [], ◌∷◌, get_or, length, arith, refl, sym, ◌∙◌, subst, Bool, true, false, not, ◌||◌, ◌&&◌, eqb, Option, Some, None, ⊎_elim, ◌/◌, ◌%◌, ap, cond, ◌⊎◌, inl, inr}
+use Rattle.std.specs.Prelude.{is_some, IsTrue, IsFalse, slice_index, IfSome, unwrap_or}
 use Rattle.std.specs.List.{All, list_any, list_all}
-use Rattle.std.proofs.lemmas.Bool.{true≢false, or_cases, and_parts, eqb-true, cases_lt, cases_Bool}
-use Rattle.std.proofs.lemmas.List.{get_or_past}
+use Rattle.std.proofs.lemmas.Bool.{true≢false, or_cases, and_parts, eqb-true, cases_lt, cases_Bool, eq-eqb}
+use Rattle.std.proofs.lemmas.List.{get_or_past, get_or-map, length-map}
 use Rattle.std.proofs.lemmas.List.Elements.{All-map}
-use Rattle.std.proofs.lemmas.List.Folds.{list_all_at, list_any_none}
+use Rattle.std.proofs.lemmas.List.Folds.{list_all_at, list_any_none, list_any_at}
 use Rattle.mark_core.specs.Shapes.{EachPacket}
 use Rattle.mark_core.specs.Layout.{Words, words_of, region_sizes, block_count}
-use Rattle.mark_core.specs.Bits.{cell_bit, nil_or}
-use Rattle.mark_core.specs.Seats.{is_the, scan_left, cleaning_left, work_in_hand, is_phase}
-use Rattle.mark_core.specs.Views.{Grasp, grasps, grasp_of, hands, standings, Standing}
-use Rattle.mark_core.specs.Cells.{packet_length, field, IsCellPath}
+use Rattle.mark_core.specs.Bits.{cell_bit, nil_or, has_bit, all_ones}
+use Rattle.mark_core.specs.Seats.{is_the, scan_left, cleaning_left, work_in_hand, is_phase, may_store, block_in_hand}
+use Rattle.mark_core.specs.Views.{Grasp, grasps, grasp_of, hands, standings, Standing, Maker, makers, blocks}
+use Rattle.mark_core.specs.Cells.{packet_length, field, IsCellPath, in_use, is_kept, is_swept_block, is_unswept, IsReachableCell}
 use Rattle.mark_core.specs.Rules.WorldRules.{is_tracing, NoneActive}
-use Rattle.mark_core.specs.Steps.WorldSteps.{is_quiet, cards_clean, roots_marked}
+use Rattle.mark_core.specs.Steps.WorldSteps.{is_quiet, cards_clean, roots_marked, all_allocated}
 use Rattle.mark_core.specs.Rules.ColourRules.{popped_is, tends, cleans_card, owes_card, will_read, has_value, is_marked_soon, IsWaiting, IsAccounted}
 use Rattle.mark_core.specs.Closed.{sees_quiet, is_closed, IsQuiet}
 use Rattle.mark_core.specs.Start.{spent_seat}
-use Rattle.mark_core.specs.Steps.{Core}
+use Rattle.mark_core.specs.Steps.{Core, after_event}
 use Rattle.mark_core.specs.Sound.{IsSoundCore}
 use Rattle.mark_core.specs.WellFormed.{IsWellFormed}
-use Rattle.mark_core.specs.Laws.{ClosedMarksAll}
+use Rattle.mark_core.specs.Laws.{ClosedMarksAll, FullIsReachable, IsCore, ReachableStay}
 use Rattle.mark_core.proofs.Writing.Places.{region-length}
-use Rattle.mark_core.proofs.Known.{bit-below}
+use Rattle.mark_core.proofs.Known.{bit-below, HasCache, in_use-below, acts, all-makers, Acted, words_left}
 use Rattle.mark_core.proofs.Count.CountWork.{idle-from}
 use Rattle.mark_core.proofs.Consequences.QuietReading.{quiet}
 use Rattle.mark_core.proofs.World.WorldReading.{at-standing, any-passes, some-passes}
 use Rattle.mark_core.proofs.Hands.HandsCleaning.{done-left, done-cleans, done-scan}
 use Rattle.mark_core.specs.declared.kinds.Shape.{Shape}
-use Rattle.mark_core.specs.declared.kinds.Phase.TheVariants.{Drain}
+use Rattle.mark_core.specs.declared.kinds.Phase.TheVariants.{Drain, Full, Sweep}
 use Rattle.mark_core.specs.declared.seat.SeatState.{SeatState}
 use Rattle.mark_core.specs.Cards.{card_of}
+use Rattle.std.proofs.lemmas.Nat.Bits.{bit_at_ones}
+use Rattle.std.proofs.lemmas.Option.{slice_get_within, get_or_from_slice_get}
+use Rattle.mark_core.specs.declared.kinds.Step.TheVariants.{StorePhase, StoreAlloc}
+use Rattle.std.proofs.Math.Bool.{and-false}
+use Rattle.mark_core.specs.Strong.{IsStrongBlock}
+use Rattle.mark_core.specs.Steps.SweepSteps.{survivors, own_block}
+use Rattle.mark_core.proofs.HeldBlock.{allocs-length, marks-length, MayStore, may-store, own-strong}
+use Rattle.mark_core.proofs.Blocks.BlocksStopped.{Taken, within, own-record, sweeping}
+use Rattle.mark_core.proofs.Blocks.BlocksStretch.{unswept-first}
+use Rattle.mark_core.proofs.Writing.CellBits.{bit-both, bits-grow}
+use Rattle.mark_core.specs.declared.kinds.Step.{Step}
+use Rattle.mark_core.specs.declared.seat.BlockState.{BlockState}
+use Rattle.mark_core.proofs.Used.UsedKept.{alloc-on}
+use Rattle.mark_core.proofs.Pool.PoolsKept.{shape-kept}
 
 -- a seat without work in hand that owes no card
 pub record IsIdle (fields : ℕ) (g : Grasp) : Type 0 where
@@ -153,3 +167,106 @@ path_marked c formed k done x (d ∷ ds) p =
 
 pub closed_marks : ClosedMarksAll
 closed_marks c formed k e x p = path_marked c formed k (done_from c formed k e) x p.0 p.1
+
+-- The heap is found full only if every cell is reachable.
+full_bit : (allocs : _) (x : ℕ) → x / 64 < length allocs → all_allocated allocs ≡ true → cell_bit allocs x ≡ true
+full_bit allocs x h e =
+    let word : get_or allocs (x / 64) 0 ≡ all_ones = eqb-true (get_or allocs (x / 64) 0) all_ones (all-passes (λ (y : ℕ). eqb y all_ones) allocs (x / 64) 0 h e) in
+    let bit : has_bit all_ones (x % 64) ≡ true = eq-eqb _ _ (bit_at_ones 64 (x % 64) (omega arith)) in
+    ap (λ (w : ℕ). has_bit w (x % 64)) word ∙ bit
+
+pub full-reachable : FullIsReachable
+full-reachable c seat k f x h =
+    let w : Words = words_of c.shape c.words in
+    let r = acts c (record { seat = seat; step = StorePhase Full }) k f in
+    let s : SeatState = r.0 in
+    let ok = r.1.ok in
+    let may = and_parts (s.knows && all_allocated w.allocs) s.exact ok.1.0 in
+    let full = (and_parts s.knows (all_allocated w.allocs) may.0).1 in
+    let i : seat < length c.seats = slice_get_within c.seats seat s r.1.seat in
+    let is : get_or c.seats seat s ≡ s = get_or_from_slice_get c.seats seat s s r.1.seat in
+    let exact : list_any (λ (t : SeatState). t.exact) c.seats ≡ true = list_any_at (λ (t : SeatState). t.exact) c.seats seat s i (ap (λ (t : SeatState). t.exact) is ∙ may.1) in
+    let long : length w.allocs ≡ block_count c.shape = region-length (region_sizes c.shape) 4 c.words (omega (arith, k.formed.words)) in
+    let bit : cell_bit w.allocs x ≡ true = full_bit w.allocs x (omega (arith, h, long, k.formed.shaped.whole_blocks)) full in
+    k.sound.exact.idle_in_use exact ok.0 x h (rw bit refl)
+
+-- What the sweep keeps: every cell on a path, and of the block in hand the marked cells.
+-- what the sweep keeps
+abbrev pub Kept : Core → ℕ → Bool
+Kept c x = is_kept (words_of c.shape c.words).next_block (blocks c.seats) (words_of c.shape c.words).allocs (words_of c.shape c.words).marks (makers c.seats) x
+
+pub either-way : (b x y : Bool) → cond b x y ≡ true → (x ≡ true) ⊎ (y ≡ true)
+either-way true x y e = inl e
+either-way false x y e = inr e
+
+-- a cell that the sweep keeps exists
+pub kept-below : (c : Core) (x : ℕ) → IsCore c → Kept c x ≡ true → x < c.shape.cells
+kept-below c x k e =
+    let sh : Shape = c.shape in
+    let w : Words = words_of sh c.words in
+    let caches : All (HasCache sh) (makers c.seats) = all-makers sh c.seats (λ j t g. (k.formed.seats j t g).cache) in
+    ⊎_elim
+    (λ (a : in_use w.allocs (makers c.seats) x ≡ true). in_use-below sh w.allocs (makers c.seats) x k.formed.shaped (allocs-length c k) caches a)
+    (λ (a : cell_bit w.marks x ≡ true). bit-below sh w.marks x k.formed.shaped (marks-length c k) a)
+    (either-way (is_swept_block w.next_block (blocks c.seats) (x / 64)) (in_use w.allocs (makers c.seats) x) (cell_bit w.marks x) e)
+
+-- in the sweep every cell on a path is kept
+pub path-kept : (c : Core) → IsCore c → IsTrue (is_phase (words_of c.shape c.words).phase Sweep) → (x : ℕ) (ds : List ℕ) → IsCellPath c.shape (words_of c.shape c.words).roots (words_of c.shape c.words).fields (x ∷ ds)
+    → Kept c x ≡ true
+path-kept c k e x [] p =
+    let w : Words = words_of c.shape c.words in
+    goes-to (Kept c) (slice_index w.roots p.0) x p.2 (k.sound.sweeping.roots_kept e p.0 0 p.1)
+path-kept c k e x (d ∷ ds) p =
+    let w : Words = words_of c.shape c.words in
+    let m = path-kept c k e d ds p.1 in
+    goes-to (Kept c) (field c.shape w.fields d p.0.0) x p.0.2 (k.sound.sweeping.fields_kept e d (kept-below c d k m) m p.0.0 p.0.1)
+
+-- in a block that isn't swept the marked cells are kept
+pub kept-unswept : (next : ℕ) (bs : List (Option BlockState)) (allocs marks : List ℕ) (ms : List Maker) (x : ℕ) → list_any (is_unswept (x / 64)) bs ≡ true → is_kept next bs allocs marks ms x ≡ cell_bit marks x
+kept-unswept next bs allocs marks ms x e = rw (e, and-false) refl
+
+-- the block in hand of a seat that stores its bits isn't swept
+pub own-unswept : (c : Core) (i : ℕ) (s : SeatState) (step : Step) (b : ℕ) → Taken c i s step → is_unswept b s.block ≡ true → list_any (is_unswept b) (blocks c.seats) ≡ true
+own-unswept c i s step b k e =
+    let at : get_or (blocks c.seats) i s.block ≡ s.block = get_or-map (λ (t : SeatState). t.block) c.seats i s s.block (within c i s step k) ∙ ap (λ (t : SeatState). t.block) (own-record c i s step s k) in
+    list_any_at (is_unswept b) (blocks c.seats) i s.block (rw length-map (within c i s step k)) (ap (is_unswept b) at ∙ e)
+
+-- a marked cell of the block in hand survives the sweep
+pub survives : (phase next : ℕ) (allocs marks : List ℕ) (o : Option BlockState) (x : ℕ) → may_store o ≡ true → IfSome o (IsStrongBlock phase next allocs marks) → x / 64 ≡ unwrap_or (block_in_hand o) 0
+    → cell_bit allocs x ≡ true → (is_unswept (x / 64) o ≡ true → cell_bit marks x ≡ true) → has_bit (survivors o) (x % 64) ≡ true
+survives phase next allocs marks None x m k e a f = absurd (true≢false (sym m))
+survives phase next allocs marks (Some b) x m k e a f =
+    let y : MayStore b allocs marks = may-store phase next allocs marks b m k in
+    let hand : is_unswept (x / 64) (Some b) ≡ true = ap (λ (j : ℕ). is_unswept j (Some b)) e ∙ (unswept-first b k.block_first ∙ ap not y.unstored) in
+    bit-both (unwrap_or b.alloc_word 0) (unwrap_or b.mark_word 0) (x % 64)
+    (subst (λ (w : ℕ). has_bit w (x % 64) ≡ true) (ap (λ (j : ℕ). slice_index allocs j) e ∙ y.alloc_word) a)
+    (subst (λ (w : ℕ). has_bit w (x % 64) ≡ true) (ap (λ (j : ℕ). slice_index marks j) e ∙ y.mark_word) (f hand))
+
+-- No event takes the allocation bit of a cell that is reachable.
+-- a reachable cell of the block whose bits are stored is marked
+stored_marked : (c : Core) (i : ℕ) (s : SeatState) (x : ℕ) → Taken c i s StoreAlloc → IsReachableCell c.shape (words_of c.shape c.words).roots (words_of c.shape c.words).fields x → is_unswept (x / 64) s.block ≡ true
+    → cell_bit (words_of c.shape c.words).marks x ≡ true
+stored_marked c i s x k p e =
+    let w : Words = words_of c.shape c.words in
+    let sweep : is_phase w.phase Sweep ≡ true = rw (sweeping c i s StoreAlloc k k.ok.0) refl in
+    sym (kept-unswept w.next_block (blocks c.seats) w.allocs w.marks (makers c.seats) x (own-unswept c i s StoreAlloc (x / 64) k e)) ∙ path-kept c k.core sweep x p.0 p.1
+
+stays_at : (c : Core) (i : ℕ) (s : SeatState) (step : Step) (x : ℕ) → Taken c i s step → IsReachableCell c.shape (words_of c.shape c.words).roots (words_of c.shape c.words).fields x
+    → cell_bit (words_of c.shape c.words).allocs x ≡ true → cell_bit (words_left c s step).allocs x ≡ true
+stays_at c i s StoreAlloc x k p e =
+    let w : Words = words_of c.shape c.words in
+    bits-grow w.allocs (own_block s) (survivors s.block) x
+    (λ a _. survives w.phase w.next_block w.allocs w.marks s.block x k.ok.1.0 (own-strong c i s StoreAlloc k) (sym a) e (stored_marked c i s x k p))
+    e
+stays_at c i s step x k p e = alloc-on c i s step x k refl e
+
+-- no event takes the allocation bit of a cell that is reachable
+pub reachable_stay : ReachableStay
+reachable_stay c e k f x p h =
+    let r = acts c e k f in
+    let s : SeatState = r.0 in
+    let a : Acted c e s = r.1 in
+    let here : Taken c e.seat s e.step = record { core = k; got = a.seat; live = a.live; ok = a.ok } in
+    let P : Words → Type 0 = λ w. cell_bit w.allocs x ≡ true in
+    let R : Shape → Type 0 = λ sh. cell_bit (words_of sh (after_event c e).words).allocs x ≡ true in
+    subst R (sym (shape-kept c e)) (subst P (sym a.words) (stays_at c e.seat s e.step x here p h))

@@ -16,9 +16,8 @@ use Rattle.mark_core.specs.Cells.{in_pool, holder_count, empty_packets}
 use Rattle.mark_core.specs.Steps.{Core}
 use Rattle.mark_core.specs.WellFormed.{IsWellFormed}
 use Rattle.mark_core.specs.Laws.{ArePacketsSound, CountShowsQuiet}
-use Rattle.mark_core.proofs.Count.CountTests.{bit}
-use Rattle.mark_core.proofs.Count.CountRange.{all-pass}
-use Rattle.mark_core.proofs.Pool.PoolHolders.{holder-counts, among-unheld}
+use Rattle.mark_core.proofs.Count.CountMoves.{bit, all-pass}
+use Rattle.mark_core.proofs.Pool.PoolPlaces.{holder-counts, among-unheld}
 use Rattle.mark_core.specs.declared.kinds.Shape.{Shape}
 use Rattle.mark_core.specs.declared.seat.SeatState.{SeatState}
 

@@ -11,13 +11,12 @@ use Rattle.mark_core.specs.Parts.{parts}
 use Rattle.mark_core.specs.Effects.{place, written, seat_after}
 use Rattle.mark_core.specs.Steps.{AllTrue}
 use Rattle.mark_core.specs.Laws.{PacketsSound}
-use Rattle.mark_core.proofs.Count.CountTests.{bit, neither}
-use Rattle.mark_core.proofs.Count.CountMoves.{count-above, count-below}
+use Rattle.mark_core.proofs.Count.CountMoves.{bit, neither, count-above, count-below}
 use Rattle.mark_core.proofs.Count.CountWork.{work-before, work-reads, work-marks, idle-read_alloc, idle-dirty_card, idle-read_marks}
 use Rattle.mark_core.proofs.Writing.Frames.{held_of, debts_of, changes_held, changes_debts, changes_grasp, held-kept, debts-kept, grasp-kept}
 use Rattle.mark_core.proofs.Writing.Writes.{touches_empty, empty-kept}
 use Rattle.mark_core.proofs.Writing.RegionWrites.{touches_heads, touches_pools, heads-kept, pools-kept}
-use Rattle.mark_core.proofs.Pool.PoolSteps.{At, sound-still, one-debt, work-holds}
+use Rattle.mark_core.proofs.Pool.PoolLengths.{At, sound-still, one-debt, work-holds}
 use Rattle.mark_core.specs.declared.kinds.Shape.{Shape}
 use Rattle.mark_core.specs.declared.kinds.Step.{Step}
 use Rattle.mark_core.specs.declared.kinds.Step.TheVariants.{Reserve, Credit, ReadAlloc, ReadField, ReadRoot, SetMark, DirtyCard, ClearCard, ReadMarks, LoadSlot}

@@ -1,11 +1,11 @@
 -- In an exact drain a step marks only what is reachable, and loads only what is reachable.
-use Rattle.std.proofs.Common.{ℕ, ◌≡◌, ◌≢◌, ◌+◌, ◌*◌, ◌/◌, ◌%◌, ◌<◌, ◌≤◌, List, set, get_or, length, arith, refl, sym, ap, ◌∙◌, subst, true, not, ◌&&◌, ◌||◌, eqb, Option, Some, None, ◌⊎◌, inl, inr, ⊎_elim}
-use Rattle.std.specs.Prelude.{IsTrue, IfSome, is_some, nat_lt}
-use Rattle.std.proofs.lemmas.Bool.{cases_eq, and_parts, or_cases, eqb-true, ltb-true, lt-ltb, true≢false, false≢true}
+use Rattle.std.proofs.Common.{ℕ, ◌≡◌, ◌≢◌, ◌+◌, ◌*◌, ◌/◌, ◌%◌, ◌<◌, ◌≤◌, List, set, get_or, length, arith, refl, sym, ap, ◌∙◌, subst, true, not, ◌&&◌, ◌||◌, eqb, Option, Some, None, ◌⊎◌, inl, inr, ⊎_elim, zero, suc, [], ◌∷◌, Bool, false, cond}
+use Rattle.std.specs.Prelude.{IsTrue, IfSome, is_some, nat_lt, slice_index}
+use Rattle.std.proofs.lemmas.Bool.{cases_eq, and_parts, or_cases, eqb-true, ltb-true, lt-ltb, true≢false, false≢true, eqb-false}
 use Rattle.std.proofs.lemmas.List.{length-map, get_or-set_same}
 use Rattle.mark_core.specs.Shapes.{EachCell}
 use Rattle.mark_core.specs.Layout.{Words, words_of, region_sizes, block_count, root_count, address}
-use Rattle.mark_core.specs.Bits.{has_bit, with_bit, cell_bit, nil_or, cell_named}
+use Rattle.mark_core.specs.Bits.{has_bit, with_bit, cell_bit, nil_or, cell_named, cell_of}
 use Rattle.mark_core.specs.Seats.{is_the, scans, scan_left, may_scan, left_in}
 use Rattle.mark_core.specs.Views.{Grasp, grasp_of, makers}
 use Rattle.mark_core.specs.Cells.{in_use, field, IsReachableCell}
@@ -14,23 +14,39 @@ use Rattle.mark_core.specs.Rules.WorldRules.{is_tracing}
 use Rattle.mark_core.specs.Effects.{seat_after}
 use Rattle.mark_core.specs.Steps.{Core}
 use Rattle.mark_core.specs.Laws.{IsCore}
-use Rattle.mark_core.proofs.Writing.Regions.{words-get}
-use Rattle.mark_core.proofs.Writing.Places.{region-length}
-use Rattle.mark_core.proofs.Acting.{found, words_left}
-use Rattle.mark_core.proofs.Known.{bit-below, reference-within}
+use Rattle.mark_core.proofs.Writing.Places.{words-get, region-length}
+use Rattle.mark_core.proofs.Known.{found, words_left, bit-below, reference-within}
 use Rattle.mark_core.proofs.Writing.RegionWrites.{marks-kept}
-use Rattle.mark_core.proofs.Blocks.BlocksTaken.{Taken, within, in-place}
+use Rattle.mark_core.proofs.Blocks.BlocksStopped.{Taken, within, in-place, none-in-hand}
 use Rattle.mark_core.proofs.Blocks.BlocksWords.{heap-left}
-use Rattle.mark_core.proofs.Blocks.BlocksStopped.{none-in-hand}
 use Rattle.mark_core.proofs.Blocks.BlocksSteps.{own-block}
-use Rattle.mark_core.proofs.Sweeps.SweepsUsed.{NoneUsed, use-published}
-use Rattle.mark_core.proofs.Exacts.ExactsReach.{reach-root, reach-field, named-cell}
+use Rattle.mark_core.proofs.Sweeps.SweepsSpared.{NoneUsed, use-published}
 use Rattle.mark_core.proofs.Writing.CellBits.{with_other, same-index, bit-there}
 use Rattle.mark_core.proofs.Hands.HandsCleaning.{scan-left}
-use Rattle.mark_core.proofs.AtSeat.{of-view}
+use Rattle.mark_core.proofs.HeldBlock.{of-view}
 use Rattle.mark_core.specs.declared.kinds.Step.{Step}
 use Rattle.mark_core.specs.declared.kinds.Step.TheVariants.{ReadField, ReadRoot, SetMark, StoreField, StoreRoot, StoreNew, PublishCells, StorePhase, NextBlock, StoreAlloc, ClearMarks, Reset, ExchangeField, LoadSlot, StoreSlot}
 use Rattle.mark_core.specs.declared.seat.SeatState.{SeatState}
+use Rattle.mark_core.specs.declared.kinds.Shape.{Shape}
+
+-- What a root names is reachable, and so is what a field of a reachable cell names.
+pub reach-root : (sh : Shape) (roots fields : List ℕ) (k x : ℕ) → k < length roots → slice_index roots k ≡ x + 1 → IsReachableCell sh roots fields x
+reach-root sh roots fields k x h e = ([], (k, h, e))
+
+pub reach-field : (sh : Shape) (roots fields : List ℕ) (d i x : ℕ) → IsReachableCell sh roots fields d → i < sh.fields → field sh fields d i ≡ x + 1 → IsReachableCell sh roots fields x
+reach-field sh roots fields d i x r h e = (d ∷ r.0, ((i, h, e), r.1))
+
+cell_after : (word : ℕ) → (word ≡ 0 → ⊥) → word ≤ 16777216 → word ≡ cell_of word + 1
+cell_after zero n h = absurd (n refl)
+cell_after (suc word) n h = omega arith
+
+named_by : (word : ℕ) (b : Bool) (P : ℕ → Type 0) → (b ≡ false → word ≡ 0 → ⊥) → word ≤ 16777216 → ((x : ℕ) → word ≡ x + 1 → P x) → IfSome (cond b None (Some (cell_of word))) P
+named_by word true P n h f = tt
+named_by word false P n h f = f (cell_of word) (cell_after word (n refl) h)
+
+-- what holds of each cell that a word may name holds of the one that it names
+pub named-cell : (word : ℕ) (P : ℕ → Type 0) → word ≤ 16777216 → ((x : ℕ) → word ≡ x + 1 → P x) → IfSome (cell_named word) P
+named-cell word P h f = named_by word (eqb word 0) P (eqb-false word 0) h f
 
 -- cell x is reachable now
 abbrev pub Reached : Core → ℕ → Type 0

@@ -10,15 +10,14 @@ use Rattle.mark_core.specs.Steps.WorldSteps.{begins_exact}
 use Rattle.mark_core.specs.Effects.{seat_after}
 use Rattle.mark_core.specs.Steps.{Core, failing_part, after_event}
 use Rattle.mark_core.specs.Laws.{IsCore}
-use Rattle.mark_core.proofs.Acting.{found, words_left, seats_left}
+use Rattle.mark_core.proofs.Known.{found, words_left, seats_left}
 use Rattle.mark_core.proofs.World.WorldReading.{any-passes, some-passes}
 use Rattle.mark_core.proofs.World.WorldKept.{WorldSound}
-use Rattle.mark_core.proofs.Blocks.BlocksTaken.{Taken, mine, kept-after}
+use Rattle.mark_core.proofs.Blocks.BlocksStopped.{Taken, mine, kept-after, AllStill, still-from, still-known, knower, not-still, sweeping}
 use Rattle.mark_core.proofs.Blocks.BlocksWords.{heap-left}
-use Rattle.mark_core.proofs.Blocks.BlocksStopped.{AllStill, still-from, still-known, knower, not-still, sweeping}
 use Rattle.mark_core.proofs.Blocks.BlocksFacts.{ExactKnows, NotExact, exact-knows, none-exact}
 use Rattle.mark_core.proofs.Writing.RegionWrites.{roots-kept, fields-kept, allocs-kept}
-use Rattle.mark_core.proofs.Sweeps.SweepsUsed.{NoneUsed, none-used, use-published}
+use Rattle.mark_core.proofs.Sweeps.SweepsSpared.{NoneUsed, none-used, use-published}
 use Rattle.mark_core.specs.declared.kinds.Phase.{Phase}
 use Rattle.mark_core.specs.declared.kinds.Phase.TheVariants.{Idle, Marking, Drain, Sweep, Clear, Full}
 use Rattle.mark_core.specs.declared.kinds.Step.{Step}
@@ -27,20 +26,21 @@ use Rattle.mark_core.specs.declared.seat.SeatState.{SeatState}
 use Rattle.std.specs.Prelude.{IsTrue, IfSome}
 use Rattle.std.proofs.lemmas.List.{length-map, get_or-map}
 use Rattle.std.proofs.lemmas.List.Elements.{All-map}
-use Rattle.mark_core.specs.Shapes.{EachCell}
+use Rattle.mark_core.specs.Shapes.{EachCell, IsShape}
 use Rattle.mark_core.specs.Bits.{cell_bit}
 use Rattle.mark_core.specs.Seats.{is_phase}
 use Rattle.mark_core.specs.Cells.{in_use, IsReachableCell}
 use Rattle.mark_core.specs.Rules.HeapRules.{Exact}
-use Rattle.mark_core.proofs.Locals.{local-kept}
+use Rattle.mark_core.proofs.Doing.{local-kept}
 use Rattle.mark_core.proofs.Blocks.BlocksSteps.{publishes-nothing}
-use Rattle.mark_core.proofs.Sweeps.SweepsPhase.{phase-came}
-use Rattle.mark_core.proofs.Sweeps.SweepsKept.{keeps, keeps-same, kept-first, world-left}
+use Rattle.mark_core.proofs.Sweeps.SweepsKept.{phase-came, keeps, keeps-same, kept-first, world-left}
 use Rattle.mark_core.proofs.Exacts.ExactsDrain.{Reached, MarksReached, ValueReached, marks-reached, value-reached}
 use Rattle.mark_core.proofs.Exacts.ExactsMoves.{begins-white, drain-begins, no-values, kept-last}
-use Rattle.mark_core.proofs.AtSeat.{of-view}
+use Rattle.mark_core.proofs.HeldBlock.{of-view}
 use Rattle.mark_core.specs.declared.kinds.Shape.{Shape}
 use Rattle.mark_core.specs.declared.kinds.Event.{Event}
+use Rattle.mark_core.specs.Start.{start_words, start_seats}
+use Rattle.mark_core.proofs.Pool.PoolStart.{each-seat}
 
 -- A seat is exact after a step if one was before, or if the step began its drain; and while one is, no root and no field changes.
 none_pass : {X : Type 0} (p : X → Bool) (xs : List X) → list_any p xs ≡ false → All (λ x. p x ≡ false) xs
@@ -268,3 +268,13 @@ exact_at c i s step t after =
 -- each event that is allowed keeps the rule of an exact stop
 pub exact-kept_by : (c : Core) (e : Event) → IsCore c → failing_part c e ≡ None → ExactSound (after_event c e).shape (words_of (after_event c e).shape (after_event c e).words) (after_event c e).seats
 exact-kept_by c e k f = kept-after ExactSound c e k f (λ s a t. exact_at c e.seat s e.step t (world-left c e s k f a))
+
+-- The state in which nothing has happened meets the rule of an exact stop, since no seat is exact.
+no_such : (P : Type 0) → true ≡ false → P
+no_such P e = absurd (true≢false e)
+
+pub exact-starts : (sh : Shape) (n : ℕ) → IsShape sh → ExactSound sh (words_of sh (start_words sh)) (start_seats sh n)
+exact-starts sh n z =
+    let none : some_exact (start_seats sh n) ≡ false = list_any_none (λ (s : SeatState). s.exact) (start_seats sh n) (each-seat NotExact sh n (λ k. refl)) in
+    let never = λ (P : Type 0) (e : some_exact (start_seats sh n) ≡ true). no_such P (sym e ∙ none) in
+    record { drain_marks = never _; drain_values = never _; sweep_kept = never _; idle_in_use = never _ }

@@ -16,9 +16,9 @@ use Rattle.mark_core.specs.Rules.WorldRules.{is_tracing}
 use Rattle.mark_core.specs.Steps.WorldSteps.{begins_exact, none_marked}
 use Rattle.mark_core.specs.Steps.{Core}
 use Rattle.mark_core.specs.Laws.{IsCore}
-use Rattle.mark_core.proofs.Count.CountTests.{follows}
+use Rattle.mark_core.proofs.Count.CountMoves.{follows}
 use Rattle.mark_core.proofs.World.WorldPhases.{IsWhite}
-use Rattle.mark_core.proofs.Blocks.BlocksTaken.{Taken}
+use Rattle.mark_core.proofs.Blocks.BlocksStopped.{Taken}
 use Rattle.mark_core.proofs.Blocks.BlocksSteps.{none-at-move}
 use Rattle.mark_core.proofs.Sweeps.SweepsClosed.{no-some}
 use Rattle.mark_core.proofs.World.WorldPhaseMoves.{white-words}

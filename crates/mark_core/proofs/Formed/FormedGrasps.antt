@@ -1,10 +1,10 @@
 -- The cells and cards in a seat's hand exist after each step that is allowed.
-use Rattle.std.proofs.Common.{ℕ, ◌≡◌, ◌/◌, ◌%◌, ◌<◌, ◌≤◌, List, arith, refl, Bool, true, false, not, ◌&&◌, Option, Some, None, cond, eqb}
-use Rattle.std.specs.Prelude.{IfSome, nat_lt, bit_and}
+use Rattle.std.proofs.Common.{ℕ, ◌≡◌, ◌/◌, ◌%◌, ◌<◌, ◌≤◌, List, arith, refl, Bool, true, false, not, ◌&&◌, Option, Some, None, cond, eqb, ◌^◌}
+use Rattle.std.specs.Prelude.{IfSome, nat_lt, bit_and, bit_or}
 use Rattle.std.proofs.lemmas.Bool.{and_parts, ltb-true, not-true}
 use Rattle.mark_core.specs.Shapes.{IsShape}
 use Rattle.mark_core.specs.Layout.{Words, card_count}
-use Rattle.mark_core.specs.Bits.{has_bit, cell_of}
+use Rattle.mark_core.specs.Bits.{has_bit, cell_of, with_bit, without_bit, complement}
 use Rattle.mark_core.specs.Seats.{is_the, used_in}
 use Rattle.mark_core.specs.Steps.ColourSteps.{may_read_field, popped_after, scan_after, seen_in, cleaning_after, without_cell, fresh_off, popped_off, redirty_off, known_in}
 use Rattle.mark_core.specs.Steps.MutatorSteps.{seat_variable, variable_or_nil}
@@ -12,8 +12,7 @@ use Rattle.mark_core.specs.Parts.{parts}
 use Rattle.mark_core.specs.Effects.{seat_after}
 use Rattle.mark_core.specs.Steps.{AllTrue}
 use Rattle.mark_core.specs.WellFormed.{IsCleaning}
-use Rattle.mark_core.proofs.Writing.SlotBounds.{choose}
-use Rattle.mark_core.proofs.Formed.FormedBits.{and-left_fits, and-right_fits, without-fits}
+use Rattle.mark_core.proofs.Writing.SeatBoundsKept.{choose}
 use Rattle.mark_core.proofs.Basics.{positive}
 use Rattle.mark_core.specs.declared.kinds.Shape.{Shape}
 use Rattle.mark_core.specs.declared.kinds.Step.{Step}
@@ -21,7 +20,28 @@ use Rattle.mark_core.specs.declared.kinds.Step.TheVariants.{Push, Pop, ReadAlloc
 use Rattle.mark_core.specs.declared.seat.SeatState.{SeatState}
 use Rattle.mark_core.specs.declared.seat.Cleaning.{Cleaning}
 use Rattle.mark_core.specs.Cards.{block_of_card, card_bits, card_of}
-use Rattle.mark_core.proofs.Hands.HandsBits.{card-bits_fit}
+use Rattle.mark_core.proofs.Hands.HandsCleaning.{card-bits_fit}
+use Rattle.std.proofs.Math.Pow.{pow-lt}
+use Rattle.std.proofs.lemmas.Nat.{and_le_l, and_le_r, or_lt}
+
+-- Sets of the cells of a block stay words of sixty-four bits.
+pub and-left_fits : (a b : ℕ) → a < 18446744073709551616 → bit_and a b < 18446744073709551616
+and-left_fits a b h = omega (arith, and_le_l a b, h)
+
+pub and-right_fits : (a b : ℕ) → b < 18446744073709551616 → bit_and a b < 18446744073709551616
+and-right_fits a b h = omega (arith, and_le_r a b, h)
+
+pub or-fits : (a b : ℕ) → a < 18446744073709551616 → b < 18446744073709551616 → bit_or a b < 18446744073709551616
+or-fits a b h g = or_lt 64 a b h g
+
+pub with-fits : (a k : ℕ) → k < 64 → a < 18446744073709551616 → with_bit a k < 18446744073709551616
+with-fits a k h g = let p : 2 ^ k < 2 ^ 64 = pow-lt h in or_lt 64 a (2 ^ k) g p
+
+pub without-fits : (a k : ℕ) → a < 18446744073709551616 → without_bit a k < 18446744073709551616
+without-fits a k h = and-left_fits a (complement (2 ^ k)) h
+
+pub complement-fits : (a : ℕ) → complement a < 18446744073709551616
+complement-fits a = omega arith
 
 -- what a step learns of a cell from the word that it finds
 abbrev pub Learns : Shape → Step → ℕ → Type 0

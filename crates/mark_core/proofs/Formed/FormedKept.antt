@@ -1,6 +1,6 @@
 -- Each event that is allowed, and whose numbers fit their types, leaves a state whose words and records are in range.
 use Rattle.std.proofs.lemmas.Bool.{and_parts, ltb-true}
-use Rattle.mark_core.proofs.Writing.SlotBounds.{choose}
+use Rattle.mark_core.proofs.Writing.SeatBoundsKept.{choose, reference-fits}
 use Rattle.mark_core.specs.Steps.MutatorSteps.{seat_variable, fits_part}
 use Rattle.mark_core.specs.Seats.{may_mutate}
 use Rattle.mark_core.specs.Bits.{cell_of}
@@ -21,19 +21,14 @@ use Rattle.mark_core.specs.WellFormed.{IsCache, IsSeat, IsWellFormed}
 use Rattle.mark_core.specs.Strong.{IsStrongSeat, IsStrongBlock}
 use Rattle.mark_core.specs.Bounds.{IsReference, CacheFits, IsStretch}
 use Rattle.mark_core.specs.Laws.{IsCore, NumbersFit}
-use Rattle.mark_core.proofs.Writing.Places.{word-put, region-length}
-use Rattle.mark_core.proofs.Writing.Regions.{words-get}
+use Rattle.mark_core.proofs.Writing.Places.{word-put, region-length, words-get}
 use Rattle.mark_core.proofs.Writing.Ranges.{IsPlace, placed, either}
-use Rattle.mark_core.proofs.Acting.{Acted, found, words_left}
-use Rattle.mark_core.proofs.Core.{in_range, acts}
-use Rattle.mark_core.proofs.Known.{used-below}
+use Rattle.mark_core.proofs.Known.{Acted, found, words_left, in_range, acts, used-below}
 use Rattle.mark_core.proofs.Writing.Writes.{phase-kept, at_counter}
 use Rattle.mark_core.proofs.Writing.RegionWrites.{cards-kept}
-use Rattle.mark_core.proofs.Writing.SeatBoundsKept.{reference-fits}
 use Rattle.mark_core.proofs.Doing.{count-after}
-use Rattle.mark_core.proofs.Formed.FormedAfter.{one-of, one-read, each-kept}
+use Rattle.mark_core.proofs.Formed.FormedLearns.{one-of, one-read, each-kept, learns, goes-within}
 use Rattle.mark_core.proofs.Formed.FormedSeats.{seat-kept, new-seat, ended-seat}
-use Rattle.mark_core.proofs.Formed.FormedLearns.{learns, goes-within}
 use Rattle.mark_core.proofs.Formed.FormedWords.{IsWord, word-in, KeepsBits, Writer, phase-fits, written-fits}
 use Rattle.mark_core.specs.declared.kinds.Shape.{Shape}
 use Rattle.mark_core.specs.declared.kinds.Event.{Event}

@@ -8,7 +8,7 @@ use Rattle.std.proofs.lemmas.List.Elements.{All-nil, All-cons, All-head, All-tai
 use Rattle.std.proofs.lemmas.List.Kept.{AllPairs-cons}
 use Rattle.mark_core.specs.Held.{Slot, Slots, slot_of, holds, put_packet, slot_without, drop_packet, slot_with, set_length}
 use Rattle.mark_core.specs.WellFormed.{IsApart, IsHeldList}
-use Rattle.mark_core.proofs.Writing.SlotBounds.{choose}
+use Rattle.mark_core.proofs.Writing.SeatBoundsKept.{choose}
 use Rattle.mark_core.specs.declared.kinds.Shape.{Shape}
 
 -- the first of two values has the property if it is taken, and the other anyway

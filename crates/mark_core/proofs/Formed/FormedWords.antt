@@ -21,8 +21,8 @@ use Rattle.mark_core.specs.Laws.{NumbersFit}
 use Rattle.mark_core.specs.declared.kinds.Phase.{Phase}
 use Rattle.mark_core.specs.declared.kinds.Phase.TheVariants.{Idle, Marking, Drain, Sweep, Clear, Full}
 use Rattle.mark_core.proofs.Writing.Ranges.{InRange}
-use Rattle.mark_core.proofs.Writing.SlotBounds.{choose}
-use Rattle.mark_core.proofs.Formed.FormedBits.{and-left_fits, or-fits, with-fits, without-fits}
+use Rattle.mark_core.proofs.Writing.SeatBoundsKept.{choose}
+use Rattle.mark_core.proofs.Formed.FormedGrasps.{and-left_fits, or-fits, with-fits, without-fits}
 use Rattle.mark_core.specs.declared.kinds.Shape.{Shape}
 use Rattle.mark_core.specs.declared.kinds.Step.{Step}
 use Rattle.mark_core.specs.declared.kinds.Step.TheVariants.{Reserve, Take, Give, Credit, Push, SetMark, DirtyCard, ClearCard, StoreField, StoreValue, StoreRoot, ClaimBlock, ReleaseBlock, StoreNew, PublishCells, EnterStep, LeaveStep, RaiseStep, DropStep, StorePhase, NextBlock, NextOfCards, StoreAlloc, ClearMarks, WipeCard, StorePosition, StoreNamed, Reset, AddStat, StoreLength, OpenStep, JoinHelpStep, LeaveHelpStep, CloseStep, NextSeason, ExchangeField, ExchangeValue, StoreSlot}

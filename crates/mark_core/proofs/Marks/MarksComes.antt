@@ -18,13 +18,9 @@ use Rattle.mark_core.specs.Steps.{Core, AllTrue}
 use Rattle.mark_core.specs.Laws.{IsCore}
 use Rattle.mark_core.proofs.Writing.Ranges.{placed}
 use Rattle.mark_core.proofs.Writing.Places.{region-length}
-use Rattle.mark_core.proofs.Core.{in_range}
-use Rattle.mark_core.proofs.Acting.{found, words_left}
-use Rattle.mark_core.proofs.Known.{HasCache, bit-below, in_use-below}
+use Rattle.mark_core.proofs.Known.{in_range, found, words_left, HasCache, bit-below, in_use-below}
 use Rattle.mark_core.proofs.Count.CountWork.{work-reads}
-use Rattle.mark_core.proofs.Marks.MarksCells.{mark-sets}
-use Rattle.mark_core.proofs.Marks.MarksIdle.{at-seat, work-traces}
-use Rattle.mark_core.proofs.Marks.MarksWords.{found-word}
+use Rattle.mark_core.proofs.Marks.MarksIdle.{mark-sets, found-word, at-seat, work-traces}
 use Rattle.mark_core.proofs.Marks.MarksQueues.{IsPushed, pops-off}
 use Rattle.mark_core.proofs.Marks.MarksHands.{HandMarked, HandPublished, ComesMarked, ComesPublished, ComesUsed, field-cell, may-load}
 use Rattle.mark_core.proofs.Marks.MarksBefore.{published-now, entries-now}

@@ -9,7 +9,7 @@ use Rattle.mark_core.specs.Steps.ColourSteps.{popped_after, scan_after, fresh_of
 use Rattle.mark_core.specs.Parts.{parts}
 use Rattle.mark_core.specs.Effects.{seat_after}
 use Rattle.mark_core.specs.Steps.{AllTrue}
-use Rattle.mark_core.proofs.Writing.SlotBounds.{choose}
+use Rattle.mark_core.proofs.Writing.SeatBoundsKept.{choose}
 use Rattle.mark_core.proofs.Hands.HandsCleaning.{in_set-none, scan-left, left-read, left-without, left-dirtied, left-known, scan-read, scan-without, scan-dirtied, scan-known}
 use Rattle.mark_core.specs.declared.kinds.Shape.{Shape}
 use Rattle.mark_core.specs.declared.kinds.Step.{Step}

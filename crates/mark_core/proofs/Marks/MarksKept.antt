@@ -8,13 +8,12 @@ use Rattle.mark_core.specs.Views.{makers, hands}
 use Rattle.mark_core.specs.Cells.{in_use, used_by}
 use Rattle.mark_core.specs.Steps.SweepSteps.{own_block, survivors}
 use Rattle.mark_core.specs.Steps.{Core, failing_part, after_event}
-use Rattle.mark_core.proofs.Acting.{words_left, seats_left, found}
+use Rattle.mark_core.proofs.Known.{words_left, seats_left, found}
 use Rattle.mark_core.proofs.Writing.CellBits.{bits-grow}
 use Rattle.mark_core.proofs.HeldBlock.{own-strong}
-use Rattle.mark_core.proofs.Consequences.Sparing.{survives}
-use Rattle.mark_core.proofs.Blocks.BlocksTaken.{Taken, kept-after}
-use Rattle.mark_core.proofs.Used.UsedKept.{still-made}
-use Rattle.mark_core.proofs.Used.UsedCells.{frees, alloc-on}
+use Rattle.mark_core.proofs.Consequences.Closing.{survives}
+use Rattle.mark_core.proofs.Blocks.BlocksStopped.{Taken, kept-after}
+use Rattle.mark_core.proofs.Used.UsedKept.{still-made, frees, alloc-on}
 use Rattle.mark_core.specs.declared.kinds.Step.{Step}
 use Rattle.mark_core.specs.declared.kinds.Step.TheVariants.{StoreAlloc}
 use Rattle.mark_core.specs.declared.seat.SeatState.{SeatState}
@@ -23,14 +22,12 @@ use Rattle.mark_core.specs.Seats.{is_the, work_in_hand}
 use Rattle.mark_core.specs.Rules.WorldRules.{is_tracing}
 use Rattle.mark_core.specs.Effects.{seat_after}
 use Rattle.mark_core.specs.Laws.{IsCore}
-use Rattle.mark_core.proofs.Locals.{local-kept}
+use Rattle.mark_core.proofs.Doing.{local-kept}
 use Rattle.mark_core.proofs.Count.CountWork.{work-marks}
-use Rattle.mark_core.proofs.Marks.MarksIdle.{at-seat, idle-seats, block-stops}
-use Rattle.mark_core.proofs.Marks.MarksWords.{marks-grow, marks-from, marks-value}
-use Rattle.mark_core.proofs.Marks.MarksEntries.{EntriesGo, entries-more}
+use Rattle.mark_core.proofs.Marks.MarksIdle.{at-seat, idle-seats, block-stops, marks-grow, marks-from, marks-value}
+use Rattle.mark_core.proofs.Marks.MarksBefore.{EntriesGo, entries-more, MarksOf, marked-now, published-now, used-now, entries-now, idle-published, idle-used, new-marked, ended-marked, new-published, ended-published, marks-of}
 use Rattle.mark_core.proofs.Marks.MarksQueues.{entries-after}
 use Rattle.mark_core.proofs.Marks.MarksHands.{HandMarked, HandPublished, HandUsed, marked-more, published-more, used-more, marked-after, published-after, used-after}
-use Rattle.mark_core.proofs.Marks.MarksBefore.{MarksOf, marked-now, published-now, used-now, entries-now, idle-published, idle-used, new-marked, ended-marked, new-published, ended-published, marks-of}
 use Rattle.mark_core.proofs.Marks.MarksComes.{comes-marked, comes-published, comes-used, comes-pushed, the-cell}
 use Rattle.mark_core.proofs.Blocks.BlocksWrites.{may-store-some}
 use Rattle.mark_core.specs.declared.kinds.Shape.{Shape}

@@ -5,10 +5,10 @@ use Rattle.std.proofs.lemmas.Bool.{true≢false, false≢true, cases_eq, and_par
 use Rattle.std.proofs.lemmas.List.{length-set, get_or-set_same, map-set, map_push, length-map, get_or-map, get_or-set_other, set-get_or}
 use Rattle.mark_core.specs.Held.{Slots, holds, known_length, has_length, has_entry, length_in_hand, put_packet, drop_packet, set_length}
 use Rattle.mark_core.specs.Cells.{packet_length, holder_count, length_among, entry}
-use Rattle.mark_core.proofs.Count.CountTests.{bit}
-use Rattle.mark_core.proofs.Known.{unheld-unknown, known-among}
+use Rattle.mark_core.proofs.Count.CountMoves.{bit}
+use Rattle.mark_core.proofs.Known.{unheld-unknown, known-among, in_range, found, words_left, seats_left}
 use Rattle.mark_core.proofs.Pool.PoolSlots.{put-other, drop-other, set-other, holds-set_same, known-set_same, known-put_same, holds-drop_same, none-held}
-use Rattle.mark_core.proofs.Pool.PoolHolders.{holders-set, among-set, among-unheld, among-push}
+use Rattle.mark_core.proofs.Pool.PoolPlaces.{holders-set, among-set, among-unheld, among-push}
 use Rattle.mark_core.proofs.Pool.PoolMoves.{Holding, held-alone, held-length}
 use Rattle.mark_core.proofs.Basics.{some-positive, positive, whole-length}
 use Rattle.mark_core.specs.declared.kinds.Shape.{Shape}
@@ -25,13 +25,10 @@ use Rattle.mark_core.specs.Steps.{Core, AllTrue}
 use Rattle.mark_core.specs.Laws.{IsCore}
 use Rattle.mark_core.proofs.Writing.Ranges.{placed}
 use Rattle.mark_core.proofs.Writing.Places.{region-length}
-use Rattle.mark_core.proofs.Core.{in_range}
-use Rattle.mark_core.proofs.Acting.{found, words_left, seats_left}
 use Rattle.mark_core.proofs.Writing.Frames.{held_of, held-kept, projection-kept}
 use Rattle.mark_core.proofs.Writing.RegionWrites.{heads-kept, entries-kept}
-use Rattle.mark_core.proofs.Marks.MarksIdle.{at-seat, lacks-from}
-use Rattle.mark_core.proofs.Marks.MarksWords.{found-word}
-use Rattle.mark_core.proofs.Marks.MarksEntries.{EntriesGo, Pushes, entries-fewer, entries-pushed}
+use Rattle.mark_core.proofs.Marks.MarksIdle.{at-seat, lacks-from, found-word}
+use Rattle.mark_core.proofs.Marks.MarksBefore.{EntriesGo, Pushes, entries-fewer, entries-pushed}
 use Rattle.mark_core.specs.declared.kinds.Step.{Step}
 use Rattle.mark_core.specs.declared.kinds.Step.TheVariants.{Take, Give, Push, Pop, Split, Join, StoreLength, ReadLength}
 use Rattle.mark_core.specs.declared.seat.SeatState.{SeatState}

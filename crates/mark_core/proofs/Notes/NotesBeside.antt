@@ -11,8 +11,7 @@ use Rattle.mark_core.specs.Rules.WorldRules.{NoneAdmitted, is_raised}
 use Rattle.mark_core.specs.Steps.{Core}
 use Rattle.mark_core.specs.Laws.{IsCore}
 use Rattle.mark_core.proofs.World.WorldReading.{at-standing}
-use Rattle.mark_core.proofs.Blocks.BlocksStopped.{AllStill, still-known, knower}
-use Rattle.mark_core.proofs.Blocks.BlocksAlone.{one-passes}
+use Rattle.mark_core.proofs.Blocks.BlocksStopped.{AllStill, still-known, knower, one-passes}
 use Rattle.mark_core.specs.declared.seat.SeatState.{SeatState}
 
 -- seat i has the record s

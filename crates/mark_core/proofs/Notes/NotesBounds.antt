@@ -8,10 +8,9 @@ use Rattle.mark_core.specs.Notes.{word_at, same_place, resets}
 use Rattle.mark_core.specs.Effects.{written}
 use Rattle.mark_core.specs.Steps.{Core, after_event}
 use Rattle.mark_core.specs.Laws.{EventsKeepBounds}
-use Rattle.mark_core.proofs.Acting.{Acted, found, words_left}
-use Rattle.mark_core.proofs.Core.{acts}
+use Rattle.mark_core.proofs.Known.{Acted, found, words_left, acts}
 use Rattle.mark_core.proofs.Writing.Writes.{next_card-kept, next_block-kept}
-use Rattle.mark_core.proofs.Blocks.BlocksTaken.{Taken, words-read}
+use Rattle.mark_core.proofs.Blocks.BlocksStopped.{Taken, words-read}
 use Rattle.mark_core.proofs.Blocks.BlocksWords.{statistic}
 use Rattle.mark_core.proofs.Notes.NotesBeside.{Beside, sits, beside}
 use Rattle.mark_core.proofs.Notes.NotesKept.{single-word, pairs}

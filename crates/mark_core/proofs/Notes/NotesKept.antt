@@ -9,12 +9,12 @@ use Rattle.mark_core.specs.Rules.WorldRules.{IsEmpty}
 use Rattle.mark_core.specs.Notes.{steady, keeps_phase, word_at}
 use Rattle.mark_core.specs.Effects.{place, written}
 use Rattle.mark_core.specs.Steps.{Core, after_of, after_event}
-use Rattle.mark_core.proofs.Acting.{found, Acted}
-use Rattle.mark_core.proofs.Count.CountTests.{follows}
+use Rattle.mark_core.proofs.Known.{found, Acted, acts}
+use Rattle.mark_core.proofs.Count.CountMoves.{follows}
 use Rattle.mark_core.proofs.Writing.Writes.{at_part}
 use Rattle.mark_core.proofs.Pool.PoolSlots.{any-held}
 use Rattle.mark_core.proofs.World.WorldSeats.{tracer-in, sweeper-in, runner-in, part-from_active}
-use Rattle.mark_core.proofs.Blocks.BlocksTaken.{Taken, mine, in-place}
+use Rattle.mark_core.proofs.Blocks.BlocksStopped.{Taken, mine, in-place}
 use Rattle.mark_core.proofs.Blocks.BlocksWords.{statistic}
 use Rattle.mark_core.proofs.Notes.NotesBeside.{Beside, Sits, sits, beside}
 use Rattle.mark_core.proofs.Basics.{or-second}
@@ -27,10 +27,8 @@ use Rattle.mark_core.specs.Numbers.{done_count, last_count, free_count}
 use Rattle.std.proofs.lemmas.List.{get_or-set_other, get_or-take, set-get_or}
 use Rattle.mark_core.specs.Layout.{address, region_sizes, region_words}
 use Rattle.mark_core.specs.Laws.{EventsKeepNotes}
-use Rattle.mark_core.proofs.Writing.Regions.{words-get}
-use Rattle.mark_core.proofs.Writing.Places.{region-put}
+use Rattle.mark_core.proofs.Writing.Places.{words-get, region-put}
 use Rattle.mark_core.proofs.Writing.Ranges.{IsPlace}
-use Rattle.mark_core.proofs.Core.{acts}
 use Rattle.mark_core.specs.declared.kinds.Shape.{Shape}
 
 -- Who may write which word: a step of one seat leaves each word for which another seat is steady.

@@ -7,8 +7,7 @@ use Rattle.mark_core.specs.Layout.{pool_words}
 use Rattle.mark_core.specs.Bits.{has_bit, with_bit, without_bit}
 use Rattle.mark_core.specs.Cells.{in_pool, pool_count, empty_packets}
 use Rattle.mark_core.specs.Rules.PacketRules.{NoStrays}
-use Rattle.mark_core.proofs.Count.CountTests.{bit, bit-zero}
-use Rattle.mark_core.proofs.Count.CountRange.{count-but-one}
+use Rattle.mark_core.proofs.Count.CountMoves.{bit, bit-zero, count-but-one}
 use Rattle.mark_core.proofs.Writing.CellBits.{with_same, with_other, without_same, without_other, same-index}
 use Rattle.mark_core.proofs.Writing.Ranges.{word-below}
 use Rattle.mark_core.specs.declared.kinds.Shape.{Shape}

@@ -17,10 +17,9 @@ use Rattle.mark_core.specs.Cells.{in_pool, pool_count, holder_count, empty_packe
 use Rattle.mark_core.specs.Start.{start_seat, start_seats, start_words, full_pool, packet_bits}
 use Rattle.mark_core.specs.Rules.PacketRules.{HeadsAgree, NoStrays, has_reservation, has_credit}
 use Rattle.mark_core.specs.Laws.{StartMeetsPackets}
-use Rattle.mark_core.proofs.Writing.Regions.{words-get}
-use Rattle.mark_core.proofs.Count.CountTests.{bit}
-use Rattle.mark_core.proofs.Count.CountRange.{count-cons, count-none, count-same}
-use Rattle.mark_core.proofs.Pool.PoolHolders.{among-unheld}
+use Rattle.mark_core.proofs.Writing.Places.{words-get}
+use Rattle.mark_core.proofs.Count.CountMoves.{bit, count-cons, count-none, count-same}
+use Rattle.mark_core.proofs.Pool.PoolPlaces.{among-unheld}
 use Rattle.mark_core.proofs.Writing.CellBits.{no-bit}
 use Rattle.mark_core.proofs.Writing.Ranges.{word-below, in-row}
 use Rattle.mark_core.specs.declared.kinds.Shape.{Shape}

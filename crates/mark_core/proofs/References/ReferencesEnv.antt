@@ -1,7 +1,7 @@
 -- After a step the variables of a seat are still the roots of its section, and the roots of sections that have had no seat are nil.
 use Rattle.std.proofs.Math.Nat.{mul-le-mul_right}
 use Rattle.mark_core.proofs.Writing.Ranges.{in-row}
-use Rattle.mark_core.proofs.Core.{in_range}
+use Rattle.mark_core.proofs.Known.{in_range, found, words_left, seats_left}
 use Rattle.std.proofs.Common.{ℕ, ◌≡◌, ◌≢◌, ◌+◌, ◌*◌, ◌<◌, ◌≤◌, List, [], ◌∷◌, set, get_or, length, arith, refl, sym, ap, ◌∙◌, subst, Bool, true, false, cond, Option, Some, None, ⊎_elim, ◌++◌}
 use Rattle.std.specs.Prelude.{IfSome, slice_index, unwrap_or, nat_lt, is_none}
 use Rattle.std.specs.List.{All}
@@ -17,10 +17,9 @@ use Rattle.mark_core.specs.Start.{start_seat, spent_seat}
 use Rattle.mark_core.specs.Effects.{seat_after}
 use Rattle.mark_core.specs.Steps.{Core}
 use Rattle.mark_core.specs.Laws.{IsCore}
-use Rattle.mark_core.proofs.Acting.{found, words_left, seats_left}
-use Rattle.mark_core.proofs.AtSeat.{roots-length}
-use Rattle.mark_core.proofs.Blocks.BlocksTaken.{Taken, within, in-place, mine as own-fact}
-use Rattle.mark_core.proofs.Locals.{all-push}
+use Rattle.mark_core.proofs.HeldBlock.{roots-length}
+use Rattle.mark_core.proofs.Blocks.BlocksStopped.{Taken, within, in-place, mine as own-fact}
+use Rattle.mark_core.proofs.Doing.{all-push}
 use Rattle.mark_core.proofs.References.ReferencesRoots.{mutator-is, has-use, read-whole, roots-same, seat-formed}
 use Rattle.mark_core.specs.declared.kinds.Shape.{Shape}
 use Rattle.mark_core.specs.declared.kinds.Step.{Step}

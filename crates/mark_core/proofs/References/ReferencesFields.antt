@@ -13,14 +13,13 @@ use Rattle.mark_core.specs.Rules.HeapRules.{MakesNil, NamesInUse}
 use Rattle.mark_core.specs.Steps.MutatorSteps.{seat_variable, variable_or_nil, in_variables}
 use Rattle.mark_core.specs.Effects.{written}
 use Rattle.mark_core.specs.Steps.{Core}
-use Rattle.mark_core.proofs.Acting.{found, words_left}
-use Rattle.mark_core.proofs.AtSeat.{of-view}
-use Rattle.mark_core.proofs.Blocks.BlocksTaken.{Taken, words-read, mine as own-fact}
+use Rattle.mark_core.proofs.Known.{found, words_left}
+use Rattle.mark_core.proofs.HeldBlock.{of-view}
+use Rattle.mark_core.proofs.Blocks.BlocksStopped.{Taken, words-read, mine as own-fact}
 use Rattle.mark_core.proofs.References.ReferencesRoots.{Used, UsedAfter, nil-on, seat-formed}
 use Rattle.mark_core.proofs.Writing.RegionWrites.{fields-kept}
-use Rattle.mark_core.proofs.Used.UsedCells.{frees}
+use Rattle.mark_core.proofs.Used.UsedKept.{frees, used-on, used-back}
 use Rattle.mark_core.proofs.Used.UsedSeats.{IsMadeBy}
-use Rattle.mark_core.proofs.Used.UsedKept.{used-on, used-back}
 use Rattle.mark_core.specs.declared.kinds.Shape.{Shape}
 use Rattle.mark_core.specs.declared.kinds.Phase.TheVariants.{Sweep}
 use Rattle.mark_core.specs.declared.kinds.Step.{Step}

@@ -18,24 +18,20 @@ use Rattle.mark_core.specs.Steps.WorldSteps.{blocks_done, none_marked, phase_aft
 use Rattle.mark_core.specs.Effects.{seat_after, written}
 use Rattle.mark_core.specs.Steps.{Core, failing_part, after_event}
 use Rattle.mark_core.specs.Laws.{IsCore}
-use Rattle.mark_core.proofs.Acting.{found, words_left, seats_left, Acted}
-use Rattle.mark_core.proofs.AtSeat.{roots-length}
-use Rattle.mark_core.proofs.Blocks.BlocksTaken.{Taken, mine as own-fact, words-read}
-use Rattle.mark_core.proofs.Blocks.BlocksStopped.{sweeping, still-stopped}
+use Rattle.mark_core.proofs.Known.{found, words_left, seats_left, Acted, acts}
+use Rattle.mark_core.proofs.HeldBlock.{roots-length, own-strong}
+use Rattle.mark_core.proofs.Blocks.BlocksStopped.{Taken, mine as own-fact, words-read, sweeping, still-stopped}
 use Rattle.mark_core.proofs.Blocks.BlocksSteps.{none-at-move}
 use Rattle.mark_core.proofs.Writing.CellBits.{bits-grow}
-use Rattle.mark_core.proofs.HeldBlock.{own-strong}
-use Rattle.mark_core.proofs.Locals.{local-kept}
+use Rattle.mark_core.proofs.Doing.{local-kept}
 use Rattle.mark_core.proofs.References.ReferencesEnv.{seat-section, env-roots, unseated-nil, unseated-slots}
-use Rattle.mark_core.proofs.References.ReferencesNames.{new-names, names-used}
-use Rattle.mark_core.proofs.References.ReferencesRoots.{Used, UsedAfter, nil-on, roots-used}
+use Rattle.mark_core.proofs.References.ReferencesRoots.{new-names, names-used, Used, UsedAfter, nil-on, roots-used}
 use Rattle.mark_core.proofs.References.ReferencesFields.{FieldsUsed, fields-used}
-use Rattle.mark_core.proofs.Consequences.Sparing.{Kept, either-way, kept-below, kept-unswept, own-unswept, survives}
+use Rattle.mark_core.proofs.Consequences.Closing.{Kept, either-way, kept-below, kept-unswept, own-unswept, survives}
 use Rattle.mark_core.proofs.Used.UsedKept.{used-on, used-back, still-made}
 use Rattle.mark_core.specs.declared.kinds.Phase.TheVariants.{Idle, Sweep, Marking, Drain, Clear, Full}
 use Rattle.mark_core.specs.declared.kinds.Step.TheVariants.{StoreAlloc, StorePhase, ReadPhase}
 use Rattle.mark_core.specs.declared.seat.SeatState.{SeatState}
-use Rattle.mark_core.proofs.Core.{acts}
 use Rattle.mark_core.proofs.Pool.PoolsKept.{shape-kept}
 use Rattle.mark_core.proofs.Writing.Writes.{phase-kept}
 use Rattle.mark_core.specs.declared.kinds.Shape.{Shape}

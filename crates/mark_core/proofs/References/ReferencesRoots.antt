@@ -1,39 +1,45 @@
 -- Roots, variables and registers name cells in use after a step, unless the sweep stores allocation bits.
-use Rattle.std.proofs.Common.{ℕ, ◌≡◌, ◌+◌, ◌*◌, ◌-◌, ◌<◌, ◌≤◌, List, get_or, length, arith, refl, sym, ap, ◌∙◌, subst, Bool, true, false, not, ◌||◌, eqb, Option, Some, None, ⊎_elim, set}
-use Rattle.std.specs.Prelude.{IsTrue, IsFalse, IfSome, unwrap_or}
+use Rattle.std.proofs.Common.{ℕ, ◌≡◌, ◌+◌, ◌*◌, ◌-◌, ◌<◌, ◌≤◌, List, get_or, length, arith, refl, sym, ap, ◌∙◌, subst, Bool, true, false, not, ◌||◌, eqb, Option, Some, None, ⊎_elim, set, ◌&&◌, ◌/◌, ◌%◌, cond}
+use Rattle.std.specs.Prelude.{IsTrue, IsFalse, IfSome, unwrap_or, nat_lt, slice_index}
 use Rattle.std.specs.List.{All, list_any}
-use Rattle.std.proofs.lemmas.Bool.{true≢false, and_parts, or_cases, or_left, or_right, eqb-true, cases_Bool}
-use Rattle.std.proofs.lemmas.List.{get_or-map, length-map}
-use Rattle.std.proofs.lemmas.List.Elements.{All-set}
-use Rattle.std.proofs.lemmas.List.Folds.{list_any_at}
+use Rattle.std.proofs.lemmas.Bool.{true≢false, and_parts, or_cases, or_left, or_right, eqb-true, cases_Bool, ltb-true, cases_lt}
+use Rattle.std.proofs.lemmas.List.{get_or-map, length-map, get_or-replicate, get_or_past}
+use Rattle.std.proofs.lemmas.List.Elements.{All-set, All-map}
+use Rattle.std.proofs.lemmas.List.Folds.{list_any_at, list_any_none}
 use Rattle.std.proofs.lemmas.Option.{slice_get_read}
-use Rattle.mark_core.specs.Layout.{Words, words_of}
-use Rattle.mark_core.specs.Bits.{nil_or, reference_in, cell_bit}
+use Rattle.mark_core.specs.Layout.{Words, words_of, region_sizes, root_count, address, region_base, block_count}
+use Rattle.mark_core.specs.Bits.{nil_or, reference_in, cell_bit, has_bit}
 use Rattle.mark_core.specs.Seats.{used_in, last_made, is_the, has_turn, is_phase, may_mutate}
-use Rattle.mark_core.specs.Views.{makers, maker_of}
+use Rattle.mark_core.specs.Views.{makers, maker_of, Maker}
 use Rattle.mark_core.specs.Cells.{in_use, used_by, field, AllGo}
 use Rattle.mark_core.specs.Rules.WorldRules.{is_stopped_phase}
-use Rattle.mark_core.specs.Rules.HeapRules.{NamesInUse}
-use Rattle.mark_core.specs.Steps.MutatorSteps.{has_reference, names_last}
+use Rattle.mark_core.specs.Rules.HeapRules.{NamesInUse, EnvIsRoots, References}
+use Rattle.mark_core.specs.Steps.MutatorSteps.{has_reference, names_last, knows_cell}
 use Rattle.mark_core.specs.WellFormed.{IsSeat, IsCache}
-use Rattle.mark_core.specs.Effects.{written}
+use Rattle.mark_core.specs.Effects.{written, seat_after, place}
 use Rattle.mark_core.specs.Steps.{Core}
-use Rattle.mark_core.proofs.Known.{HasCache, in_use-below, reference-within}
-use Rattle.mark_core.proofs.Core.{all-makers}
-use Rattle.mark_core.proofs.Blocks.BlocksStopped.{still-stopped}
-use Rattle.mark_core.proofs.Acting.{found, words_left, seats_left}
-use Rattle.mark_core.proofs.Blocks.BlocksTaken.{Taken, within, own-record, words-read, mine as own-fact}
-use Rattle.mark_core.proofs.AtSeat.{allocs-length}
+use Rattle.mark_core.proofs.Known.{HasCache, in_use-below, reference-within, all-makers, found, words_left, seats_left}
+use Rattle.mark_core.proofs.Blocks.BlocksStopped.{still-stopped, Taken, within, own-record, words-read, mine as own-fact, in-place}
+use Rattle.mark_core.proofs.HeldBlock.{allocs-length, roots-length}
 use Rattle.mark_core.proofs.Writing.RegionWrites.{roots-kept}
-use Rattle.mark_core.proofs.Used.UsedCells.{frees}
-use Rattle.mark_core.proofs.Used.UsedKept.{used-on}
+use Rattle.mark_core.proofs.Used.UsedKept.{frees, used-on}
 use Rattle.mark_core.proofs.World.WorldReading.{any-passes, some-passes}
 use Rattle.mark_core.specs.declared.kinds.Shape.{Shape}
 use Rattle.mark_core.specs.declared.kinds.Phase.TheVariants.{Sweep}
 use Rattle.mark_core.specs.declared.kinds.Step.{Step}
-use Rattle.mark_core.specs.declared.kinds.Step.TheVariants.{ReadRoot, ReadCat, StoreRoot, LoadSlot, StoreSlot, ReadSlot}
+use Rattle.mark_core.specs.declared.kinds.Step.TheVariants.{ReadRoot, ReadCat, StoreRoot, LoadSlot, StoreSlot, ReadSlot, ReadOwn}
 use Rattle.mark_core.specs.declared.seat.SeatState.{SeatState}
 use Rattle.mark_core.specs.declared.seat.CacheState.{CacheState}
+use Rattle.mark_core.specs.Start.{start_seat, start_words, start_seats, full_pool}
+use Rattle.mark_core.proofs.Writing.Places.{words-get, region-length}
+use Rattle.mark_core.proofs.Consequences.Closing.{goes-to}
+use Rattle.mark_core.proofs.Writing.Frames.{names_of, names-kept}
+use Rattle.mark_core.proofs.Doing.{local-kept}
+use Rattle.std.proofs.lemmas.Grind.{get_or_default_zero}
+use Rattle.mark_core.specs.Shapes.{IsShape}
+use Rattle.mark_core.proofs.Opening.{start-length}
+use Rattle.mark_core.proofs.Pool.PoolStart.{in-gap, each-seat, gap, singles, tail_words}
+use Rattle.mark_core.proofs.Writing.CellBits.{no-bit}
 
 -- the cells in use before the step, and those after it
 abbrev pub Used : Core → ℕ → Bool
@@ -161,3 +167,111 @@ mutator-is s e = let a = and_parts s.active (has_turn s.section s.season_seen) e
 -- outside the sweep a field of a cell in use names a cell in use; a mutator is outside it
 pub read-field : (c : Core) (i : ℕ) (s : SeatState) (step : Step) (x j : ℕ) → Taken c i s step → s.active ≡ true → x < c.shape.cells → Used c x ≡ true → j < c.shape.fields → nil_or (Used c) (field c.shape (words_of c.shape c.words).fields x j) ≡ true
 read-field c i s step x j k a h u l = k.core.sound.references.fields_in_use (not-sweep c i s step k a) x h u j l
+
+-- Variables and registers name cells in use after a step, and the variables are the roots of their section, unless the sweep stores allocation bits.
+-- a seat whose variables and register are nil or go where the property holds
+abbrev Goes : (ℕ → Bool) → List ℕ × ℕ → Type 0
+Goes p n = AllGo p n.0 × IsTrue (nil_or p n.1)
+
+goes_on : (p q : ℕ → Bool) (n : List ℕ × ℕ) → ((x : ℕ) → p x ≡ true → q x ≡ true) → Goes p n → Goes q n
+goes_on p q n f g = ((λ j d h. nil-on p q (get_or n.0 j d) f (g.0 j d h)), nil-on p q n.1 f g.1)
+
+-- a seat that has done nothing names nothing
+pub new-names : (p : ℕ → Bool) (sh : Shape) (k : ℕ) → Goes p ((start_seat sh k).env, 0)
+new-names p sh k = ((λ j d h. ap (nil_or p) (get_or-replicate 32 j 0 d (omega (arith, h)))), refl)
+
+-- what the seat names
+own_names : (c : Core) (i : ℕ) (s : SeatState) (step : Step) → Taken c i s step → Goes (Used c) (names_of s)
+own_names c i s step k = own-fact c i s step (NamesInUse (words_of c.shape c.words).allocs (makers c.seats)) k k.core.sound.references.seats_in_use
+
+-- a cell that the seat knows is in use
+pub known-used : (c : Core) (i : ℕ) (s : SeatState) (step : Step) (x : ℕ) → Taken c i s step → knows_cell s x ≡ true → Used c x ≡ true
+known-used c i s step x k e =
+    let n = own_names c i s step k in
+    ⊎_elim
+    (λ (a : eqb s.got (x + 1) ≡ true). goes-to (Used c) s.got x (eqb-true s.got (x + 1) a) n.1)
+    (λ (a : list_any (λ (y : ℕ). eqb y (x + 1)) s.env ≡ true). goes-to (Used c) (x + 1) x refl (in-env s.env (x + 1) (Used c) n.0 a))
+    (or_cases (eqb s.got (x + 1)) (list_any (λ (y : ℕ). eqb y (x + 1)) s.env) e)
+
+-- a root is read into the register
+root_read : (c : Core) (i : ℕ) (s : SeatState) (step : Step) (at : ℕ) → Taken c i s step → at < root_count c.shape → place c.shape s step ≡ (2, at) → Goes (Used c) (s.env, reference_in (found c s step))
+root_read c i s step at k h p =
+    let w : Words = words_of c.shape c.words in
+    let old : found c s step ≡ get_or w.roots at 0 = ap (λ (x : ℕ × ℕ). get_or c.words (address c.shape x) 0) p ∙ words-get (region_sizes c.shape) 2 c.words at 0 h in
+    let e : nil_or (Used c) (found c s step) ≡ true = subst (λ (r : ℕ). nil_or (Used c) r ≡ true) (sym old) (k.core.sound.references.roots_in_use at 0 (subst (λ (n : ℕ). at < n) (sym (roots-length c k.core)) h)) in
+    ((own_names c i s step k).0, subst (λ (r : ℕ). nil_or (Used c) r ≡ true) (sym (read-whole c i s step (found c s step) k e)) e)
+
+-- what the seat names before, by the record that it has afterwards
+names_then : (c : Core) (i : ℕ) (s : SeatState) (step : Step) → Taken c i s step → Goes (Used c) (names_of (seat_after c.shape s step (found c s step)))
+names_then c i s (ReadOwn x j) k =
+    let w : Words = words_of c.shape c.words in
+    let step : Step = ReadOwn x j in
+    let a = and_parts (nat_lt x c.shape.cells && nat_lt j c.shape.fields) (may_mutate s) k.ok.0 in
+    let b = and_parts (nat_lt x c.shape.cells) (nat_lt j c.shape.fields) a.0 in
+    let old : found c s step ≡ field c.shape w.fields x j = words-get (region_sizes c.shape) 11 c.words (x * c.shape.fields + j) 0 (in-place c i s step k) in
+    let e : nil_or (Used c) (found c s step) ≡ true =
+    subst (λ (r : ℕ). nil_or (Used c) r ≡ true) (sym old) (read-field c i s step x j k (mutator-is s a.1).0 (ltb-true x c.shape.cells b.0) (known-used c i s step x k k.ok.1.0) (ltb-true j c.shape.fields b.1)) in
+    ((own_names c i s step k).0, subst (λ (r : ℕ). nil_or (Used c) r ≡ true) (sym (read-whole c i s step (found c s step) k e)) e)
+names_then c i s (ReadCat v) k = root_read c i s (ReadCat v) (0 * 32 + v) k (in-place c i s (ReadCat v) k) refl
+names_then c i s (ReadSlot j) k = root_read c i s (ReadSlot j) (c.shape.sections * 32 + (unwrap_or s.section 0 * c.shape.slots + j)) k (in-place c i s (ReadSlot j) k) refl
+names_then c i s (StoreSlot j r) k = ((own_names c i s (StoreSlot j r) k).0, refl)
+names_then c i s (StoreRoot v r) k =
+    let e : nil_or (Used c) r ≡ true = has-use c i s (StoreRoot v r) r k k.ok.1.0 in
+    let whole : nil_or (Used c) (reference_in r) ≡ true = subst (λ (y : ℕ). nil_or (Used c) y ≡ true) (sym (read-whole c i s (StoreRoot v r) r k e)) e in
+    (All-set (λ (y : ℕ). IsTrue (nil_or (Used c) y)) s.env v (reference_in r) whole (own_names c i s (StoreRoot v r) k).0, refl)
+names_then c i s step k = subst (Goes (Used c)) (sym (names-kept c.shape s step (found c s step) refl)) (own_names c i s step k)
+
+-- what each seat names is in use after the step
+pub names-used : (c : Core) (i : ℕ) (s : SeatState) (step : Step) → Taken c i s step → frees step ≡ false → All (NamesInUse (words_left c s step).allocs (makers (seats_left c i s step))) (seats_left c i s step)
+names-used c i s step k f =
+    let P : SeatState → Type 0 = λ t. Goes (UsedAfter c i s step) (names_of t) in
+    let on : (x : ℕ) → Used c x ≡ true → UsedAfter c i s step x ≡ true = λ x e. used-on c i s step x k f e in
+    local-kept P c.shape step c.seats i (seat_after c.shape s step (found c s step)) (new-names (UsedAfter c i s step) c.shape) (new-names (UsedAfter c i s step) c.shape)
+    (λ j d h. goes_on (Used c) (UsedAfter c i s step) (names_of (get_or c.seats j d)) on (k.core.sound.references.seats_in_use j d h))
+    (goes_on (Used c) (UsedAfter c i s step) (names_of (seat_after c.shape s step (found c s step))) on (names_then c i s step k))
+
+-- The state in which nothing has happened meets the rule of references.
+roots_end : (sh : Shape) (k : ℕ) → root_count sh ≤ k → length (words_of sh (start_words sh)).roots ≤ k
+roots_end sh k h = omega (arith, h, region-length (region_sizes sh) 2 (start_words sh) (omega (arith, start-length sh)))
+
+-- every root is nil
+pub no-root : (sh : Shape) (k : ℕ) → slice_index (words_of sh (start_words sh)).roots k ≡ 0
+no-root sh k =
+    ⊎_elim
+    (λ (h : k < root_count sh).
+    sym (words-get (region_sizes sh) 2 (start_words sh) k 0 h) ∙ in-gap (singles sh) (full_pool sh) (tail_words sh) 11 (gap sh) (region_base (region_sizes sh) 2 + k) refl (omega arith) (omega (arith, h)))
+    (λ (h : root_count sh ≤ k). get_or_past (words_of sh (start_words sh)).roots k 0 (roots_end sh k h))
+    (cases_lt k (root_count sh))
+
+-- no cell is published
+pub unpublished : (sh : Shape) → IsShape sh → (x : ℕ) → x < sh.cells → cell_bit (words_of sh (start_words sh)).allocs x ≡ false
+unpublished sh z x h =
+    let hb : x / 64 < block_count sh = omega (arith, h, z.whole_blocks) in
+    let word : slice_index (words_of sh (start_words sh)).allocs (x / 64) ≡ 0 =
+    sym (words-get (region_sizes sh) 4 (start_words sh) (x / 64) 0 hb) ∙ in-gap (singles sh) (full_pool sh) (tail_words sh) 11 (gap sh) (region_base (region_sizes sh) 4 + x / 64) refl (omega arith) (omega (arith, hb)) in
+    ap (λ (w : ℕ). has_bit w (x % 64)) word ∙ no-bit (x % 64)
+
+-- no cell is in use
+pub none-used : (sh : Shape) (n : ℕ) → IsShape sh → (x : ℕ) → x < sh.cells → in_use (words_of sh (start_words sh)).allocs (makers (start_seats sh n)) x ≡ false
+none-used sh n z x h =
+    let none : list_any (used_by x) (makers (start_seats sh n)) ≡ false =
+    list_any_none (used_by x) (makers (start_seats sh n)) (All-map (λ (m : Maker). used_by x m ≡ false) maker_of (start_seats sh n) (each-seat (λ (s : SeatState). used_by x (maker_of s) ≡ false) sh n (λ k. refl))) in
+    rw (unpublished sh z x h, none) refl
+
+start_env : (sh : Shape) (k : ℕ) (b : Bool) → IfSome (cond b (Some k) None) (λ w. (v : ℕ) → v < 32 → slice_index (start_seat sh k).env v ≡ slice_index (words_of sh (start_words sh)).roots (w * 32 + v))
+start_env sh k true = λ v h. get_or-replicate 32 v 0 0 h ∙ sym (no-root sh (k * 32 + v))
+start_env sh k false = tt
+
+pub references-starts : (sh : Shape) (n : ℕ) → IsShape sh
+    → References sh (words_of sh (start_words sh)).phase (words_of sh (start_words sh)).roots (words_of sh (start_words sh)).allocs (words_of sh (start_words sh)).fields (makers (start_seats sh n)) (start_seats sh n)
+references-starts sh n z =
+    let w : Words = words_of sh (start_words sh) in
+    let p : ℕ → Bool = in_use w.allocs (makers (start_seats sh n)) in
+    record {
+      roots_in_use = λ j d h. ap (nil_or p) (get_or_default_zero w.roots j d h ∙ no-root sh j);
+      seats_in_use = each-seat (λ (s : SeatState). NamesInUse w.allocs (makers (start_seats sh n)) s) sh n (λ k. new-names p sh k);
+      env_is_roots = each-seat (λ (s : SeatState). EnvIsRoots w.roots s) sh n (λ k e. start_env sh k (nat_lt k sh.sections));
+      unseated_nil = λ k h l. no-root sh k;
+      unseated_slots_nil = λ k h. no-root sh (sh.sections * 32 + k);
+      fields_in_use = λ e x h u. absurd (true≢false (sym u ∙ none-used sh n z x h));
+    }

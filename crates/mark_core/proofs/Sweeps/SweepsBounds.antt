@@ -13,11 +13,11 @@ use Rattle.mark_core.specs.Sound.{card_readers, block_readers}
 use Rattle.mark_core.specs.Start.{start_seat, spent_seat}
 use Rattle.mark_core.specs.Effects.{written, seat_after}
 use Rattle.mark_core.specs.Steps.{Core, others_after}
-use Rattle.mark_core.proofs.Acting.{found, words_left, seats_left}
+use Rattle.mark_core.proofs.Known.{found, words_left, seats_left}
 use Rattle.mark_core.proofs.Writing.Frames.{readings-kept}
 use Rattle.mark_core.proofs.Writing.Writes.{at_counter, next_card-kept, next_block-kept}
-use Rattle.mark_core.proofs.Count.CountTests.{bit}
-use Rattle.mark_core.proofs.Blocks.BlocksTaken.{Taken, within, own-record, words-read}
+use Rattle.mark_core.proofs.Count.CountMoves.{bit}
+use Rattle.mark_core.proofs.Blocks.BlocksStopped.{Taken, within, own-record, words-read}
 use Rattle.mark_core.proofs.Blocks.BlocksWords.{statistic}
 use Rattle.mark_core.specs.declared.kinds.Shape.{Shape}
 use Rattle.mark_core.specs.declared.kinds.Step.{Step}

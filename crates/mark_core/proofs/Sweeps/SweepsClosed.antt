@@ -19,8 +19,7 @@ use Rattle.mark_core.specs.Steps.{Core}
 use Rattle.mark_core.specs.Laws.{IsCore}
 use Rattle.mark_core.proofs.Consequences.QuietReading.{quiet}
 use Rattle.mark_core.proofs.Consequences.Closing.{clean-card}
-use Rattle.mark_core.proofs.Blocks.BlocksOthers.{or-false}
-use Rattle.mark_core.proofs.Blocks.BlocksStopped.{still-stopped}
+use Rattle.mark_core.proofs.Blocks.BlocksStopped.{or-false, still-stopped}
 use Rattle.mark_core.proofs.Hands.HandsCleaning.{done-left, done-cleans, done-scan}
 use Rattle.mark_core.specs.declared.kinds.Shape.{Shape}
 use Rattle.mark_core.specs.declared.seat.SeatState.{SeatState}

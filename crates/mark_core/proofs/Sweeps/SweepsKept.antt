@@ -1,40 +1,73 @@
 -- Each event that is allowed keeps the rule of the sweep.
-use Rattle.std.proofs.Common.{ℕ, ◌≡◌, ◌+◌, ◌-◌, ◌/◌, ◌<◌, List, get_or, arith, refl, sym, ap, ◌∙◌, subst, Bool, true, false, ◌&&◌, cond, eqb, Option, None, ⊎_elim}
+use Rattle.std.proofs.Common.{ℕ, ◌≡◌, ◌+◌, ◌-◌, ◌/◌, ◌<◌, List, get_or, arith, refl, sym, ap, ◌∙◌, subst, Bool, true, false, ◌&&◌, cond, eqb, Option, None, ⊎_elim, ◌*◌, ◌⊎◌, inl, inr}
 use Rattle.std.specs.Prelude.{IsTrue}
-use Rattle.std.proofs.lemmas.Bool.{and_parts, or_cases, or_left, or_right, eqb-true, le-ltb}
+use Rattle.std.proofs.lemmas.Bool.{and_parts, or_cases, or_left, or_right, eqb-true, le-ltb, false≢true}
 use Rattle.std.proofs.lemmas.List.Sums.{AllPass-from_list_all}
-use Rattle.mark_core.specs.Shapes.{EachCell}
+use Rattle.mark_core.specs.Shapes.{EachCell, IsShape}
 use Rattle.mark_core.specs.Layout.{Words, words_of, region_sizes}
 use Rattle.mark_core.specs.Bits.{cell_bit, nil_or}
-use Rattle.mark_core.specs.Seats.{is_phase}
+use Rattle.mark_core.specs.Seats.{is_phase, phase_number, phase_of}
 use Rattle.mark_core.specs.Views.{Maker, makers, blocks}
 use Rattle.mark_core.specs.Cells.{is_kept, is_swept_block, field, AllGo, FieldsGo}
 use Rattle.mark_core.specs.Rules.HeapRules.{Sweeping}
 use Rattle.mark_core.specs.Sound.{card_readers, block_readers}
 use Rattle.mark_core.specs.Rules.WorldRules.{is_stopped_phase}
-use Rattle.mark_core.specs.Steps.WorldSteps.{is_quiet, cards_clean, roots_marked}
+use Rattle.mark_core.specs.Steps.WorldSteps.{is_quiet, cards_clean, roots_marked, phase_after}
 use Rattle.mark_core.specs.Steps.{Core, failing_part, after_event}
 use Rattle.mark_core.specs.Laws.{IsCore}
 use Rattle.mark_core.proofs.Writing.Places.{region-length}
-use Rattle.mark_core.proofs.Acting.{Acted, words_left, seats_left}
-use Rattle.mark_core.proofs.Known.{bit-below}
+use Rattle.mark_core.proofs.Known.{Acted, words_left, seats_left, found, bit-below}
 use Rattle.mark_core.proofs.Pool.PoolsKept.{shape-kept}
 use Rattle.mark_core.proofs.World.WorldKept.{WorldSound, world-kept_by}
-use Rattle.mark_core.proofs.Blocks.BlocksTaken.{Taken, kept-after}
-use Rattle.mark_core.proofs.Blocks.BlocksStopped.{still-from, still-stopped}
+use Rattle.mark_core.proofs.Blocks.BlocksStopped.{Taken, kept-after, words-read, still-from, still-stopped}
 use Rattle.mark_core.proofs.Sweeps.SweepsBounds.{blocks-bounded, cards-bounded}
-use Rattle.mark_core.proofs.Sweeps.SweepsSpared.{is_spared}
-use Rattle.mark_core.proofs.Sweeps.SweepsUsed.{NoneUsed, none-used, kept-spared}
+use Rattle.mark_core.proofs.Sweeps.SweepsSpared.{is_spared, NoneUsed, none-used, kept-spared}
 use Rattle.mark_core.proofs.Sweeps.SweepsSteps.{sweep-on}
-use Rattle.mark_core.proofs.Sweeps.SweepsPhase.{phase-came}
 use Rattle.mark_core.proofs.Sweeps.SweepsClosed.{quiet-fields}
 use Rattle.mark_core.specs.declared.kinds.Shape.{Shape}
 use Rattle.mark_core.specs.declared.kinds.Event.{Event}
-use Rattle.mark_core.specs.declared.kinds.Phase.TheVariants.{Sweep}
+use Rattle.mark_core.specs.declared.kinds.Phase.TheVariants.{Sweep, Idle, Marking, Drain, Clear, Full}
 use Rattle.mark_core.specs.declared.kinds.Step.{Step}
-use Rattle.mark_core.specs.declared.kinds.Step.TheVariants.{StorePhase}
+use Rattle.mark_core.specs.declared.kinds.Step.TheVariants.{StorePhase, ReadPhase}
 use Rattle.mark_core.specs.declared.seat.SeatState.{SeatState}
 use Rattle.mark_core.specs.declared.seat.BlockState.{BlockState}
+use Rattle.mark_core.specs.Start.{start_words, start_seats}
+use Rattle.mark_core.proofs.Count.CountMoves.{count-none}
+use Rattle.mark_core.proofs.Pool.PoolStart.{each-seat}
+use Rattle.mark_core.specs.Effects.{written}
+use Rattle.mark_core.proofs.Writing.Writes.{phase-kept}
+use Rattle.mark_core.specs.declared.kinds.Phase.{Phase}
+
+-- Where the phase after a step comes from: it was the phase before, or the step moved there.
+of_number : (p : Phase) → phase_of (phase_number p) ≡ p
+of_number Idle = refl
+of_number Marking = refl
+of_number Drain = refl
+of_number Sweep = refl
+of_number Clear = refl
+of_number Full = refl
+
+-- two phases of one number are the same
+same_phase : (p q : Phase) → phase_number p ≡ phase_number q → p ≡ q
+same_phase p q e = sym (of_number p) ∙ (ap phase_of e ∙ of_number q)
+
+-- a try begins marking, or leaves the phase
+tried : (old : ℕ) (b : Bool) (p : Phase) → cond b 1 old ≡ phase_number p → (old ≡ phase_number p) ⊎ (StorePhase Marking ≡ StorePhase p)
+tried old true p e = inr (ap StorePhase (same_phase Marking p e))
+tried old false p e = inl e
+
+move_came : (old : ℕ) (to p : Phase) → phase_after old to ≡ phase_number p → (old ≡ phase_number p) ⊎ (StorePhase to ≡ StorePhase p)
+move_came old Marking p e = tried old (eqb old 0) p e
+move_came old Idle p e = inr (ap StorePhase (same_phase Idle p e))
+move_came old Drain p e = inr (ap StorePhase (same_phase Drain p e))
+move_came old Sweep p e = inr (ap StorePhase (same_phase Sweep p e))
+move_came old Clear p e = inr (ap StorePhase (same_phase Clear p e))
+move_came old Full p e = inr (ap StorePhase (same_phase Full p e))
+
+pub phase-came : (c : Core) (i : ℕ) (s : SeatState) (step : Step) (p : Phase) → Taken c i s step → (words_left c s step).phase ≡ phase_number p → ((words_of c.shape c.words).phase ≡ phase_number p) ⊎ (step ≡ StorePhase p)
+phase-came c i s (StorePhase to) p t e = move_came (words_of c.shape c.words).phase to p e
+phase-came c i s ReadPhase p t e = inl (ap (λ (w : Words). w.phase) (sym (words-read c i s ReadPhase t refl)) ∙ e)
+phase-came c i s step p t e = inl (sym (phase-kept c.shape s step (written c.shape s step (found c s step)) (words_of c.shape c.words) refl) ∙ e)
 
 -- the rule of the sweep, by the words and the seats
 abbrev pub SweepSound : Shape → Words → List SeatState → Type 0
@@ -164,3 +197,11 @@ world-left c e s k f a =
 -- each event that is allowed keeps the rule of the sweep
 pub sweeping-kept_by : (c : Core) (e : Event) → IsCore c → failing_part c e ≡ None → SweepSound (after_event c e).shape (words_of (after_event c e).shape (after_event c e).words) (after_event c e).seats
 sweeping-kept_by c e k f = kept-after SweepSound c e k f (λ s a t. sweeping_at c e.seat s e.step t (world-left c e s k f a))
+
+-- The state in which nothing has happened meets the rule of the sweep.
+pub sweeping-starts : (sh : Shape) (n : ℕ) → IsShape sh → SweepSound sh (words_of sh (start_words sh)) (start_seats sh n)
+sweeping-starts sh n z =
+    let cards = count-none (λ (s : SeatState). s.below_card) (start_seats sh n) (each-seat (λ (s : SeatState). s.below_card ≡ false) sh n (λ k. refl)) in
+    let blocks = count-none (λ (s : SeatState). s.below_block) (start_seats sh n) (each-seat (λ (s : SeatState). s.below_block ≡ false) sh n (λ k. refl)) in
+    let none = ap (λ (k : ℕ). sh.stretch * k) blocks in
+    record { blocks_bounded = omega (arith, none); cards_bounded = omega (arith, cards); roots_kept = λ e. absurd (false≢true e); fields_kept = λ e. absurd (false≢true e) }

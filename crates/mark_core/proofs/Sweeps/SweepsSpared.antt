@@ -1,7 +1,7 @@
 -- Which cells the sweep keeps if no seat has made a cell that isn't published, and how this stays when a stretch is taken, and when a block is swept or put down.
 use Rattle.std.proofs.Common.{ℕ, zero, suc, ◌≡◌, ◌+◌, ◌/◌, ◌<◌, ◌≤◌, List, set, get_or, length, arith, refl, sym, ap, ◌∙◌, Bool, true, false, not, ◌&&◌, cond, eqb, Option, Some, None, ⊎_elim}
-use Rattle.std.specs.Prelude.{nat_lt, bit_and}
-use Rattle.std.specs.List.{list_any}
+use Rattle.std.specs.Prelude.{nat_lt, bit_and, IsFalse}
+use Rattle.std.specs.List.{list_any, All}
 use Rattle.std.specs.Int.{bit_at}
 use Rattle.std.proofs.lemmas.Bool.{cases_Bool, cases_lt, and_left, eqb-true, eq-eqb, ne_eqb, lt-ltb, le-ltb, true≢false}
 use Rattle.std.proofs.lemmas.Nat.Bits.{bit_at_and, bit_at-lt}
@@ -10,14 +10,18 @@ use Rattle.std.proofs.lemmas.List.Folds.{list_any_none, list_any_at}
 use Rattle.mark_core.specs.Bits.{has_bit, cell_bit}
 use Rattle.mark_core.specs.Layout.{block_count}
 use Rattle.mark_core.specs.Seats.{in_stretch}
-use Rattle.mark_core.specs.Cells.{is_unswept, is_swept_block}
+use Rattle.mark_core.specs.Cells.{is_unswept, is_swept_block, used_by, in_use, is_kept}
 use Rattle.mark_core.specs.Steps.SweepSteps.{untouched, stretch_end}
-use Rattle.mark_core.proofs.Blocks.BlocksOthers.{Others, all-set, any-alone, any-same}
-use Rattle.mark_core.proofs.Blocks.BlocksHand.{AreApart}
-use Rattle.mark_core.proofs.Blocks.BlocksStretch.{in-from, out-from, first-apart, unswept-unstored, unswept-first}
+use Rattle.mark_core.proofs.Blocks.BlocksStopped.{Others, all-set, any-alone, any-same, or-false}
+use Rattle.mark_core.proofs.Blocks.BlocksStretch.{AreApart, in-from, out-from, first-apart, unswept-unstored, unswept-first}
 use Rattle.mark_core.proofs.Basics.{not-not}
 use Rattle.mark_core.specs.declared.kinds.Shape.{Shape}
 use Rattle.mark_core.specs.declared.seat.BlockState.{BlockState}
+use Rattle.std.proofs.lemmas.List.Elements.{All-map}
+use Rattle.mark_core.specs.Views.{Maker, standings, makers, maker_of}
+use Rattle.mark_core.specs.Rules.WorldRules.{World}
+use Rattle.mark_core.proofs.Used.UsedSeats.{no-used}
+use Rattle.mark_core.specs.declared.seat.SeatState.{SeatState}
 
 -- a cell is spared if it is published in a swept block, or marked in another
 abbrev pub is_spared : ℕ → List (Option BlockState) → List ℕ → List ℕ → ℕ → Bool
@@ -112,3 +116,21 @@ bit-within a m i h =
     let one : bit_at (bit_and a m) i ≡ 0 = bit_at_and a m i ∙ rw none (omega arith) in
     ne_eqb _ _ (λ z. omega (arith, one, z)) ∙ sym e)
     (cases_Bool (has_bit m i))
+
+-- While the world is stopped no seat has made a cell that isn't published, so a cell is in use if its bit is set.
+-- no seat has made a cell that isn't published
+abbrev pub NoneUsed : List SeatState → Type 0
+NoneUsed seats = (x : ℕ) → list_any (used_by x) (makers seats) ≡ false
+
+pub none-used : (sh : Shape) (world help : ℕ) (seats : List SeatState) → World sh world help (standings seats) seats → All (λ (s : SeatState). IsFalse s.active) seats → NoneUsed seats
+none-used sh world help seats k still x =
+    list_any_none (used_by x) (makers seats)
+    (All-map (λ (m : Maker). used_by x m ≡ false) maker_of seats (λ j d h. no-used (get_or seats j d).cache x (k.inactive_calm j d h (still j d h)).no_used_cell))
+
+-- then a cell is in use if it is published
+pub use-published : (allocs : List ℕ) (seats : List SeatState) (x : ℕ) → NoneUsed seats → in_use allocs (makers seats) x ≡ cell_bit allocs x
+use-published allocs seats x n = rw (n x) (or-false (cell_bit allocs x))
+
+-- if no seat has a used cell, the sweep keeps just the cells that it spares
+pub kept-spared : (nb : ℕ) (bs : List (Option BlockState)) (allocs marks : List ℕ) (seats : List SeatState) (x : ℕ) → NoneUsed seats → is_kept nb bs allocs marks (makers seats) x ≡ is_spared nb bs allocs marks x
+kept-spared nb bs allocs marks seats x n = rw (use-published allocs seats x n) refl

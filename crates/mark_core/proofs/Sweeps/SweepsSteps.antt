@@ -8,10 +8,9 @@ use Rattle.mark_core.specs.Seats.{block_in_hand, may_store, is_swept, is_phase}
 use Rattle.mark_core.specs.Cells.{is_unswept, is_swept_block}
 use Rattle.mark_core.specs.Steps.SweepSteps.{survivors, with_stored, next_in_stretch, with_mark_word, untouched, stretch_end}
 use Rattle.mark_core.specs.Strong.{IsStrongBlock}
-use Rattle.mark_core.proofs.Blocks.BlocksOthers.{Others, or-false, any-same}
-use Rattle.mark_core.proofs.Blocks.BlocksHand.{IsBlock, AreApart}
-use Rattle.mark_core.proofs.Blocks.BlocksStretch.{rest-swept, unswept-elsewhere, unswept-first}
-use Rattle.mark_core.proofs.Sweeps.SweepsSpared.{is_spared, swept-own, swept-done, swept-other, bit-within, spared-same, swept-taken, swept-past}
+use Rattle.mark_core.proofs.Blocks.BlocksStopped.{Others, or-false, any-same, Taken, within, own-record, in-place, AllStill, tracing, still-stopped, not-still}
+use Rattle.mark_core.proofs.Blocks.BlocksStretch.{IsBlock, AreApart, rest-swept, unswept-elsewhere, unswept-first}
+use Rattle.mark_core.proofs.Sweeps.SweepsSpared.{is_spared, swept-own, swept-done, swept-other, bit-within, spared-same, swept-taken, swept-past, none-used, use-published}
 use Rattle.mark_core.proofs.Writing.CellBits.{bit-there}
 use Rattle.mark_core.specs.declared.seat.BlockState.{BlockState}
 use Rattle.std.specs.List.{list_any}
@@ -27,12 +26,9 @@ use Rattle.mark_core.specs.Start.{start_seat, spent_seat}
 use Rattle.mark_core.specs.Effects.{seat_after}
 use Rattle.mark_core.specs.Steps.{Core}
 use Rattle.mark_core.proofs.Writing.Places.{region-length}
-use Rattle.mark_core.proofs.Acting.{found, words_left, seats_left}
-use Rattle.mark_core.proofs.Blocks.BlocksTaken.{Taken, within, own-record, in-place}
+use Rattle.mark_core.proofs.Known.{found, words_left, seats_left}
 use Rattle.mark_core.proofs.Blocks.BlocksWords.{heap-left}
-use Rattle.mark_core.proofs.Blocks.BlocksStopped.{AllStill, tracing, still-stopped, not-still}
 use Rattle.mark_core.proofs.Blocks.BlocksSteps.{own-block, own-right, others-apart, publishes-nothing}
-use Rattle.mark_core.proofs.Sweeps.SweepsUsed.{none-used, use-published}
 use Rattle.mark_core.proofs.Basics.{none-is}
 use Rattle.mark_core.specs.declared.kinds.Shape.{Shape}
 use Rattle.mark_core.specs.declared.kinds.Phase.TheVariants.{Sweep}

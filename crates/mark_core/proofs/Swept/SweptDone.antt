@@ -11,7 +11,7 @@ use Rattle.mark_core.specs.Steps.WorldSteps.{none_marked}
 use Rattle.mark_core.specs.Swept.{IsSweepingPhase, IsSweptCore}
 use Rattle.mark_core.specs.Steps.{Core}
 use Rattle.mark_core.specs.Laws.{IsCore}
-use Rattle.mark_core.proofs.AtSeat.{marks-length}
+use Rattle.mark_core.proofs.HeldBlock.{marks-length}
 use Rattle.mark_core.proofs.Notes.NotesBeside.{sits, beside}
 use Rattle.mark_core.specs.declared.seat.SeatState.{SeatState}
 

@@ -21,16 +21,14 @@ use Rattle.mark_core.specs.Swept.{NoneHas, IsSweepingPhase, IsSwept}
 use Rattle.mark_core.specs.Laws.{EventsKeepSwept}
 use Rattle.mark_core.specs.Effects.{written, seat_after}
 use Rattle.mark_core.specs.Steps.{Core, after_event}
-use Rattle.mark_core.proofs.Acting.{Acted, found, words_left, seats_left}
-use Rattle.mark_core.proofs.Core.{acts}
+use Rattle.mark_core.proofs.Known.{Acted, found, words_left, seats_left, acts}
 use Rattle.mark_core.proofs.Writing.Frames.{block-kept, changes_block}
 use Rattle.mark_core.proofs.Writing.Writes.{phase-kept, next_block-kept, touches_phase, touches_next_block}
 use Rattle.mark_core.proofs.Writing.RegionWrites.{marks-kept, touches_marks}
-use Rattle.mark_core.proofs.AtSeat.{marks-length}
+use Rattle.mark_core.proofs.HeldBlock.{marks-length}
 use Rattle.mark_core.proofs.Pool.PoolsKept.{shape-kept}
-use Rattle.mark_core.proofs.Blocks.BlocksTaken.{Taken, within, own-record, in-place}
+use Rattle.mark_core.proofs.Blocks.BlocksStopped.{Taken, within, own-record, in-place, tracing, still-stopped, stopped-time, not-still}
 use Rattle.mark_core.proofs.Blocks.BlocksWords.{heap-left}
-use Rattle.mark_core.proofs.Blocks.BlocksStopped.{tracing, still-stopped, stopped-time, not-still}
 use Rattle.mark_core.proofs.Blocks.BlocksSteps.{own-block}
 use Rattle.mark_core.specs.declared.kinds.Phase.{Phase}
 use Rattle.mark_core.specs.declared.kinds.Phase.TheVariants.{Idle, Marking, Drain, Sweep, Clear, Full}

@@ -1,35 +1,98 @@
 -- The cells in use after a step: none goes but by the sweep, and none comes but the one that is made.
-use Rattle.std.proofs.Common.{ℕ, ◌≡◌, ◌/◌, ◌%◌, ◌<◌, List, [], ◌∷◌, ◌++◌, set, get_or, length, arith, refl, sym, ap, ◌∙◌, Bool, true, false, not, ◌&&◌, ◌||◌, eqb, Option, Some, None, ◌⊎◌, inl, inr, ⊎_elim}
-use Rattle.std.specs.Prelude.{IsTrue, IfSome, slice_get, slice_index, unwrap_or, is_none, bit_or}
+use Rattle.std.proofs.Common.{ℕ, ◌≡◌, ◌/◌, ◌%◌, ◌<◌, List, [], ◌∷◌, ◌++◌, set, get_or, length, arith, refl, sym, ap, ◌∙◌, Bool, true, false, not, ◌&&◌, ◌||◌, eqb, Option, Some, None, ◌⊎◌, inl, inr, ⊎_elim, subst}
+use Rattle.std.specs.Prelude.{IsTrue, IfSome, slice_get, slice_index, unwrap_or, is_none, bit_or, is_some}
 use Rattle.std.specs.List.{list_any}
 use Rattle.std.proofs.Math.Bool.{or-false}
-use Rattle.std.proofs.lemmas.Bool.{true≢false, and_parts, or_cases, or_left, or_right, eqb-true, cases_Bool}
+use Rattle.std.proofs.lemmas.Bool.{true≢false, and_parts, or_cases, or_left, or_right, eqb-true, cases_Bool, eq-eqb}
 use Rattle.std.proofs.lemmas.List.{map-set, map-append, length-map, get_or-map, set-get_or}
 use Rattle.std.proofs.lemmas.List.Folds.{list_any-append, list_any_at}
 use Rattle.std.proofs.lemmas.Option.{slice_get_within, get_or_from_slice_get}
 use Rattle.mark_core.specs.Layout.{Words, words_of, address, block_count}
 use Rattle.mark_core.specs.Bits.{cell_bit, has_bit}
-use Rattle.mark_core.specs.Seats.{in_set, used_in, cache_block, is_bare, work_in_hand, empty_handed}
+use Rattle.mark_core.specs.Seats.{in_set, used_in, cache_block, is_bare, work_in_hand, empty_handed, may_store, block_in_hand}
 use Rattle.mark_core.specs.Views.{Maker, makers, maker_of}
 use Rattle.mark_core.specs.Cells.{in_use, used_by}
 use Rattle.mark_core.specs.Steps.MutatorSteps.{cached_block, used_bits}
 use Rattle.mark_core.specs.Steps.WorldSteps.{has_nothing, other_has_nothing, may_be_joined}
 use Rattle.mark_core.specs.Start.{start_seat, spent_seat}
-use Rattle.mark_core.specs.Effects.{seat_after}
+use Rattle.mark_core.specs.Effects.{seat_after, written}
 use Rattle.mark_core.specs.Steps.{Core}
-use Rattle.mark_core.proofs.Blocks.BlocksTaken.{Taken, within, own-record, in-place, mine as own-fact}
-use Rattle.mark_core.proofs.AtSeat.{allocs-length}
-use Rattle.mark_core.proofs.Acting.{found, words_left, seats_left}
-use Rattle.mark_core.proofs.Writing.CellBits.{bit-here, bit-joined}
+use Rattle.mark_core.proofs.Blocks.BlocksStopped.{Taken, within, own-record, in-place, mine as own-fact, words-read}
+use Rattle.mark_core.proofs.HeldBlock.{allocs-length, alloc-found, MayStore, may-store, own-strong}
+use Rattle.mark_core.proofs.Known.{found, words_left, seats_left}
+use Rattle.mark_core.proofs.Writing.CellBits.{bit-here, bit-joined, bits-grow, bits-from, bit-more, bit-either, bit-first}
 use Rattle.mark_core.proofs.Consequences.SomePasses.{any-set, any-unset}
 use Rattle.mark_core.proofs.Used.UsedSeats.{IsMadeBy, seat-on, seat-back}
-use Rattle.mark_core.proofs.Used.UsedCells.{frees, alloc-on, alloc-back}
 use Rattle.mark_core.proofs.Basics.{none-is}
 use Rattle.mark_core.specs.declared.kinds.Shape.{Shape}
 use Rattle.mark_core.specs.declared.kinds.Step.{Step}
-use Rattle.mark_core.specs.declared.kinds.Step.TheVariants.{PublishCells, Split, Join}
+use Rattle.mark_core.specs.declared.kinds.Step.TheVariants.{PublishCells, Split, Join, ReadAlloc, ReadFree, StoreAlloc}
 use Rattle.mark_core.specs.declared.seat.SeatState.{SeatState}
 use Rattle.mark_core.specs.declared.seat.CacheState.{CacheState}
+use Rattle.mark_core.specs.Strong.{IsStrongBlock}
+use Rattle.mark_core.specs.Steps.SweepSteps.{survivors, own_block}
+use Rattle.mark_core.proofs.Writing.RegionWrites.{allocs-kept}
+use Rattle.mark_core.specs.declared.seat.BlockState.{BlockState}
+
+-- Which cells are in use after a step: those that were, but for what the sweep frees, and the cell that was made.
+-- the sweep frees cells
+abbrev pub frees : Step → Bool
+frees StoreAlloc = true
+frees step = false
+
+-- an allocation bit stays, unless the sweep stores it
+pub alloc-on : (c : Core) (i : ℕ) (s : SeatState) (step : Step) (x : ℕ) → Taken c i s step → frees step ≡ false → cell_bit (words_of c.shape c.words).allocs x ≡ true → cell_bit (words_left c s step).allocs x ≡ true
+alloc-on c i s StoreAlloc x k f e = absurd (true≢false f)
+alloc-on c i s (ReadAlloc b) x k f e = rw (ap (λ (w : Words). w.allocs) (words-read c i s (ReadAlloc b) k refl)) e
+alloc-on c i s ReadFree x k f e = rw (ap (λ (w : Words). w.allocs) (words-read c i s ReadFree k refl)) e
+alloc-on c i s PublishCells x k f e =
+    let w : Words = words_of c.shape c.words in
+    let b : ℕ = cached_block s in
+    let h : b < block_count c.shape = in-place c i s PublishCells k in
+    let old : ℕ = slice_index c.words (address c.shape (4, b)) in
+    bits-grow w.allocs b (bit_or old (used_bits s.cache)) x
+    (λ _ f. bit-more old (used_bits s.cache) (x % 64) (ap (λ (v : ℕ). has_bit v (x % 64)) (alloc-found c b h) ∙ f))
+    e
+alloc-on c i s step x k f e = rw (allocs-kept c.shape s step (written c.shape s step (found c s step)) (words_of c.shape c.words) refl) e
+
+-- a cell of the block in hand that is stored as allocated was allocated
+survivor_back : (phase next : ℕ) (allocs marks : List ℕ) (o : Option BlockState) (x : ℕ) → may_store o ≡ true → IfSome o (IsStrongBlock phase next allocs marks) → x / 64 ≡ unwrap_or (block_in_hand o) 0
+    → has_bit (survivors o) (x % 64) ≡ true → cell_bit allocs x ≡ true
+survivor_back phase next allocs marks None x m k a e = absurd (true≢false (sym m))
+survivor_back phase next allocs marks (Some b) x m k a e =
+    let y : MayStore b allocs marks = may-store phase next allocs marks b m k in
+    let word : slice_index allocs (x / 64) ≡ unwrap_or b.alloc_word 0 = ap (λ (j : ℕ). slice_index allocs j) a ∙ y.alloc_word in
+    ap (λ (w : ℕ). has_bit w (x % 64)) word ∙ bit-first (unwrap_or b.alloc_word 0) (unwrap_or b.mark_word 0) (x % 64) e
+
+published_use : (o : Option CacheState) (x : ℕ) → is_some o ≡ true → x / 64 ≡ unwrap_or (cache_block o) 0 → has_bit (used_bits o) (x % 64) ≡ true → used_in o x ≡ true
+published_use None x h a e = absurd (true≢false (sym h))
+published_use (Some y) x h a e = rw (eq-eqb y.block (x / 64) (sym a)) e
+
+-- an allocation bit was there before, or the seat has published its used cell
+pub alloc-back : (c : Core) (i : ℕ) (s : SeatState) (step : Step) (x : ℕ) → Taken c i s step → cell_bit (words_left c s step).allocs x ≡ true → (cell_bit (words_of c.shape c.words).allocs x ≡ true) ⊎ (used_in s.cache x ≡ true)
+alloc-back c i s (ReadAlloc b) x k e = inl (subst (λ (w : Words). cell_bit w.allocs x ≡ true) (words-read c i s (ReadAlloc b) k refl) e)
+alloc-back c i s ReadFree x k e = inl (subst (λ (w : Words). cell_bit w.allocs x ≡ true) (words-read c i s ReadFree k refl) e)
+alloc-back c i s PublishCells x k e =
+    let w : Words = words_of c.shape c.words in
+    let b : ℕ = cached_block s in
+    let h : b < block_count c.shape = in-place c i s PublishCells k in
+    let old : ℕ = slice_index c.words (address c.shape (4, b)) in
+    ⊎_elim
+    (λ (a : cell_bit w.allocs x ≡ true). inl a)
+    (λ (a : (b ≡ x / 64) × (has_bit (bit_or old (used_bits s.cache)) (x % 64) ≡ true)).
+    ⊎_elim
+    (λ (f : has_bit old (x % 64) ≡ true). inl (ap (λ (v : ℕ). has_bit v (x % 64)) (ap (λ (j : ℕ). slice_index w.allocs j) (sym a.0) ∙ sym (alloc-found c b h)) ∙ f))
+    (λ (f : has_bit (used_bits s.cache) (x % 64) ≡ true). inr (published_use s.cache x k.ok.0 (sym a.0) f))
+    (bit-either old (used_bits s.cache) (x % 64) a.1))
+    (bits-from w.allocs b (bit_or old (used_bits s.cache)) x e)
+alloc-back c i s StoreAlloc x k e =
+    let w : Words = words_of c.shape c.words in
+    ⊎_elim
+    (λ (a : cell_bit w.allocs x ≡ true). inl a)
+    (λ (a : (own_block s ≡ x / 64) × (has_bit (survivors s.block) (x % 64) ≡ true)).
+    inl (survivor_back w.phase w.next_block w.allocs w.marks s.block x k.ok.1.0 (own-strong c i s StoreAlloc k) (sym a.0) a.1))
+    (bits-from w.allocs (own_block s) (survivors s.block) x e)
+alloc-back c i s step x k e = inl (sym (ap (λ (ws : List ℕ). cell_bit ws x) (allocs-kept c.shape s step (written c.shape s step (found c s step)) (words_of c.shape c.words) refl)) ∙ e)
 
 published_on : (o : Option CacheState) (x : ℕ) → used_in o x ≡ true → (x / 64 ≡ unwrap_or (cache_block o) 0) × (has_bit (used_bits o) (x % 64) ≡ true)
 published_on None x e = absurd (true≢false (sym e))

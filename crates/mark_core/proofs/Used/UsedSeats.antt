@@ -1,21 +1,47 @@
 -- The cells that a seat has made and not published, after a step of it.
 use Rattle.std.proofs.Common.{ℕ, ◌≡◌, ◌+◌, ◌/◌, ◌%◌, ◌^◌, ◌<◌, List, arith, refl, sym, ap, ◌∙◌, subst, Bool, true, false, not, ◌&&◌, eqb, cond, Option, Some, None, ◌⊎◌, inl, inr, ⊎_elim}
 use Rattle.std.specs.Prelude.{IsTrue, IfSome, is_none, nat_le}
-use Rattle.std.proofs.lemmas.Bool.{true≢false, not-true, and_parts, ne_eqb, eqb-true, cases_eq, cases_Bool, leb-false, and_right}
+use Rattle.std.proofs.lemmas.Bool.{true≢false, not-true, and_parts, ne_eqb, eqb-true, cases_eq, cases_Bool, leb-false, and_right, not-false}
 use Rattle.mark_core.specs.Layout.{Words}
 use Rattle.mark_core.specs.Bits.{has_bit, with_bit}
 use Rattle.mark_core.specs.Seats.{in_set, free_in, makes, scans, used_in, has_used, has_making}
-use Rattle.mark_core.specs.Steps.MutatorSteps.{with_making, with_made}
+use Rattle.mark_core.specs.Steps.MutatorSteps.{with_making, with_made, with_free, without_used}
 use Rattle.mark_core.specs.Effects.{seat_after}
 use Rattle.mark_core.specs.Parts.{parts}
 use Rattle.mark_core.specs.Steps.{AllTrue}
 use Rattle.mark_core.proofs.Writing.CellBits.{bit-more, no-bit, with_other}
-use Rattle.mark_core.proofs.Used.UsedBits.{published-none, free-used, making-used, no-used, no-cache_used}
 use Rattle.mark_core.specs.declared.kinds.Shape.{Shape}
 use Rattle.mark_core.specs.declared.kinds.Step.{Step}
 use Rattle.mark_core.specs.declared.kinds.Step.TheVariants.{PublishCells, ClaimBlock, ReleaseBlock, ReadFree, StoreNew}
 use Rattle.mark_core.specs.declared.seat.SeatState.{SeatState}
 use Rattle.mark_core.specs.declared.seat.CacheState.{CacheState}
+
+-- The cells that a cache counts as used: none without a cache or in an empty set, and the same after a step that leaves the set.
+-- no cell is in an empty set
+pub empty-set : (b c : ℕ) → in_set b 0 c ≡ false
+empty-set b c = and_right (eqb b (c / 64)) (has_bit 0 (c % 64)) (no-bit (c % 64))
+
+-- what the changes of a cache leave of it
+pub free-used : (o : Option CacheState) (word c : ℕ) → used_in (with_free o word) c ≡ used_in o c
+free-used None word c = refl
+free-used (Some x) word c = refl
+
+pub making-used : (o : Option CacheState) (d part c : ℕ) → used_in (with_making o d part) c ≡ used_in o c
+making-used None d part c = refl
+making-used (Some x) d part c = refl
+
+pub published-none : (o : Option CacheState) (c : ℕ) → used_in (without_used o) c ≡ false
+published-none None c = refl
+published-none (Some x) c = empty-set x.block c
+
+-- a cache with no used cell
+pub no-used : (o : Option CacheState) (x : ℕ) → has_used o ≡ false → used_in o x ≡ false
+no-used None x e = refl
+no-used (Some y) x e = rw (eqb-true y.used 0 (not-false (eqb y.used 0) e), no-bit) (and_right _ false refl)
+
+pub no-cache_used : (o : Option CacheState) (x : ℕ) → is_none o ≡ true → used_in o x ≡ false
+no-cache_used None x e = refl
+no-cache_used (Some y) x e = absurd (true≢false (sym e))
 
 -- the step gives cell x its last word
 abbrev pub IsMadeBy : Shape → Step → ℕ → Type 0

@@ -13,11 +13,11 @@ use Rattle.mark_core.specs.Steps.WorldSteps.{may_be_joined, begins_exact}
 use Rattle.mark_core.specs.Parts.{parts}
 use Rattle.mark_core.specs.Effects.{place, written, seat_after}
 use Rattle.mark_core.specs.Steps.{Core, AllTrue, others_after, failing_part, after_event}
-use Rattle.mark_core.proofs.Writing.Regions.{words-get}
-use Rattle.mark_core.proofs.Acting.{found, Acted, words_left, seats_left}
+use Rattle.mark_core.proofs.Writing.Places.{words-get}
+use Rattle.mark_core.proofs.Known.{found, Acted, words_left, seats_left, acts}
 use Rattle.mark_core.proofs.Writing.Frames.{changes_standing, standing-kept, projection-kept}
 use Rattle.mark_core.proofs.Writing.Writes.{touches_world, touches_help, world-kept, help-kept, phase-kept}
-use Rattle.mark_core.proofs.Count.CountTests.{bit}
+use Rattle.mark_core.proofs.Count.CountMoves.{bit}
 use Rattle.mark_core.proofs.World.WorldTally.{others, Fits}
 use Rattle.mark_core.proofs.World.WorldMoves.{Stands, enters, leaves, raises, drops, opens, joins, leaves-help, closes}
 use Rattle.mark_core.proofs.World.WorldNumbers.{Numbers, stands, numbers-moved, bare-from, observed, seen, numbers-push, numbers-end}
@@ -29,8 +29,7 @@ use Rattle.std.specs.List.{All}
 use Rattle.mark_core.specs.Rules.WorldRules.{World, Phases, NoneActive, is_stopped_phase}
 use Rattle.mark_core.specs.Strong.{IsStrongBlock}
 use Rattle.mark_core.specs.Laws.{IsCore}
-use Rattle.mark_core.proofs.Core.{acts}
-use Rattle.mark_core.proofs.Locals.{local-kept}
+use Rattle.mark_core.proofs.Doing.{local-kept}
 use Rattle.mark_core.proofs.Pool.PoolsKept.{shape-kept}
 use Rattle.mark_core.proofs.World.WorldReading.{StandsRight, numbers-of, right-from, at-standing, any-passes, some-passes}
 use Rattle.mark_core.proofs.World.WorldSeats.{Local}

@@ -11,7 +11,7 @@ use Rattle.mark_core.specs.Parts.{parts}
 use Rattle.mark_core.specs.Effects.{seat_after}
 use Rattle.mark_core.specs.Steps.{AllTrue}
 use Rattle.mark_core.specs.Views.{standing_of}
-use Rattle.mark_core.proofs.Count.CountTests.{bit}
+use Rattle.mark_core.proofs.Count.CountMoves.{bit}
 use Rattle.mark_core.proofs.Count.CountWork.{work-reads}
 use Rattle.mark_core.proofs.Pool.PoolSlots.{any-held}
 use Rattle.mark_core.proofs.World.WorldTally.{Fits}

@@ -5,7 +5,7 @@ use Rattle.std.specs.Int.{bit_at}
 use Rattle.std.proofs.lemmas.Bool.{cases_lt, cases_eq, lt-ltb, le-ltb}
 use Rattle.std.proofs.lemmas.Nat.Bits.{bit_at_or, bit_at-pow_same, bit_at-pow_other, bit_at_cat_low, bit_at_cat_high, bit_at_above, same_from_bits, bit_at-lt}
 use Rattle.mark_core.specs.Bits.{flag, has_flag, wrapped_sum, wrapped_difference}
-use Rattle.mark_core.proofs.Count.CountTests.{bit, bit-below}
+use Rattle.mark_core.proofs.Count.CountMoves.{bit, bit-below}
 use Rattle.mark_core.specs.Views.{Standing}
 use Rattle.mark_core.proofs.World.WorldTally.{Census, plus, Fits, CensusFits, IsTally, IsFew}
 

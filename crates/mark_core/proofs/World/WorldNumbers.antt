@@ -7,7 +7,7 @@ use Rattle.std.proofs.lemmas.List.Sums.{sum_by_push}
 use Rattle.mark_core.specs.Seats.{is_bare}
 use Rattle.mark_core.specs.Views.{Standing, standing_of}
 use Rattle.mark_core.specs.Steps.WorldSteps.{is_stopped}
-use Rattle.mark_core.proofs.Count.CountTests.{bit}
+use Rattle.mark_core.proofs.Count.CountMoves.{bit}
 use Rattle.mark_core.proofs.World.WorldTally.{Census, census, others, nowhere, nowhere-fits, Fits, IsTally, census-set, census-now, others-fit, others-few}
 use Rattle.mark_core.proofs.World.WorldMoves.{Stands, Bare, observes, sees}
 use Rattle.mark_core.specs.declared.seat.SeatState.{SeatState}

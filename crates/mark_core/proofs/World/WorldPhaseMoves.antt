@@ -15,11 +15,10 @@ use Rattle.mark_core.specs.Parts.{parts}
 use Rattle.mark_core.specs.Steps.{Core, AllTrue}
 use Rattle.mark_core.specs.WellFormed.{IsWellFormed}
 use Rattle.mark_core.specs.Laws.{ArePacketsSound}
-use Rattle.mark_core.proofs.Count.CountTests.{follows}
+use Rattle.mark_core.proofs.Count.CountMoves.{follows}
 use Rattle.mark_core.proofs.Consequences.QuietReading.{quiet-hands, quiet-heads}
 use Rattle.mark_core.proofs.World.WorldReading.{StandsRight, passes-any, any-passes, some-passes, passes-counted, at-standing}
-use Rattle.mark_core.proofs.World.WorldSights.{Sees}
-use Rattle.mark_core.proofs.World.WorldPhases.{InPhase, IsWhite, IsStill}
+use Rattle.mark_core.proofs.World.WorldPhases.{Sees, InPhase, IsWhite, IsStill}
 use Rattle.mark_core.proofs.World.WorldPhaseKept.{knowers-set}
 use Rattle.mark_core.proofs.Writing.CellBits.{no-bit}
 use Rattle.mark_core.proofs.Basics.{all-zero}

@@ -10,8 +10,7 @@ use Rattle.mark_core.specs.Bits.{flag_where, flag}
 use Rattle.mark_core.specs.Views.{Standing, standings, standing_of, some_knows}
 use Rattle.mark_core.specs.Rules.WorldRules.{World, NoneActive, NoneAdmitted, HelpsOnly, is_in_world, is_raised, is_helping, is_opened}
 use Rattle.mark_core.specs.Strong.{IsStrongSeat}
-use Rattle.mark_core.proofs.Count.CountTests.{bit, bit-below, bit-zero}
-use Rattle.mark_core.proofs.Count.CountRange.{count-cons, count-none}
+use Rattle.mark_core.proofs.Count.CountMoves.{bit, bit-below, bit-zero, count-cons, count-none}
 use Rattle.mark_core.proofs.World.WorldTally.{nowhere, Fits, census-fits}
 use Rattle.mark_core.proofs.World.WorldNumbers.{Numbers}
 use Rattle.mark_core.specs.declared.kinds.Shape.{Shape}

@@ -5,7 +5,7 @@ use Rattle.std.proofs.lemmas.Bool.{cases_Bool, true≢false, false≢true}
 use Rattle.mark_core.specs.Held.{holds_any}
 use Rattle.mark_core.specs.Seats.{takes_part, may_trace, may_sweep, work_in_hand, has_used, has_making, is_bare}
 use Rattle.mark_core.specs.Views.{standing_of}
-use Rattle.mark_core.proofs.Count.CountTests.{bit}
+use Rattle.mark_core.proofs.Count.CountMoves.{bit}
 use Rattle.mark_core.proofs.World.WorldTally.{Fits}
 use Rattle.mark_core.proofs.World.WorldNumbers.{bare-from}
 use Rattle.mark_core.specs.declared.kinds.Shape.{Shape}

@@ -5,8 +5,7 @@ use Rattle.std.proofs.lemmas.List.{set-set, set-get_or, length-set, get_or-set_s
 use Rattle.std.proofs.lemmas.List.Elements.{All-head, All-tail, All-set}
 use Rattle.std.proofs.lemmas.List.Sums.{sum_by-set, count_by-le-length}
 use Rattle.mark_core.specs.Views.{Standing}
-use Rattle.mark_core.proofs.Count.CountTests.{bit}
-use Rattle.mark_core.proofs.Count.CountRange.{count-cons}
+use Rattle.mark_core.proofs.Count.CountMoves.{bit, count-cons}
 use Rattle.mark_core.specs.Bits.{flag}
 
 -- how many seats stand how

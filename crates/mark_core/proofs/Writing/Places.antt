@@ -1,10 +1,38 @@
 -- What a write of one word does to the regions.
-use Rattle.std.proofs.Common.{ℕ, ◌≡◌, ◌+◌, ◌<◌, ◌≤◌, zero, suc, List, [], ◌∷◌, drop, set, get_or, length, arith, refl, sym, ap, ◌∙◌, cond, eqb, ⊎_elim, zero-add}
-use Rattle.std.proofs.lemmas.List.{get_or-set_other, get_or-set_same, length-take-le, length-drop}
+use Rattle.std.proofs.Common.{ℕ, ◌≡◌, ◌+◌, ◌<◌, ◌≤◌, zero, suc, List, [], ◌∷◌, drop, set, get_or, length, arith, refl, sym, ap, ◌∙◌, cond, eqb, ⊎_elim, zero-add, ◌≢◌, take, add_assoc}
+use Rattle.std.proofs.lemmas.List.{get_or-set_other, get_or-set_same, length-take-le, length-drop, get_or-take, get_or-drop, take-set-le, drop-set-lt, drop-set-add}
 use Rattle.std.proofs.lemmas.Bool.{cases_eq, eq-eqb, ne_eqb}
 use Rattle.mark_core.specs.Layout.{words_of, address, put_word, region_base, region_words, region_sizes, total_words}
-use Rattle.mark_core.proofs.Writing.Regions.{words-set_same, words-set_other}
 use Rattle.mark_core.specs.declared.kinds.Shape.{Shape}
+
+-- A write in one region leaves the others.
+pub take-set-lt : (n : ℕ) (ws : List ℕ) (i v : ℕ) → i < n → take n (set ws i v) ≡ set (take n ws) i v
+take-set-lt zero ws i v h = absurd (omega arith)
+take-set-lt (suc n) [] i v h = refl
+take-set-lt (suc n) (w ∷ ws) zero v h = refl
+take-set-lt (suc n) (w ∷ ws) (suc i) v h = ap (λ xs. w ∷ xs) (take-set-lt n ws i v (omega arith))
+
+pub words-set_same : (ns : List ℕ) (r : ℕ) (ws : List ℕ) (i v : ℕ) → i < get_or ns r 0 → region_words ns r (set ws (region_base ns r + i) v) ≡ set (region_words ns r ws) i v
+words-set_same [] r ws i v h = absurd (omega arith)
+words-set_same (n ∷ ns) zero ws i v h = rw zero-add (take-set-lt n ws i v h)
+words-set_same (n ∷ ns) (suc r) ws i v h = rw (add_assoc, drop-set-add) (words-set_same ns r (drop n ws) i v h)
+
+pub words-set_other : (ns : List ℕ) (r q : ℕ) (ws : List ℕ) (i v : ℕ) → i < get_or ns r 0 → q ≢ r → region_words ns q (set ws (region_base ns r + i) v) ≡ region_words ns q ws
+words-set_other [] r q ws i v h d = absurd (omega arith)
+words-set_other (n ∷ ns) zero zero ws i v h d = absurd (d refl)
+words-set_other (n ∷ ns) zero (suc q) ws i v h d = rw (zero-add, drop-set-lt) refl
+words-set_other (n ∷ ns) (suc r) zero ws i v h d = rw add_assoc (take-set-le n ws (n + (region_base ns r + i)) v (omega arith))
+words-set_other (n ∷ ns) (suc r) (suc q) ws i v h d = rw (add_assoc, drop-set-add) (words-set_other ns r q (drop n ws) i v h (λ e. d (ap suc e)))
+
+pub words-get : (ns : List ℕ) (r : ℕ) (ws : List ℕ) (i d : ℕ) → i < get_or ns r 0 → get_or ws (region_base ns r + i) d ≡ get_or (region_words ns r ws) i d
+words-get [] r ws i d h = absurd (omega arith)
+words-get (n ∷ ns) zero ws i d h = rw (zero-add, get_or-take) refl
+words-get (n ∷ ns) (suc r) ws i d h = rw add_assoc (sym (get_or-drop n ws (region_base ns r + i) d) ∙ words-get ns r (drop n ws) i d h)
+
+pub address-lt-total : (ns : List ℕ) (r i : ℕ) → i < get_or ns r 0 → region_base ns r + i < total_words ns
+address-lt-total [] r i h = absurd (omega arith)
+address-lt-total (n ∷ ns) zero i h = omega arith
+address-lt-total (n ∷ ns) (suc r) i h = omega (arith, address-lt-total ns r i h)
 
 -- the words of region k, when word i of region r is written
 pub region-put : (ns : List ℕ) (r k : ℕ) (ws : List ℕ) (i v : ℕ) → i < get_or ns r 0 → region_words ns k (set ws (region_base ns r + i) v) ≡ cond (eqb r k) (set (region_words ns k ws) i v) (region_words ns k ws)

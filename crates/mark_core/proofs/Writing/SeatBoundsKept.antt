@@ -8,7 +8,7 @@ use Rattle.std.proofs.lemmas.List.Elements.{All-nil, All-cons, All-head, All-tai
 use Rattle.mark_core.specs.Shapes.{IsShape}
 use Rattle.mark_core.specs.Layout.{Words, block_count}
 use Rattle.mark_core.specs.Bits.{has_bit, reference_in}
-use Rattle.mark_core.specs.Held.{has_length, length_in_hand, put_packet}
+use Rattle.mark_core.specs.Held.{has_length, length_in_hand, put_packet, Slot, Slots, known_length, slot_without, drop_packet, slot_with, set_length}
 use Rattle.mark_core.specs.Seats.{is_the, last_made}
 use Rattle.mark_core.specs.Bounds.{IsReference, SlotFits, CacheFits, IsStretch, SeatBounds}
 use Rattle.mark_core.specs.Steps.MutatorSteps.{fits_part, has_reference, names_last, seat_variable, variable_or_nil, with_free, with_making, with_made, without_used}
@@ -18,7 +18,6 @@ use Rattle.mark_core.specs.Parts.{parts}
 use Rattle.mark_core.specs.Effects.{seat_after}
 use Rattle.mark_core.specs.Start.{start_seat, spent_seat}
 use Rattle.mark_core.specs.Steps.{AllTrue}
-use Rattle.mark_core.proofs.Writing.SlotBounds.{choose, length-fits, put-fits, drop-fits, set-fits}
 use Rattle.mark_core.proofs.Writing.Ranges.{section-below}
 use Rattle.mark_core.proofs.Blocks.BlocksStretch.{some-taken, end-within}
 use Rattle.mark_core.specs.declared.kinds.Shape.{Shape}
@@ -27,6 +26,38 @@ use Rattle.mark_core.specs.declared.kinds.Step.TheVariants.{Take, Give, Push, Po
 use Rattle.mark_core.specs.declared.seat.SeatState.{SeatState}
 use Rattle.mark_core.specs.declared.seat.CacheState.{CacheState}
 use Rattle.mark_core.specs.declared.seat.BlockState.{BlockState}
+
+-- The lengths of the packets in hand stay within the room of a packet.
+-- either of two values has the property
+pub choose : {X : Type 0} (P : X → Type 0) (b : Bool) (x y : X) → P x → P y → P (cond b x y)
+choose P true x y p q = p
+choose P false x y p q = q
+
+pub length-fits : (e : ℕ) (hs : Slots) (p : ℕ) → All (SlotFits e) hs → length_in_hand hs p ≤ e
+length-fits e [] p a = omega arith
+length-fits e (None ∷ hs) p a = length-fits e hs p (All-tail (SlotFits e) None hs a)
+length-fits e (Some x ∷ hs) p a = choose (λ (o : Option ℕ). unwrap_or o 0 ≤ e) (eqb x.0 p) x.1 (known_length hs p) (All-head (SlotFits e) (Some x) hs a) (length-fits e hs p (All-tail (SlotFits e) (Some x) hs a))
+
+pub put-fits : (e : ℕ) (hs : Slots) (p : ℕ) → All (SlotFits e) hs → All (SlotFits e) (put_packet hs p)
+put-fits e [] p a = a
+put-fits e (None ∷ hs) p a = All-cons (SlotFits e) (Some (p, None, true)) hs (omega arith) (All-tail (SlotFits e) None hs a)
+put-fits e (Some x ∷ hs) p a = All-cons (SlotFits e) (Some x) (put_packet hs p) (All-head (SlotFits e) (Some x) hs a) (put-fits e hs p (All-tail (SlotFits e) (Some x) hs a))
+
+without_fits : (e p : ℕ) (x : Slot) → SlotFits e x → SlotFits e (slot_without p x)
+without_fits e p None h = tt
+without_fits e p (Some x) h = choose (SlotFits e) (eqb x.0 p) None (Some x) tt h
+
+pub drop-fits : (e : ℕ) (hs : Slots) (p : ℕ) → All (SlotFits e) hs → All (SlotFits e) (drop_packet hs p)
+drop-fits e [] p a = All-nil (SlotFits e)
+drop-fits e (x ∷ hs) p a = All-cons (SlotFits e) (slot_without p x) (drop_packet hs p) (without_fits e p x (All-head (SlotFits e) x hs a)) (drop-fits e hs p (All-tail (SlotFits e) x hs a))
+
+with_fits : (e p n : ℕ) (b : Bool) (x : Slot) → n ≤ e → SlotFits e x → SlotFits e (slot_with p (Some n) b x)
+with_fits e p n b None k h = tt
+with_fits e p n b (Some x) k h = choose (SlotFits e) (eqb x.0 p) (Some (p, Some n, b)) (Some x) k h
+
+pub set-fits : (e : ℕ) (hs : Slots) (p n : ℕ) (b : Bool) → n ≤ e → All (SlotFits e) hs → All (SlotFits e) (set_length hs p n b)
+set-fits e [] p n b k a = All-nil (SlotFits e)
+set-fits e (x ∷ hs) p n b k a = All-cons (SlotFits e) (slot_with p (Some n) b x) (set_length hs p n b) (with_fits e p n b x k (All-head (SlotFits e) x hs a)) (set-fits e hs p n b k (All-tail (SlotFits e) x hs a))
 
 -- what a step learns from the word that it finds is in range
 abbrev pub Finds : Shape → Step → ℕ → Type 0

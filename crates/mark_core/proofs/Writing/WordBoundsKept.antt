@@ -14,12 +14,10 @@ use Rattle.mark_core.specs.Bounds.{IsReference, WordBounds, SeatBounds}
 use Rattle.mark_core.specs.Parts.{parts}
 use Rattle.mark_core.specs.Effects.{place, written}
 use Rattle.mark_core.specs.Steps.{AllTrue}
-use Rattle.mark_core.proofs.Writing.Places.{word-put, region-length}
-use Rattle.mark_core.proofs.Writing.Regions.{words-get}
+use Rattle.mark_core.proofs.Writing.Places.{word-put, region-length, words-get}
 use Rattle.mark_core.proofs.Writing.Ranges.{IsPlace, either}
 use Rattle.mark_core.proofs.Writing.Writes.{only_reads, read-written, at_counter}
-use Rattle.mark_core.proofs.Writing.SlotBounds.{length-fits, choose}
-use Rattle.mark_core.proofs.Writing.SeatBoundsKept.{Finds, root-fits, or-nil-fits}
+use Rattle.mark_core.proofs.Writing.SeatBoundsKept.{length-fits, choose, Finds, root-fits, or-nil-fits}
 use Rattle.mark_core.specs.declared.kinds.Shape.{Shape}
 use Rattle.mark_core.specs.declared.kinds.Step.{Step}
 use Rattle.mark_core.specs.declared.kinds.Step.TheVariants.{ReadField, ReadRoot, ReadOwn, ReadCat, StoreField, StoreRoot, StoreNew, Reset, AddStat, ReadStat, StoreLength, ReadLength, ExchangeField, LoadSlot, StoreSlot, ReadSlot}

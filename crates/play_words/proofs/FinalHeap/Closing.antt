@@ -7,7 +7,7 @@ use Rattle.mark_core.proofs.Writing.Places.{region-length}
 use Rattle.plain_heap.specs.PlainHeap.{Heap}
 use Rattle.plain_heap.specs.Sections.{Sections, section_numbers, seasons}
 use Rattle.plain_heap.specs.PlainRun.{plain, last_heap}
-use Rattle.plain_heap.proofs.TurnEnds.{at-last}
+use Rattle.plain_heap.proofs.Turns.{at-last}
 use Rattle.gc_table.specs.declared.seat.HeapSeat.{HeapSeat}
 use Rattle.gc_table.specs.declared.view.Meaning.{Meaning}
 use Rattle.gc_table.specs.declared.words.Words.{Words}
@@ -16,8 +16,7 @@ use Rattle.play_end.specs.Alike.{AreAlike}
 use Rattle.play_end.specs.Closed.{IsClosed}
 use Rattle.play_end.specs.Ended.{IsStateOf}
 use Rattle.play_end.proofs.EndClosed.{end-position, end-positions}
-use Rattle.play_end.proofs.EndHeaps.{meaning-within, meaning-alike}
-use Rattle.play_end.proofs.EndListed.{the_words}
+use Rattle.play_end.proofs.EndListed.{meaning-within, meaning-alike, the_words}
 
 module _ (s : Sections) (sh : Shape) (seats : List HeapSeat) (w : Words) (k : IsClosed s sh.cells sh seats w) where
   -- the words that were copied out are those of the state

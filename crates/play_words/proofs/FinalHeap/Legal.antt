@@ -11,11 +11,9 @@ use Rattle.plain_heap.specs.Sections.{Sections, section_numbers, executed_total}
 use Rattle.plain_heap.specs.PlainRun.{last_heap, last_heaps}
 use Rattle.plain_heap.specs.Paths.{Name, Names, ComesBefore, IsReachable, Survivor, name_of, HasValue}
 use Rattle.heap_dump.specs.Final.{DumpedHeap, Object, object, blank, IsWithinSection, RefersWithin, HasDump}
-use Rattle.play_end.proofs.InOrder.{never}
-use Rattle.play_end.proofs.Members.{map-to}
-use Rattle.play_end.proofs.SectionLists.{contains_got}
+use Rattle.play_end.proofs.Deciding.{never, map-to}
+use Rattle.play_end.proofs.SectionLists.{contains_got, object-there, reached-object}
 use Rattle.play_words.specs.Final.{name_in, survivor_in, IsNumberOf, IsFinalHeap}
-use Rattle.play_end.proofs.LastHeaps.{object-there, reached-object}
 use Rattle.play_words.proofs.FinalHeap.Objects.{number-few}
 
 -- an object that a reference of a section names is of this section or of the catalogue

@@ -20,7 +20,7 @@ use Rattle.play_words.specs.EndOfPlay.{IsEndOf}
 use Rattle.play_words.specs.Final.{name_in, survivor_in, IsNumberOf, HasRefs, IsFinalHeap}
 use Rattle.play_words.specs.DumpTelling.{IsSurvivor, cell_of_survivor, AreNumbers, dumped_word, field_word, AreRecords, IsRecord}
 use Rattle.play_words.proofs.FinalHeap.Legal.{legal}
-use Rattle.play_words.proofs.FinalHeap.Lists.{image-at}
+use Rattle.play_words.proofs.FinalHeap.Loops.{image-at}
 use Rattle.play_words.proofs.FinalHeap.Reached.{named, are-placed}
 use Rattle.play_words.proofs.FinalHeap.Told.{HasSurvivors, told-variable, told-field, told-rest, value-fits, root-count, root-within}
 

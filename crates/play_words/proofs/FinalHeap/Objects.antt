@@ -7,9 +7,8 @@ use Rattle.plain_heap.specs.declared.object.Object.{Object}
 use Rattle.plain_heap.specs.PlainHeap.{Heap}
 use Rattle.plain_heap.specs.Sections.{Execution, Sections, section_numbers, seasons, end_of, executed_of, executed_total, makes_object}
 use Rattle.plain_heap.specs.PlainRun.{last_heap}
-use Rattle.plain_heap.proofs.Counted.{section-at}
-use Rattle.plain_heap.proofs.TurnBounds.{objects-most}
-use Rattle.plain_heap.proofs.TurnEnds.{at-last}
+use Rattle.plain_heap.proofs.Turns.{section-at, at-last}
+use Rattle.plain_heap.proofs.Steps.{objects-most}
 
 -- the number of an object is small, as the commands of the script are few
 pub number-few : (s : Sections) (w n : ℕ) (o : Object) → executed_total s ≤ 2000000 → w < length (section_numbers s) → slice_get (last_heap s w).objects n ≡ Some o → n < 2000000

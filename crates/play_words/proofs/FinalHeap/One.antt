@@ -10,9 +10,9 @@ use Rattle.plain_heap.specs.PlainHeap.{variable}
 use Rattle.plain_heap.specs.Sections.{Sections}
 use Rattle.plain_heap.specs.PlainRun.{last_heap}
 use Rattle.plain_heap.specs.Paths.{Name, Names, name_of}
-use Rattle.gc_table.proofs.Stands.StandsNamed.{names-one}
+use Rattle.gc_table.proofs.Stands.StandsReached.{names-one}
 use Rattle.heap_dump.specs.Final.{Object, DumpedHeap, object, blank}
-use Rattle.play_end.proofs.InOrder.{same-names}
+use Rattle.play_end.proofs.Deciding.{same-names}
 use Rattle.play_words.specs.Final.{name_in, survivor_in, IsNumberOf, IsFinalHeap}
 use Rattle.play_words.specs.Laws.{OneFinalHeap}
 use Rattle.play_words.proofs.FinalHeap.Legal.{record-value, record-object, records-apart, name-at}

@@ -24,20 +24,17 @@ use Rattle.gc_table.specs.Laws.{IsCellOfObject}
 use Rattle.gc_table.specs.StandsFor.{name_at}
 use Rattle.gc_table.specs.TableState.{TableState, meanings_of, section_at}
 use Rattle.gc_table.proofs.Stands.StandsReached.{objects_have_cells, cells_have_objects}
-use Rattle.gc_table.proofs.Stands.StandsStores.{used-exists}
-use Rattle.gc_table.proofs.Stands.StandsUsed.{reachable-used}
+use Rattle.gc_table.proofs.Stands.StandsStores.{used-exists, reachable-used}
 use Rattle.play_end.specs.Ended.{IsStateOf, IsUsed, AreCellsOfPlaces}
 use Rattle.play_end.proofs.EndClosed.{element-at, end-count, end-position, end-positions, own-section, played-state}
 use Rattle.play_end.proofs.EndFilled.{halves}
-use Rattle.play_end.proofs.EndHeaps.{reached-run, reached-stand}
-use Rattle.play_end.proofs.Members.{map-from, map-to}
-use Rattle.play_end.proofs.EndListed.{the_words}
-use Rattle.play_end.proofs.EndPlaced.{last-done, lies-in}
-use Rattle.play_end.proofs.SectionLists.{got, contains_got}
+use Rattle.play_end.proofs.EndListed.{reached-run, reached-stand, the_words}
+use Rattle.play_end.proofs.Deciding.{map-from, map-to}
+use Rattle.play_end.proofs.PlaceOrder.{last-done, lies-in}
+use Rattle.play_end.proofs.SectionLists.{got, contains_got, reached-object}
 use Rattle.play_words.specs.EndOfPlay.{IsEndOf}
 use Rattle.play_words.specs.DumpTelling.{IsSurvivor, cell_of_survivor, ArePlaced}
-use Rattle.play_words.proofs.FinalHeap.Lists.{image-at, few-images}
-use Rattle.play_end.proofs.LastHeaps.{reached-object}
+use Rattle.play_words.proofs.FinalHeap.Loops.{image-at, few-images}
 
 -- the name of a survivor
 abbrev pub named : Survivor → Name

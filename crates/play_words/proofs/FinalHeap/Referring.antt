@@ -14,10 +14,9 @@ use Rattle.plain_heap.specs.PlainStep.{heap_after, stored_at, replaced_by, with_
 use Rattle.plain_heap.specs.Sections.{Sections, Execution, parts_of}
 use Rattle.plain_heap.specs.PlainRun.{heap_from, heap_after_parts, last_heap, last_heaps, ops_of, seen_catalogue}
 use Rattle.plain_heap.specs.Paths.{Names, IsHeld, RefersTo}
-use Rattle.gc_table.proofs.Stands.StandsNamed.{names-one}
+use Rattle.gc_table.proofs.Stands.StandsReached.{names-one}
 use Rattle.heap_dump.specs.Final.{DumpedHeap, object}
-use Rattle.play_end.proofs.LastHeaps.{last-section, object-there}
-use Rattle.play_end.proofs.SectionLists.{of-section}
+use Rattle.play_end.proofs.SectionLists.{last-section, object-there, of-section}
 use Rattle.play_words.specs.Final.{name_in, IsNumberOf, IsFinalHeap}
 use Rattle.play_words.proofs.FinalHeap.Legal.{records-apart}
 

@@ -8,8 +8,8 @@ use Rattle.mark_core.specs.declared.kinds.Shape.{Shape}
 use Rattle.mark_core.specs.Cells.{field}
 use Rattle.mark_core.specs.Closed.{IsReachableIn}
 use Rattle.mark_core.specs.Rules.HeapRules.{section_of_cell}
-use Rattle.mark_core.proofs.AtSeat.{roots-length}
-use Rattle.mark_core.proofs.Exacts.ExactsReach.{reach-root, reach-field}
+use Rattle.mark_core.proofs.HeldBlock.{roots-length}
+use Rattle.mark_core.proofs.Exacts.ExactsDrain.{reach-root, reach-field}
 use Rattle.plain_heap.specs.declared.object.Ref.{Ref}
 use Rattle.plain_heap.specs.declared.object.Ref.TheVariants as refs
 use Rattle.plain_heap.specs.declared.object.Object.{Object}
@@ -25,8 +25,7 @@ use Rattle.gc_table.specs.StandsFor.{WordAgrees, name_at, object_count}
 use Rattle.gc_table.specs.TableState.{TableState, meanings_of, section_at}
 use Rattle.heap_dump.specs.Final.{DumpedHeap as Dumped, object}
 use Rattle.play_end.proofs.Alike.{alike-objects, alike-variables}
-use Rattle.play_end.proofs.EndHeaps.{meaning-there}
-use Rattle.play_end.proofs.EndListed.{the_words}
+use Rattle.play_end.proofs.EndListed.{meaning-there, the_words}
 use Rattle.play_words.specs.EndOfPlay.{IsEndOf}
 use Rattle.play_words.specs.Final.{IsNumberOf, name_in}
 use Rattle.play_words.specs.DumpTelling.{IsSurvivor, cell_of_survivor, AreNumbers, dumped_word, field_word, HasFields}

@@ -1,4 +1,4 @@
-use Rattle.shared_heap.proofs.Threads.{threads-run}
+use Rattle.shared_heap.proofs.RootRead.{threads-run}
 use Rattle.shared_heap.proofs.threads_run.Goals as goal
 
 pub returns : goal.returns

@@ -6,8 +6,7 @@ use Rattle.plain_heap.specs.declared.operation.Op.TheVariants as ops
 use Rattle.managed_heap.specs.Calls.{heap_of}
 use Rattle.seat_turns.specs.Plain.{Steps}
 use Rattle.bench_trees.specs.Trees.{LeavesObjects, full, nodes}
-use Rattle.bench_trees.proofs.Counting.{full-small, nodes-few}
-use Rattle.bench_trees.proofs.Walking.{counted-both}
+use Rattle.bench_trees.proofs.Building.{full-small, nodes-few, counted-both}
 use Rattle.bench_trees.proofs.trees.+count.Goals as goal
 
 small : (x : Heap) (k n : ℕ) (ref : Ref) → k ≤ 31 → n ≡ nodes x k ref → n < 4294967296

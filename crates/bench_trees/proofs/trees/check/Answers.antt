@@ -2,7 +2,7 @@ use Rattle.std.proofs.Common.{◌≡◌, ◌+◌, suc, ap, ◌∙◌, arith}
 use Rattle.plain_heap.specs.PlainHeap.{variable}
 use Rattle.managed_heap.specs.Calls.{heap_of}
 use Rattle.bench_trees.specs.Trees.{nodes}
-use Rattle.bench_trees.proofs.Counting.{tree-nodes}
+use Rattle.bench_trees.proofs.Building.{tree-nodes}
 use Rattle.bench_trees.proofs.trees.check.Goals as goal
 
 pub returns-clause-counts : goal.returns-clause-counts

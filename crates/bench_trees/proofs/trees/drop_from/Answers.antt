@@ -1,6 +1,5 @@
 use Rattle.managed_heap.specs.Calls.{heap_of}
-use Rattle.bench_trees.proofs.Growing.{leaves-join, leaves-less}
-use Rattle.bench_trees.proofs.Walking.{forgotten}
+use Rattle.bench_trees.proofs.Building.{leaves-join, leaves-less, forgotten}
 use Rattle.bench_trees.proofs.trees.drop_from.Goals as goal
 
 pub loop-w-preserved : goal.loop-w-preserved

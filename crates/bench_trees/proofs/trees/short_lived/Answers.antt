@@ -1,6 +1,6 @@
 use Rattle.std.proofs.Common.{arith}
 use Rattle.managed_heap.specs.Calls.{heap_of}
-use Rattle.bench_trees.proofs.Growing.{grows-join, grows-leaves, leaves-join, leaves-less}
+use Rattle.bench_trees.proofs.Building.{grows-join, grows-leaves, leaves-join, leaves-less}
 use Rattle.bench_trees.proofs.trees.short_lived.Goals as goal
 
 pub returns-clause-grows : goal.returns-clause-grows

@@ -6,7 +6,7 @@ use Rattle.managed_heap.specs.Calls.{heap_of}
 use Rattle.bench_trees.specs.Counts.{AreChecked, depth_at, share, trees_at}
 use Rattle.bench_trees.specs.Trees.{full}
 use Rattle.bench_trees.specs.declared.words.Asked.{Asked}
-use Rattle.bench_trees.proofs.Growing.{grows-join, grows-none}
+use Rattle.bench_trees.proofs.Building.{grows-join, grows-none}
 use Rattle.bench_trees.proofs.workers.all_depths.Goals as goal
 
 -- one depth more was counted

@@ -2,8 +2,7 @@ use Rattle.std.proofs.Common.{◌<◌, arith}
 use Rattle.std.proofs.lemmas.Nat.{mul-le}
 use Rattle.managed_heap.specs.Calls.{heap_of}
 use Rattle.bench_trees.specs.Trees.{full}
-use Rattle.bench_trees.proofs.Counting.{full-small}
-use Rattle.bench_trees.proofs.Growing.{grows-join, grows-none}
+use Rattle.bench_trees.proofs.Building.{full-small, grows-join, grows-none}
 use Rattle.bench_trees.proofs.workers.many.Goals as goal
 
 pub loop-tree-init : goal.loop-tree-init

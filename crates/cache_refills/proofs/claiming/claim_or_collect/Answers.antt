@@ -22,9 +22,8 @@ use Rattle.gc_cycle.specs.Sorts.{begins_exactly, ends_cycle}
 use Rattle.gc_cycle.proofs.Refills.Collected.{exactly-collects}
 use Rattle.cache_refills.proofs.Stops.InStop.{alone-same, claims-alone, claims-later, fills-caused, quiet-claim, quiet-finish, quiet-join, rests-later, unfills}
 use Rattle.gc_cycle.proofs.Sequences.{followed-later}
-use Rattle.gc_cycle.proofs.Changes.{numbers-after, numbers-join, numbers-one}
+use Rattle.gc_cycle.proofs.Changes.{numbers-after, numbers-join, numbers-one, claim-by, seeks-by}
 use Rattle.gc_cycle.specs.Statistics.{taken}
-use Rattle.gc_cycle.proofs.Numbers.{claim-by, seeks-by}
 use Rattle.cache_refills.proofs.Stops.InStops.{unbegun-claims, unbegun-join, unbegun-seeks, unended-claims, unended-seeks}
 use Rattle.cache_refills.proofs.claiming.claim_or_collect.Goals as goal
 

@@ -16,9 +16,8 @@ use Rattle.mark_core.specs.declared.kinds.Step.TheVariants.{StoreNamed, StorePha
 use Rattle.mark_core.specs.Effects.{written}
 use Rattle.gc_table.specs.Log.{Only}
 use Rattle.alloc_cache.specs.declared.cache.Cache.{Cache}
-use Rattle.gc_cycle.proofs.Changes.{by-join, changes-after, numbers-one, only-changes}
+use Rattle.gc_cycle.proofs.Changes.{by-join, changes-after, numbers-one, only-changes, claim-any}
 use Rattle.gc_cycle.specs.Statistics.{taken}
-use Rattle.gc_cycle.proofs.Numbers.{claim-any}
 use Rattle.cache_refills.proofs.Stops.InStops.{unbegun-after, unbegun-any, unbegun-join, unbegun-part, unended-after, unended-any, unended-join, unended-part}
 use Rattle.cache_refills.proofs.claiming.claim_or_fill.Goals as goal
 

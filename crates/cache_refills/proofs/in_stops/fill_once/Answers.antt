@@ -21,8 +21,8 @@ use Rattle.cache_refills.proofs.Refills.Visiting.{calm-stops, calm-visits, leads
 use Rattle.gc_cycle.specs.Mutating.{stays_calm}
 use Rattle.gc_cycle.proofs.Refills.Answered.{answers-calm}
 use Rattle.cache_refills.proofs.Stops.InStops.{fills-from, searched, unbegun-answers, unbegun-claims, unbegun-join, unbegun-seeks}
-use Rattle.cache_refills.proofs.Refills.RoundNumbers.{claims-refill, leaves-first}
-use Rattle.gc_cycle.proofs.Numbers.{seeks-by}
+use Rattle.cache_refills.proofs.Refills.RoundsSoFar.{claims-refill, leaves-first}
+use Rattle.gc_cycle.proofs.Changes.{seeks-by}
 use Rattle.cache_refills.proofs.in_stops.fill_once.Goals as goal
 
 pub returns-in-None-clause-round : goal.returns-in-None-clause-round

@@ -13,8 +13,7 @@ use Rattle.gc_table.proofs.History.Log.{events-after}
 use Rattle.gc_table.proofs.Running.{ran-answered, ran-events, ran-join}
 use Rattle.cache_refills.specs.Pace.Pacing.{begins_where_due, KicksOff, statistic}
 use Rattle.gc_cycle.proofs.Few.{few-after, few-events, few-join}
-use Rattle.cache_refills.proofs.Due.{due-begun}
-use Rattle.cache_refills.proofs.Kicking.{may-try, none-due, one-due, three, three-events, tried-state}
+use Rattle.cache_refills.proofs.Due.{due-begun, may-try, none-due, one-due, three, three-events, tried-state}
 use Rattle.cache_refills.proofs.pace.begin_due.Goals as goal
 
 pub returns-then-free-last-clause-ran : goal.returns-then-free-last-clause-ran

@@ -12,8 +12,7 @@ use Rattle.gc_cycle.specs.Roots.{roots_scanned}
 use Rattle.gc_cycle.specs.CardLooks.{looks_at_card}
 use Rattle.gc_cycle.specs.Sorts.{draws_or_clears, pops, reads_pace}
 use Rattle.gc_cycle.specs.Turns.{SeesToRoots}
-use Rattle.gc_cycle.proofs.Longer.{has-traced, roots-left}
-use Rattle.gc_cycle.proofs.Turns.{roots-earlier, roots-later}
+use Rattle.gc_cycle.proofs.Turns.{has-traced, roots-left, roots-earlier, roots-later}
 use Rattle.cache_refills.proofs.Refills.Payment.{marks-none, marks-traces, never-run, none-traces, section-below, traces-within}
 use Rattle.tracer.specs.StepBounds.{section_steps}
 use Rattle.cache_refills.specs.Pace.StepBounds.{early_steps, quota_steps}

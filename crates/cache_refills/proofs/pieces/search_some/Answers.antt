@@ -8,15 +8,13 @@ use Rattle.cache_refills.specs.Refilling.{prepares}
 use Rattle.gc_cycle.specs.declared.counts.Refill.{Refill}
 use Rattle.gc_cycle.specs.Sparing.{SparesRefill}
 use Rattle.gc_cycle.specs.Statistics.{RoundNumbers}
-use Rattle.gc_cycle.proofs.Changes.{numbers-one}
-use Rattle.gc_cycle.proofs.Numbers.{seeks-by}
+use Rattle.gc_cycle.proofs.Changes.{numbers-one, seeks-by}
 use Rattle.cache_refills.proofs.Due.{due-calm, due-join, due-none}
 use Rattle.cache_refills.proofs.Refills.Claimed.{claims-cached, claims-claimed, claims-only}
 use Rattle.cache_refills.proofs.Refills.Paced.{seeks-prepare}
 use Rattle.cache_refills.proofs.Refills.Passed.{plays-calm, plays-join, plays-leads}
-use Rattle.cache_refills.proofs.Refills.Pieced.{misses-blocks, misses-without, of-some, paid-sees}
-use Rattle.cache_refills.proofs.Refills.PieceSteps.{paid-short}
-use Rattle.cache_refills.proofs.Refills.RoundNumbers.{claims-refill}
+use Rattle.cache_refills.proofs.Refills.Pieced.{misses-blocks, misses-without, of-some, paid-sees, paid-short}
+use Rattle.cache_refills.proofs.Refills.RoundsSoFar.{claims-refill}
 use Rattle.cache_refills.proofs.Refills.Rounds.{leads-prepared, spares-refill}
 use Rattle.cache_refills.proofs.Refills.Together.{answered-comes, ended-collects, seen-on}
 use Rattle.cache_refills.proofs.Stops.InStops.{unbegun-claims, unbegun-seeks}

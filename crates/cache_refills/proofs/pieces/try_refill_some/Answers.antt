@@ -17,9 +17,8 @@ use Rattle.cache_refills.specs.Stops.{marking_done}
 use Rattle.cache_refills.proofs.Due.{due-calm, due-join}
 use Rattle.cache_refills.proofs.Positions.{stored-more, stored-none}
 use Rattle.cache_refills.proofs.Refills.Passed.{both-some, plays-calm, plays-join, plays-keeps, plays-leads, unseen-full, unseen-join}
-use Rattle.cache_refills.proofs.Refills.Pieced.{calm-leaves, leaves-join, looked-leaves, none-without, sees-later}
-use Rattle.cache_refills.proofs.Refills.PieceSteps.{short-later}
-use Rattle.cache_refills.proofs.Refills.RoundNumbers.{leaves-first, leaves-full}
+use Rattle.cache_refills.proofs.Refills.Pieced.{calm-leaves, leaves-join, looked-leaves, none-without, sees-later, short-later}
+use Rattle.cache_refills.proofs.Refills.RoundsSoFar.{leaves-first, leaves-full}
 use Rattle.cache_refills.proofs.Refills.Rounds.{later-some, leads-join, leads-looked, leads-prepared, looked-seen, marking-known, paced-after, spares-refill}
 use Rattle.cache_refills.proofs.Refills.Together.{done-collects, marked-done, seen-keeps}
 use Rattle.cache_refills.specs.Pace.Pacing.{card_looks}

@@ -14,8 +14,8 @@ use Rattle.cache_refills.proofs.Refills.Claimed.{claims-block, claims-cached, cl
 use Rattle.cache_refills.proofs.Refills.Rounds.{leads-prepared, later-some, round-calm, round-later, searched-stops, some-blocks}
 use Rattle.cache_refills.proofs.Refills.Popping.{calm-claims, stops-paid}
 use Rattle.cache_refills.proofs.Refills.Visiting.{calm-stops, calm-visits, leads-caused, leads-claimed, leads-pops, leads-stops, leads-visited, leads-visits}
-use Rattle.cache_refills.proofs.Refills.RoundNumbers.{claims-refill, leaves-first}
-use Rattle.gc_cycle.proofs.Numbers.{seeks-by}
+use Rattle.cache_refills.proofs.Refills.RoundsSoFar.{claims-refill, leaves-first}
+use Rattle.gc_cycle.proofs.Changes.{seeks-by}
 use Rattle.gc_table.specs.Log.{events}
 use Rattle.cache_refills.proofs.Due.{due-calm, due-join, due-none}
 use Rattle.cache_refills.proofs.Stops.InStops.{unbegun-claims, unbegun-seeks}

@@ -28,8 +28,7 @@ use Rattle.gc_cycle.specs.Events.{never}
 use Rattle.gc_cycle.specs.Sorts.{comes_in}
 use Rattle.gc_cycle.proofs.Sequences.{none-of-steps}
 use Rattle.cache_refills.proofs.Stops.StopEnds.{answers-in}
-use Rattle.gc_cycle.proofs.Changes.{by-join, changes-after}
-use Rattle.gc_cycle.proofs.Numbers.{retire-by}
+use Rattle.gc_cycle.proofs.Changes.{by-join, changes-after, retire-by}
 use Rattle.gc_cycle.specs.Statistics.{gives_back}
 use Rattle.mark_core.specs.Steps.MutatorSteps.{used_bits}
 use Rattle.mark_core.specs.declared.kinds.Shape.{Shape}

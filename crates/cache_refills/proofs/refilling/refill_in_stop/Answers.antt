@@ -8,7 +8,7 @@ use Rattle.cache_refills.proofs.Stops.InStops.{unbegun-stop, unbegun-tries}
 use Rattle.cache_refills.proofs.Stops.StopEnds.{stop-outside, stop-pops}
 use Rattle.gc_cycle.proofs.Changes.{numbers-one, only-changes}
 use Rattle.gc_cycle.specs.Statistics.{taken}
-use Rattle.cache_refills.proofs.Refills.RoundNumbers.{stop-full, stop-none, stop-some, stop-takes}
+use Rattle.cache_refills.proofs.Refills.RoundsSoFar.{stop-full, stop-none, stop-some, stop-takes}
 use Rattle.cache_refills.proofs.refilling.refill_in_stop.Goals as goal
 
 pub returns-then-not-stop-clause-round : goal.returns-then-not-stop-clause-round

@@ -12,7 +12,7 @@ use Rattle.cache_refills.proofs.Refills.Visiting.{calm-stops, calm-visits, leads
 use Rattle.gc_cycle.specs.Sorts.{comes_in}
 use Rattle.gc_cycle.proofs.Sequences.{none-of-steps}
 use Rattle.cache_refills.proofs.Stops.StopEnds.{answers-in}
-use Rattle.cache_refills.proofs.Refills.RoundNumbers.{leaves-first, leaves-full}
+use Rattle.cache_refills.proofs.Refills.RoundsSoFar.{leaves-first, leaves-full}
 use Rattle.gc_cycle.proofs.Changes.{by-join}
 use Rattle.std.proofs.Common.{[]}
 use Rattle.gc_table.specs.Log.{events}

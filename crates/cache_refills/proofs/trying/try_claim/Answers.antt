@@ -7,15 +7,14 @@ use Rattle.alloc_cache.specs.Claiming.{seeks_block}
 use Rattle.cache_refills.specs.Pace.Pacing.{card_looks}
 use Rattle.cache_refills.specs.Pace.StepBounds.{payment_steps}
 use Rattle.cache_refills.specs.Refilling.{prepares}
-use Rattle.gc_cycle.proofs.Changes.{numbers-one}
+use Rattle.gc_cycle.proofs.Changes.{numbers-one, seeks-by}
 use Rattle.gc_cycle.proofs.Few.{few-join}
 use Rattle.cache_refills.proofs.Refills.Claimed.{claims-block, claims-cached, claims-claimed, claims-only}
-use Rattle.gc_cycle.proofs.Numbers.{seeks-by}
 use Rattle.cache_refills.proofs.Refills.Paced.{seeks-prepare}
 use Rattle.cache_refills.proofs.Refills.Popping.{calm-claims, stops-paid, unpopped}
 use Rattle.cache_refills.proofs.Refills.Visiting.{leads-claimed}
 use Rattle.cache_refills.proofs.Refills.Passed.{found-none, plays-calm, plays-join, plays-leads}
-use Rattle.cache_refills.proofs.Refills.RoundNumbers.{claims-refill}
+use Rattle.cache_refills.proofs.Refills.RoundsSoFar.{claims-refill}
 use Rattle.cache_refills.proofs.Refills.Rounds.{leads-prepared, some-blocks, spares-refill}
 use Rattle.gc_table.specs.Log.{events}
 use Rattle.cache_refills.proofs.Due.{due-calm, due-join, due-none}

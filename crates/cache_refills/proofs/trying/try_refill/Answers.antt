@@ -19,7 +19,7 @@ use Rattle.gc_cycle.proofs.Refills.KnownFull.{tells-none}
 use Rattle.cache_refills.proofs.Refills.Passed.{both-some, none-calls, plays-calm, plays-join, plays-keeps, plays-leads, unseen-full, unseen-join}
 use Rattle.cache_refills.proofs.Positions.{stored-more, stored-none}
 use Rattle.cache_refills.proofs.Refills.Rounds.{later-some, leads-join, leads-looked, leads-prepared, looked-seen, marked-stops, marking-known, paced-after, spares-refill}
-use Rattle.cache_refills.proofs.Refills.RoundNumbers.{leaves-first, leaves-full}
+use Rattle.cache_refills.proofs.Refills.RoundsSoFar.{leaves-first, leaves-full}
 use Rattle.cache_refills.proofs.Refills.Popping.{answered-pops, stops-paid, unpopped}
 use Rattle.cache_refills.proofs.Refills.Visiting.{leads-paid, none-pops}
 use Rattle.cache_refills.proofs.Due.{due-calm, due-join}

@@ -10,7 +10,7 @@ use Rattle.gc_table.specs.Log.{events}
 use Rattle.gc_table.proofs.History.Log.{events-join}
 use Rattle.packet_pools.proofs.Counting.{given-moves}
 use Rattle.packet_pools.proofs.Doing.{traces-on}
-use Rattle.packet_pools.proofs.InHand.{drop-with}
+use Rattle.packet_pools.proofs.Exchanged.{drop-with}
 use Rattle.packet_pools.proofs.TracedSteps.{cleaned-join, traced-cleaned, traced-join}
 use Rattle.card_clean.specs.Leaving.{rescanned_in}
 use Rattle.packet_pools.specs.Hands.{free_slots}

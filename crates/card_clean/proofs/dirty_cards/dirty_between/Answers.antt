@@ -9,8 +9,7 @@ use Rattle.packet_pools.specs.OnlyTraced.{OnlyTraced}
 use Rattle.packet_pools.proofs.TracedSteps.{traced-join}
 use Rattle.card_clean.specs.Drained.{AreNotedClean}
 use Rattle.card_clean.specs.Looking.{KeepsAllNotes}
-use Rattle.card_clean.proofs.CardLooks.{clean-look, clean-more, dirty-look}
-use Rattle.card_clean.proofs.Noted.{look-keeps, keeps-join}
+use Rattle.card_clean.proofs.CardLooks.{clean-look, clean-more, dirty-look, look-keeps, keeps-join}
 use Rattle.card_clean.proofs.Steps.{traced-read_card}
 use Rattle.std.proofs.lemmas.Bool.{cases_lt}
 use Rattle.packet_pools.proofs.Few.{few-after, few-join}

@@ -16,10 +16,9 @@ use Rattle.packet_pools.proofs.TracedSteps.{traced-join}
 use Rattle.card_clean.specs.Drained.{AreNotedClean}
 use Rattle.card_clean.specs.Leaving.{rescanned_in}
 use Rattle.card_clean.specs.Looking.{KeepsAllNotes, looks_clean}
-use Rattle.card_clean.proofs.CardLooks.{clean-kept, count-noted, rescanned-clean, rescanned-dirty}
+use Rattle.card_clean.proofs.CardLooks.{clean-kept, count-noted, rescanned-clean, rescanned-dirty, look-keeps}
 use Rattle.card_clean.proofs.Staying.{rooted-stays}
 use Rattle.card_clean.proofs.Leavings.{rescanned-join}
-use Rattle.card_clean.proofs.Noted.{look-keeps}
 use Rattle.packet_pools.proofs.Few.{few-after, few-join}
 use Rattle.card_clean.proofs.drain_end.is_drained.Goals as goal
 

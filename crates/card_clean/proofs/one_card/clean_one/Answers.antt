@@ -7,7 +7,7 @@ use Rattle.gc_table.specs.Seats.{view_of}
 use Rattle.gc_table.specs.Log.{events}
 use Rattle.gc_table.proofs.History.Log.{events-join}
 use Rattle.packet_pools.proofs.Counting.{given-moves}
-use Rattle.packet_pools.proofs.InHand.{drop-with}
+use Rattle.packet_pools.proofs.Exchanged.{drop-with}
 use Rattle.packet_pools.proofs.TracedSteps.{cleaned-join, traced-cleaned}
 use Rattle.card_clean.specs.Leaving.{rescanned_in}
 use Rattle.card_clean.proofs.Leavings.{rescanned-join, rescanned-moves}

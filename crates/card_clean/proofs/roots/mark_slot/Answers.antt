@@ -14,13 +14,12 @@ use Rattle.card_clean.specs.Drained.{roots_read, sees_roots, IsNotedRoot, slot_i
 use Rattle.card_clean.proofs.Rooting.{may-load_slot, slot-noted, marked-work}
 use Rattle.packet_pools.proofs.ScanSteps.{traced-load_slot}
 use Rattle.card_clean.proofs.Steps.{idle-hand}
-use Rattle.card_clean.proofs.Leavings.{rescanned-join, rescanned-unread}
+use Rattle.card_clean.proofs.Leavings.{rescanned-join, rescanned-unread, marks-see}
 use Rattle.card_clean.specs.Leaving.{rescanned_in}
 use Rattle.gc_table.specs.Log.{events}
 use Rattle.gc_table.proofs.History.Log.{events-after, only-after}
 use Rattle.gc_table.proofs.Running.{ran-only}
 use Rattle.card_clean.proofs.RootReads.{reads-join, scans-none}
-use Rattle.card_clean.proofs.RootSteps.{marks-see}
 use Rattle.packet_pools.specs.Fields.{picked}
 use Rattle.packet_pools.specs.StepBounds.{mark_steps}
 use Rattle.packet_pools.proofs.Few.{few-after, few-join}

@@ -4,7 +4,7 @@ use Rattle.mark_core.specs.Held.{has_free_slot, drop_packet}
 use Rattle.mark_core.specs.declared.seat.SeatState.{SeatState}
 use Rattle.gc_table.specs.declared.view.View.{View}
 use Rattle.gc_table.specs.Seats.{view_of}
-use Rattle.packet_pools.proofs.InHand.{drop-with}
+use Rattle.packet_pools.proofs.Exchanged.{drop-with}
 use Rattle.packet_pools.proofs.TracedSteps.{traced-join}
 use Rattle.card_clean.proofs.Staying.{root-stays}
 use Rattle.card_clean.proofs.Takings.{some-free, with-free}
@@ -13,11 +13,10 @@ use Rattle.packet_pools.specs.Seeking.{output_pools}
 use Rattle.gc_table.specs.Log.{events}
 use Rattle.packet_pools.proofs.Counting.{given-moves}
 use Rattle.card_clean.specs.Leaving.{rescanned_in}
-use Rattle.card_clean.proofs.Leavings.{rescanned-join, rescanned-moves}
+use Rattle.card_clean.proofs.Leavings.{rescanned-join, rescanned-moves, moves-see}
 use Rattle.gc_table.proofs.Running.{ran-only}
 use Rattle.card_clean.specs.Drained.{sees_roots}
 use Rattle.card_clean.proofs.RootReads.{reads-between}
-use Rattle.card_clean.proofs.RootSteps.{moves-see}
 use Rattle.mark_core.specs.declared.kinds.Shape.{Shape}
 use Rattle.packet_pools.specs.StepBounds.{any_steps, follow_steps, give_steps}
 use Rattle.packet_pools.proofs.Few.{few-join, few-steps, given-few}

@@ -9,7 +9,7 @@ use Rattle.dump_census.specs.Counted.{CensusCounts, level_counts}
 use Rattle.dump_census.specs.Rounds.{is_unknown}
 use Rattle.dump_census.specs.Surviving.{OneCensus}
 use Rattle.dump_census.specs.Values.{value_count_at, occurrences, AreValueCounts}
-use Rattle.dump_census.proofs.Reached.{levels_fixed}
+use Rattle.dump_census.proofs.Found.{levels_fixed}
 use Rattle.dump_census.proofs.Tally.{rises_to}
 use Rattle.dump_census.proofs.laws.one_census.Goals as goal
 

@@ -1,4 +1,4 @@
-use Rattle.dump_census.proofs.Reached.{survivors_reached}
+use Rattle.dump_census.proofs.Found.{survivors_reached}
 use Rattle.dump_census.proofs.laws.survivors_are_reached.Goals as goal
 
 pub returns : goal.returns

@@ -16,15 +16,14 @@ use Rattle.gc_cycle.specs.Sorts.{clears, draws_or_clears, pops}
 use Rattle.gc_cycle.specs.Standing.{is_at_rest}
 use Rattle.gc_cycle.specs.Statistics.{leaves_numbers}
 use Rattle.gc_cycle.proofs.CardPieces.{alone-of, cleaned-traced, drains-part, drains-still, rest-of}
-use Rattle.gc_cycle.proofs.CleaningSpares.{none-with}
+use Rattle.gc_cycle.proofs.CleaningSpares.{none-with, moved-untaken, moves-uncleaned, moves-unpopped, scan-unpopped}
 use Rattle.gc_cycle.proofs.Ends.Finishes.{never-both}
 use Rattle.gc_cycle.proofs.Ends.Rooted.{rest-room}
 use Rattle.gc_cycle.proofs.Idling.{rest-parts, traces-of}
 use Rattle.gc_cycle.proofs.Leaving.{traces-leave}
-use Rattle.gc_cycle.proofs.Longer.{has-traced}
+use Rattle.gc_cycle.proofs.Turns.{has-traced}
 use Rattle.gc_cycle.proofs.Traced.{alone-traces}
 use Rattle.gc_cycle.proofs.Stops.Admitted.{uncleared}
-use Rattle.gc_cycle.proofs.TracingSpares.{moved-untaken, moves-uncleaned, moves-unpopped, scan-unpopped}
 use Rattle.gc_cycle.proofs.card_steps.cleans_some.Goals.{After-clean_some, After-recycle_deferred}
 use Rattle.mark_core.specs.Cards.{card_cells}
 use Rattle.packet_pools.specs.StepBounds.{any_steps}

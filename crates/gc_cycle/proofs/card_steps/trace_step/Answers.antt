@@ -13,11 +13,10 @@ use Rattle.gc_cycle.specs.Statistics.{leaves_numbers}
 use Rattle.gc_cycle.proofs.CardPieces.{alone-of, drains-part, drains-still, rest-of}
 use Rattle.gc_cycle.proofs.Exactly.{exact-part}
 use Rattle.gc_cycle.proofs.Leaving.{traces-leave}
-use Rattle.gc_cycle.proofs.Longer.{has-traced}
+use Rattle.gc_cycle.proofs.Turns.{has-traced, brings-back, traced-within}
 use Rattle.gc_cycle.proofs.Stepped.{part-keeps}
 use Rattle.gc_cycle.proofs.Stops.Admitted.{count-none, count-run}
 use Rattle.gc_cycle.proofs.Traced.{alone-traces}
-use Rattle.gc_cycle.proofs.Turns.{brings-back, traced-within}
 use Rattle.gc_cycle.proofs.card_steps.trace_step.Goals.{After-trace-traced}
 use Rattle.tracer.specs.StepBounds.{recycle_steps, trace_steps}
 use Rattle.gc_cycle.proofs.Few.{few-join}

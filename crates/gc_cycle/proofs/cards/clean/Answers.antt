@@ -19,11 +19,10 @@ use Rattle.gc_cycle.specs.Lower.{HasTraced}
 use Rattle.gc_cycle.specs.Moments.{at_some_moment, begins, finds_no_room, holds_one}
 use Rattle.gc_cycle.specs.Sorts.{clears_card, draws, pops, reads_root}
 use Rattle.gc_cycle.specs.Standing.{is_at_rest}
-use Rattle.gc_cycle.proofs.CleaningSpares.{none-one}
+use Rattle.gc_cycle.proofs.CleaningSpares.{none-one, moved-untaken, moves-unpopped, moves-unrooted, scan-unpopped, scan-unrooted, Spares, untaken, unread-of}
 use Rattle.gc_cycle.proofs.Idling.{idle-of, rest-parts, traced-held, traces-of}
 use Rattle.gc_cycle.proofs.Ends.Rooted.{rest-room}
 use Rattle.gc_cycle.proofs.Sequences.{this-moment}
-use Rattle.gc_cycle.proofs.TracingSpares.{moved-untaken, moves-unpopped, moves-unrooted, scan-unpopped, scan-unrooted, Spares, untaken, unread-of}
 use Rattle.gc_cycle.specs.CardLooks.{looks_at_card}
 use Rattle.gc_cycle.proofs.CardLooks.{moves-unlooked, scan-unlooked}
 use Rattle.gc_cycle.proofs.cards.clean.Goals as goal

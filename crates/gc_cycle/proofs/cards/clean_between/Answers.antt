@@ -14,7 +14,7 @@ use Rattle.gc_cycle.specs.Standing.{is_at_rest}
 use Rattle.gc_cycle.proofs.CardLooks.{pass-spares, passed, passed-few}
 use Rattle.gc_cycle.proofs.Ends.Rooted.{rest-room}
 use Rattle.gc_cycle.proofs.Idling.{rest-parts, traced-held, traces-of}
-use Rattle.gc_cycle.proofs.TracingSpares.{moves-unpopped, moves-unrooted, scan-unpopped, scan-unrooted, Spares, unread-of, untaken}
+use Rattle.gc_cycle.proofs.CleaningSpares.{moves-unpopped, moves-unrooted, scan-unpopped, scan-unrooted, Spares, unread-of, untaken}
 use Rattle.gc_cycle.proofs.cards.clean_between.Goals.{After-clean_some}
 use Rattle.gc_cycle.proofs.cards.clean_between.Goals as goal
 

@@ -3,8 +3,7 @@ use Rattle.gc_table.specs.Log.{events}
 use Rattle.packet_pools.specs.Seeking.{output_pools}
 use Rattle.card_clean.specs.DirtyCards.{stretch_count}
 use Rattle.gc_cycle.specs.Sorts.{pops}
-use Rattle.gc_cycle.proofs.CleaningSpares.{none-stretches}
-use Rattle.gc_cycle.proofs.TracingSpares.{moves-unpopped, scan-unpopped}
+use Rattle.gc_cycle.proofs.CleaningSpares.{none-stretches, moves-unpopped, scan-unpopped}
 use Rattle.mark_core.specs.Held.{holds_any}
 use Rattle.mark_core.specs.Seats.{work_in_hand}
 use Rattle.mark_core.specs.declared.kinds.Shape.{Shape}

@@ -24,7 +24,7 @@ use Rattle.gc_cycle.specs.Sorts.{clears, draws, gives_card, pops, reads_pace, re
 use Rattle.gc_cycle.specs.Standing.{is_at_rest}
 use Rattle.gc_cycle.proofs.Idling.{traces-of}
 use Rattle.gc_cycle.proofs.Sequences.{total-none}
-use Rattle.gc_cycle.proofs.TracingSpares.{Spares, untaken}
+use Rattle.gc_cycle.proofs.CleaningSpares.{Spares, untaken}
 use Rattle.gc_cycle.specs.CardLooks.{looks_at_card}
 use Rattle.gc_cycle.proofs.CardLooks.{draws-unlooked}
 use Rattle.gc_cycle.proofs.cards.next_card.Goals as goal

@@ -11,8 +11,7 @@ use Rattle.sweeper.specs.Freeing.{block_floor}
 use Rattle.sweeper.specs.Sweepers.{is_clearing}
 use Rattle.gc_cycle.specs.Sorts.{draws_block}
 use Rattle.gc_cycle.specs.Statistics.{leaves_numbers}
-use Rattle.gc_cycle.proofs.ClearedBlocks.{cleared-part, clearing-leaves, drawn-none, looks-few, may-clear}
-use Rattle.gc_cycle.proofs.ClearPieces.{cleared-few, cleared-one}
+use Rattle.gc_cycle.proofs.ClearedBlocks.{cleared-part, clearing-leaves, drawn-none, looks-few, may-clear, cleared-few, cleared-one}
 use Rattle.gc_cycle.proofs.Ends.Swept.{floor-above}
 use Rattle.gc_cycle.proofs.clear_steps.clear_next.Goals as goal
 

@@ -14,7 +14,7 @@ use Rattle.gc_cycle.proofs.Few.{few-join}
 use Rattle.gc_cycle.proofs.Parts.{part-join, part-none}
 use Rattle.gc_cycle.proofs.Stepped.{part-keeps}
 use Rattle.gc_cycle.proofs.Stops.Admitted.{count-run}
-use Rattle.gc_cycle.proofs.ClearPieces.{clears-on, has-cleared, more-stretches, within-stretches}
+use Rattle.gc_cycle.proofs.ClearedBlocks.{clears-on, has-cleared, more-stretches, within-stretches}
 use Rattle.gc_cycle.proofs.clear_steps.clear_step.Goals as goal
 
 pub loop-stretches-init : goal.loop-stretches-init

@@ -13,7 +13,7 @@ use Rattle.gc_table.specs.declared.view.View.{View}
 use Rattle.gc_table.proofs.Running.{ran-events, ran-join}
 use Rattle.sweeper.specs.Freeing.{block_floor}
 use Rattle.gc_cycle.specs.Sorts.{begins_exactly}
-use Rattle.gc_cycle.proofs.CourseSteps.{course-join}
+use Rattle.gc_cycle.proofs.Changes.{course-join}
 use Rattle.gc_cycle.proofs.Ends.Completing.{part-exact}
 use Rattle.gc_cycle.proofs.Exactly.{exact-again, exact-begun}
 use Rattle.gc_cycle.proofs.Ends.Spared.{finish-keeps}

@@ -17,7 +17,7 @@ use Rattle.card_clean.specs.Leaving.{rescanned_in}
 use Rattle.gc_cycle.specs.Finishing.{finishes, IsMove}
 use Rattle.gc_cycle.proofs.Ends.Moving.{may-begin_again, may-reset_drain, moved}
 use Rattle.gc_cycle.proofs.Parts.{move-events, part-reset}
-use Rattle.gc_cycle.proofs.Courses.{course-begun}
+use Rattle.gc_cycle.proofs.Changes.{course-begun}
 use Rattle.gc_cycle.proofs.Few.{few-events}
 use Rattle.gc_cycle.proofs.clearing.begin_again.Goals as goal
 

@@ -7,7 +7,7 @@ use Rattle.gc_table.specs.Log.{events, steps_of}
 use Rattle.gc_cycle.specs.Answering.{giving_up}
 use Rattle.gc_cycle.proofs.Few.{few-steps, giving-few}
 use Rattle.alloc_cache.specs.declared.cache.Cache.{Cache}
-use Rattle.gc_cycle.proofs.Numbers.{retire-up}
+use Rattle.gc_cycle.proofs.Changes.{retire-up}
 use Rattle.gc_cycle.specs.Statistics.{GivesUp}
 use Rattle.gc_cycle.proofs.collecting.retire_some.Goals as goal
 

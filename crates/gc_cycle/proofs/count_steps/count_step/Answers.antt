@@ -8,9 +8,8 @@ use Rattle.gc_table.specs.declared.view.View.{View}
 use Rattle.gc_table.proofs.Running.{ran-join}
 use Rattle.gc_cycle.specs.Pieces.{CountsFrom}
 use Rattle.gc_cycle.specs.Settling.{alloc_reads}
-use Rattle.gc_cycle.proofs.CountPieces.{allocs-of, counted-all, counts-on, reads-few}
+use Rattle.gc_cycle.proofs.Stepped.{allocs-of, counted-all, counts-on, reads-few, part-keeps}
 use Rattle.gc_cycle.proofs.Exactly.{exact-more}
-use Rattle.gc_cycle.proofs.Stepped.{part-keeps}
 use Rattle.gc_cycle.proofs.count_steps.count_step.Goals.{After-count_between-counted}
 use Rattle.gc_cycle.proofs.count_steps.count_step.Goals as goal
 

@@ -12,13 +12,12 @@ use Rattle.gc_cycle.specs.Courses.{sets_numbers}
 use Rattle.gc_cycle.specs.Cycles.{collects_exactly}
 use Rattle.gc_cycle.specs.Finishing.{AllocsNoted, ones_noted}
 use Rattle.gc_cycle.specs.Moments.{begins}
-use Rattle.gc_cycle.proofs.CountPieces.{allocs-of}
-use Rattle.gc_cycle.proofs.CourseSteps.{course-drop, course-join, course-part}
+use Rattle.gc_cycle.proofs.Stepped.{allocs-of, keeps-join, part-keeps, part-owner, resumed-keeps, resumed-runs}
+use Rattle.gc_cycle.proofs.Changes.{course-drop, course-join, course-part}
 use Rattle.gc_cycle.proofs.Ends.Completing.{part-exact}
 use Rattle.gc_cycle.proofs.Exactly.{exact-more}
 use Rattle.gc_cycle.proofs.Ends.Finishes.{exact-end}
 use Rattle.gc_cycle.proofs.Few.{few-after, few-join}
-use Rattle.gc_cycle.proofs.Stepped.{keeps-join, part-keeps, part-owner, resumed-keeps, resumed-runs}
 use Rattle.gc_cycle.proofs.Stops.OutAndIn.{is-done}
 use Rattle.gc_cycle.proofs.count_steps.finish_count.Goals as goal
 

@@ -6,9 +6,8 @@ use Rattle.card_clean.specs.DirtyCards.{CleansDirty}
 use Rattle.gc_table.specs.Seats.{view_of}
 use Rattle.gc_table.specs.declared.view.View.{View}
 use Rattle.gc_cycle.specs.Standing.{is_at_rest}
-use Rattle.gc_cycle.proofs.Longer.{has-traced}
+use Rattle.gc_cycle.proofs.Turns.{has-traced, brings-back, traced-within}
 use Rattle.gc_cycle.proofs.Traced.{drains-on, drains-rest, drains-trace, rescans-last}
-use Rattle.gc_cycle.proofs.Turns.{brings-back, traced-within}
 use Rattle.gc_cycle.proofs.draining.drain_round.Goals as goal
 
 pub recycle_deferred-requires-clause-seat : goal.recycle_deferred-requires-clause-seat

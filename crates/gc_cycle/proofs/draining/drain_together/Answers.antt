@@ -18,7 +18,7 @@ use Rattle.gc_cycle.specs.Finishing.{IsOpen}
 use Rattle.gc_cycle.specs.Sorts.{sees_all_empty}
 use Rattle.gc_cycle.specs.Standing.{is_at_rest}
 use Rattle.gc_cycle.proofs.Ends.Completing.{total-run}
-use Rattle.gc_cycle.proofs.Longer.{has-traced}
+use Rattle.gc_cycle.proofs.Turns.{has-traced}
 use Rattle.gc_cycle.proofs.Stops.Opened.{closed, open-part, open-total, opened}
 use Rattle.gc_cycle.proofs.Stops.Unopened.{openable}
 use Rattle.gc_cycle.proofs.Traced.{drains-on, drains-rest, drains-trace, traced-open}

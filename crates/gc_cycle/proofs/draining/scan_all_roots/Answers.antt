@@ -5,9 +5,8 @@ use Rattle.gc_table.specs.declared.view.View.{View}
 use Rattle.gc_table.proofs.History.Log.{events-none}
 use Rattle.card_clean.specs.Leaving.{rescanned_in}
 use Rattle.gc_cycle.specs.Standing.{is_at_rest}
-use Rattle.gc_cycle.proofs.Longer.{has-traced}
+use Rattle.gc_cycle.proofs.Turns.{has-traced, roots-earlier, roots-later, roots-scanned}
 use Rattle.gc_cycle.proofs.Traced.{drains-on, drains-rest, drains-trace, rescans-none, traced-nothing-done}
-use Rattle.gc_cycle.proofs.Turns.{roots-earlier, roots-later, roots-scanned}
 use Rattle.gc_cycle.proofs.draining.scan_all_roots.Goals as goal
 
 pub loop-section-init : goal.loop-section-init

@@ -10,9 +10,8 @@ use Rattle.packet_pools.proofs.Searches.{some-right}
 use Rattle.card_clean.specs.Leaving.{rescanned_in}
 use Rattle.gc_cycle.specs.Sorts.{sees_all_empty}
 use Rattle.gc_cycle.specs.Turns.{round_quota}
-use Rattle.gc_cycle.proofs.Longer.{has-traced}
+use Rattle.gc_cycle.proofs.Turns.{has-traced, drained-within}
 use Rattle.gc_cycle.proofs.Traced.{drains-on, drains-rest, rescans-none, traced-nothing-done}
-use Rattle.gc_cycle.proofs.Turns.{drained-within}
 use Rattle.gc_cycle.proofs.draining.trace_to_end.Goals as goal
 
 pub loop-init : goal.loop-init

@@ -18,7 +18,7 @@ use Rattle.gc_cycle.specs.Sorts.{reads_root, draws_or_clears, pops}
 use Rattle.gc_cycle.specs.Standing.{is_at_rest}
 use Rattle.gc_cycle.proofs.Ends.NoRescans.{calm, roots-begin_none}
 use Rattle.gc_cycle.proofs.Idling.{idle-of, moves-quiet, rest-again, rest-parts, traced-of, traces-of}
-use Rattle.gc_cycle.proofs.TracingSpares.{moved-untaken, moves-uncleaned, moves-unpopped, root-steps, roots-uncleaned, roots-unpopped, Spares, untaken, unread-of, moves-unrooted}
+use Rattle.gc_cycle.proofs.CleaningSpares.{moved-untaken, moves-uncleaned, moves-unpopped, root-steps, roots-uncleaned, roots-unpopped, Spares, untaken, unread-of, moves-unrooted}
 use Rattle.gc_cycle.specs.CardLooks.{looks_at_card}
 use Rattle.gc_cycle.proofs.CardLooks.{moves-unlooked, roots-unlooked}
 use Rattle.gc_cycle.proofs.roots.scan_roots.Goals as goal

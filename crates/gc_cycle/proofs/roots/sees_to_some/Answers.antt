@@ -29,7 +29,7 @@ use Rattle.card_clean.specs.Drained.{sees_roots}
 use Rattle.gc_cycle.specs.Events.{never}
 use Rattle.gc_cycle.specs.Sorts.{pops}
 use Rattle.gc_cycle.proofs.Ends.Finishes.{never-both}
-use Rattle.gc_cycle.proofs.TracingSpares.{moved-untaken, moves-unpopped, sees-unpopped, untaken}
+use Rattle.gc_cycle.proofs.CleaningSpares.{moved-untaken, moves-unpopped, sees-unpopped, untaken}
 use Rattle.card_clean.specs.StepBounds.{see_to_steps}
 use Rattle.tracer.specs.StepBounds.{recycle_steps}
 use Rattle.gc_cycle.proofs.Few.{few-join}

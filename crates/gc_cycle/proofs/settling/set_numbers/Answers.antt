@@ -14,8 +14,7 @@ use Rattle.gc_cycle.proofs.Parts.{part-join}
 use Rattle.gc_cycle.proofs.Ends.Sets.{allocs-kept, KeepsAllocs, may-clear, ones-kept, sets-clear, sets-kept}
 use Rattle.gc_cycle.specs.Courses.{sets_numbers}
 use Rattle.gc_cycle.specs.Statistics.{ChangesBy}
-use Rattle.gc_cycle.proofs.Changes.{by-none}
-use Rattle.gc_cycle.proofs.Courses.{reset-changes, settled-changes}
+use Rattle.gc_cycle.proofs.Changes.{by-none, reset-changes, settled-changes}
 use Rattle.gc_cycle.proofs.Few.{few-after, few-join}
 use Rattle.gc_cycle.proofs.settling.set_numbers.Goals as goal
 

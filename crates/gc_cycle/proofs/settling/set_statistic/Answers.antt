@@ -4,8 +4,7 @@ use Rattle.gc_table.specs.declared.view.View.{View}
 use Rattle.gc_cycle.specs.Settling.{Sets}
 use Rattle.gc_cycle.proofs.Ends.Sets.{may-add, may-clear, sets-add, sets-clear, sets-join}
 use Rattle.mark_core.specs.declared.kinds.Step.TheVariants.{AddStat, Reset}
-use Rattle.gc_cycle.proofs.Changes.{by-join}
-use Rattle.gc_cycle.proofs.Courses.{add-changes, reset-changes}
+use Rattle.gc_cycle.proofs.Changes.{by-join, add-changes, reset-changes}
 use Rattle.gc_cycle.proofs.Few.{few-after, few-join}
 use Rattle.gc_cycle.proofs.settling.set_statistic.Goals as goal
 

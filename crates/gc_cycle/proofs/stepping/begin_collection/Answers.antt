@@ -19,8 +19,7 @@ use Rattle.gc_cycle.proofs.Exactly.{exact-begun}
 use Rattle.gc_cycle.proofs.Stepped.{full-resumed, holds-idle, keeps-join, part-keeps, resumed-runs}
 use Rattle.gc_table.specs.Running.{Ran}
 use Rattle.gc_cycle.specs.Courses.{TakesCourse}
-use Rattle.gc_cycle.proofs.Courses.{course-begun}
-use Rattle.gc_cycle.proofs.CourseSteps.{course-drop, course-join}
+use Rattle.gc_cycle.proofs.Changes.{course-begun, course-drop, course-join}
 use Rattle.gc_cycle.proofs.Few.{few-after, few-events, few-join}
 use Rattle.gc_cycle.proofs.stepping.begin_collection.Goals as goal
 

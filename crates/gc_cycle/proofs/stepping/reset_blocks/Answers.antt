@@ -5,7 +5,7 @@ use Rattle.gc_cycle.proofs.Ends.Moving.{may-reset_drain}
 use Rattle.gc_cycle.proofs.Parts.{part-reset}
 use Rattle.gc_cycle.proofs.Stepped.{reset-roots}
 use Rattle.mark_core.specs.Numbers.{block_counter}
-use Rattle.gc_cycle.proofs.CourseSteps.{course-reset}
+use Rattle.gc_cycle.proofs.Changes.{course-reset}
 use Rattle.gc_cycle.proofs.Few.{few-after}
 use Rattle.mark_core.specs.declared.kinds.Step.TheVariants.{Reset}
 use Rattle.gc_cycle.proofs.stepping.reset_blocks.Goals as goal

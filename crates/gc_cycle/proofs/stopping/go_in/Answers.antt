@@ -21,10 +21,9 @@ use Rattle.packet_pools.specs.Seeking.{some_event}
 use Rattle.gc_cycle.specs.Standing.{IsOut}
 use Rattle.gc_cycle.proofs.Sequences.{some-none}
 use Rattle.gc_cycle.proofs.Stops.OutAndIn.{enters-in, turns-out}
-use Rattle.packet_pools.proofs.Orders.{after-join, after-none}
+use Rattle.packet_pools.proofs.Counting.{after-join, after-none}
 use Rattle.std.proofs.lemmas.List.{append-nil}
-use Rattle.gc_cycle.proofs.Stops.Away.{pops-on, turned-stop}
-use Rattle.gc_cycle.proofs.Stops.Outside.{stayed-out, unresumed-out}
+use Rattle.gc_cycle.proofs.Stops.Outside.{pops-on, turned-stop, stayed-out, unresumed-out}
 use Rattle.gc_cycle.proofs.Turns.{apart-none, turns-join, turns-none}
 use Rattle.gc_cycle.specs.Statistics.{leaves_numbers}
 use Rattle.gc_cycle.proofs.stopping.go_in.Goals as goal

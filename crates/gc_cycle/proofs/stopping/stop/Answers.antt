@@ -27,7 +27,7 @@ use Rattle.mark_core.specs.declared.kinds.Step.TheVariants.{Observe, RaiseStep, 
 use Rattle.gc_table.specs.Running.{Ran}
 use Rattle.gc_table.specs.Taking.{after}
 use Rattle.gc_table.proofs.History.Log.{events-after}
-use Rattle.packet_pools.proofs.Orders.{after-join, after-none}
+use Rattle.packet_pools.proofs.Counting.{after-join, after-none}
 use Rattle.gc_cycle.proofs.Sequences.{none-of-steps, some-none}
 use Rattle.gc_cycle.proofs.stopping.stop.Goals as goal
 

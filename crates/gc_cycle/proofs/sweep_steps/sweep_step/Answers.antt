@@ -19,7 +19,7 @@ use Rattle.gc_cycle.proofs.Parts.{part-join, part-none}
 use Rattle.gc_cycle.proofs.Stepped.{has-swept, may-sweep, next-alone, part-keeps, sweeps-on}
 use Rattle.gc_table.specs.Log.{events}
 use Rattle.gc_cycle.proofs.Few.{few-join}
-use Rattle.gc_cycle.proofs.ClearPieces.{more-stretches, within-stretches}
+use Rattle.gc_cycle.proofs.ClearedBlocks.{more-stretches, within-stretches}
 use Rattle.gc_cycle.proofs.sweep_steps.sweep_step.Goals as goal
 
 pub loop-stretches-init : goal.loop-stretches-init

@@ -9,7 +9,7 @@ use Rattle.packet_pools.specs.Seeking.{input_pools, moves_packet}
 use Rattle.gc_cycle.specs.Sorts.{clears, pops}
 use Rattle.gc_cycle.specs.Standing.{is_at_rest}
 use Rattle.gc_cycle.proofs.Idling.{moves-quiet, traced-of, traces-of}
-use Rattle.gc_cycle.proofs.TracingSpares.{Spares, moved-untaken, moves-unpopped}
+use Rattle.gc_cycle.proofs.CleaningSpares.{Spares, moved-untaken, moves-unpopped}
 use Rattle.gc_cycle.proofs.tracing.lacks_work.Goals as goal
 
 moves-uncleared : Spares (moves_packet input_pools) clears

@@ -7,7 +7,7 @@ use Rattle.gc_table.specs.declared.view.View.{View}
 use Rattle.gc_cycle.specs.Sorts.{draws_or_clears, pops, reads_root}
 use Rattle.gc_cycle.specs.Standing.{is_at_rest}
 use Rattle.gc_cycle.proofs.Idling.{idle-of, moves-quiet, traced-of, traces-of}
-use Rattle.gc_cycle.proofs.TracingSpares.{moved-untaken, moves-uncleaned, moves-unpopped, moves-unrooted, unread-of}
+use Rattle.gc_cycle.proofs.CleaningSpares.{moved-untaken, moves-uncleaned, moves-unpopped, moves-unrooted, unread-of}
 use Rattle.gc_cycle.specs.CardLooks.{looks_at_card}
 use Rattle.gc_cycle.proofs.CardLooks.{moves-unlooked}
 use Rattle.gc_cycle.proofs.tracing.recycle_deferred.Goals as goal

@@ -16,7 +16,7 @@ use Rattle.gc_cycle.specs.Sorts.{draws_or_clears, reads_root}
 use Rattle.gc_cycle.specs.Standing.{is_at_rest}
 use Rattle.gc_cycle.proofs.Ends.NoRescans.{calm, traces-begin_none}
 use Rattle.gc_cycle.proofs.Idling.{idle-of, rest-again, rest-parts, traced-of, traces-of}
-use Rattle.gc_cycle.proofs.TracingSpares.{trace-steps, trace-uncleaned, trace-unrooted, untaken, unread-of}
+use Rattle.gc_cycle.proofs.CleaningSpares.{trace-steps, trace-uncleaned, trace-unrooted, untaken, unread-of}
 use Rattle.gc_cycle.specs.CardLooks.{looks_at_card}
 use Rattle.gc_cycle.proofs.CardLooks.{trace-unlooked}
 use Rattle.gc_cycle.proofs.tracing.trace.Goals as goal

@@ -2,7 +2,7 @@ use Rattle.std.proofs.Common.{◌≡◌, ◌+◌, length, subst, arith}
 use Rattle.std.specs.Prelude.{vec_len}
 use Rattle.gc_play.specs.Crews.{IsNewSeatOfPlay, Numbered}
 use Rattle.gc_play.specs.Dealing.{IsDealt}
-use Rattle.gc_play.proofs.Counting.{warehouse-count}
+use Rattle.gc_play.proofs.Parts.{warehouse-count}
 use Rattle.gc_play.proofs.crew.deal.Goals as goal
 
 pub remove-seat-requires : goal.remove-seat-requires

@@ -1,6 +1,6 @@
 use Rattle.std.proofs.lemmas.Bool.{OnFalse_at, OnTrue_at}
 use Rattle.gc_table.specs.Seats.{view_of}
-use Rattle.gc_play.proofs.GoingIn.{came-events, came-stays, entered-goes, turned-rests}
+use Rattle.gc_play.proofs.Steps.{came-events, came-stays, entered-goes, turned-rests}
 use Rattle.gc_play.proofs.entering.enter.Goals as goal
 
 pub returns-clause-stays : goal.returns-clause-stays

@@ -1,6 +1,6 @@
 use Rattle.gc_script.specs.Shown.{fault_of}
 use Rattle.gc_play.specs.Ending.{IsFaultAnswer}
-use Rattle.gc_play.proofs.Ends.{text_ends}
+use Rattle.gc_play.proofs.Taking.{text_ends}
 use Rattle.gc_play.proofs.Faulted.{fault_told}
 use Rattle.gc_play.proofs.fault.tell_fault.Goals as goal
 

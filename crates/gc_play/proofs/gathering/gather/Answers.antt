@@ -8,7 +8,7 @@ use Rattle.warehouse.specs.declared.mutator.Mutator.{Mutator}
 use Rattle.gc_play.specs.declared.workers.Worker.{Worker}
 use Rattle.gc_play.specs.Crews.{AreAfter, AreSaid, IsSeatLeftBy, Numbered, SaysOfSection, SomeKnows, SomeSeatKnows, WarehouseEndsAt}
 use Rattle.gc_play.specs.Dealing.{IsDealt, seat_number}
-use Rattle.gc_play.proofs.Counting.{one-before, warehouse-count, numbered-front}
+use Rattle.gc_play.proofs.Parts.{one-before, warehouse-count, numbered-front}
 use Rattle.gc_play.proofs.Handing.{each-left, last-too, none-left, some-ahead, some-first, some-taken}
 use Rattle.gc_play.proofs.Leaving.{said-front, warehouse-left, warehouse-says}
 use Rattle.gc_play.proofs.gathering.gather.Goals as goal

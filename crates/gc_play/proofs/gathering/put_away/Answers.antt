@@ -2,7 +2,7 @@ use Rattle.std.proofs.Common.{ℕ, ◌∷◌, length, sym, subst, add_comm}
 use Rattle.play_report.specs.declared.report.Part.{Part}
 use Rattle.gc_table.specs.declared.seat.HeapSeat.{HeapSeat}
 use Rattle.gc_play.specs.Crews.{AreAfter, AreSaid, IsSeatLeftBy, KnowsEnd, Numbered, SettlesEnd}
-use Rattle.gc_play.proofs.Counting.{numbered-front, one-before}
+use Rattle.gc_play.proofs.Parts.{numbered-front, one-before}
 use Rattle.gc_play.proofs.Leaving.{catalogue-left, catalogue-says, crew-knows, crew-settles, handed-seat, said-front}
 use Rattle.gc_play.proofs.gathering.put_away.Goals as goal
 

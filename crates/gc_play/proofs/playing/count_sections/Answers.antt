@@ -1,5 +1,5 @@
 use Rattle.std.proofs.Common.{arith}
-use Rattle.gc_play.proofs.Counting.{warehouse-count}
+use Rattle.gc_play.proofs.Parts.{warehouse-count}
 use Rattle.gc_play.proofs.playing.count_sections.Goals as goal
 
 pub overflow_cast-result : goal.overflow_cast-result

@@ -2,7 +2,7 @@ use Rattle.std.proofs.Common.{◌≡◌, ◌-◌, ◌*◌, ◌<◌, inl, inr, re
 use Rattle.gc_play.specs.Crews.{CatalogueAt, CatalogueSettles}
 use Rattle.gc_play.specs.Dealing.{EachOne, StandsAt}
 use Rattle.gc_play.proofs.Catalogues.{may-move, settled}
-use Rattle.gc_play.proofs.Counting.{some-season}
+use Rattle.gc_play.proofs.Parts.{some-season}
 use Rattle.gc_play.proofs.Seasons.{seasons-more, play-traced}
 use Rattle.gc_play.proofs.playing.play_seasons.Goals as goal
 

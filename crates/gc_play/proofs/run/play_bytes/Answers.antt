@@ -3,7 +3,7 @@ use Rattle.gc_script.specs.Shown.{fault_of}
 use Rattle.gc_play.specs.RunAnswers.{IsRunAnswer, RunAnswersTo}
 use Rattle.command_words.specs.Commands.{options_of}
 use Rattle.gc_play.specs.Ending.{IsFaultAnswer}
-use Rattle.gc_play.proofs.Ends.{other_ends, read_ends}
+use Rattle.gc_play.proofs.Taking.{other_ends, read_ends}
 use Rattle.gc_play.proofs.Faulted.{run_fault}
 use Rattle.gc_play.proofs.run.play_bytes.Goals as goal
 

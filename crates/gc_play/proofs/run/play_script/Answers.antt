@@ -2,7 +2,7 @@ use Rattle.std.proofs.Common.{inr}
 use Rattle.gc_play.specs.RunAnswers.{PlaysTo}
 use Rattle.command_words.specs.Commands.{options_of}
 use Rattle.gc_play.specs.Ending.{IsStopAnswer}
-use Rattle.gc_play.proofs.Ends.{other_ends, text_ends}
+use Rattle.gc_play.proofs.Taking.{other_ends, text_ends}
 use Rattle.gc_play.proofs.Plays.{done_answer, stopped}
 use Rattle.gc_play.proofs.run.play_script.Goals as goal
 

@@ -1,5 +1,5 @@
 use Rattle.gc_play.specs.Ending.{IsStopAnswer}
-use Rattle.gc_play.proofs.Ends.{text_ends}
+use Rattle.gc_play.proofs.Taking.{text_ends}
 use Rattle.gc_play.proofs.Plays.{stop_answer}
 use Rattle.gc_play.proofs.stopped.tell_stop.Goals as goal
 

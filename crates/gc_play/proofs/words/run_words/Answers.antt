@@ -8,7 +8,7 @@ use Rattle.gc_play.specs.RunAnswers.{IsRunOrUsage, IsUsageAnswer, run_of}
 use Rattle.std.specs.String.{string_bytes}
 use Rattle.play_report.specs.Text.{usage_text}
 use Rattle.gc_play.specs.Promise.{wanted}
-use Rattle.gc_play.proofs.Ends.{command_ends, text_ends}
+use Rattle.gc_play.proofs.Taking.{command_ends, text_ends}
 use Rattle.command_words.specs.declared.asked.Asked.TheVariants as asks
 use Rattle.gc_play.proofs.words.run_words.Goals as goal
 

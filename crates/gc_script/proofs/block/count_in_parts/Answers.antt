@@ -2,7 +2,7 @@ use Rattle.std.proofs.Common.{sym, ap, ◌∙◌, min, arith}
 use Rattle.std.specs.List.{count_by, flat_map}
 use Rattle.std.proofs.lemmas.List.{take_all}
 use Rattle.gc_script.specs.Blocks.{counts, part_shown}
-use Rattle.gc_script.proofs.Repeats.{joined_map}
+use Rattle.gc_script.proofs.Sectioning.{joined_map}
 use Rattle.gc_script.proofs.block.count_in_parts.Goals as goal
 
 pub returns : goal.returns

@@ -1,5 +1,5 @@
 use Rattle.gc_script.specs.FirstLine.{ends_piece}
-use Rattle.gc_script.proofs.Positions.{end_by_position}
+use Rattle.gc_script.proofs.Clear.{end_by_position}
 use Rattle.gc_script.proofs.cutting.piece_end.Goals as goal
 
 pub returns-clause-end : goal.returns-clause-end

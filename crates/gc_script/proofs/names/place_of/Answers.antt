@@ -3,7 +3,7 @@ use Rattle.std.specs.Prelude.{not, Option, unwrap_or}
 use Rattle.std.specs.List.{position_or_len, position}
 use Rattle.std.specs.Str.{bytes_eq}
 use Rattle.gc_script.specs.Earlier.{place}
-use Rattle.gc_script.proofs.Positions.{or_end, within}
+use Rattle.gc_script.proofs.Clear.{or_end, within}
 use Rattle.gc_script.proofs.names.place_of.Goals as goal
 
 -- Places of names.

@@ -12,17 +12,16 @@ use Rattle.mark_core.specs.Cells.{field, is_swept_block, IsCellPath}
 use Rattle.mark_core.specs.Closed.{IsReachableIn}
 use Rattle.mark_core.specs.Steps.{Core, run_of, start_core}
 use Rattle.mark_core.specs.Laws.{IsCore}
-use Rattle.mark_core.proofs.Consequences.Closing.{goes-to}
+use Rattle.mark_core.proofs.Consequences.Closing.{goes-to, Kept, kept-below, path-kept}
 use Rattle.mark_core.proofs.References.ReferencesRoots.{Used}
-use Rattle.mark_core.proofs.Consequences.Sparing.{Kept, kept-below, path-kept}
-use Rattle.mark_core.proofs.AtSeat.{roots-length}
+use Rattle.mark_core.proofs.HeldBlock.{roots-length}
 use Rattle.mark_core.proofs.CoreKept.{runs_sound}
-use Rattle.mark_core.proofs.Exacts.ExactsReach.{reach-root, reach-field}
+use Rattle.mark_core.proofs.Exacts.ExactsDrain.{reach-root, reach-field}
 use Rattle.mark_core.specs.declared.kinds.Phase.TheVariants.{Sweep}
 use Rattle.gc_table.specs.RunWorlds.{World, WorldObject, object_of, reference_of, name_at, referred, start_world, variable_of}
 use Rattle.gc_table.specs.Agreement.{HoldsObject, AgreesWith}
 use Rattle.gc_table.specs.AgreementLaws.{IsWorldPath, IsCellFor, ReachedHaveCells, world_run}
-use Rattle.gc_table.proofs.Heap.{none-some}
+use Rattle.gc_table.proofs.Reading.{none-some}
 use Rattle.gc_table.proofs.Kept.{runs_agree}
 use Rattle.gc_table.proofs.Seats.{used-exists}
 use Rattle.gc_table.proofs.run_laws.reached_have_cells.Goals as goal

@@ -8,10 +8,9 @@ use Rattle.mark_core.specs.Seats.{may_mutate, is_the}
 use Rattle.mark_core.specs.Steps.MutatorSteps.{in_variables, may_change, seat_variable as word_in}
 use Rattle.mark_core.specs.Rules.HeapRules.{section_of_cell}
 use Rattle.mark_core.specs.Steps.{Core, run_of, start_core}
-use Rattle.mark_core.proofs.Acting.{Acted}
-use Rattle.mark_core.proofs.Core.{acts}
+use Rattle.mark_core.proofs.Known.{Acted, acts}
 use Rattle.mark_core.proofs.CoreKept.{runs_sound}
-use Rattle.mark_core.proofs.Blocks.BlocksTaken.{Taken}
+use Rattle.mark_core.proofs.Blocks.BlocksStopped.{Taken}
 use Rattle.mark_core.specs.declared.kinds.Step.{Step}
 use Rattle.mark_core.specs.declared.kinds.Step.TheVariants.{StoreField, StoreValue, ExchangeField, ExchangeValue}
 use Rattle.mark_core.specs.declared.seat.SeatState.{SeatState}

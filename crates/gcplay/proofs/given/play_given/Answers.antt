@@ -3,7 +3,7 @@ use Rattle.std.specs.String.{string_bytes}
 use Rattle.play_words.specs.Answers.{IsAnswer}
 use Rattle.gc_play.specs.Promise.{FromSource, Wrote, wanted}
 use Rattle.play_words.specs.Running.{IsRunText}
-use Rattle.play_words.proofs.Following.{answers-follow}
+use Rattle.play_words.proofs.Promised.{answers-follow}
 use Rattle.gc_play.specs.Given.{words_behind}
 use Rattle.gcplay.proofs.Handed.{whole-text, wrote-handed, keeps-handed}
 use Rattle.gcplay.proofs.given.play_given.Goals as goal

@@ -1,6 +1,6 @@
 use Rattle.std.proofs.Common.{◌≡◌, ◌++◌, ◌∙◌, ℕ, length, ap}
 use Rattle.std.specs.Prelude.{flat_map}
-use Rattle.play_report.proofs.Writing.{then_writes, stops_writes, same_writes, same_stops}
+use Rattle.play_report.proofs.Turns.{then_writes, stops_writes, same_writes, same_stops}
 use Rattle.heap_dump.specs.Final.{DumpedHeap}
 use Rattle.heap_dump.specs.Reading.{heap_of_dump}
 use Rattle.heap_dump.specs.Text.{sizes_text, object_text, undump_text}

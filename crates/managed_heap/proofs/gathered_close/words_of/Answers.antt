@@ -2,7 +2,7 @@ use Rattle.std.proofs.Common.{◌≡◌, rules, subst}
 use Rattle.std.specs.Arc.{arc_value}
 use Rattle.gc_table.specs.declared.seat.Heap.{Heap}
 use Rattle.seat_turns.specs.Standing.{RestsOutside}
-use Rattle.managed_heap.proofs.Lists.{all-at}
+use Rattle.managed_heap.proofs.Gathered.{all-at}
 use Rattle.managed_heap.proofs.gathered_close.words_of.Goals as goal
 
 pub close-requires-clause-seats : goal.close-requires-clause-seats

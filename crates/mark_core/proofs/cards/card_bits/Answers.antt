@@ -1,7 +1,7 @@
 -- No bit of a card's cells is shifted out of the word.
 use Rattle.std.proofs.Common.{◌-◌, ◌*◌, ◌%◌, ◌^◌, ap, arith, ◌∙◌}
 use Rattle.mark_core.specs.Cards.{card_cells}
-use Rattle.mark_core.proofs.Hands.HandsBits.{card-bits_fit}
+use Rattle.mark_core.proofs.Hands.HandsCleaning.{card-bits_fit}
 use Rattle.mark_core.proofs.cards.card_bits.Goals as goal
 
 pub returns : goal.returns

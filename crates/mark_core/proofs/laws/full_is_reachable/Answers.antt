@@ -1,4 +1,4 @@
-use Rattle.mark_core.proofs.Consequences.Filling.{full-reachable}
+use Rattle.mark_core.proofs.Consequences.Closing.{full-reachable}
 use Rattle.mark_core.proofs.laws.full_is_reachable.Goals as goal
 
 pub returns : goal.returns

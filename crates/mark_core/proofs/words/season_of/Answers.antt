@@ -1,6 +1,6 @@
 use Rattle.std.proofs.Common.{◌+◌, get_or, arith, ap, ◌∙◌}
 use Rattle.mark_core.specs.Layout.{region_sizes}
-use Rattle.mark_core.proofs.Writing.Regions.{words-get}
+use Rattle.mark_core.proofs.Writing.Places.{words-get}
 use Rattle.mark_core.proofs.words.season_of.Goals as goal
 
 pub returns : goal.returns

@@ -12,10 +12,10 @@ use Rattle.gc_table.proofs.Running.{ran-stored}
 use Rattle.mutator_ops.specs.Doing.{belongs, with_dropped, Does}
 use Rattle.mutator_ops.specs.Holding.{held_kind}
 use Rattle.mutator_ops.proofs.Holdings.{stored-nothing, stored-lent, stored-own, own-undropped}
-use Rattle.mutator_ops.proofs.Once.{once-after}
-use Rattle.mutator_ops.proofs.Readying.{ready-does}
+use Rattle.mutator_ops.proofs.Stepping.{once-after}
+use Rattle.mutator_ops.proofs.Knowing.{ready-does}
 use Rattle.mutator_ops.proofs.Storing.{looks-does, stores-does, reads-put}
-use Rattle.mutator_ops.proofs.Listing.{looked-lent, looked-nothing, looked-own, steps-after}
+use Rattle.mutator_ops.proofs.ShareCreating.{looked-lent, looked-nothing, looked-own, steps-after}
 use Rattle.mutator_ops.proofs.objects.put.Goals as goal
 
 pub returns-in-Nothing-clause-does : goal.returns-in-Nothing-clause-does

@@ -9,11 +9,11 @@ use Rattle.gc_table.specs.declared.view.View.{View}
 use Rattle.mutator_ops.specs.Doing.{with_dropped, Does}
 use Rattle.mutator_ops.specs.Holding.{held_kind}
 use Rattle.mutator_ops.proofs.Holdings.{stored-nothing, stored-lent, stored-own, own-undropped}
-use Rattle.mutator_ops.proofs.Readying.{ready-does}
+use Rattle.mutator_ops.proofs.Knowing.{ready-does}
 use Rattle.mutator_ops.proofs.Storing.{once-barrier, stored-same, only-barrier, looks-does, stores-does, reads-set}
 use Rattle.mark_core.specs.declared.seat.SeatState.{SeatState}
 use Rattle.card_clean.specs.Barrier.{barrier_steps}
-use Rattle.mutator_ops.proofs.Listing.{looked-lent, looked-nothing, looked-own}
+use Rattle.mutator_ops.proofs.ShareCreating.{looked-lent, looked-nothing, looked-own}
 use Rattle.mutator_ops.proofs.objects.set.Goals as goal
 
 pub returns-in-Nothing-clause-does : goal.returns-in-Nothing-clause-does

@@ -11,7 +11,7 @@ use Rattle.mark_core.specs.Steps.MutatorSteps.{seat_variable as word_in}
 use Rattle.mark_core.specs.Rules.HeapRules.{section_of_cell, number_of_cell}
 use Rattle.mark_core.specs.declared.kinds.Step.TheVariants.{ReadCount}
 use Rattle.mark_core.proofs.Formed.FormedLearns.{used-exists}
-use Rattle.mark_core.proofs.References.ReferencesNames.{known-used}
+use Rattle.mark_core.proofs.References.ReferencesRoots.{known-used}
 use Rattle.plain_heap.specs.PlainHeap.{variable}
 use Rattle.plain_heap.specs.declared.object.Ref.{Ref}
 use Rattle.gc_table.specs.Rule.{Agrees, IsPossible, IsState}
@@ -20,7 +20,7 @@ use Rattle.gc_table.specs.TableState.{TableState, meanings_of}
 use Rattle.gc_table.specs.declared.view.Place.{Place}
 use Rattle.gc_table.specs.declared.view.SectionState.{SectionState}
 use Rattle.gc_table.specs.declared.view.View.{View}
-use Rattle.gc_table.proofs.State.StatePlain.{Views, views}
+use Rattle.gc_table.proofs.State.StateStores.{Views, views}
 use Rattle.card_clean.proofs.Owned.{variable-there}
 use Rattle.mutator_ops.specs.Placing.{place_of}
 use Rattle.mutator_ops.proofs.Knowing.{knows-there, taken-there, nil-variable}

@@ -1,5 +1,5 @@
 use Rattle.gc_table.specs.Seats.{view_of}
-use Rattle.mutator_ops.proofs.Exchanging.{counted-ready}
+use Rattle.mutator_ops.proofs.Storing.{counted-ready}
 use Rattle.mutator_ops.proofs.sharing.share_count.Goals as goal
 
 pub returns-clause-seat : goal.returns-clause-seat

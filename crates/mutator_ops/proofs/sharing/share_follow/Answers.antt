@@ -17,7 +17,7 @@ use Rattle.gc_table.specs.declared.view.SectionState.{SectionState}
 use Rattle.gc_table.specs.Log.{event, events}
 use Rattle.gc_table.proofs.History.Log.{events-after}
 use Rattle.gc_table.proofs.Running.{ran-events, ran-found, ran-join, ran-shape, ran-stored}
-use Rattle.mutator_ops.proofs.ShareReady.{count-read, may-share_read, shares-on, state-read}
+use Rattle.mutator_ops.proofs.Storing.{count-read, may-share_read, shares-on, state-read}
 use Rattle.mutator_ops.proofs.sharing.share_follow.Goals as goal
 
 pub read_own-requires-clause-may : goal.read_own-requires-clause-may

@@ -9,7 +9,7 @@ use Rattle.gc_table.specs.declared.view.View.{View}
 use Rattle.gc_table.specs.Log.{event, events}
 use Rattle.gc_table.proofs.History.Log.{events-after}
 use Rattle.gc_table.proofs.Running.{ran-events, ran-found, ran-join, ran-stored}
-use Rattle.mutator_ops.proofs.ShareReady.{count-read, may-share_read, shares-on, state-read}
+use Rattle.mutator_ops.proofs.Storing.{count-read, may-share_read, shares-on, state-read}
 use Rattle.mutator_ops.proofs.sharing.share_lend.Goals as goal
 
 pub store_root-requires-clause-may : goal.store_root-requires-clause-may

@@ -8,9 +8,8 @@ use Rattle.gc_table.specs.declared.view.SectionState.{SectionState}
 use Rattle.gc_table.specs.declared.view.View.{View}
 use Rattle.gc_table.proofs.Running.{ran-shape}
 use Rattle.mark_core.specs.declared.seat.SeatState.{SeatState}
-use Rattle.mutator_ops.proofs.Readying.{stored-count}
-use Rattle.mutator_ops.proofs.ShareReady.{shares-on}
-use Rattle.mutator_ops.proofs.Storing.{stored-same}
+use Rattle.mutator_ops.proofs.Knowing.{stored-count}
+use Rattle.mutator_ops.proofs.Storing.{shares-on, stored-same}
 use Rattle.mutator_ops.proofs.sharing.share_set.Goals as goal
 
 pub returns-clause-seat : goal.returns-clause-seat

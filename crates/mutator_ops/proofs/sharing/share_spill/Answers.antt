@@ -8,7 +8,7 @@ use Rattle.gc_table.specs.declared.view.View.{View}
 use Rattle.gc_table.specs.Log.{steps_of}
 use Rattle.gc_table.proofs.History.Log.{events-after}
 use Rattle.gc_table.proofs.Running.{ran-stored}
-use Rattle.mutator_ops.proofs.ShareReady.{may-spill, shares-on, state-kept, state-spilled}
+use Rattle.mutator_ops.proofs.Storing.{may-spill, shares-on, state-kept, state-spilled}
 use Rattle.mutator_ops.proofs.sharing.share_spill.Goals as goal
 
 pub store_slot-requires-clause-may : goal.store_slot-requires-clause-may

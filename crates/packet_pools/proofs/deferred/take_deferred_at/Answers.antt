@@ -14,8 +14,7 @@ use Rattle.packet_pools.specs.Seeking.{loses, was_lost}
 use Rattle.packet_pools.specs.Tracing.{Traces}
 use Rattle.gc_table.proofs.History.Log.{events-after}
 use Rattle.packet_pools.proofs.Conditions.{may-read_length, may-take}
-use Rattle.packet_pools.proofs.Choices.{seeks-from, traces-same}
-use Rattle.packet_pools.proofs.Doing.{traced-take}
+use Rattle.packet_pools.proofs.Doing.{seeks-from, traces-same, traced-take}
 use Rattle.packet_pools.proofs.TracedSteps.{traced-refl}
 use Rattle.packet_pools.proofs.TakenOne.{lost-state}
 use Rattle.packet_pools.proofs.TakenRead.{both, gains, only-traced, traces, w-holds, w-there, w-unread}

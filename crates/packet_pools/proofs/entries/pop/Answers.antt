@@ -5,7 +5,7 @@ use Rattle.mark_core.specs.declared.kinds.Shape.{Shape}
 use Rattle.gc_table.specs.declared.view.View.{View}
 use Rattle.gc_table.specs.Seats.{view_of}
 use Rattle.packet_pools.proofs.Conditions.{may-pop}
-use Rattle.packet_pools.proofs.InHand.{known-held, known-entry, known-length, idle-popped}
+use Rattle.packet_pools.proofs.Exchanged.{known-held, known-entry, known-length, idle-popped}
 use Rattle.packet_pools.proofs.Doing.{traced-pop, traces-on, held-less}
 use Rattle.packet_pools.proofs.entries.pop.Goals as goal
 

@@ -3,7 +3,7 @@ use Rattle.mark_core.specs.declared.kinds.Shape.{Shape}
 use Rattle.gc_table.specs.declared.view.View.{View}
 use Rattle.gc_table.specs.Seats.{view_of}
 use Rattle.packet_pools.proofs.Conditions.{may-push-in}
-use Rattle.packet_pools.proofs.InHand.{known-held, known-has, known-length}
+use Rattle.packet_pools.proofs.Exchanged.{known-held, known-has, known-length}
 use Rattle.packet_pools.proofs.Doing.{traced-push, traces-on, held-again}
 use Rattle.packet_pools.proofs.entries.push.Goals as goal
 

@@ -7,7 +7,7 @@ use Rattle.mark_core.specs.declared.seat.SeatState.{SeatState}
 use Rattle.gc_table.specs.declared.view.View.{View}
 use Rattle.gc_table.specs.Seats.{view_of}
 use Rattle.packet_pools.proofs.Conditions.{may-store_length, may-give, may-credit}
-use Rattle.packet_pools.proofs.InHand.{known-held, known-has, known-entry}
+use Rattle.packet_pools.proofs.Exchanged.{known-held, known-has, known-entry}
 use Rattle.packet_pools.proofs.Given.{stored, stored-known, stored-head, stored-another, returned-empty, gave-state, gave-later, gave-full, gave-traces, counted-state, counted-later, counted-traces}
 use Rattle.packet_pools.proofs.giving.give.Goals as goal
 

@@ -12,8 +12,7 @@ use Rattle.gc_table.specs.Log.{events}
 use Rattle.packet_pools.specs.OnlyTraced.{IsNotedMarked}
 use Rattle.packet_pools.specs.Counts.{CountsMarked}
 use Rattle.gc_table.proofs.History.Log.{entry_of, events-after, events-join}
-use Rattle.packet_pools.proofs.Marked.{marked-stays}
-use Rattle.packet_pools.proofs.TracedSteps.{traced-join, marks-noted}
+use Rattle.packet_pools.proofs.TracedSteps.{marked-stays, traced-join, marks-noted}
 use Rattle.packet_pools.proofs.Doing.{traces-on}
 use Rattle.packet_pools.proofs.ScanSteps.{may-set_mark, traced-set_mark}
 use Rattle.packet_pools.specs.StepBounds.{give_steps, output_steps}

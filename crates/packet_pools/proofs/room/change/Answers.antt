@@ -6,8 +6,7 @@ use Rattle.gc_table.specs.Seats.{view_of}
 use Rattle.packet_pools.specs.Seeking.{output_pools}
 use Rattle.packet_pools.specs.declared.held.Held.{Held}
 use Rattle.gc_table.specs.Log.{events}
-use Rattle.packet_pools.proofs.InHand.{known-held}
-use Rattle.packet_pools.proofs.Exchanged.{another-held}
+use Rattle.packet_pools.proofs.Exchanged.{known-held, another-held}
 use Rattle.packet_pools.specs.StepBounds.{give_steps}
 use Rattle.packet_pools.proofs.Few.{few-steps, given-few}
 use Rattle.packet_pools.proofs.Counting.{given-moves}

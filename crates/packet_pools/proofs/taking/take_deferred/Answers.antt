@@ -8,9 +8,9 @@ use Rattle.gc_table.specs.Seats.{view_of}
 use Rattle.gc_table.specs.Log.{events}
 use Rattle.packet_pools.specs.Seeking.{NoDeferred, deferred_pools, only_moves}
 use Rattle.packet_pools.specs.Gains.{MissesPackets}
-use Rattle.packet_pools.proofs.PoolSearch.{all-missed}
+use Rattle.packet_pools.proofs.Searches.{all-missed}
 use Rattle.packet_pools.proofs.Few.{had-most}
-use Rattle.packet_pools.proofs.Choices.{if-none, traces-either}
+use Rattle.packet_pools.proofs.Doing.{if-none, traces-either}
 use Rattle.packet_pools.proofs.taking.take_deferred.Goals as goal
 
 pub returns-clause-seat : goal.returns-clause-seat

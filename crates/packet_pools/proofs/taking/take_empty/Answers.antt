@@ -5,7 +5,7 @@ use Rattle.mark_core.specs.Numbers.{empty_pool_number, word_bits}
 use Rattle.gc_table.specs.Fetching.{is_in_range}
 use Rattle.packet_pools.specs.declared.held.Held.{Held}
 use Rattle.packet_pools.specs.Hands.{with_packet}
-use Rattle.packet_pools.proofs.Searches.{moves-join, some-right}
+use Rattle.packet_pools.proofs.Searches.{moves-join, some-right, misses-within}
 use Rattle.mark_core.specs.declared.kinds.Shape.{Shape}
 use Rattle.mark_core.specs.declared.kinds.Step.TheVariants.{Reserve, Credit}
 use Rattle.mark_core.specs.declared.seat.SeatState.{SeatState}
@@ -19,11 +19,9 @@ use Rattle.packet_pools.specs.Gains.{MissesPackets}
 use Rattle.gc_table.proofs.History.Log.{events-after, events-join}
 use Rattle.packet_pools.proofs.TracedSteps.{traced-join}
 use Rattle.packet_pools.proofs.Conditions.{may-reserve, traces-later}
-use Rattle.packet_pools.proofs.Doing.{traced-reserve, traced-credit, traces-on}
-use Rattle.packet_pools.proofs.PoolSearch.{misses-within}
+use Rattle.packet_pools.proofs.Doing.{traced-reserve, traced-credit, traces-on, traces-gained}
 use Rattle.packet_pools.specs.StepBounds.{pool_steps}
 use Rattle.packet_pools.proofs.Few.{few-after, few-join}
-use Rattle.packet_pools.proofs.Choices.{traces-gained}
 use Rattle.packet_pools.proofs.taking.take_empty.Goals as goal
 
 pub reserve-requires-clause-may : goal.reserve-requires-clause-may

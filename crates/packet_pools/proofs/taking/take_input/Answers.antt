@@ -13,12 +13,10 @@ use Rattle.packet_pools.specs.Seeking.{NoInput, was_missed_in, was_got, only_mov
 use Rattle.packet_pools.specs.Gains.{Gains, MissesPackets, Takes}
 use Rattle.gc_table.proofs.History.Log.{events-join}
 use Rattle.packet_pools.proofs.TracedSteps.{traced-join}
-use Rattle.packet_pools.proofs.AllMissed.{all-range}
-use Rattle.packet_pools.proofs.Searches.{none-got, first-pool, moves-join, next-pools, was-missed-left, was-missed-right}
-use Rattle.packet_pools.proofs.PoolSearch.{pool-missed, takes-first, takes-next}
+use Rattle.packet_pools.proofs.Searches.{all-range, pool-missed, takes-first, takes-next, none-got, first-pool, moves-join, next-pools, was-missed-left, was-missed-right}
 use Rattle.packet_pools.specs.StepBounds.{had_steps, pool_steps}
 use Rattle.packet_pools.proofs.Few.{few-join, had-most}
-use Rattle.packet_pools.proofs.Choices.{if-some, if-none, seeks-from, traces-same, traces-gained, traces-either, low-some}
+use Rattle.packet_pools.proofs.Doing.{if-some, if-none, seeks-from, traces-same, traces-gained, traces-either, low-some}
 use Rattle.packet_pools.proofs.taking.take_input.Goals as goal
 
 pub take_any-requires-in-None-clause-seat : goal.take_any-requires-in-None-clause-seat

@@ -15,13 +15,11 @@ use Rattle.packet_pools.specs.Gains.{ComesFrom, Gains, MissesPackets, Takes}
 use Rattle.gc_table.proofs.History.Log.{events-join}
 use Rattle.packet_pools.proofs.TracedSteps.{traced-join}
 use Rattle.std.proofs.lemmas.Bool.{and_from}
-use Rattle.packet_pools.proofs.AllMissed.{all-range}
-use Rattle.packet_pools.proofs.Searches.{missed-right, none-got, first-pool, moves-join, next-pools, was-missed-left, was-missed-right}
-use Rattle.packet_pools.proofs.PoolSearch.{below-words, pool-missed, takes-first, takes-next}
+use Rattle.packet_pools.proofs.Searches.{all-range, below-words, pool-missed, takes-first, takes-next, missed-right, none-got, first-pool, moves-join, next-pools, was-missed-left, was-missed-right}
 use Rattle.packet_pools.specs.OnlyTraced.{OnlyTraced}
 use Rattle.packet_pools.specs.StepBounds.{had_steps, pool_steps}
 use Rattle.packet_pools.proofs.Few.{few-join, had-most}
-use Rattle.packet_pools.proofs.Choices.{if-some, if-none, seeks-from, traces-same, traces-gained, traces-either, low-room}
+use Rattle.packet_pools.proofs.Doing.{if-some, if-none, seeks-from, traces-same, traces-gained, traces-either, low-room}
 use Rattle.packet_pools.proofs.taking.take_output.Goals as goal
 
 pub returns-in-Some-take_any-clause-seat : goal.returns-in-Some-take_any-clause-seat

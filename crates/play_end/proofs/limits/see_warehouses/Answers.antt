@@ -1,6 +1,6 @@
 use Rattle.std.proofs.Common.{◌≡◌, ◌+◌, ◌∙◌, arith}
 use Rattle.plain_heap.specs.Sections.{section_of}
-use Rattle.play_end.proofs.InRanges.{warehouse-is, warehouse-count, fits-more}
+use Rattle.play_end.proofs.SectionLists.{warehouse-is, warehouse-count, fits-more}
 use Rattle.play_end.proofs.limits.see_warehouses.Goals as goal
 
 pub loop-section-preserved : goal.loop-section-preserved

@@ -1,4 +1,4 @@
-use Rattle.play_end.proofs.OneReport.{one-report}
+use Rattle.play_end.proofs.SectionLists.{one-report}
 use Rattle.play_end.proofs.report_laws.one_report.Goals as goal
 
 pub returns : goal.returns

@@ -1,4 +1,4 @@
-use Rattle.play_end.proofs.OneReport.{one-text}
+use Rattle.play_end.proofs.SectionLists.{one-text}
 use Rattle.play_end.proofs.report_laws.one_text.Goals as goal
 
 pub returns : goal.returns

@@ -1,6 +1,6 @@
 use Rattle.std.proofs.Common.{◌≡◌, ◌++◌, List, ℕ, ap, codes}
 use Rattle.play_report.specs.Text.{named_text, positions_text, full_text}
-use Rattle.play_report.proofs.Writing.{then_writes, stops_writes, same_writes}
+use Rattle.play_report.proofs.Turns.{then_writes, stops_writes, same_writes}
 use Rattle.play_report.proofs.full.write_full.Goals as goal
 
 pieces : (section : ℕ) (done items : List ℕ) → done ≡ items → named_text (codes "full section ") section ++ positions_text done ≡ full_text section items

@@ -3,7 +3,7 @@ use Rattle.play_report.specs.declared.report.Part.{Part}
 use Rattle.play_report.specs.declared.report.Survivor.{Survivor}
 use Rattle.play_report.specs.Report.{outcome_of, survivor_of}
 use Rattle.play_report.specs.Text.{made_text, kept_text}
-use Rattle.play_report.proofs.Writing.{then_writes, stops_writes, same_writes, same_stops}
+use Rattle.play_report.proofs.Turns.{then_writes, stops_writes, same_writes, same_stops}
 use Rattle.play_report.proofs.load.write_counts.Goals as goal
 
 pieces : (ps qs : List Part) (rest : List ℕ) → ps ≡ qs → made_text (map outcome_of ps) ++ rest ≡ made_text (map outcome_of qs) ++ rest

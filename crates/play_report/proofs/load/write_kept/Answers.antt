@@ -4,7 +4,7 @@ use Rattle.play_report.specs.declared.report.Survivor.{Survivor}
 use Rattle.play_report.specs.Report.{survivor_of}
 use Rattle.play_report.specs.Text.{named_text, kept_text}
 use Rattle.play_report.proofs.Counts.{values_added}
-use Rattle.play_report.proofs.Writing.{then_writes, stops_writes, same_writes, same_stops}
+use Rattle.play_report.proofs.Turns.{then_writes, stops_writes, same_writes, same_stops}
 use Rattle.play_report.proofs.load.write_kept.Goals as goal
 
 pieces : (n : ℕ) (ss : List Survivor) → n ≡ sum_by (λ (s : Survivor). s.value) ss

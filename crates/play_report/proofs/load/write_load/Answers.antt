@@ -1,4 +1,4 @@
-use Rattle.play_report.proofs.Writing.{then_writes, stops_writes}
+use Rattle.play_report.proofs.Turns.{then_writes, stops_writes}
 use Rattle.play_report.proofs.load.write_load.Goals as goal
 
 pub returns-in-Ok : goal.returns-in-Ok

@@ -3,7 +3,7 @@ use Rattle.play_report.specs.declared.report.Part.{Part}
 use Rattle.play_report.specs.Report.{outcome_of}
 use Rattle.play_report.specs.Text.{named_text, made_text, placed_count}
 use Rattle.play_report.proofs.Counts.{places_counted, lines_counted}
-use Rattle.play_report.proofs.Writing.{then_writes, stops_writes, same_writes, same_stops}
+use Rattle.play_report.proofs.Turns.{then_writes, stops_writes, same_writes, same_stops}
 use Rattle.play_report.proofs.load.write_made.Goals as goal
 
 pieces : (n m : ℕ) (ps : List Part) → n ≡ sum_by (λ (p : Part). length p.places.items) ps → m ≡ sum_by (λ (p : Part). length p.said.items) ps

@@ -3,8 +3,7 @@ use Rattle.play_report.specs.declared.report.Part.{Part}
 use Rattle.play_report.specs.Report.{Outcome, outcome_of}
 use Rattle.play_report.specs.Text.{named_text, numbered_texts, cells_text, placed_count, placed_text}
 use Rattle.play_report.proofs.Counts.{places_counted}
-use Rattle.play_report.proofs.Turns.{numbered-map}
-use Rattle.play_report.proofs.Writing.{then_writes, stops_writes, same_writes, same_stops}
+use Rattle.play_report.proofs.Turns.{numbered-map, then_writes, stops_writes, same_writes, same_stops}
 use Rattle.play_report.proofs.placed.write_placed.Goals as goal
 
 pieces : (n : ℕ) (ps : List Part) → n ≡ sum_by (λ (p : Part). length p.places.items) ps

@@ -2,7 +2,7 @@ use Rattle.std.proofs.Common.{◌≡◌, ◌++◌, List, ℕ, ap, map}
 use Rattle.play_report.specs.declared.report.Part.{Part}
 use Rattle.play_report.specs.Report.{outcome_of}
 use Rattle.play_report.specs.Text.{warehouses_text}
-use Rattle.play_report.proofs.Writing.{stops_writes, same_stops}
+use Rattle.play_report.proofs.Turns.{stops_writes, same_stops}
 use Rattle.play_report.proofs.status.write_ends.Goals as goal
 
 pieces : (xs ys : List Part) (rest : List ℕ) → xs ≡ ys → warehouses_text (map outcome_of xs) ++ rest ≡ warehouses_text (map outcome_of ys) ++ rest

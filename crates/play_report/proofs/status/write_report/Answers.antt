@@ -2,7 +2,7 @@ use Rattle.std.proofs.Common.{◌≡◌, ◌++◌, [], List, ℕ, Bool, ap, map,
 use Rattle.play_report.specs.declared.report.Part.{Part}
 use Rattle.play_report.specs.Report.{outcome_of}
 use Rattle.play_report.specs.Text.{placed_text}
-use Rattle.play_report.proofs.Writing.{then_writes, stops_writes, same_writes}
+use Rattle.play_report.proofs.Turns.{then_writes, stops_writes, same_writes}
 use Rattle.play_report.proofs.status.write_report.Goals as goal
 
 pieces : (xs ys : List Part) (front : List ℕ) (place : Bool) → xs ≡ ys → front ++ cond place (placed_text (map outcome_of xs)) [] ≡ front ++ cond place (placed_text (map outcome_of ys)) []

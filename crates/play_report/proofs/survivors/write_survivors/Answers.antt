@@ -5,7 +5,7 @@ use Rattle.std.specs.List.{flat_map}
 use Rattle.play_report.specs.declared.report.Survivor.{Survivor}
 use Rattle.play_report.specs.Report.{survivor_of}
 use Rattle.play_report.specs.Text.{survivor_text, survivors_text, named_text}
-use Rattle.play_report.proofs.Writing.{then_writes, stops_writes, same_writes, same_stops}
+use Rattle.play_report.proofs.Turns.{then_writes, stops_writes, same_writes, same_stops}
 use Rattle.play_report.proofs.survivors.write_survivors.Goals as goal
 
 pieces : (ss : List Survivor) → named_text (codes "survivors ") (length ss) ++ flat_map (λ s. survivor_text (survivor_of s)) ss ≡ survivors_text (map survivor_of ss)

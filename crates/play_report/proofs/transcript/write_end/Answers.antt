@@ -3,7 +3,7 @@ use Rattle.std.specs.List.{flat_map}
 use Rattle.play_report.specs.declared.report.Said.{Said}
 use Rattle.play_report.specs.Report.{printed_of}
 use Rattle.play_report.specs.Text.{named_text, printed_text}
-use Rattle.play_report.proofs.Writing.{then_writes, stops_writes, same_writes, same_stops}
+use Rattle.play_report.proofs.Turns.{then_writes, stops_writes, same_writes, same_stops}
 use Rattle.play_report.proofs.transcript.write_end.Goals as goal
 
 pieces : (said items : List Said) (n : ℕ) → said ≡ items

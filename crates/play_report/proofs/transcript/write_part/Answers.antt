@@ -5,7 +5,7 @@ use Rattle.play_report.specs.declared.report.Part.{Part}
 use Rattle.play_report.specs.declared.report.Said.{Said}
 use Rattle.play_report.specs.Report.{outcome_of, printed_of}
 use Rattle.play_report.specs.Text.{outcome_text, named_text, printed_text}
-use Rattle.play_report.proofs.Writing.{then_writes, stops_writes, same_writes, same_stops}
+use Rattle.play_report.proofs.Turns.{then_writes, stops_writes, same_writes, same_stops}
 use Rattle.play_report.proofs.transcript.write_part.Goals as goal
 
 pieces : (n : ℕ) (p : Part) → named_text (codes "warehouse ") n ++ (flat_map (λ (s : Said). printed_text (printed_of s)) p.said.items ++ named_text (codes "dropped ") p.dropped) ≡ outcome_text n (outcome_of p)

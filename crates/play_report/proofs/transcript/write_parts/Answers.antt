@@ -3,8 +3,7 @@ use Rattle.std.proofs.lemmas.List.{take_all}
 use Rattle.play_report.specs.declared.report.Part.{Part}
 use Rattle.play_report.specs.Report.{outcome_of}
 use Rattle.play_report.specs.Text.{numbered_texts, outcome_text, warehouses_text}
-use Rattle.play_report.proofs.Turns.{numbered-map}
-use Rattle.play_report.proofs.Writing.{same_writes}
+use Rattle.play_report.proofs.Turns.{numbered-map, same_writes}
 use Rattle.play_report.proofs.transcript.write_parts.Goals as goal
 
 -- the texts of the parts after section 0

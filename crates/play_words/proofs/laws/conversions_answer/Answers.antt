@@ -1,4 +1,4 @@
-use Rattle.play_words.proofs.Conversions.{conversions-answer}
+use Rattle.play_words.proofs.AlikeTexts.{conversions-answer}
 use Rattle.play_words.proofs.laws.conversions_answer.Goals as goal
 
 pub returns : goal.returns

@@ -1,4 +1,4 @@
-use Rattle.play_words.proofs.Conversions.{conversions-run-alike}
+use Rattle.play_words.proofs.AlikeTexts.{conversions-run-alike}
 use Rattle.play_words.proofs.laws.conversions_run_alike.Goals as goal
 
 pub returns : goal.returns

@@ -1,4 +1,4 @@
-use Rattle.play_words.proofs.Alike.{dumps-alike}
+use Rattle.play_words.proofs.Meant.{dumps-alike}
 use Rattle.play_words.proofs.laws.dumps_alike.Goals as goal
 
 pub returns : goal.returns

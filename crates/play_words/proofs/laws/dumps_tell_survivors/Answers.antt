@@ -6,9 +6,9 @@ use Rattle.plain_heap.specs.Sections.{Sections, section_numbers}
 use Rattle.plain_heap.specs.Paths.{Survivor}
 use Rattle.gc_script.specs.Faults.{Fault}
 use Rattle.gc_script.specs.Script.{Script, script}
-use Rattle.gc_script.proofs.Meant.{scripts-mean}
+use Rattle.gc_script.proofs.Meaning.{scripts-mean}
 use Rattle.play_report.specs.Text.{IsReportText, outcomes, survivor_text, survivors_text, warehouses_text}
-use Rattle.play_end.proofs.OneReport.{same-survivors}
+use Rattle.play_end.proofs.SectionLists.{same-survivors}
 use Rattle.heap_dump.specs.Final.{DumpedHeap, Object}
 use Rattle.heap_dump.specs.Reading.{first_dump_fault, heap_of_dump}
 use Rattle.heap_dump.specs.Spelling.{dump}

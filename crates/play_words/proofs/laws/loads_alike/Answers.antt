@@ -1,4 +1,4 @@
-use Rattle.play_words.proofs.Alike.{loads-alike}
+use Rattle.play_words.proofs.Meant.{loads-alike}
 use Rattle.play_words.proofs.laws.loads_alike.Goals as goal
 
 pub returns : goal.returns

@@ -1,4 +1,4 @@
-use Rattle.play_words.proofs.Alike.{runs-alike}
+use Rattle.play_words.proofs.Meant.{runs-alike}
 use Rattle.play_words.proofs.laws.runs_alike.Goals as goal
 
 pub returns : goal.returns

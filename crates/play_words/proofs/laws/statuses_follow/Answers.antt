@@ -1,4 +1,4 @@
-use Rattle.play_words.proofs.Following.{statuses-follow}
+use Rattle.play_words.proofs.Promised.{statuses-follow}
 use Rattle.play_words.proofs.laws.statuses_follow.Goals as goal
 
 pub returns : goal.returns

@@ -1,6 +1,6 @@
 use Rattle.std.proofs.Common.{◌≡◌, ◌∙◌, ℕ, List, ◌++◌, ap, ap₂, sym, subst, take-append-drop}
 use Rattle.std.specs.Io.KnownBytes.{Appends}
-use Rattle.play_report.proofs.Writing.{piece_turn, more_stopped}
+use Rattle.play_report.proofs.Turns.{piece_turn, more_stopped}
 use Rattle.play_words.proofs.lines.write_lines.Goals as goal
 
 pub loop-rest-preserved : goal.loop-rest-preserved

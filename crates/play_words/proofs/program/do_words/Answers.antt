@@ -4,7 +4,7 @@ use Rattle.std.specs.String.{string_bytes}
 use Rattle.command_words.specs.Commands.{command_of}
 use Rattle.play_words.specs.Answers.{IsAnswer}
 use Rattle.gc_play.specs.Promise.{wanted}
-use Rattle.gc_play.proofs.Ends.{command_ends, text_ends}
+use Rattle.gc_play.proofs.Taking.{command_ends, text_ends}
 use Rattle.play_words.proofs.Promised.{refusal}
 use Rattle.play_words.proofs.program.do_words.Goals as goal
 

@@ -1,5 +1,5 @@
 use Rattle.std.proofs.Common.{◌≡◌, ◌++◌, List, [], ℕ, append_assoc}
-use Rattle.play_report.proofs.Writing.{same_writes}
+use Rattle.play_report.proofs.Turns.{same_writes}
 use Rattle.schedule_check.specs.Text.{refused_text}
 use Rattle.schedule_check.proofs.writer.write_refused.Goals as goal
 

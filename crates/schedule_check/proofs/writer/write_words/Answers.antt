@@ -1,6 +1,6 @@
 use Rattle.std.proofs.Common.{◌≡◌, ◌++◌, List, ℕ, ap, codes}
 use Rattle.play_report.specs.Text.{named_text}
-use Rattle.play_report.proofs.Writing.{then_writes, stops_writes, same_writes, same_stops}
+use Rattle.play_report.proofs.Turns.{then_writes, stops_writes, same_writes, same_stops}
 use Rattle.schedule_check.proofs.writer.write_words.Goals as goal
 
 number : (n m : ℕ) (rest : List ℕ) → n ≡ m → named_text (codes "phase ") n ++ rest ≡ named_text (codes "phase ") m ++ rest

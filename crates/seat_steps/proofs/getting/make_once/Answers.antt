@@ -2,7 +2,7 @@ use Rattle.std.proofs.Common.{refl}
 use Rattle.gc_table.specs.Seats.{view_of}
 use Rattle.seat_steps.proofs.PaidCounts.{makes-counts, misses-counts}
 use Rattle.seat_steps.proofs.Doing.{makes-after}
-use Rattle.seat_steps.proofs.Made.{made-free}
+use Rattle.seat_steps.proofs.Filled.{made-free}
 use Rattle.seat_steps.proofs.getting.make_once.Goals as goal
 
 pub returns-in-Ok-clause-makes : goal.returns-in-Ok-clause-makes

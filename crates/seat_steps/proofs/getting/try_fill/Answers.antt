@@ -1,6 +1,6 @@
 use Rattle.seat_turns.proofs.Leaving.{leaves-spared}
 use Rattle.seat_steps.proofs.getting.try_fill.Goals as goal
-use Rattle.seat_steps.proofs.Tried.{fills-none, fills-some, fills-tries}
+use Rattle.seat_steps.proofs.Searched.{fills-none, fills-some, fills-tries}
 use Rattle.std.proofs.Common.{ap}
 use Rattle.gc_table.specs.Seats.{view_of}
 use Rattle.mark_core.specs.declared.seat.SeatState.{SeatState}

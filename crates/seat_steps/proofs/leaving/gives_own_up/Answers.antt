@@ -1,5 +1,5 @@
 use Rattle.gc_table.specs.Seats.{view_of}
-use Rattle.seat_steps.proofs.Tried.{own-cache}
+use Rattle.seat_steps.proofs.Searched.{own-cache}
 use Rattle.seat_steps.proofs.leaving.gives_own_up.Goals as goal
 
 pub returns-clause-gives : goal.returns-clause-gives

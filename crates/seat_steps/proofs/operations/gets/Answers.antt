@@ -1,7 +1,6 @@
 use Rattle.std.proofs.Common.{refl}
 use Rattle.plain_heap.specs.declared.operation.Op.TheVariants as ops
-use Rattle.seat_turns.proofs.Done.{turn-ready}
-use Rattle.seat_turns.proofs.Operating.{operated}
+use Rattle.seat_turns.proofs.Done.{turn-ready, operated}
 use Rattle.seat_steps.proofs.Doing.{alone-of, does-own}
 use Rattle.seat_steps.proofs.operations.gets.Goals as goal
 

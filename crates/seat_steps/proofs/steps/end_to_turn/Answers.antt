@@ -7,8 +7,8 @@ use Rattle.gc_cycle.specs.declared.counts.Counts.{Counts}
 use Rattle.gc_cycle.specs.Stepping.{EndsCollection}
 use Rattle.seat_turns.proofs.Leaving.{leaves-join}
 use Rattle.seat_steps.proofs.Found.{arrives-few}
-use Rattle.seat_steps.proofs.Kept.{Kept, course-kept, runs-again}
-use Rattle.seat_steps.proofs.Passes.{course-few}
+use Rattle.seat_steps.proofs.Sparing.{Kept, course-kept, runs-again}
+use Rattle.seat_steps.proofs.Amounts.{course-few}
 use Rattle.seat_steps.proofs.SinceAsked.{collects-all}
 use Rattle.seat_steps.proofs.Undrawn.{alone-apart}
 use Rattle.seat_steps.proofs.steps.end_to_turn.Goals as goal

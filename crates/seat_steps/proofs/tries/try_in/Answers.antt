@@ -2,7 +2,7 @@ use Rattle.seat_turns.proofs.Leaving.{leaves-spared}
 use Rattle.seat_steps.proofs.tries.try_in.Goals as goal
 use Rattle.std.specs.Prelude.{Some}
 use Rattle.gc_table.specs.Seats.{view_of}
-use Rattle.seat_steps.proofs.Tried.{has-section, tries-enter}
+use Rattle.seat_steps.proofs.Searched.{has-section, tries-enter}
 
 pub try_enter-requires-clause-section : goal.try_enter-requires-clause-section
 try_enter-requires-clause-section c = has-section (view_of c.args.seat.now).state.section (Some 1) c.requires.waits.mutator.section

@@ -1,6 +1,6 @@
 use Rattle.seat_turns.proofs.Leaving.{leaves-spared}
 use Rattle.seat_steps.proofs.tries.try_pass.Goals as goal
-use Rattle.seat_steps.proofs.Tried.{tries-pass}
+use Rattle.seat_steps.proofs.Searched.{tries-pass}
 use Rattle.gc_table.specs.Seats.{view_of}
 use Rattle.seat_steps.proofs.Found.{looks-by}
 

@@ -7,7 +7,7 @@ use Rattle.gc_table.specs.declared.view.View.{View}
 use Rattle.gc_table.proofs.Fitting.{possible-live}
 use Rattle.gc_table.proofs.Running.{ran-found}
 use Rattle.mutator_ops.proofs.Knowing.{knows-variable, may-read_ident}
-use Rattle.mutator_ops.proofs.ShareReady.{shares-on}
+use Rattle.mutator_ops.proofs.Storing.{shares-on}
 use Rattle.seat_turns.proofs.Done.{turn-shares, turn-shared}
 use Rattle.seat_turns.proofs.identity.identity_shared.Goals as goal
 

@@ -1,10 +1,9 @@
 use Rattle.gc_table.specs.Seats.{view_of}
 use Rattle.std.proofs.Common.{◌+◌, arith, Some}
-use Rattle.seat_turns.proofs.Done.{plays-creates, steps-creates}
+use Rattle.seat_turns.proofs.Done.{plays-creates, steps-creates, creating-spares, only-steps}
 use Rattle.seat_turns.proofs.Seats.{plays-turn, whole-cache}
 use Rattle.mutator_ops.proofs.Few.{at-most-steps, creating-long}
 use Rattle.seat_turns.specs.Sharing.{spares_tracers}
-use Rattle.seat_turns.proofs.Taking.{creating-spares, only-steps}
 use Rattle.seat_turns.proofs.operations.make_in.Goals as goal
 
 pub returns-clause-turn : goal.returns-clause-turn

@@ -3,11 +3,10 @@ use Rattle.plain_heap.specs.declared.operation.Op.TheVariants as ops
 use Rattle.gc_table.specs.Seats.{view_of}
 use Rattle.mutator_ops.specs.Doing.{seen}
 use Rattle.seat_turns.specs.Standing.{plain_of}
-use Rattle.seat_turns.proofs.Done.{alone-there, same-does, turn-does, turn-ready, value-read, value_said}
+use Rattle.seat_turns.proofs.Done.{alone-there, same-does, turn-does, turn-ready, value-read, value_said, only-steps, saying-spares}
 use Rattle.seat_turns.proofs.Uncatalogued.{sees-none}
 use Rattle.mutator_ops.proofs.Few.{at-most-steps, saying-long}
 use Rattle.seat_turns.specs.Sharing.{spares_tracers}
-use Rattle.seat_turns.proofs.Taking.{only-steps, saying-spares}
 use Rattle.seat_turns.proofs.operations.read_value.Goals as goal
 
 pub say-requires-clause-seat : goal.say-requires-clause-seat

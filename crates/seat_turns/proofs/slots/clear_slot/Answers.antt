@@ -8,7 +8,7 @@ use Rattle.gc_table.specs.Seats.{view_of}
 use Rattle.gc_table.specs.declared.view.View.{View}
 use Rattle.gc_table.proofs.History.Log.{events-after}
 use Rattle.gc_table.proofs.Running.{ran-stored}
-use Rattle.mutator_ops.proofs.ShareReady.{shares-on, state-kept, state-spilled}
+use Rattle.mutator_ops.proofs.Storing.{shares-on, state-kept, state-spilled}
 use Rattle.seat_turns.proofs.Done.{turn-shares, turn-shared}
 use Rattle.seat_turns.proofs.Clearing.{may-clear}
 use Rattle.seat_turns.proofs.slots.clear_slot.Goals as goal

@@ -12,7 +12,7 @@ use Rattle.gc_table.specs.declared.view.View.{View}
 use Rattle.gc_table.specs.Running.{Alone}
 use Rattle.gc_table.specs.Taking.{after, May}
 use Rattle.gc_table.proofs.Noticing.{known-here, knows-steady}
-use Rattle.stop_world.proofs.Phases.{phase-is}
+use Rattle.stop_world.proofs.Passing.{phase-is}
 use Rattle.test_heaps.specs.Seats.{MayBeginDrain}
 use Rattle.gc_table.specs.Seats.{view_of}
 use Rattle.test_heaps.proofs.draining.drains.Goals as goal

@@ -4,7 +4,7 @@ use Rattle.gc_table.specs.Seats.{view_of}
 use Rattle.packet_pools.specs.Seeking.{output_pools}
 use Rattle.packet_pools.specs.declared.held.Held.{Held}
 use Rattle.packet_pools.specs.Gains.{Takes}
-use Rattle.packet_pools.proofs.Choices.{if-none, if-some}
+use Rattle.packet_pools.proofs.Doing.{if-none, if-some}
 use Rattle.tracer.specs.Hands.{Carries, in_front, packets_of}
 use Rattle.tracer.proofs.Carried.{carries-free, deferred-first, packets-three, taken-either}
 use Rattle.tracer.proofs.deferring.take_deferring.Goals as goal

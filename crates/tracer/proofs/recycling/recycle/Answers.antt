@@ -11,10 +11,9 @@ use Rattle.gc_table.specs.Taking.{after, Finds}
 use Rattle.packet_pools.specs.Gains.{Gains}
 use Rattle.gc_table.specs.Log.{steps_of, events}
 use Rattle.packet_pools.specs.Seeking.{was_got_from}
-use Rattle.packet_pools.proofs.Choices.{traces-same}
+use Rattle.packet_pools.proofs.Doing.{traces-same, traced-look}
 use Rattle.packet_pools.proofs.Conditions.{may-look}
-use Rattle.packet_pools.proofs.Doing.{traced-look}
-use Rattle.packet_pools.proofs.InHand.{drop-with}
+use Rattle.packet_pools.proofs.Exchanged.{drop-with}
 use Rattle.packet_pools.proofs.TracedSteps.{traced-join}
 use Rattle.gc_table.proofs.History.Log.{entry_of, events-after, events-join}
 use Rattle.tracer.specs.Recycling.{is_settled, Recycles}

@@ -2,9 +2,8 @@ use Rattle.std.proofs.Common.{◌≤◌, ◌*◌, ap, sym, ◌∙◌, subst, ari
 use Rattle.mark_core.specs.Numbers.{deferred_pool_number, word_bits}
 use Rattle.mark_core.specs.declared.kinds.Shape.{Shape}
 use Rattle.mark_core.specs.declared.kinds.Step.TheVariants.{Look}
-use Rattle.packet_pools.proofs.Choices.{traces-same}
+use Rattle.packet_pools.proofs.Doing.{traces-same, traced-look}
 use Rattle.packet_pools.proofs.Conditions.{may-look}
-use Rattle.packet_pools.proofs.Doing.{traced-look}
 use Rattle.packet_pools.proofs.TracedSteps.{traced-join}
 use Rattle.gc_table.proofs.History.Log.{events-after, events-join}
 use Rattle.tracer.proofs.Recycled.{recycles-empty, recycles-join, recycles-look, idle-still}

@@ -3,7 +3,7 @@ use Rattle.std.specs.Prelude.{IsTrue}
 use Rattle.mark_core.specs.declared.kinds.Shape.{Shape}
 use Rattle.mark_core.specs.declared.seat.SeatState.{SeatState}
 use Rattle.packet_pools.specs.Seeking.{NoInput, NoOutput, input_pools, only_moves, output_pools}
-use Rattle.packet_pools.proofs.Choices.{if-none, if-some}
+use Rattle.packet_pools.proofs.Doing.{if-none, if-some}
 use Rattle.packet_pools.proofs.TracedSteps.{traced-join}
 use Rattle.gc_table.proofs.History.Log.{events-join}
 use Rattle.packet_pools.proofs.Searches.{moves-join}

@@ -7,7 +7,7 @@ use Rattle.gc_cycle.specs.declared.counts.Safe.TheVariants as safes
 use Rattle.warehouse.specs.Commands.{DoesOne}
 use Rattle.warehouse.proofs.Collecting.{collects-full, collects-going, counted_up, no-cache-left}
 use Rattle.warehouse.proofs.Pacing.{paces-collected}
-use Rattle.warehouse.proofs.Retirings.{retired-stays, retired-waits}
+use Rattle.warehouse.proofs.InTheStop.{retired-stays, retired-waits}
 use Rattle.warehouse.proofs.commands.collect_now.Goals as goal
 
 pub overflow_add-mutator : goal.overflow_add-mutator

@@ -4,7 +4,7 @@ use Rattle.std.proofs.lemmas.Bool.{OnFalse_at, OnFalse_from, OnTrue_at, OnTrue_f
 use Rattle.gc_script.specs.Shown.{execution_of}
 use Rattle.gc_table.specs.Seats.{view_of}
 use Rattle.mark_core.specs.Seats.{has_turn}
-use Rattle.warehouse.proofs.Acting.{waits-ran}
+use Rattle.warehouse.proofs.Leavings.{waits-ran}
 use Rattle.warehouse.proofs.Coming.{at-later, comes-going, next-moved, own-turn, stops-later}
 use Rattle.warehouse.proofs.Fulls.{counted-kept}
 use Rattle.warehouse.proofs.commands.come_to.Goals as goal

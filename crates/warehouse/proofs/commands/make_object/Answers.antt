@@ -9,7 +9,7 @@ use Rattle.warehouse.proofs.commands.make_object.Goals as goal
 use Rattle.warehouse.proofs.Commanding.{command-new}
 use Rattle.mark_core.specs.declared.kinds.Shape.{Shape}
 use Rattle.gc_table.proofs.Running.{ran-shape}
-use Rattle.warehouse.proofs.Makings.{acts-new, made-new, mutates-new, printed-later}
+use Rattle.warehouse.proofs.Collecting.{acts-new, made-new, mutates-new, printed-later}
 
 pub create-requires-clause-room : goal.create-requires-clause-room
 create-requires-clause-room c =

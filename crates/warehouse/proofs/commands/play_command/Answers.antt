@@ -1,7 +1,7 @@
 use Rattle.std.proofs.lemmas.Bool.{OnFalse_at, OnFalse_from, OnTrue_at, OnTrue_from}
 use Rattle.gc_script.specs.Shown.{execution_of}
 use Rattle.warehouse.proofs.commands.play_command.Goals as goal
-use Rattle.warehouse.proofs.CommandEnds.{plays-from, stops-from}
+use Rattle.warehouse.proofs.Leavings.{plays-from, stops-from}
 
 pub returns-clause-plays : goal.returns-clause-plays
 returns-clause-plays g c =

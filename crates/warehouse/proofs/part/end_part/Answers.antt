@@ -4,8 +4,7 @@ use Rattle.gc_table.specs.declared.view.View.{View}
 use Rattle.warehouse.proofs.Coming.{room-moved, says-moved}
 use Rattle.warehouse.proofs.Leavings.{counted-stays, leaves-calm, leaves-counted, leaves-join, leaves-waits}
 use Rattle.warehouse.proofs.Pacing.{paces-out}
-use Rattle.warehouse.proofs.Retirings.{retired-stays, retired-waits}
-use Rattle.warehouse.proofs.Sparings.{stays-join, stays-spared}
+use Rattle.warehouse.proofs.InTheStop.{retired-stays, retired-waits, stays-join, stays-spared}
 use Rattle.warehouse.proofs.part.end_part.Goals as goal
 
 pub returns : goal.returns

@@ -8,7 +8,7 @@ use Rattle.warehouse.proofs.Coming.{moved, room-moved, says-moved}
 use Rattle.warehouse.proofs.Leavings.{full-left, leaves-calm}
 use Rattle.warehouse.proofs.Pacing.{paces-out}
 use Rattle.warehouse.proofs.Parting.{begins-may, begins-playing, part-done, part-full}
-use Rattle.warehouse.proofs.Sparings.{stays-spared, waits-calm}
+use Rattle.warehouse.proofs.InTheStop.{stays-spared, waits-calm}
 use Rattle.warehouse.proofs.part.play_part.Goals as goal
 
 pub go_in-requires-clause-section : goal.go_in-requires-clause-section

@@ -1,8 +1,7 @@
 use Rattle.std.proofs.Common.{◌∙◌, refl, sym}
 use Rattle.gc_table.specs.Seats.{view_of}
 use Rattle.mark_core.specs.declared.kinds.Phase.TheVariants.{Full, Idle, Marking}
-use Rattle.warehouse.proofs.Pacing.{ends-both, ends-cycle}
-use Rattle.warehouse.proofs.PacedTurns.{read-paces}
+use Rattle.warehouse.proofs.Pacing.{ends-both, ends-cycle, read-paces}
 use Rattle.warehouse.proofs.Stopping.{ends-after, finishes-unhelped}
 use Rattle.warehouse.proofs.InTheStop.{idle-left, ends-read, read-alone, read-phase, read-rest}
 use Rattle.warehouse.proofs.season.end_cycle.Goals as goal

@@ -1,6 +1,5 @@
 use Rattle.gc_table.specs.Seats.{view_of}
-use Rattle.warehouse.proofs.Pacing.{ends-both}
-use Rattle.warehouse.proofs.PacedTurns.{turned-paces}
+use Rattle.warehouse.proofs.Pacing.{ends-both, turned-paces}
 use Rattle.warehouse.proofs.Turned.{asked-turn, ends-done, ends-full, may-turn}
 use Rattle.warehouse.proofs.season.end_turn.Goals as goal
 

@@ -1,5 +1,5 @@
 use Rattle.gc_table.specs.Seats.{view_of}
-use Rattle.warehouse.proofs.PacedTurns.{left-paces}
+use Rattle.warehouse.proofs.Pacing.{left-paces}
 use Rattle.warehouse.proofs.Stopping.{leaves-stop, left-out}
 use Rattle.gc_cycle.proofs.Stops.OutAndIn.{free-to-leave}
 use Rattle.std.proofs.Common.{sym, subst, ◌≡◌, true}

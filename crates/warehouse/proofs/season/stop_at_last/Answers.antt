@@ -6,9 +6,8 @@ use Rattle.gc_table.proofs.History.Log.{only-none}
 use Rattle.gc_table.proofs.Running.{ran-refl}
 use Rattle.stop_world.proofs.Flagged.{yours-free}
 use Rattle.gc_cycle.specs.Sparing.{spares_part}
-use Rattle.warehouse.proofs.Pacing.{ends-calm, ends-same}
-use Rattle.warehouse.proofs.PacedTurns.{asked-paces, watched-paces}
-use Rattle.warehouse.proofs.Seasons.{spared-keeps, spared-turns}
+use Rattle.warehouse.proofs.Pacing.{ends-calm, ends-same, asked-paces, watched-paces}
+use Rattle.warehouse.proofs.InTheStop.{spared-keeps, spared-turns}
 use Rattle.warehouse.proofs.Stopping.{raise-unaware, calm-spares, stops-at, theirs-keeps, theirs-out, theirs-seasons, theirs-turns}
 use Rattle.warehouse.proofs.season.stop_at_last.Goals as goal
 

@@ -8,13 +8,12 @@ use Rattle.mark_core.specs.Seats.{has_turn}
 use Rattle.mark_core.specs.declared.kinds.Shape.{Shape}
 use Rattle.cache_refills.specs.Stops.{stops_with_cause}
 use Rattle.gc_cycle.specs.Answering.{HasCache}
-use Rattle.warehouse.proofs.Acting.{waits-join, waits-ran}
+use Rattle.warehouse.proofs.Leavings.{waits-join, waits-ran}
 use Rattle.warehouse.proofs.Causes.{waits-caused}
 use Rattle.warehouse.proofs.Fulls.{counted-kept, finds-after, finds-later}
 use Rattle.warehouse.proofs.Pacing.{paces-refilled}
 use Rattle.warehouse.proofs.Readying.{ready-after, ready-waits}
-use Rattle.warehouse.proofs.Retirings.{retired-stays, retired-waits}
-use Rattle.warehouse.proofs.Sparings.{stays-join, stays-none, stays-spared, waits-none}
+use Rattle.warehouse.proofs.InTheStop.{retired-stays, retired-waits, stays-join, stays-none, stays-spared, waits-none}
 use Rattle.warehouse.proofs.turn.await_cell.Goals as goal
 
 pub loop-init : goal.loop-init

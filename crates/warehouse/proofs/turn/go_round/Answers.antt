@@ -4,10 +4,9 @@ use Rattle.gc_table.specs.Seats.{view_of}
 use Rattle.alloc_cache.specs.declared.cache.Cache.{Cache}
 use Rattle.gc_cycle.specs.Answering.{HasCache}
 use Rattle.warehouse.proofs.turn.go_round.Goals as goal
-use Rattle.warehouse.proofs.Acting.{waits-join}
+use Rattle.warehouse.proofs.Leavings.{waits-join}
 use Rattle.warehouse.proofs.Pacing.{paces-out}
-use Rattle.warehouse.proofs.Retirings.{retired-stays, retired-waits}
-use Rattle.warehouse.proofs.Sparings.{stays-join, stays-spared, waits-calm}
+use Rattle.warehouse.proofs.InTheStop.{retired-stays, retired-waits, stays-join, stays-spared, waits-calm}
 
 pub retire_some-requires-clause-cache : goal.retire_some-requires-clause-cache
 retire_some-requires-clause-cache g c = subst (λ o. HasCache o (view_of c.args.seat.now)) (sym c.take.ensures.value) c.requires.cache

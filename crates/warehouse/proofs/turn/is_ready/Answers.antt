@@ -6,11 +6,11 @@ use Rattle.gc_table.proofs.History.Log.{only-more}
 use Rattle.gc_cycle.specs.Mutating.{stays_calm}
 use Rattle.gc_cycle.specs.Sparing.{spares_part}
 use Rattle.gc_cycle.proofs.Refills.Collected.{calm-spares}
-use Rattle.warehouse.proofs.Acting.{waits-join}
+use Rattle.warehouse.proofs.Leavings.{waits-join}
 use Rattle.warehouse.proofs.Others.{has-cache}
 use Rattle.warehouse.proofs.Pacing.{paces-out}
 use Rattle.warehouse.proofs.Readying.{looks-cache, looks-mutates, looks-stays, looks-waits, reads-ready}
-use Rattle.warehouse.proofs.Sparings.{stays-join, stays-spared, waits-calm}
+use Rattle.warehouse.proofs.InTheStop.{stays-join, stays-spared, waits-calm}
 use Rattle.warehouse.proofs.turn.is_ready.Goals as goal
 
 pub returns-then-not-sees_clear-clause-cache : goal.returns-then-not-sees_clear-clause-cache

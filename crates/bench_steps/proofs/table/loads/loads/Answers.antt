@@ -2,7 +2,7 @@ use Rattle.std.proofs.Common.{refl}
 use Rattle.mark_core.specs.declared.kinds.Step.TheVariants.{ReadCount}
 use Rattle.bench_steps.specs.Records.{resting}
 use Rattle.bench_steps.specs.Taken.{a_load}
-use Rattle.bench_steps.proofs.Stepping.{at-after, takes-more}
+use Rattle.bench_steps.proofs.Makers.{at-after, takes-more}
 use Rattle.bench_steps.proofs.table.loads.loads.Goals as goal
 
 pub loop-round-preserved : goal.loop-round-preserved

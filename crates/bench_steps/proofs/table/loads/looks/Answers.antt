@@ -2,7 +2,7 @@ use Rattle.std.proofs.Common.{refl, ◌%◌}
 use Rattle.mark_core.specs.declared.kinds.Step.TheVariants.{ReadCard}
 use Rattle.bench_steps.specs.Records.{cards_in_all, resting}
 use Rattle.bench_steps.specs.Taken.{a_look}
-use Rattle.bench_steps.proofs.Stepping.{at-after, takes-more}
+use Rattle.bench_steps.proofs.Makers.{at-after, takes-more}
 use Rattle.bench_steps.proofs.table.loads.looks.Goals as goal
 
 pub loop-round-preserved : goal.loop-round-preserved

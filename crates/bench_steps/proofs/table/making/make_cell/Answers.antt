@@ -8,9 +8,7 @@ use Rattle.mark_core.specs.declared.seat.SeatState.{SeatState}
 use Rattle.plain_heap.specs.declared.operation.Op.TheVariants.{New}
 use Rattle.gc_table.specs.Seats.{view_of}
 use Rattle.bench_steps.specs.Making.{MayMakeCells, maker}
-use Rattle.bench_steps.proofs.Makers.{made-whole, made-some, four-at, asks-new, one-more}
-use Rattle.bench_steps.proofs.Stepping.{may-at, at-after}
-use Rattle.bench_steps.proofs.NewCells.{three_stored, identity-met, root-met, free-there, three-at}
+use Rattle.bench_steps.proofs.Makers.{made-whole, made-some, four-at, asks-new, one-more, may-at, at-after, three_stored, identity-met, root-met, free-there, three-at}
 use Rattle.bench_steps.proofs.table.making.make_cell.Goals as goal
 
 pub store_new-requires-clause-asked : goal.store_new-requires-clause-asked

@@ -1,7 +1,7 @@
 use Rattle.std.proofs.Common.{◌≡◌, sym, ap, refl, ◌∙◌, ◌==◌, length, arith}
 use Rattle.std.specs.Prelude.{vec_len}
 use Rattle.gc_script.specs.Content.{kept_shown}
-use Rattle.gc_script.proofs.Repeats.{settle_nothing}
+use Rattle.gc_script.proofs.Sectioning.{settle_nothing}
 use Rattle.gc_script.proofs.kept.Kept.settle.Goals as goal
 
 pub returns-then-is_empty : goal.returns-then-is_empty

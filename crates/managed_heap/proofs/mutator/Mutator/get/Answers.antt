@@ -1,7 +1,7 @@
 use Rattle.std.proofs.Common.{refl, rules}
 use Rattle.plain_heap.specs.declared.operation.Op.TheVariants as ops
 use Rattle.gc_table.specs.Seats.{view_of}
-use Rattle.seat_turns.proofs.Operating.{takes-spares}
+use Rattle.seat_turns.proofs.Done.{takes-spares}
 use Rattle.managed_heap.proofs.Doing.{done, ready}
 use Rattle.managed_heap.proofs.mutator.Mutator.get.Goals as goal
 

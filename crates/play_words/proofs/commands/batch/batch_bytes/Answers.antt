@@ -1,8 +1,8 @@
 use Rattle.command_words.specs.Commands.{options_of}
 use Rattle.job_pool.specs.Batch.{batch, batch_fault_of}
 use Rattle.play_words.specs.Batching.{BatchesTo, IsBatchAnswer, IsBatchFault}
-use Rattle.play_words.proofs.Batched.{fault_answer}
-use Rattle.gc_play.proofs.Ends.{other_ends, read_ends}
+use Rattle.play_words.proofs.Roomy.{fault_answer}
+use Rattle.gc_play.proofs.Taking.{other_ends, read_ends}
 use Rattle.play_words.proofs.commands.batch.batch_bytes.Goals as goal
 
 pub returns-in-Err : goal.returns-in-Err

@@ -1,7 +1,7 @@
 use Rattle.command_words.specs.Commands.{options_of}
 use Rattle.play_words.specs.Batching.{IsBatchAnswer}
 use Rattle.gc_play.proofs.Taking.{source_ends, source_spent}
-use Rattle.play_words.proofs.Wholes.{batch_of_whole}
+use Rattle.play_words.proofs.Dumped.{batch_of_whole}
 use Rattle.play_words.proofs.commands.batch.play_batch.Goals as goal
 
 pub returns-in-Ok-clause-ends : goal.returns-in-Ok-clause-ends

@@ -1,8 +1,8 @@
 use Rattle.std.proofs.Common.{Ok}
 use Rattle.command_words.specs.Commands.{options_of}
 use Rattle.play_words.specs.Batching.{BatchesTo}
-use Rattle.play_words.proofs.Batched.{jobs_answer}
-use Rattle.gc_play.proofs.Ends.{text_ends}
+use Rattle.play_words.proofs.Roomy.{jobs_answer}
+use Rattle.gc_play.proofs.Taking.{text_ends}
 use Rattle.play_words.proofs.commands.batch.play_jobs.Goals as goal
 
 pub returns-in-Ok : goal.returns-in-Ok

@@ -1,7 +1,7 @@
 use Rattle.job_pool.specs.Batch.{batch_fault_of}
 use Rattle.play_words.specs.Batching.{IsBatchFault}
-use Rattle.play_words.proofs.Batched.{fault_told}
-use Rattle.gc_play.proofs.Ends.{text_ends}
+use Rattle.play_words.proofs.Roomy.{fault_told}
+use Rattle.gc_play.proofs.Taking.{text_ends}
 use Rattle.play_words.proofs.commands.batch.tell_batch_fault.Goals as goal
 
 pub returns : goal.returns

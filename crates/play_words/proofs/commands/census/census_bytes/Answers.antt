@@ -1,6 +1,6 @@
 use Rattle.heap_dump.specs.Reading.{heap_of_dump}
 use Rattle.play_words.specs.Counting.{IsCensusAnswer, IsCensusText, IsCountOf}
-use Rattle.gc_play.proofs.Ends.{text_ends, other_ends}
+use Rattle.gc_play.proofs.Taking.{text_ends, other_ends}
 use Rattle.play_words.proofs.ReadDumps.{count_answer, read_fault}
 use Rattle.play_words.proofs.commands.census.census_bytes.Goals as goal
 

@@ -1,6 +1,6 @@
 use Rattle.play_words.specs.Counting.{IsCensusAnswer}
 use Rattle.gc_play.proofs.Taking.{source_ends, source_spent}
-use Rattle.play_words.proofs.Wholes.{census_of_whole}
+use Rattle.play_words.proofs.Dumped.{census_of_whole}
 use Rattle.play_words.proofs.commands.census.census_source.Goals as goal
 
 pub returns-in-Ok-clause-ends : goal.returns-in-Ok-clause-ends

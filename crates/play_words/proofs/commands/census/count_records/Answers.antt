@@ -1,7 +1,7 @@
 use Rattle.std.proofs.Common.{refl}
 use Rattle.heap_dump.specs.Reading.{heap_of_dump}
 use Rattle.play_words.specs.Counting.{IsCountOf}
-use Rattle.gc_play.proofs.Ends.{text_ends}
+use Rattle.gc_play.proofs.Taking.{text_ends}
 use Rattle.play_words.proofs.commands.census.count_records.Goals as goal
 
 pub returns-in-Ok : goal.returns-in-Ok

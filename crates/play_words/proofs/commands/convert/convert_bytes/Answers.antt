@@ -7,7 +7,7 @@ use Rattle.gc_play.specs.Ending.{IsFaultAnswer}
 use Rattle.play_words.specs.Converting.{ConvertsTo, IsConvertAnswer}
 use Rattle.gc_script.specs.Converting.{conversion_of}
 use Rattle.gc_script.specs.Shown.{fault_of}
-use Rattle.gc_play.proofs.Ends.{text_ends, other_ends}
+use Rattle.gc_play.proofs.Taking.{text_ends, other_ends}
 use Rattle.play_words.proofs.commands.convert.convert_bytes.Goals as goal
 
 -- What a conversion is answered, and a script with a fault in place of one.

@@ -1,6 +1,6 @@
 use Rattle.play_words.specs.Converting.{IsConvertAnswer}
 use Rattle.gc_play.proofs.Taking.{source_ends, source_spent}
-use Rattle.play_words.proofs.Wholes.{conversion_of_whole}
+use Rattle.play_words.proofs.Dumped.{conversion_of_whole}
 use Rattle.play_words.proofs.commands.convert.convert_source.Goals as goal
 
 pub returns-in-Ok-clause-ends : goal.returns-in-Ok-clause-ends

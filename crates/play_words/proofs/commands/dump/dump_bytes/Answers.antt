@@ -3,7 +3,7 @@ use Rattle.gc_script.specs.Shown.{fault_of}
 use Rattle.play_words.specs.Dumping.{IsDumpAnswer, DumpsTo}
 use Rattle.command_words.specs.Commands.{options_of}
 use Rattle.gc_play.specs.Ending.{IsFaultAnswer}
-use Rattle.gc_play.proofs.Ends.{other_ends, read_ends}
+use Rattle.gc_play.proofs.Taking.{other_ends, read_ends}
 use Rattle.play_words.proofs.ReadDumps.{dump_fault}
 use Rattle.play_words.proofs.commands.dump.dump_bytes.Goals as goal
 

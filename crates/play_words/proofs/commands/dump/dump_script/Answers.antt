@@ -2,7 +2,7 @@ use Rattle.std.proofs.Common.{inr}
 use Rattle.play_words.specs.Dumping.{EndsDoneOrFull, IsEndAnswer}
 use Rattle.gc_play.specs.Ending.{IsStopAnswer}
 use Rattle.command_words.specs.Commands.{options_of}
-use Rattle.gc_play.proofs.Ends.{other_ends}
+use Rattle.gc_play.proofs.Taking.{other_ends}
 use Rattle.gc_play.proofs.Plays.{stopped}
 use Rattle.play_words.proofs.ReadDumps.{dump_answer}
 use Rattle.play_words.proofs.commands.dump.dump_script.Goals as goal

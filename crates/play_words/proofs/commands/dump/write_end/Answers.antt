@@ -1,6 +1,6 @@
 use Rattle.std.proofs.Common.{refl}
 use Rattle.play_words.specs.Dumping.{IsEndAnswer}
-use Rattle.gc_play.proofs.Ends.{kept, text_ends}
+use Rattle.gc_play.proofs.Taking.{kept, text_ends}
 use Rattle.play_words.proofs.ReadDumps.{end_answer}
 use Rattle.play_words.proofs.commands.dump.write_end.Goals as goal
 

@@ -1,6 +1,6 @@
 use Rattle.std.proofs.Common.{refl, ◌∙◌}
 use Rattle.play_words.specs.Generating.{IsGenAnswer}
-use Rattle.gc_play.proofs.Ends.{text_ends}
+use Rattle.gc_play.proofs.Taking.{text_ends}
 use Rattle.play_words.proofs.commands.generate.write_generated.Goals as goal
 
 pub returns-in-Ok : goal.returns-in-Ok

@@ -1,7 +1,7 @@
 use Rattle.gc_script.specs.Script.{script}
 use Rattle.play_words.specs.Loading.{LoadsTo}
 use Rattle.command_words.specs.Commands.{options_of}
-use Rattle.gc_play.proofs.Ends.{read_ends}
+use Rattle.gc_play.proofs.Taking.{read_ends}
 use Rattle.play_words.proofs.commands.load.load_bytes.Goals as goal
 
 pub returns-in-Ok : goal.returns-in-Ok

@@ -2,10 +2,9 @@ use Rattle.std.proofs.Common.{Ok, arith, inr}
 use Rattle.play_words.specs.Loading.{LoadsTo}
 use Rattle.command_words.specs.Commands.{options_of}
 use Rattle.gc_play.specs.Ending.{IsStopAnswer}
-use Rattle.gc_play.proofs.Ends.{other_ends, text_ends}
-use Rattle.play_words.proofs.LoadFits.{lines_fit, few_survivors}
+use Rattle.gc_play.proofs.Taking.{other_ends, text_ends}
+use Rattle.play_words.proofs.LoadFits.{lines_fit, few_survivors, five_answer}
 use Rattle.gc_play.proofs.Plays.{stopped}
-use Rattle.play_words.proofs.LoadText.{five_answer}
 use Rattle.play_words.proofs.commands.load.load_script.Goals as goal
 
 pub returns-in-Err : goal.returns-in-Err

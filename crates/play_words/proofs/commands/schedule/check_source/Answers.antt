@@ -1,6 +1,6 @@
 use Rattle.schedule_check.specs.Telling.{IsScheduleAnswer}
 use Rattle.gc_play.proofs.Taking.{source_ends, source_spent}
-use Rattle.play_words.proofs.Wholes.{schedule_of_whole}
+use Rattle.play_words.proofs.Dumped.{schedule_of_whole}
 use Rattle.play_words.proofs.commands.schedule.check_source.Goals as goal
 
 pub returns-in-Ok-clause-ends : goal.returns-in-Ok-clause-ends

@@ -1,6 +1,6 @@
 use Rattle.std.proofs.Common.{refl}
 use Rattle.play_words.specs.Undumping.{IsUndumpAnswer, IsUndumpText}
-use Rattle.gc_play.proofs.Ends.{text_ends}
+use Rattle.gc_play.proofs.Taking.{text_ends}
 use Rattle.play_words.proofs.ReadDumps.{read_fault, read_done}
 use Rattle.play_words.proofs.commands.undump.undump_bytes.Goals as goal
 

@@ -1,6 +1,6 @@
 use Rattle.play_words.specs.Undumping.{IsUndumpAnswer}
 use Rattle.gc_play.proofs.Taking.{source_ends, source_spent}
-use Rattle.play_words.proofs.Wholes.{undump_of_whole}
+use Rattle.play_words.proofs.Dumped.{undump_of_whole}
 use Rattle.play_words.proofs.commands.undump.undump_source.Goals as goal
 
 pub returns-in-Ok-clause-ends : goal.returns-in-Ok-clause-ends

@@ -6,9 +6,8 @@ use Rattle.mutator_ops.specs.Few.{AtMost}
 use Rattle.seat_turns.proofs.Leaving.{leaves-join}
 use Rattle.seat_steps.specs.Asked.{MarksSinceAsked, WaitsSinceAsked}
 use Rattle.seat_steps.specs.declared.stepper.Stage.TheVariants as stages
-use Rattle.seat_steps.proofs.Amounts.{few-join, looks-once, out-few, stopped-few}
-use Rattle.seat_steps.proofs.Kept.{Kept, course-kept, goes-on, keeps-all, kept-join, looks-kept, runs-again, sits-in, sits-on}
-use Rattle.seat_steps.proofs.Passes.{course-few, sees-first}
+use Rattle.seat_steps.proofs.Amounts.{few-join, looks-once, out-few, stopped-few, course-few, sees-first}
+use Rattle.seat_steps.proofs.Sparing.{Kept, course-kept, goes-on, keeps-all, kept-join, looks-kept, runs-again, sits-in, sits-on}
 use Rattle.seat_steps.proofs.ReadFull.{begins-full}
 use Rattle.seat_steps.proofs.SinceAsked.{marks-begun, waits-looked}
 use Rattle.seat_steps.proofs.Stages.{bounded-on, step-on}

@@ -22,8 +22,8 @@ use Rattle.seat_steps.specs.Collecting.{Collects}
 use Rattle.gc_cycle.specs.Stepping.{Drains}
 use Rattle.seat_steps.specs.Steps.{cards_left}
 use Rattle.seat_steps.specs.declared.stepper.Stage.TheVariants as stages
-use Rattle.seat_steps.proofs.Kept.{Kept, goes-on, keeps-all, part-kept, sits-in}
-use Rattle.seat_steps.proofs.Passes.{all-left, as-many, cards-small, drain-few, few-of}
+use Rattle.seat_steps.proofs.Sparing.{Kept, goes-on, keeps-all, part-kept, sits-in}
+use Rattle.seat_steps.proofs.Amounts.{all-left, as-many, cards-small, drain-few, few-of}
 use Rattle.seat_steps.proofs.SinceAsked.{marks-on}
 use Rattle.seat_steps.proofs.Stages.{bounded-on, step-on}
 use Rattle.seat_steps.proofs.stepper.Stepper.clean.Goals as goal

@@ -9,16 +9,15 @@ use Rattle.packet_pools.specs.Counts.{count_of}
 use Rattle.gc_cycle.specs.Sorts.{draws_block}
 use Rattle.gc_cycle.proofs.Stops.Admitted.{count-run}
 use Rattle.gc_cycle.specs.Pieces.{stretches_in}
-use Rattle.gc_cycle.proofs.CourseSteps.{part-unpopped}
+use Rattle.gc_cycle.proofs.Changes.{part-unpopped}
 use Rattle.mutator_ops.specs.Few.{AtMost}
 use Rattle.mutator_ops.proofs.Few.{at-most-join}
 use Rattle.seat_steps.specs.Amounts.{PassesFew}
 use Rattle.seat_steps.specs.Bounds.{clearing_steps}
 use Rattle.seat_steps.specs.Steps.{draws_for, shape_of}
 use Rattle.seat_steps.specs.declared.stepper.Stage.TheVariants as stages
-use Rattle.seat_steps.proofs.Amounts.{all-told, pops-join, unpopped}
-use Rattle.seat_steps.proofs.Kept.{Kept, course-kept, goes-on, keeps-all, kept-join, part-kept, sits-in}
-use Rattle.seat_steps.proofs.Passes.{fewer-of, sees-first}
+use Rattle.seat_steps.proofs.Amounts.{all-told, pops-join, unpopped, fewer-of, sees-first}
+use Rattle.seat_steps.proofs.Sparing.{Kept, course-kept, goes-on, keeps-all, kept-join, part-kept, sits-in}
 use Rattle.seat_steps.proofs.SinceAsked.{clears-on, marks-again}
 use Rattle.seat_steps.proofs.Stages.{bounded-on, step-on}
 use Rattle.seat_steps.proofs.stepper.Stepper.clear.Goals as goal

@@ -13,8 +13,8 @@ use Rattle.seat_steps.specs.Asked.{CountsSinceAsked}
 use Rattle.seat_steps.specs.Collecting.{Collects}
 use Rattle.seat_steps.specs.Steps.{blocks_left}
 use Rattle.seat_steps.specs.declared.stepper.Stage.TheVariants as stages
-use Rattle.seat_steps.proofs.Kept.{Kept, goes-on, keeps-all, part-kept, sits-in}
-use Rattle.seat_steps.proofs.Passes.{all-left, as-many, blocks-small, count-few}
+use Rattle.seat_steps.proofs.Sparing.{Kept, goes-on, keeps-all, part-kept, sits-in}
+use Rattle.seat_steps.proofs.Amounts.{all-left, as-many, blocks-small, count-few}
 use Rattle.seat_steps.proofs.SinceAsked.{counts-on}
 use Rattle.seat_steps.proofs.Stages.{bounded-on, step-on}
 use Rattle.seat_steps.proofs.stepper.Stepper.count.Goals as goal

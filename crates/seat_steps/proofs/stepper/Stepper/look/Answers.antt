@@ -12,10 +12,9 @@ use Rattle.seat_steps.specs.Amounts.{DoesFew}
 use Rattle.seat_steps.specs.Asked.{MarksSinceAsked}
 use Rattle.seat_steps.specs.Collecting.{Collects}
 use Rattle.seat_steps.specs.declared.stepper.Stage.TheVariants as stages
-use Rattle.seat_steps.proofs.Amounts.{few-join, looks-neither, move-few, reads-few}
-use Rattle.seat_steps.proofs.Kept.{Kept, goes-on, keeps-all, kept-join, move-kept, part-kept, sits-in}
+use Rattle.seat_steps.proofs.Amounts.{few-join, looks-neither, move-few, reads-few, cards-small}
+use Rattle.seat_steps.proofs.Sparing.{Kept, goes-on, keeps-all, kept-join, move-kept, part-kept, sits-in}
 use Rattle.seat_steps.proofs.LookedAt.{all-empty, cards-left, packet-left}
-use Rattle.seat_steps.proofs.Passes.{cards-small}
 use Rattle.seat_steps.proofs.SinceAsked.{clears-begun, marks-on, sweeps-begun}
 use Rattle.seat_steps.proofs.Stages.{bounded-on, step-on}
 use Rattle.seat_steps.proofs.stepper.Stepper.look.Goals as goal

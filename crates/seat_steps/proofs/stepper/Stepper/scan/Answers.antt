@@ -16,8 +16,8 @@ use Rattle.seat_steps.specs.Collecting.{Collects}
 use Rattle.seat_steps.specs.Passes.{SeesRoots}
 use Rattle.seat_steps.specs.Steps.{roots_left}
 use Rattle.seat_steps.specs.declared.stepper.Stage.TheVariants as stages
-use Rattle.seat_steps.proofs.Kept.{Kept, goes-on, keeps-all, part-kept, sits-in}
-use Rattle.seat_steps.proofs.Passes.{all-left, as-many, drain-few, few-of, roots-small, sees-so}
+use Rattle.seat_steps.proofs.Sparing.{Kept, goes-on, keeps-all, part-kept, sits-in}
+use Rattle.seat_steps.proofs.Amounts.{all-left, as-many, drain-few, few-of, roots-small, sees-so}
 use Rattle.seat_steps.proofs.SinceAsked.{marks-on}
 use Rattle.seat_steps.proofs.Stages.{bounded-on, step-on}
 use Rattle.seat_steps.proofs.stepper.Stepper.scan.Goals as goal

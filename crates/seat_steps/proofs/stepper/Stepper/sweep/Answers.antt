@@ -12,7 +12,7 @@ use Rattle.gc_cycle.specs.Sorts.{draws_block}
 use Rattle.gc_cycle.proofs.Ends.Completing.{freed-move, freed-run}
 use Rattle.gc_cycle.proofs.Stops.Admitted.{count-run}
 use Rattle.gc_cycle.specs.Pieces.{stretches_in}
-use Rattle.gc_cycle.proofs.CourseSteps.{part-unpopped}
+use Rattle.gc_cycle.proofs.Changes.{part-unpopped}
 use Rattle.mutator_ops.specs.Few.{AtMost}
 use Rattle.mutator_ops.proofs.Few.{at-most-join}
 use Rattle.seat_steps.specs.Amounts.{PassesFew}
@@ -20,9 +20,8 @@ use Rattle.seat_steps.specs.Asked.{SweepsSinceAsked}
 use Rattle.seat_steps.specs.Bounds.{sweeping_steps}
 use Rattle.seat_steps.specs.Steps.{draws_for, shape_of}
 use Rattle.seat_steps.specs.declared.stepper.Stage.TheVariants as stages
-use Rattle.seat_steps.proofs.Amounts.{move-few, pops-join, unpopped}
-use Rattle.seat_steps.proofs.Kept.{Kept, goes-on, keeps-all, kept-join, move-kept, part-kept, sits-in}
-use Rattle.seat_steps.proofs.Passes.{fewer-of}
+use Rattle.seat_steps.proofs.Amounts.{move-few, pops-join, unpopped, fewer-of}
+use Rattle.seat_steps.proofs.Sparing.{Kept, goes-on, keeps-all, kept-join, move-kept, part-kept, sits-in}
 use Rattle.seat_steps.proofs.SinceAsked.{counts-begun, sweeps-on}
 use Rattle.seat_steps.proofs.Stages.{bounded-on, step-on}
 use Rattle.seat_steps.proofs.stepper.Stepper.sweep.Goals as goal

@@ -17,8 +17,8 @@ use Rattle.seat_steps.specs.Bounds.{tracing_steps}
 use Rattle.seat_steps.specs.Collecting.{Collects}
 use Rattle.seat_steps.specs.Passes.{TracesFor}
 use Rattle.seat_steps.specs.declared.stepper.Stage.TheVariants as stages
-use Rattle.seat_steps.proofs.Kept.{Kept, goes-on, keeps-all, part-kept, sits-in}
-use Rattle.seat_steps.proofs.Passes.{drain-draws-none, traced-more}
+use Rattle.seat_steps.proofs.Sparing.{Kept, goes-on, keeps-all, part-kept, sits-in}
+use Rattle.seat_steps.proofs.Amounts.{drain-draws-none, traced-more}
 use Rattle.seat_steps.proofs.SinceAsked.{marks-on}
 use Rattle.seat_steps.proofs.Stages.{bounded-on, step-on}
 use Rattle.seat_steps.proofs.stepper.Stepper.trace.Goals as goal

@@ -1,5 +1,5 @@
 use Rattle.gc_table.specs.Seats.{view_of}
-use Rattle.cache_refills.proofs.Kicking.{may-try}
+use Rattle.cache_refills.proofs.Due.{may-try}
 use Rattle.test_collector.proofs.tests.seasons.try_marking.Goals as goal
 
 pub store_phase-requires-clause-may : goal.store_phase-requires-clause-may

@@ -4,7 +4,7 @@ use Rattle.mark_core.specs.declared.seat.SeatState.{SeatState}
 use Rattle.gc_table.specs.declared.view.View.{View}
 use Rattle.gc_table.specs.Seats.{view_of}
 use Rattle.packet_pools.specs.declared.held.Held.{Held}
-use Rattle.packet_pools.proofs.InHand.{drop-with}
+use Rattle.packet_pools.proofs.Exchanged.{drop-with}
 use Rattle.test_operations.proofs.tests.pools.exchange.Goals as goal
 
 pub returns-in-Some-clause-state : goal.returns-in-Some-clause-state

@@ -1,7 +1,6 @@
 use Rattle.std.proofs.Common.{sym, ◌∙◌}
 use Rattle.gc_table.specs.Seats.{view_of}
-use Rattle.test_table.proofs.Making.{may-be-named, ready-named, made-last, below-variables, asked-new}
-use Rattle.test_table.proofs.Owned.{own-named}
+use Rattle.test_table.proofs.Owned.{may-be-named, ready-named, made-last, below-variables, asked-new, own-named}
 use Rattle.test_table.proofs.tests.cells.name.Goals as goal
 
 pub store_root-requires-clause-may : goal.store_root-requires-clause-may

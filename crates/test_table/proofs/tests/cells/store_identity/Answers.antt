@@ -1,5 +1,5 @@
 use Rattle.std.proofs.Common.{sym, ◌∙◌}
-use Rattle.test_table.proofs.Making.{may-store}
+use Rattle.test_table.proofs.Owned.{may-store}
 use Rattle.test_table.proofs.tests.cells.store_identity.Goals as goal
 
 pub store_new-requires-clause-may : goal.store_new-requires-clause-may

@@ -2,7 +2,7 @@ use Rattle.std.proofs.Common.{ℕ, ◌≡◌, true, sym, ap, ◌∙◌}
 use Rattle.std.specs.Prelude.{nat_le}
 use Rattle.std.proofs.lemmas.Bool.{le-leb}
 use Rattle.mark_core.specs.declared.kinds.Shape.{Shape}
-use Rattle.test_table.proofs.Making.{may-store, ready-part}
+use Rattle.test_table.proofs.Owned.{may-store, ready-part}
 use Rattle.test_table.proofs.tests.cells.store_part.Goals as goal
 
 pub store_new-requires-clause-may : goal.store_new-requires-clause-may

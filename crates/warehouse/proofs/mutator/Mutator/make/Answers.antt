@@ -1,7 +1,7 @@
 use Rattle.std.proofs.Common.{◌≡◌, ◌≤◌, length, ap, arith}
 use Rattle.plain_heap.specs.Sections.{Execution, joined, made_by}
 use Rattle.std.proofs.Common.{List}
-use Rattle.warehouse.proofs.Lists.{made-most}
+use Rattle.warehouse.proofs.Going.{made-most}
 use Rattle.warehouse.proofs.mutator.Mutator.make.Goals as goal
 
 pub returns-in-Ok-with_capacity-clause-room : goal.returns-in-Ok-with_capacity-clause-room

@@ -1,5 +1,5 @@
-use Rattle.play_report.proofs.Writing.{then_writes, stops_writes, same_writes, same_stops}
-use Rattle.play_words.proofs.Batched.{job_pieces}
+use Rattle.play_report.proofs.Turns.{then_writes, stops_writes, same_writes, same_stops}
+use Rattle.play_words.proofs.Roomy.{job_pieces}
 use Rattle.play_words.proofs.commands.batch.text.write_job.Goals as goal
 
 pub returns-in-Ok : goal.returns-in-Ok

@@ -1,7 +1,7 @@
 use Rattle.std.proofs.Common.{◌≡◌, ap, ◌∙◌, List, length, arith}
 use Rattle.std.proofs.lemmas.List.{length-map}
 use Rattle.plain_heap.specs.Sections.{Sections, Parts, section_of, warehouse_numbers, warehouse_sections}
-use Rattle.plain_heap.proofs.Counted.{length-counted, section-count}
+use Rattle.plain_heap.proofs.Turns.{length-counted, section-count}
 use Rattle.play_words.proofs.commands.dump.ending.count_sections.Goals as goal
 
 -- How many sections there are.
