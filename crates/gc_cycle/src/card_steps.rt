@@ -20,8 +20,8 @@ ghost use Rattle.gc_cycle.specs.Pieces.{CleansCards, HasLooked, LooksAt, LooksFr
 ghost use Rattle.gc_cycle.specs.Stepping.{Drains, HasMarkedAll, IsExactSince, Keeps};
 
 use crate::pieces::at_most;
-use card_clean::{clean_some, dirty_between};
 use crate::tracing::{recycle_deferred, sees_all_empty, trace};
+use card_clean::{clean_some, dirty_between};
 use gc_table::{Heap, HeapSeat};
 use mark_core::CARD_CELLS;
 

@@ -17,8 +17,8 @@ ghost use Rattle.gc_cycle.specs.Statistics.{leaves_numbers};
 ghost use Rattle.gc_cycle.specs.Pieces.{HasCleared, IsAtClear};
 ghost use Rattle.gc_cycle.specs.Stepping.{HasMarkedAll, IsAtRoots, IsExactSince, Keeps};
 
-use crate::stepping::reset_blocks;
 use crate::clearing::{begin_again, begin_clear};
+use crate::stepping::reset_blocks;
 use gc_table::{Heap, HeapSeat};
 use sweeper::clear_marks_next;
 

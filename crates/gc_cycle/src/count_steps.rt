@@ -15,8 +15,8 @@ ghost use Rattle.gc_cycle.specs.Statistics.{leaves_numbers};
 ghost use Rattle.gc_cycle.specs.Pieces.{CountsFrom, HasCollectedSince, HasCounted};
 ghost use Rattle.gc_cycle.specs.Stepping.{EndsCollection, HasSwept, IsExactSince, Keeps, RunsAgain};
 
-use crate::pieces::at_most;
 use crate::counts::Counts;
+use crate::pieces::at_most;
 use crate::settling::{count_between, set_numbers};
 use crate::sweeping::end_sweep;
 use gc_table::{Heap, HeapSeat};

@@ -19,8 +19,8 @@ ghost use Rattle.gc_cycle.specs.Pieces.{SeesRootsFrom};
 ghost use Rattle.gc_cycle.specs.Stepping.{Drains, IsExactSince, Keeps};
 
 use crate::pieces::at_most;
-use card_clean::count_roots;
 use crate::roots::sees_to_some;
+use card_clean::count_roots;
 use gc_table::{Heap, HeapSeat};
 
 /// Marks what at most `most` roots from `from` on refer to, and answers how many: fewer only if none is left. None

@@ -28,6 +28,13 @@
 //!
 //! `specs/Turns.antt` says what a tracer's turn does and which is the last, and `specs/Traced.antt` that each seat
 //! traces so in each season until its parts were played.
+//!
+//! # The command `run`
+//!
+//! `run` reads a script, plays it, and writes the report; of `play` it knows only `PlayAnswers` of `play_end`. What
+//! the commands of `play_words` share with it stands here: how a source is read (`source`), how a command ends
+//! (`status`, `settling`), how a fault or a stop is told (`fault`, `stopped`), and the words of the command line
+//! (`words`).
 #![tactic(auto)]
 
 mod crew;

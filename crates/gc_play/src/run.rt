@@ -9,17 +9,17 @@ ghost use Rattle.gc_play.specs.Reading.{IsSpent, TakesAtMost};
 ghost use Rattle.play_report.specs.Causes.{AcrossSink};
 
 use crate::fault::tell_fault;
+use crate::playing::play;
 use crate::source::{SCRIPT, Unread, read_source};
 use crate::status::Status;
 use crate::stopped::tell_stop;
-use crate::playing::play;
-use crate::warehouse::Gate;
 use gc_script::{Script, ScriptError, read};
 use play_end::Options;
 use play_report::{Sink, Source, write_report};
 use std::alloc::Global;
 use std::sync::Wait;
 use std::thread::Threads;
+use warehouse::Gate;
 
 fn play_script<R: Threads + Wait + Sync, K: Sink, G: Gate + Sync>(
     rt: &R,

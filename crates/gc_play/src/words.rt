@@ -13,7 +13,6 @@ use crate::run::play_source;
 use crate::source::SCRIPT;
 use crate::status::Status;
 use command_words::{Asked, command_of};
-use crate::warehouse::Gate;
 use play_end::Options;
 use play_report::{Sink, Source, write_usage};
 use std::alloc::Global;
@@ -21,6 +20,7 @@ use std::env::Args;
 use std::io;
 use std::sync::Wait;
 use std::thread::Threads;
+use warehouse::Gate;
 
 /// The words behind the program's name; none if memory ran out or one isn't UTF-8.
 pub fn given_words(alloc: Global, given: io::Result<Args>) -> Option<Vec<String>>

@@ -11,9 +11,9 @@ ghost use Rattle.gc_script.specs.Shown.{execution_of};
 use crate::command::Command;
 use crate::context::{Context, Opened, assigned};
 use crate::found::Found;
-use plain_heap::{Op, OutOfMemory};
 use crate::label::Label;
 use crate::statement::{Spoken, Statement};
+use plain_heap::{Op, OutOfMemory};
 use std::alloc::Global;
 use std::mem;
 

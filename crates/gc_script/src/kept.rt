@@ -8,8 +8,8 @@ use crate::block::{Block, Part};
 use crate::command::Command;
 use crate::context::Context;
 use crate::found::Found;
-use plain_heap::OutOfMemory;
 use crate::statement::Statement;
+use plain_heap::OutOfMemory;
 use std::alloc::Global;
 use std::mem;
 

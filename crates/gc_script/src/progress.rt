@@ -8,10 +8,10 @@ ghost use Rattle.gc_script.specs.Content.{content_of, content_after, kept_shown}
 ghost use Rattle.gc_script.specs.Reading.{BodyAnswers};
 
 use crate::context::Context;
+use crate::cutting::take_words;
 use crate::found::Found;
 use crate::kept::Kept;
 use crate::script::ScriptError;
-use crate::cutting::take_words;
 use crate::statement::{Statement, statement_of};
 use std::alloc::Global;
 

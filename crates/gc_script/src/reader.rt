@@ -5,11 +5,11 @@ ghost use Rattle.gc_script.specs.Statement.{statement};
 ghost use Rattle.gc_script.specs.Script.{script, body, of_lines};
 ghost use Rattle.gc_script.specs.Finished.{ReadAnswers};
 
+use crate::cutting::take_words;
 use crate::finish::script_of;
+use crate::header::version;
 use crate::progress::read_lines;
 use crate::script::{Script, ScriptError};
-use crate::cutting::take_words;
-use crate::header::version;
 use crate::source::{first_foreign, text_of};
 use std::alloc::Global;
 

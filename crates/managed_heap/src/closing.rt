@@ -4,14 +4,14 @@ ghost use Rattle.std.specs.Arc.{arc_value};
 ghost use Rattle.managed_heap.specs.Closing.{AreAllThere, HasLeft, IsWorldEnd};
 ghost use Rattle.managed_heap.specs.WorldClosing.{IsUnclosed};
 
+use crate::gathered_close::{NotClosed, close_world};
+use crate::lent::{Lent, Opened};
 use crate::mutator::Mutator;
 use crate::world::World;
 use gc_table::{Heap, HeapSeat, Words};
 use seat_turns::Tracer;
 use std::alloc::Global;
 use std::sync::Arc;
-use crate::gathered_close::{NotClosed, close_world};
-use crate::lent::{Lent, Opened};
 
 impl Lent for Mutator {
     ghost heap_in = { λ m. arc_value m.heap };

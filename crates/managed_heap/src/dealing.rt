@@ -11,17 +11,17 @@ ghost use Rattle.managed_heap.specs.Gathering.{IsFirstSeat};
 ghost use Rattle.managed_heap.specs.WorldOpening.{AreNumbered};
 ghost use Rattle.managed_heap.specs.Sizing.{Fits};
 
+use crate::dealt_tracers::deal_tracers;
 use crate::mutator::{Mutator, Place};
 use crate::opening::{open, open_turn};
+use crate::sizes::Sizes;
+use crate::taking::first_of;
 use crate::world::World;
 use gc_table::{Heap, HeapSeat};
 use plain_heap::NoPlan;
 use seat_turns::NotOpened;
 use std::alloc::{AllocError, Global};
 use std::sync::Arc;
-use crate::dealt_tracers::deal_tracers;
-use crate::sizes::Sizes;
-use crate::taking::first_of;
 
 fn mutator_of(
     heap: &Arc<Heap, Global>,

@@ -14,13 +14,13 @@ ghost use Rattle.managed_heap.specs.Numbers.{ReadsStatistics};
 
 use crate::dealing::open_fitting;
 use crate::mutator::Mutator;
+use crate::numbers::{Statistics, read_statistics};
+use crate::sizes::Sizes;
 use crate::world::World;
 use gc_table::{Heap, HeapSeat};
 use mark_core::NAMED_SECTION;
 use seat_turns::{NotOpened, Tracer};
 use std::alloc::Global;
-use crate::numbers::{Statistics, read_statistics};
-use crate::sizes::Sizes;
 
 /// Which section found the heap full, by one read.
 fn read_named(heap: &Heap, seat: &mut HeapSeat) -> u64

@@ -45,9 +45,16 @@
 //! `world` has the heap with those of its mutators and tracers that nobody has, `lending` how they are taken and
 //! given back, and `closing` how a world hands out the run of its threads; `mutator` has the type, `calls` what a
 //! mutator does, and `reading` what it reads. Below them `opening` makes a heap, and `dealing` deals its seats out.
-//! What a mutator does with its seat is in `seat_turns`, and so is why a call did nothing. The sizes, and what
-//! either kind of world does with its seats, are in `world_seats`. A mutator that doesn't wait is in `seat_steps`,
-//! a tracer in `seat_turns`; `handing` turns a mutator into such a one and back, and `dismissing` ends the tracers.
+//! What a mutator does with its seat is in `seat_turns`, and so is why a call did nothing. A mutator that doesn't
+//! wait is in `seat_steps`, a tracer in `seat_turns`; `handing` turns a mutator into such a one and back, and
+//! `dismissing` ends the tracers.
+//!
+//! # What `shared_heap` takes of it
+//!
+//! A world of either kind lends what is [`Lent`]: a mutator or a tracer, which has a seat of the world's heap. The
+//! world is [`Opened`]: it has the heap and the seat of section 0. Both are in `lent`. `dealt_tracers` deals seats of
+//! a new heap out to tracers, `gathering` gathers the seats of what was handed in, and `gathered_close` closes the
+//! heap with them. `sizes` has a world's sizes, `numbers` reads its numbers, and `taking` takes the first of a list.
 #![tactic(auto)]
 
 ghost use Rattle.managed_heap.specs.Threads.{ThreadsRun};
@@ -83,7 +90,6 @@ pub use seat_turns::{NotOpened, Refused, Tracer, TryTurn, Turn};
 pub use sizes::Sizes;
 pub use taking::first_of;
 pub use world::World;
-pub use world_seats::{NotClosed, Sizes, Statistics, Unclosed};
 
 /// Whatever the threads of a closed world did is one run of the core, in which each thread's steps come in their
 /// order and nobody else takes part. No event of it frees a cell that is reachable just before.

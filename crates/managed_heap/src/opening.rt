@@ -13,13 +13,13 @@ ghost use Rattle.managed_heap.specs.Opening.{AreNew, Opens};
 ghost use Rattle.stop_world.specs.StopRecords.{flagged, stopped, KeepsMeaningAndPlan};
 ghost use Rattle.managed_heap.specs.Sizing.{Fits};
 
+use crate::sizes::Sizes;
 use gc_table::{Heap, HeapSeat};
 use mark_core::{Phase, Shape, usual_stretch};
 use plain_heap::NoPlan;
 use seat_turns::NotOpened;
 use std::alloc::Global;
 use stop_world::{Raised, leave, raise, resume};
-use crate::sizes::Sizes;
 
 /// A section for each mutator besides section 0, which is the catalogue's and has nothing to do.
 fn shape_of(sizes: &Sizes) -> Shape

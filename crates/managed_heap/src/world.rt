@@ -6,11 +6,11 @@ ghost use Rattle.managed_heap.specs.Gathering.{IsFirstSeat};
 ghost use Rattle.seat_turns.specs.Standing.{RestsOutside};
 
 use crate::mutator::Mutator;
+use crate::sizes::Sizes;
 use gc_table::{Heap, HeapSeat};
 use seat_turns::Tracer;
 use std::alloc::Global;
 use std::sync::Arc;
-use crate::sizes::Sizes;
 
 /// A heap that threads share, with those of its mutators and tracers that nobody has taken.
 #[derive(Drop)]

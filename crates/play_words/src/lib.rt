@@ -11,10 +11,10 @@ mod laws;
 mod lines;
 mod program;
 
+pub use gc_play::{given_words, settle};
 pub use laws::{
     answers_follow, conversions_answer, conversions_run_alike, dumps_alike, dumps_are_reached,
     dumps_tell_survivors, final_heaps_are_reached, loads_alike, one_final_heap, runs_alike,
     statuses_follow,
 };
-pub use gc_play::{given_words, settle};
 pub use program::play_words;

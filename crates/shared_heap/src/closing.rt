@@ -7,10 +7,10 @@ ghost use Rattle.managed_heap.specs.WorldClosing.{IsUnclosed};
 use crate::mutator::SharedMutator;
 use crate::world::SharedWorld;
 use gc_table::{Heap, HeapSeat, Words};
+use managed_heap::{Lent, NotClosed, Opened, close_world};
 use seat_turns::Tracer;
 use std::alloc::Global;
 use std::sync::Arc;
-use managed_heap::{Lent, NotClosed, Opened, close_world};
 
 impl Lent for SharedMutator {
     ghost heap_in = { λ m. arc_value m.heap };

@@ -14,10 +14,10 @@ use crate::opening::{open, open_turn};
 use crate::planning::RootPlan;
 use crate::world::SharedWorld;
 use gc_table::{Heap, HeapSeat};
+use managed_heap::{Sizes, deal_tracers, first_of};
 use seat_turns::NotOpened;
 use std::alloc::{AllocError, Global};
 use std::sync::Arc;
-use managed_heap::{Sizes, deal_tracers, first_of};
 
 fn mutator_of(
     heap: &Arc<Heap, Global>,

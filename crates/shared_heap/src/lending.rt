@@ -12,9 +12,9 @@ ghost use Rattle.managed_heap.specs.Numbers.{ReadsStatistics};
 use crate::dealing::open_fitting;
 use crate::mutator::SharedMutator;
 use crate::world::SharedWorld;
+use managed_heap::{Sizes, Statistics, first_of, read_statistics};
 use seat_turns::NotOpened;
 use std::alloc::Global;
-use managed_heap::{Sizes, Statistics, first_of, read_statistics};
 
 impl SharedWorld {
     /// A world of these sizes with its root, an object with value 0 whose references refer to nothing. It is

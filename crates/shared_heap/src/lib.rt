@@ -49,12 +49,12 @@ mod tracing;
 mod world;
 
 pub use gc_table::Words;
+pub use managed_heap::{NotClosed, Sizes as SharedSizes, Statistics as SharedStatistics, Unclosed};
 pub use mutator::{Place, SharedMutator};
 pub use reading::root_value;
 pub use seat_steps::{Came, Stage, Stepper};
 pub use seat_turns::{NotOpened, Refused, Tracer, TryTurn, Turn};
 pub use world::SharedWorld;
-pub use managed_heap::{NotClosed, Sizes as SharedSizes, Statistics as SharedStatistics, Unclosed};
 
 /// Whatever the threads of a closed world did is one run, in which each thread's steps come in their order and
 /// nobody else takes part. After each step the words agree with one plain heap that forgets nothing, each step

@@ -14,12 +14,12 @@ use alloc_cache::{Cache, claim, leave_with_seat, retire};
 use cache_refills::{Pass, try_enter};
 use gc_cycle::{ask_to_stop, finds_stopped};
 use gc_table::{Heap, HeapSeat};
+use managed_heap::Sizes;
 use mark_core::{Phase, Shape, usual_stretch};
 use mutator_ops::share_create;
 use seat_turns::{NotOpened, is_turn};
 use std::alloc::Global;
 use stop_world::{leave, resume};
-use managed_heap::Sizes;
 
 /// A section for each mutator besides section 0, which has the root.
 fn shape_of(sizes: &Sizes) -> Shape

@@ -6,10 +6,10 @@ ghost use Rattle.shared_heap.specs.Rooting.{HasSeats, IsRootSeat};
 
 use crate::mutator::SharedMutator;
 use gc_table::{Heap, HeapSeat};
+use managed_heap::Sizes;
 use seat_turns::Tracer;
 use std::alloc::Global;
 use std::sync::Arc;
-use managed_heap::Sizes;
 
 /// A heap whose objects threads share, with those of its mutators and tracers that nobody has taken.
 #[derive(Drop)]

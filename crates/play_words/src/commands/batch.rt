@@ -12,10 +12,10 @@ ghost use Rattle.play_report.specs.Causes.{AcrossSink};
 mod player;
 mod text;
 
+use gc_play::{BATCH, Status, Unread, read_source};
 use job_pool::{Batch, BatchError, read_batch, run_jobs};
 use play_end::Options;
 use play_report::{Sink, Source};
-use gc_play::{BATCH, Status, Unread, read_source};
 use player::ScriptPlayer;
 use std::alloc::Global;
 use std::sync::Wait;

@@ -8,9 +8,9 @@ ghost use Rattle.gc_play.specs.Reading.{IsSpent, TakesAtMost};
 ghost use Rattle.play_report.specs.Causes.{AcrossSink};
 
 use dump_census::{census, write_census};
+use gc_play::{DUMP, Status, Unread, read_source};
 use heap_dump::{Dump, read_dump, write_dump_fault};
 use play_report::{Sink, Source};
-use gc_play::{DUMP, Status, Unread, read_source};
 use std::alloc::Global;
 use std::thread::Threads;
 

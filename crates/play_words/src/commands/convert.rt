@@ -9,9 +9,9 @@ ghost use Rattle.gc_play.specs.Promise.{HasItsText, OfSource};
 ghost use Rattle.gc_play.specs.Reading.{IsSpent, TakesAtMost};
 
 use crate::lines::write_lines;
+use gc_play::{SCRIPT, Status, Unread, read_source, tell_fault};
 use gc_script::{Converted, ScriptError, convert};
 use play_report::{Failed, Sink, Source};
-use gc_play::{SCRIPT, Status, Unread, read_source, tell_fault};
 use std::alloc::Global;
 
 fn write_added<K: Sink>(added: bool, sink: &mut K) -> Result<(), Failed>

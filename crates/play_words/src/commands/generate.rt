@@ -5,9 +5,9 @@ ghost use Rattle.gc_play.specs.Ending.{TextEnds};
 ghost use Rattle.play_report.specs.Causes.{AcrossSink};
 
 use crate::lines::write_lines;
+use gc_play::Status;
 use load_gen::generate;
 use play_report::Sink;
-use gc_play::Status;
 use std::alloc::Global;
 
 /// Writes the generated script of this number, with this many lines a warehouse, each line as one piece.

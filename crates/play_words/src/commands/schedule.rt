@@ -5,8 +5,8 @@ ghost use Rattle.gc_play.specs.Promise.{HasItsText, OfSource};
 ghost use Rattle.gc_play.specs.Reading.{IsSpent, TakesAtMost};
 ghost use Rattle.play_report.specs.Causes.{AcrossSink};
 
-use play_report::{Sink, Source};
 use gc_play::{SCHEDULE, Status, Unread, read_source};
+use play_report::{Sink, Source};
 use schedule_check::{Told, Untold, tell_schedule};
 use std::alloc::Global;
 

@@ -6,9 +6,9 @@ ghost use Rattle.gc_play.specs.Promise.{HasItsText, OfSource};
 ghost use Rattle.gc_play.specs.Reading.{IsSpent, TakesAtMost};
 ghost use Rattle.play_report.specs.Causes.{AcrossSink};
 
+use gc_play::{DUMP, Status, Unread, read_source};
 use heap_dump::{read_dump, write_dump_fault, write_undump};
 use play_report::{Sink, Source};
-use gc_play::{DUMP, Status, Unread, read_source};
 use std::alloc::Global;
 
 fn undump_bytes<K: Sink>(bytes: &[u8], sink: &mut K) -> Status

@@ -8,7 +8,11 @@ ghost use Rattle.gc_cycle.specs.Pieces.{HasLooked, LooksFrom};
 ghost use Rattle.gc_cycle.specs.Stepping.{Drains, HasMarkedAll, HasSwept, IsAtRoots};
 ghost use Rattle.test_heaps.specs.Seats.{HasEachObject};
 
-use gc_cycle::{Counts, Look, begin_collection, clean_step, clear_step, count_step, finds_all_marked, finish_clear, finish_count, look_step, root_piece, start_clear, start_count, start_sweep, sweep_step, trace_step};
+use gc_cycle::{
+    Counts, Look, begin_collection, clean_step, clear_step, count_step, finds_all_marked,
+    finish_clear, finish_count, look_step, root_piece, start_clear, start_count, start_sweep,
+    sweep_step, trace_step,
+};
 use gc_table::{Heap, HeapSeat};
 
 /// What a drain did.
