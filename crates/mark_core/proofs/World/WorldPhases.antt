@@ -158,9 +158,9 @@ phases-from sh phase marks heads seats k =
 
 -- outside a cycle the phase isn't one of these
 pub resting-not : (phase : ℕ) (test : ℕ → Bool) (P : Type 0) → test 0 ≡ false → test 5 ≡ false → is_resting phase ≡ true → test phase ≡ true → P
-resting-not phase test P zero five e f =
+resting-not phase test P nil five e f =
     ⊎_elim
-    (λ (a : eqb phase 0 ≡ true). absurd (true≢false (sym f ∙ (ap test (eqb-true phase 0 a) ∙ zero))))
+    (λ (a : eqb phase 0 ≡ true). absurd (true≢false (sym f ∙ (ap test (eqb-true phase 0 a) ∙ nil))))
     (λ (a : eqb phase 5 ≡ true). absurd (true≢false (sym f ∙ (ap test (eqb-true phase 5 a) ∙ five))))
     (or_cases (eqb phase 0) (eqb phase 5) e)
 
