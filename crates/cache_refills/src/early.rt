@@ -9,7 +9,7 @@ ghost use Rattle.mark_core.specs.declared.kinds.Phase.TheVariants.{Marking};
 ghost use Rattle.gc_table.specs.Seats.{Across, did, Sits, state_of, view_of};
 ghost use Rattle.gc_cycle.specs.Standing.{Mutates};
 ghost use Rattle.cache_refills.specs.Pace.Early.{PassesEarly, early_end as end_by};
-ghost use Rattle.cache_refills.specs.Pace.Pacing.{card_looks};
+ghost use Rattle.cache_refills.specs.Pace.Pacing.{card_looks, most_told};
 ghost use Rattle.cache_refills.specs.Pace.Payment.{TracesNone};
 ghost use Rattle.cache_refills.specs.Pace.StepBounds.{early_steps};
 
@@ -20,8 +20,8 @@ use mark_core::CARD_CELLS;
 /// The end of the cards that a payment passes: sixteen for each cell claimed since the cycle began, which it did
 /// when the free cells were an eighth of the last cycle's work. None if the cycle is far on.
 pub(crate) fn early_end(late: bool, last: u32, rescanned: u32, free: u32) -> u32
-    requires last { last ≤ 16777216 }
-    requires rescanned { rescanned ≤ 16777216 }
+    requires last { last ≤ most_told }
+    requires rescanned { rescanned ≤ most_told }
     ensures { result ≡ end_by late last rescanned free }
 {
     if late {

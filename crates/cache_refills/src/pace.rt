@@ -5,21 +5,27 @@ ghost use Rattle.mark_core.specs.declared.kinds.Step.TheVariants.{ReadStat};
 ghost use Rattle.gc_table.specs.Seats.{Across, Answered, did, Sits, state_of};
 ghost use Rattle.gc_table.specs.Log.{Only};
 ghost use Rattle.gc_table.specs.Running.{Ran};
-ghost use Rattle.cache_refills.specs.Pace.Pacing.{KicksOff, begins_where_due, kicks, late, late_seen, statistic as statistic_of};
+ghost use Rattle.cache_refills.specs.Pace.Pacing.{KicksOff, begins_where_due, kicks, late, late_seen, most_told, statistic as statistic_of};
 ghost use Rattle.cache_refills.specs.Pace.Payment.{reads_number};
 
 use gc_table::{Heap, HeapSeat};
 use mark_core::{FREE, LAST, Phase, RESCANNED, TRACED};
 
+/// The most that a statistic tells: the cells of the largest heap.
+const MOST_TOLD: u64 = 16_777_216;
+
+/// A word from here on fell below 0.
+const BELOW_ZERO: u64 = 1 << 63;
+
 /// The number in the word of a statistic, which is bounded; 0 if the word fell below 0.
 fn statistic(word: u64) -> u32
     ensures value { result ≡ statistic_of word }
-    ensures bound { result ≤ 16777216 }
+    ensures bound { result ≤ most_told }
 {
-    if word >= 9_223_372_036_854_775_808 {
+    if word >= BELOW_ZERO {
         return 0;
     }
-    word.min(16_777_216) as u32
+    word.min(MOST_TOLD) as u32
 }
 
 /// One of the statistics from `LAST` to `FREE`.
@@ -30,7 +36,7 @@ pub(crate) fn read_statistic(heap: &Heap, seat: &mut HeapSeat, which: u8) -> u32
     ensures ran { Across Ran seat.old seat.new }
     ensures read { Across (Answered (ReadStat which) (λ n. result ≡ statistic_of n)) seat.old seat.new }
     ensures state { state_of seat.new ≡ state_of seat.old }
-    ensures bound { result ≤ 16777216 }
+    ensures bound { result ≤ most_told }
 {
     statistic(heap.read_stat(seat, which))
 }

@@ -2,6 +2,7 @@
 
 ghost use Rattle.std.specs.Prelude.{◌≡◌, ◌≤◌};
 ghost use Rattle.mark_core.specs.Cards.{block_cells};
+ghost use Rattle.cache_refills.specs.Pace.Pacing.{most_told};
 ghost use Rattle.cache_refills.specs.Pace.Quota.{quota};
 
 /// How many objects a mutator traces for a cache of `cells` free cells, at most 64: the cache's share of what is
@@ -11,8 +12,8 @@ ghost use Rattle.cache_refills.specs.Pace.Quota.{quota};
 /// So marking keeps pace with allocation, as in Ossia and others, 2002, and Barabash and others, 2005.
 pub fn quota_of(cells: u32, last: u32, rescanned: u32, traced: u32, free: u32) -> u32
     requires cells { cells ≤ block_cells }
-    requires last { last ≤ 16777216 }
-    requires rescanned { rescanned ≤ 16777216 }
+    requires last { last ≤ most_told }
+    requires rescanned { rescanned ≤ most_told }
     ensures share { result ≡ quota cells last rescanned traced free }
     ensures most { result ≤ 1024 }
 {

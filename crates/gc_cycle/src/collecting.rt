@@ -227,7 +227,8 @@ pub fn goes_on(heap: &Heap, seat: &mut HeapSeat, cache: &mut Option<Cache>, done
     false
 }
 
-fn spend_none(cache: Option<Cache>)
+/// There is no cache to give up.
+pub fn spend_none(cache: Option<Cache>)
     requires { cache ≡ None }
 {
     match cache {

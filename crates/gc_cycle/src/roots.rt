@@ -73,7 +73,7 @@ pub fn sees_to_some(heap: &Heap, seat: &mut HeapSeat, from: u32, end: u32) -> bo
 }
 
 /// [`sees_to_some`] of the roots of all sections.
-fn sees_to_roots(heap: &Heap, seat: &mut HeapSeat) -> bool
+fn sees_to_all_roots(heap: &Heap, seat: &mut HeapSeat) -> bool
     requires seat { Sits heap.now seat.old }
     requires alone { IsAloneIn Drain (view_of seat.old) × (look the_next_block (view_of seat.old).known ≡ Some 0) }
     ensures seat { Sits heap.now seat.new }
@@ -96,7 +96,7 @@ pub(crate) fn see_to_roots<R: Wait>(rt: &R, heap: &Heap, seat: &mut HeapSeat)
     ensures rescanned { rescanned_in (view_of seat.old) (did seat.old seat.new) ≡ 0 }
 {
     for _ in rt.forever() {
-        if sees_to_roots(heap, seat) {
+        if sees_to_all_roots(heap, seat) {
             return;
         }
     }

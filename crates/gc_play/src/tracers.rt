@@ -17,11 +17,10 @@ use crate::marking::trace_inside;
 use gc_cycle::await_resumed_helping;
 use gc_table::{Heap, HeapSeat};
 use mark_core::{DONE, Phase};
-use seat_turns::see_phase;
+use seat_turns::{rest, see_phase};
 use std::sync::Wait;
 use std::thread;
-use std::thread::{Threads, yield_now};
-use std::time::Duration;
+use std::thread::Threads;
 use warehouse::Gate;
 
 /// Helps until no stop is under way.
@@ -94,22 +93,6 @@ fn take_turn<R: Threads + Wait + Sync, G: Gate>(
         return false;
     }
     go_round(heap, seat, gate)
-}
-
-/// How often a tracer yields between two turns. A turn changes the word of the world, which each mutator reads at
-/// each command.
-const YIELDS: u32 = 64;
-
-/// How long a tracer sleeps at most if no cycle marks, in microseconds. It is woken when one begins or a part was
-/// played.
-const SLEEP: u64 = 2_000;
-
-/// Lets others run, and sleeps while no cycle marks.
-fn rest<R: Wait>(rt: &R, heap: &Heap) {
-    for _ in 0..YIELDS {
-        yield_now();
-    }
-    heap.rest(rt, Duration::from_micros(SLEEP));
 }
 
 /// Traces beside the mutators until so many parts were played or the heap is full.

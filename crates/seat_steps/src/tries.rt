@@ -17,6 +17,7 @@ use crate::came::Came;
 use crate::leaving::gives_up;
 use alloc_cache::{Cache, cache_of};
 use cache_refills::{Pass, try_enter, try_safe_point};
+use gc_cycle::spend_none;
 use gc_table::{Heap, HeapSeat};
 use seat_turns::{TURN, is_turn, keep_some, leave};
 
@@ -59,15 +60,6 @@ fn comes_to_turn(heap: &Heap, seat: &mut HeapSeat, _cache: &Option<Cache>) -> bo
     ensures other { OnFalse result (SeesOther 1 (view_of seat.new)) }
 {
     is_turn(heap, seat, TURN)
-}
-
-fn spend_none(cache: Option<Cache>)
-    requires { cache ≡ None }
-{
-    match cache {
-        None => (),
-        Some(_) => unreachable!(),
-    }
 }
 
 fn leave_with(heap: &Heap, seat: &mut HeapSeat, cache: Option<Cache>)

@@ -26,11 +26,11 @@ pub enum Turn {
 }
 
 /// How often a tracer yields between two turns. A turn changes the word of the world, which each mutator reads at
-/// each safe point.
+/// each safe point or command.
 const YIELDS: u32 = 64;
 
-/// How long a tracer sleeps at most while no cycle marks, in microseconds. It is woken if one begins, or the
-/// tracers are dismissed.
+/// How long a tracer sleeps at most while no cycle marks, in microseconds. It is woken if one begins, and once there
+/// is nothing more to trace.
 const SLEEP: u64 = 2_000;
 
 /// What one thread marks with beside the mutators, outside the world between two turns.
@@ -45,7 +45,8 @@ pub struct Tracer {
     ghost rests: { RestsOutside (arc_value heap) seat },
 }
 
-fn rest<R: Wait>(rt: &R, heap: &Heap) {
+/// Lets others run, and sleeps while no cycle marks.
+pub fn rest<R: Wait>(rt: &R, heap: &Heap) {
     for _ in 0..YIELDS {
         yield_now();
     }

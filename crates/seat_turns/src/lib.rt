@@ -41,7 +41,7 @@ mod tracer_turn;
 mod try_turns;
 mod turns;
 
-pub use background::{Tracer, Turn};
+pub use background::{Tracer, Turn, rest};
 pub use dismissing::{tell_dismissed, try_dismiss};
 pub use exchanging::{exchange_shared, exchange_value_shared};
 pub use gates::{collect_turn, enter_turn, leave, leave_turn, pass_turn, retire_own_cache};

@@ -11,12 +11,10 @@
 #![tactic(auto)]
 
 mod blocks;
-mod ending;
 mod resting;
 mod sweeping;
 mod swept;
 
-pub use ending::{end_clear, end_sweep};
 pub use resting::{clear_rest, sweep_rest};
 pub use sweeping::{clear_marks_next, sweep_next};
 pub use swept::Swept;

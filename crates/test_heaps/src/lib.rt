@@ -6,6 +6,7 @@ mod checks;
 mod closing;
 mod command_line;
 mod draining;
+mod ending;
 mod marking;
 mod objects;
 mod opening;
@@ -19,6 +20,7 @@ pub use checks::{
 pub use closing::{close_one, leaves, opens, try_close};
 pub use command_line::{command_words, named_rounds, report, rounds_of};
 pub use draining::{begins_sweep, drained, drains, resets, scans_all};
+pub use ending::{end_clear, end_sweep};
 pub use marking::{sees_marking, try_marking};
 pub use objects::{forget, make, sees_season, take};
 pub use opening::{next_seat, open, open_one};

@@ -10,9 +10,9 @@ ghost use Rattle.warehouse.specs.Playing.{HasFree, HasNoFree, IsPlaying};
 
 use crate::gate::Gate;
 use crate::mutator::Mutator;
-use crate::turn::{await_cell, await_turn, has_free, is_ready, spend_none};
+use crate::turn::{await_cell, await_turn, has_free, is_ready};
 use alloc_cache::Cache;
-use gc_cycle::{Safe, collect, retire_some};
+use gc_cycle::{Safe, collect, retire_some, spend_none};
 use gc_script::{Command, Section};
 use gc_table::Heap;
 use mutator_ops::create;

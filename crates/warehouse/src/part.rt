@@ -9,9 +9,8 @@ ghost use Rattle.warehouse.specs.Playing.{IsPartPlayed, IsPlaying, MayPlay, comm
 use crate::commands::play_command;
 use crate::gate::Gate;
 use crate::mutator::Mutator;
-use crate::turn::spend_none;
 use alloc_cache::Cache;
-use gc_cycle::{Safe, go_in, go_out, retire_some};
+use gc_cycle::{Safe, go_in, go_out, retire_some, spend_none};
 use gc_script::Section;
 use gc_table::{Heap, HeapSeat};
 use mark_core::DONE;

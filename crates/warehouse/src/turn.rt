@@ -11,22 +11,12 @@ ghost use Rattle.gc_cycle.specs.Standing.{Mutates};
 
 use alloc_cache::Cache;
 use cache_refills::refill;
-use gc_cycle::{Refill, go_in, go_out, pass_safe_point, retire_some};
+use gc_cycle::{Refill, go_in, go_out, pass_safe_point, retire_some, spend_none};
 use gc_table::{Heap, HeapSeat};
 use mark_core::Phase;
 use seat_turns::is_turn;
 use std::sync::Wait;
 use stop_world::poll;
-
-/// There is no cache to give up.
-pub(crate) fn spend_none(cache: Option<Cache>)
-    requires { cache ≡ None }
-{
-    match cache {
-        None => (),
-        Some(_cache) => unreachable!(),
-    }
-}
 
 /// Leaves and enters again, only if the season is another than this turn's.
 #[cold]

@@ -13,10 +13,10 @@ use gc_table::{Heap, HeapSeat};
 use std::alloc::Global;
 use std::sync::Wait;
 use stop_world::resume;
-use sweeper::{end_sweep, sweep_rest};
+use sweeper::sweep_rest;
 use test_heaps::{
-    are_bare, begins_sweep, drained, drains, leaves, raises_own, resets, stops_idle, try_close,
-    work_in_hand,
+    are_bare, begins_sweep, drained, drains, end_sweep, leaves, raises_own, resets, stops_idle,
+    try_close, work_in_hand,
 };
 
 fn stands_alone(heap: &Heap, seat: &HeapSeat) -> bool

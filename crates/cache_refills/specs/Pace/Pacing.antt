@@ -12,9 +12,13 @@ use Rattle.gc_cycle.specs.Events.{each_after}
 use Rattle.gc_cycle.specs.Sorts.{moves}
 pub use Rattle.gc_cycle.specs.Sorts.{tries_marking}
 
+-- the most that a statistic tells: the cells of the largest heap
+abbrev pub most_told : ℕ
+most_told = 16777216
+
 -- the number in the word of a statistic, which is bounded, and 0 if the word fell below 0
 abbrev pub statistic : ℕ → ℕ
-statistic word = if nat_le 9223372036854775808 word then 0 else min word 16777216
+statistic word = if nat_le 9223372036854775808 word then 0 else min word most_told
 
 -- the statistic that the event read
 abbrev pub read_of : ℕ → Step → ℕ → Option ℕ

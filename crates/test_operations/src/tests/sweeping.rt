@@ -20,10 +20,10 @@ use gc_table::{Heap, HeapSeat};
 use mark_core::{Phase, Shape};
 use std::process::Abort;
 use std::sync::Wait;
-use sweeper::{Swept, clear_marks_next, clear_rest, end_clear, end_sweep, sweep_next, sweep_rest};
+use sweeper::{Swept, clear_marks_next, clear_rest, sweep_next, sweep_rest};
 use test_heaps::{
-    SMALL, are_bare, begins_sweep, drains, forget, holds_nothing, leaves, make, next_turn,
-    raises_own, resets, scans_all, stops_idle, take, work_in_hand,
+    SMALL, are_bare, begins_sweep, drains, end_clear, end_sweep, forget, holds_nothing, leaves,
+    make, next_turn, raises_own, resets, scans_all, stops_idle, take, work_in_hand,
 };
 use tracer::trace;
 

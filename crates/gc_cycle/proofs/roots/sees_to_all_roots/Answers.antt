@@ -4,7 +4,7 @@ use Rattle.mark_core.specs.declared.kinds.Shape.{Shape}
 use Rattle.gc_table.specs.Seats.{view_of}
 use Rattle.gc_table.specs.declared.view.View.{View}
 use Rattle.gc_cycle.proofs.Ends.Rooted.{ready-of}
-use Rattle.gc_cycle.proofs.roots.sees_to_roots.Goals as goal
+use Rattle.gc_cycle.proofs.roots.sees_to_all_roots.Goals as goal
 
 pub sees_to_some-requires-clause-roots : goal.sees_to_some-requires-clause-roots
 sees_to_some-requires-clause-roots c = let all = c.count_roots-end.ensures in (omega arith, omega (arith, all))
