@@ -35,7 +35,7 @@ bool see_to_roots(const Heap &heap) { return scan_roots(heap) == 0; }
 
 bool is_drained(const Heap &heap) { return !first_dirty(heap) && heap.words[kEmpty].load() == 64 + heap.sizes.packets; }
 
-// The drain of a stop: false where it would have to go round again.
+// The drain of a stop: false if it would need another round.
 bool drain(const Heap &heap) {
     heap.words[kPhase].exchange(kDrain);
     heap.words[kNextCard].store(0);
@@ -80,7 +80,7 @@ void settle(const Heap &heap) {
     heap.words[kNextCard].store(0);
 }
 
-// A mutator collects, and goes on: false where the drain didn't end at once. Nobody else is there.
+// A mutator collects, and goes on: false if the drain didn't end at once. Nobody else is there.
 __attribute__((noinline)) bool collect(const Heap &heap) {
     if (heap.words[kPhase].load() == kFull) return false;
     heap.words[kPositions].store(0);

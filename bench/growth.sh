@@ -1,5 +1,5 @@
 #!/bin/sh
-# How the cost of a command grows with each size, the others fixed: nanoseconds of processor time a command of gcplay, and in brackets of the floor where one
+# How the cost of a command grows with each size, the others fixed: nanoseconds of processor time a command of gcplay, and in brackets of the floor if one
 # thread runs, the medians of several runs in turns. From the top of the repository: chrt -f 10 sh bench/growth.sh [RUNS [PROGRAM]], 5 runs if no number is given.
 set -eu
 cd "$(dirname "$0")/.."

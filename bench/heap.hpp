@@ -52,7 +52,7 @@ inline void create(const Heap &heap, Mutator &m, uint64_t b, uint64_t &free, uin
     m.variables[v] = c + 1;
 }
 
-// Stores variable w in field f of variable v's object, which may be the section's own, and dirties the object's card where it is published.
+// Stores variable w in field f of variable v's object, which may be the section's own, and dirties the object's card if it is published.
 inline void set(const Heap &heap, Mutator &m, uint64_t v, uint64_t f, uint64_t w) {
     if (m.variables[v] == 0) return;
     uint64_t c = m.variables[v] - 1;
@@ -140,7 +140,7 @@ uint64_t scan_roots(const Heap &heap) {
     return marked;
 }
 
-// Sees to it that the input has a cell, where one is to be had.
+// Sees to it that the input has a cell, if one is to be had.
 bool find(const Heap &heap, Packet &input, Packet &output) {
     if (input.length != 0) return true;
     if (output.length != 0) {

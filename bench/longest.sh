@@ -1,7 +1,7 @@
 #!/bin/sh
 # Counts the steps of the longest call of each kind, and its time, by bench/steps/longest.c over a library that counts them, and prints tables. From the top of the
-# repository: sh bench/longest.sh FOLDER [RUNS [BEFORE]]. The library isn't proved; it is made in FOLDER where it isn't there, and what was measured is kept there as
-# `calls`. RUNS runs in turns, 3 if no number is given, with real-time priority where that is allowed. BEFORE is such a file of another library.
+# repository: sh bench/longest.sh FOLDER [RUNS [BEFORE]]. The library isn't proved; it is made in FOLDER if it isn't there, and what was measured is kept there as
+# `calls`. RUNS runs in turns, 3 if no number is given, with real-time priority if that is allowed. BEFORE is such a file of another library.
 set -eu
 cd "$(dirname "$0")/.."
 out=$1

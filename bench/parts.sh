@@ -1,11 +1,11 @@
-# What the benches share: the programs that are found, their runs, and what came out. Sourced from the top of the repository, with `program` set where
+# What the benches share: the programs that are found, their runs, and what came out. Sourced from the top of the repository, with `program` set if
 # a built gcplay is given. It wants g++, and says of each peer that isn't there that it was left out.
 
 folder=${TMPDIR:-/tmp}/bench.$$
 mkdir "$folder"
 trap 'rm -rf "$folder"' EXIT
 
-# gcplay, proved and built where none was given.
+# gcplay, proved and built if none was given.
 find_program() {
     [ -n "$program" ] || (cd crates/gcplay && rt run >/dev/null 2>&1)
     program=${program:-crates/gcplay/out/gcplay}

@@ -3,7 +3,7 @@
 # work over Boehm's collector, in Go and in Java. From the top of the repository: chrt -f 10 sh bench/pauses.sh [RUNS [PROGRAM]] prints two tables, 5 runs if no
 # number is given. Without a program, ours is proved and built. A peer that can't be built is left out with a word, and so is one that finds no memory.
 # SIZES in the environment has CELLS/WORKERS/CYCLES, the last of which is how often a run uses up the free cells, and TRACERS how many tracers ours has.
-# Every heap has 48 bytes for each cell, which an object takes in ours, in Boehm's and in Go. PERCENT has how much of it Boehm's gets, where the live set doesn't fit.
+# Every heap has 48 bytes for each cell, which an object takes in ours, in Boehm's and in Go. PERCENT has how much of it Boehm's gets, if the live set doesn't fit.
 set -eu
 cd "$(dirname "$0")/.."
 runs=${1:-5}

@@ -1,7 +1,7 @@
 #!/bin/sh
 # Plays the same scripts with gcplay and with the peers that are found, and prints the tables of bench/README.md: the medians of several runs in turns.
 # From the top of the repository: chrt -f 10 sh bench/runs.sh [RUNS [PROGRAM]], 5 runs if no number is given. Without a program, gcplay is proved and built.
-# The floor is measured with one worker and no tracer alone, since its policy is an older one where threads wait for each other.
+# The floor is measured only with one worker and no tracer, since its policy is an older one where threads wait for each other.
 set -eu
 cd "$(dirname "$0")/.."
 runs=${1:-5}
@@ -21,7 +21,7 @@ survivors >"$folder/survivors"
 
 peers='plain boehm incremental go java'
 
-# What a program took for a script with some words, in milliseconds (of column 1 or 2), or nothing where it isn't there.
+# What a program took for a script with some words, in milliseconds (of column 1 or 2), or nothing if it isn't there.
 took() {
     column=$1 name=$2
     shift 2

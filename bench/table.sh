@@ -30,7 +30,7 @@ once() {
     echo $((after - before))
 }
 
-# The lesser of two numbers, where the first may be missing.
+# The lesser of two numbers, of which the first may be missing.
 lesser() {
     if [ -z "$1" ] || [ "$2" -lt "$1" ]; then echo "$2"; else echo "$1"; fi
 }

@@ -4,8 +4,8 @@
 #     sh c/install.sh PREFIX
 #     cc program.c $(PKG_CONFIG_PATH=PREFIX/lib/pkgconfig pkg-config --cflags --libs managed_heap)
 #
-# The library is one archive, which needs no other but libpthread. It is the proved one: `rt lib` in crates/managed_heap_c makes it where it isn't there, which
-# proves the crates below it too, in an hour or more where none of them is. LIBRARY names another archive, as one of c/unproved.sh. KIT names the kit's folder.
+# The library is one archive, which needs no other but libpthread. It is the proved one: `rt lib` in crates/managed_heap_c makes it if it isn't there, which
+# proves the crates below it too, in an hour or more if none of them is. LIBRARY names another archive, as one of c/unproved.sh. KIT names the kit's folder.
 set -eu
 [ $# -eq 1 ] || { echo "usage: sh c/install.sh PREFIX" >&2; exit 1; }
 top=$(cd "$(dirname "$0")/.." && pwd)

@@ -3,7 +3,7 @@
 #
 #     sh c/try.sh PROGRAM.c [WORDS..]
 #
-# The library is made anew where the sources changed, in about a minute, and kept under TMPDIR.
+# The library is made anew if the sources changed, in about a minute, and kept under TMPDIR.
 set -eu
 [ $# -ge 1 ] && [ -f "$1" ] || { echo "usage: sh c/try.sh PROGRAM.c [WORDS..]" >&2; exit 1; }
 program=$1

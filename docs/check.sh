@@ -1,8 +1,8 @@
 #!/bin/sh
 # Compares the documents with the repository, and pages with each other: each file in docs/check/ is a check, whose head says what it compares.
 # The programs of docs/EMBEDDING.md are run by tests/embedding.sh.
-# From the top of the repository: sh docs/check.sh [CHECK..], all checks if none is named. It prints all that differs, and ends with status 1 where
-# something does; where all agrees it prints nothing, and ends with 0.
+# From the top of the repository: sh docs/check.sh [CHECK..], all checks if none is named. It prints all that differs, and ends with status 1 if
+# something does; if all agrees it prints nothing, and ends with 0.
 set -eu
 export LC_ALL=C
 cd "$(dirname "$0")/.."

@@ -44,7 +44,7 @@ def written(answers):
 
 
 def jobs(text):
-    """The status and the text of each job that a text tells; None where it isn't the text of a batch."""
+    """The status and the text of each job that a text tells; None if it isn't the text of a batch."""
     found, place = [], 0
     while place < len(text):
         line = re.compile(rb"job %d status ([0-9]) bytes (0|[1-9][0-9]*)\n" % len(found)).match(text, place)

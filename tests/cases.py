@@ -111,7 +111,7 @@ READERS = ("run", "convert", "schedule", "dump", "undump", "census", "batch")
 
 
 def answered(command, source):
-    """The text of a command that is done, where the cells are enough; a `Fault` where the source has one."""
+    """The text of a command that is done, if the cells are enough; a `Fault` if the source has one."""
     if command == "convert":
         return language.converted(source)
     if command in ("undump", "census"):
@@ -123,7 +123,7 @@ def answered(command, source):
 
 
 def expected(command, source):
-    """What a command that reads has to answer, where the cells are enough."""
+    """What a command that reads has to answer, if the cells are enough."""
     try:
         return 0, answered(command, source)
     except language.Fault as fault:

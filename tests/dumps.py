@@ -106,6 +106,6 @@ class Dump:
 
 
 def told(command, source):
-    """What `undump` or `census` writes of a dump; a `Fault` where it is none."""
+    """What `undump` or `census` writes of a dump; a `Fault` if it is none."""
     dump = Dump(source)
     return (dump.listed() if command == "undump" else dump.census()).encode()

@@ -21,7 +21,7 @@ look() {
     : >"$work/wrong"
 }
 
-# Two at a time, since each compiles the program where none is built. The status is 3 where the heap is full.
+# Two at a time, since each compiles the program if none is built. The status is 3 if the heap is full.
 echo "usage: gcplay command [options]" >"$work/usage"
 look usage 1 "$work/usage" examples/first.gc --cells 65 &
 turn=1

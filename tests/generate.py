@@ -214,7 +214,7 @@ PIECES = (chain, chain, fan, hidden, hidden, ring, lost, collections, drawn, dra
 
 
 def make_section(draw, fields, seasons, room, foreign):
-    """The lines of a section; `foreign` are the catalogue's names, and None where this is the catalogue."""
+    """The lines of a section; `foreign` are the catalogue's names, and None if this is the catalogue."""
     part = Part(draw, fields, foreign is None)
     for season in range(seasons):
         if season:

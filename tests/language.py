@@ -38,7 +38,7 @@ class Section:
 
 
 class Script:
-    """Section 0 is the catalogue, also where the script has none."""
+    """Section 0 is the catalogue, also if the script has none."""
 
     def __init__(self, version):
         self.version = version

@@ -1,6 +1,6 @@
 #!/bin/sh
 # Builds the library for C over the crates below as `rt ci` left them proved: crates/managed_heap_c/out/libmanaged_heap_c.a. It proves the crate itself.
-# `rt ci` proves this crate, but builds no library of it, and `rt lib` builds only over crates that it proved itself; where it has, `rt lib` is run.
+# `rt ci` proves this crate, but builds no library of it, and `rt lib` builds only over crates that it proved itself; if it has, `rt lib` is run.
 # From the top of the repository: sh tests/library.sh. KIT names the folder of the kit.
 set -eu
 cd "$(dirname "$0")/../crates/managed_heap_c"

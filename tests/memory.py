@@ -1,18 +1,18 @@
 #!/usr/bin/env python3
 """Refuses memory and threads: in each run of `cases.py` each allocation in turn, and each together with all later ones.
 
-From the top of the repository: `python3 tests/memory.py [PROGRAM]`. A run has to end as it ends where nothing is refused if each refusal was of
-one of these kinds, as the run itself tells (`faults.c`):
+From the top of the repository: `python3 tests/memory.py [PROGRAM]`. If each refusal was of one of these kinds, as the run itself
+tells (`faults.c`), it has to end as it ends undisturbed:
 
-- A thread's start: `pthread_create`, or the block that a thread is handed, which is known by the place that asks for it: where nothing is
-  refused, `pthread_create` is handed a block of that place. The caller then does that thread's work itself.
+- A thread's start: `pthread_create`, or the block that a thread is handed, which is known by the place that asks for it: undisturbed,
+  `pthread_create` is handed a block of that place. The caller then does that thread's work itself.
 - The growth of a list that was asked for again at once, and given. So does `collect` of the kit's `Vec` (`grow_by_hint`): it asks for room for
-  as many items as the iterator says are left, which may be too many; where that is refused, it asks for room for one. Both are rounded up, mostly
+  as many items as the iterator says are left, which may be too many; if that is refused, it asks for room for one. Both are rounded up, mostly
   to the same room. That it was asked for again shows in the thread's next request: it is for the same block, not larger, by the same call of the
   function that grows the list, and the frames of its callers are as they were.
 
-Else it has to end with the status 6 and nothing written; but a batch may be done, and tell the status 6 of jobs that wrote nothing. Where no
-more was asked for than was given, a run has to end as it ends where nothing is refused. The status of the script is 0 where there was no third
+Otherwise it has to end with the status 6 and nothing written; but a batch may be done, and tell the status 6 of jobs that wrote nothing. If no
+more was asked for than was given, a run has to end as it ends undisturbed. The status of the script is 0 if there was no third
 kind, and each command, and each way, had something refused.
 """
 
@@ -33,7 +33,7 @@ WAYS = (
 
 
 def lost_jobs(run, status, text):
-    """Whether a batch is done in which jobs ended with the status 6, and every other job as it ends where nothing is refused."""
+    """Whether a batch is done in which jobs ended with the status 6, and every other job as it ends if nothing is refused."""
     if run.words[0] != "batch" or (status, run.status) != (0, 0):
         return False
     found, wanted = batches.jobs(text), batches.jobs(run.text)
@@ -61,7 +61,7 @@ def kind(run, status, text, told, starts):
 
 
 def places_of_starts(disturbed, run):
-    """The places that ask for a block which a thread is handed, where nothing is refused."""
+    """The places that ask for a block which a thread is handed, if nothing is refused."""
     lines = disturbed.told(run.words, run.source)[2].split(b"\n")
     return {line[2:] for line in lines if line.startswith(b"t ")}
 

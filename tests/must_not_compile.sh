@@ -15,7 +15,7 @@ below() {
     echo "$1"
 }
 
-# Compiles the crate in this folder, with its tests where it has some.
+# Compiles the crate in this folder, with its tests if it has some.
 compile() {
     if grep -rq '#\[test\]' src; then rt try --test; else rt check --only ""; fi 2>&1
 }

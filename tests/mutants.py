@@ -113,7 +113,7 @@ def try_run(program, number):
 
 
 def try_dump(program, number):
-    """A dump is that of the plain play; where there is none, the answer is that of `run`."""
+    """A dump is that of the plain play; if there is none, the answer is that of `run`."""
     source, cells = mutant(number), random.Random(number).choice((64, 128, 4096))
     status, text = answer(program, ["dump", "--cells", str(cells), "--workers", "1"], source)
     if status != 0:

@@ -169,7 +169,7 @@ class Play:
         return things
 
     def needs(self):
-        """For each `new` in order the reachable objects just before it, where that is more than before any earlier one."""
+        """For each `new` in order the reachable objects just before it, if that is more than before any earlier one."""
         lost = sorted(thing.stamp for thing in self.close_stamps())
         peaks, most, gone = [], -1, 0
         for made, (clock, section, position) in enumerate(self.news):

@@ -43,7 +43,7 @@ def shapes(draw):
 
 
 def tight(case):
-    """The fewest cells that hold what is reachable at once where the sections play in order."""
+    """The fewest cells that hold what is reachable at once if the sections play in order."""
     most = case.peaks[-1][0] + 1 if case.peaks else 1
     return min(65536, max(64, -(-most // 64) * 64))
 
@@ -55,7 +55,7 @@ def words_of(command, shape, cells, further):
 
 
 def answer(program, words, source, processors):
-    """The status and the text, or no status where the play took longer than the bound."""
+    """The status and the text, or no status if the play took longer than the bound."""
     os.sched_setaffinity(0, processors)
     try:
         done = subprocess.run([program] + words, input=source, stdout=subprocess.PIPE, timeout=BOUND)
@@ -163,7 +163,7 @@ def play(tally, program, number, case, shape, draw):
 
 
 def rest_if_ahead(began):
-    """Sleeps where this process and its plays took more than their share of one processor so far."""
+    """Sleeps if this process and its plays took more than their share of one processor so far."""
     used = sum(sum(resource.getrusage(who)[:2]) for who in (resource.RUSAGE_SELF, resource.RUSAGE_CHILDREN))
     time.sleep(min(60, max(0, JOBS * used - (time.monotonic() - began))))
 

@@ -1,4 +1,4 @@
-"""Looks for what docs/SHOWN.md names: python3 tests/shown.py. The status is 1 where a test, an edit, a body or a case isn't there."""
+"""Looks for what docs/SHOWN.md names: python3 tests/shown.py. The status is 1 if a test, an edit, a body or a case isn't there."""
 import glob
 import os
 import re

@@ -1,7 +1,7 @@
 #!/usr/bin/env python3
 """Lets reads and writes fail, come in parts, be interrupted and end early, over the runs of `cases.py`, and judges status and text.
 
-From the top of the repository: `python3 tests/streams.py [PROGRAM]`. The status of the script is 0 where each answer was right.
+From the top of the repository: `python3 tests/streams.py [PROGRAM]`. The status of the script is 0 if each answer was right.
 """
 
 import collections
@@ -99,7 +99,7 @@ def rooms(judge, disturbed, run):
 
 
 def status_of(words, source, sink):
-    """The status where the standard streams are these descriptors, which are closed after; None is a stream that is closed before."""
+    """The status if the standard streams are these descriptors, which are closed after; None is a stream that is closed before."""
     closed = (" <&-" if source is None else "") + (" >&-" if sink is None else "")
     shell = ["sh", "-c", '"$0" "$@"' + closed]
     try:
@@ -139,7 +139,7 @@ def files_that_fail(judge, program, run):
         judge.take(name, run, status == (4 if run.reads else run.status), status)
 
 
-# What a source without an end comes to, where all its bytes are zero; a dump's first bytes are told before its length.
+# What a source without an end comes to if all its bytes are zero; a dump's first bytes are told before its length.
 ENDLESS = {
     "run": b"11 TooLong\n",
     "convert": b"11 TooLong\n",

@@ -3,7 +3,7 @@
 
 From the top of the repository: `python3 tests/trees.py [PROGRAM]`, by default the program that `rt run` builds in `crates/bench_trees`. What is written
 has to be what the formula says: a tree of depth d has 2 ^ (d + 1) - 1 nodes, and of depth d there are 2 ^ (n - d + 4) trees where the kept one has depth n.
-The status of the script is 0 where nothing was wrong.
+The status of the script is 0 if nothing was wrong.
 """
 
 import itertools

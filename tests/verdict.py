@@ -30,7 +30,7 @@ class Case:
         return None, None
 
     def full_in_order(self, cells):
-        """The text of a heap that was found full where the sections play one after another; None where it never is."""
+        """The text of a heap that was found full if the sections play one after another; None if it never is."""
         found = bisect.bisect_left([peak[0] for peak in self.peaks], cells)
         if found == len(self.peaks):
             return None
@@ -44,7 +44,7 @@ class Case:
         return full_text(section, positions)
 
     def why_not_full(self, cells, text):
-        """What is wrong with the text of a full heap; None where its positions fill every cell."""
+        """What is wrong with the text of a full heap; None if its positions fill every cell."""
         lines = [line.split() for line in text.splitlines()]
         section, positions = int(lines[0][2]), [int(line[2]) for line in lines[1:]]
         if text != full_text(section, positions) or len(positions) != len(self.ends):
@@ -62,7 +62,7 @@ class Case:
         return None if count == cells else f"{count} objects are reachable in {cells} cells"
 
     def why_not_placed(self, cells, text, in_order):
-        """What is wrong with the lines that follow `placed`; None where no object was put in a reachable one's cell."""
+        """What is wrong with the lines that follow `placed`; None if no object was put in a reachable one's cell."""
         things = [thing for player in self.play.players for thing in player.things]
         lines = text.splitlines()
         if lines[0] != f"placed {len(things)}" or len(lines) != len(things) + 1:
@@ -83,7 +83,7 @@ class Case:
         return None
 
     def why_wrong(self, status, text, cells, workers, placed):
-        """What is wrong with an answer; None where nothing is."""
+        """What is wrong with an answer; None if nothing is."""
         in_order = workers == 1 or self.one_by_one
         full = self.full_in_order(cells) if in_order else None
         if status == 3:

@@ -30,14 +30,14 @@ TOLD = {"schedule": (0, example("published", "out"))} | {name: expected(name, SO
 
 
 def value_of(name, text, least, most):
-    """The number of an option, or None where its value is refused."""
+    """The number of an option, or None if its value is refused."""
     if not re.fullmatch(rb"[0-9]+", text) or not least <= int(text) <= most:
         return None
     return None if name == "cells" and int(text) % 64 else int(text)
 
 
 def asked(words):
-    """The command and its options, or None where the words ask for nothing."""
+    """The command and its options, or None if the words ask for nothing."""
     command = words[0].decode(errors="replace") if words else ""
     if command not in OPTIONS:
         return None
@@ -154,7 +154,7 @@ ODD += (b"--runners", b"--runners=1", b"dump", b"undump", b"census", b"batch", b
 
 
 def try_words(program, number):
-    """The sort of the answer, and the words where it was wrong."""
+    """The sort of the answer, and the words if it was wrong."""
     words = drawn_words(number)
     done = subprocess.run([program.encode()] + words, input=source_of(words), stdout=subprocess.PIPE, timeout=BOUND)
     sort = f"{words[0].decode(errors='replace') if asked(words) else 'refused'}: status {done.returncode}"

@@ -3,7 +3,7 @@
 A wrong body is a change to one function that its contract has to refuse. Those of a crate stand in tests/bodies/CRATE.txt, a few lines each, with an
 empty line between two:
 
-    searches to the end alone
+    searches only to the end
     function: alloc_cache::searching::claim_among
     file: src/searching.rt
     old: the text of one line, which stands in that function once, or once in the file, outside it
@@ -11,10 +11,10 @@ empty line between two:
 
 More lines old and new may follow. A line `free: REASON` says that the body is right too, or free on purpose, and a line `test: CRATE NAME` that no
 clause can refuse it and which test does: it isn't tried here, but has to be a change that can be made, and the test has to be there. All others are put into a copy of the crate, at
-most one a function at a time, and `rt check` tells which functions it still proves. Refused is a body of which the check names a goal that it doesn't prove. Where a proof
+most one a function at a time, and `rt check` tells which functions it still proves. Refused is a body of which the check names a goal that it doesn't prove. If a proof
 fails only because a name in it is gone, that is told as `by names`: it says nothing of a clause. A change of a definition in specs/ is for a law: it is tried alone, and
-refused where a lemma that the law's proof rests on isn't proved any more. A body that doesn't compile is an error of its file, and ends the run. The status is 1
-where a body got through that isn't free, or where one couldn't be judged. The crate and those below are best proved before, by `rt check` in the crate's folder:
+refused if a lemma that the law's proof rests on isn't proved any more. A body that doesn't compile is an error of its file, and ends the run. The status is 1
+if a body got through that isn't free, or one couldn't be judged. The crate and those below are best proved before, by `rt check` in the crate's folder:
 what that left is copied.
 """
 import os
@@ -66,7 +66,7 @@ class Body:
         return [end - len(old) for end in inside or ends]
 
     def texts(self, folder):
-        """The files that it changes, with the change, or None where an old text doesn't stand in its function once."""
+        """The files that it changes, with the change, or None if an old text doesn't stand in its function once."""
         texts = {}
         for file, old, new in self.changes:
             if file not in texts:
@@ -138,7 +138,7 @@ def apply_some(bodies, folder, most):
 
 
 def compile_fault(said):
-    """What the compiler says where the crate doesn't compile, or nothing."""
+    """What the compiler says if the crate doesn't compile, or nothing."""
     return next((it for it in said if re.match(r"(\./)?src/\S+\.rt:\d+:\d+: error", it)), "")
 
 
@@ -158,7 +158,7 @@ def reasons_of(body, said):
 
 
 def refused_lemma(name, said):
-    """The lemma whose own proof is refused and on which this one rests, with its file; nothing where there is none, or a name alone is gone in it."""
+    """The lemma whose own proof is refused and on which this one rests, with its file; nothing if there is none, or a name alone is gone in it."""
     rests = {}
     for it in said:
         found = re.match(r"\./proofs/\S+ error: \d+ declarations? that depends? on `([^`]+)`.*not checked: (.*)", it)
@@ -170,7 +170,7 @@ def refused_lemma(name, said):
 
 
 def law_refused(body, said):
-    """The lemma that no longer holds where a definition was changed, and on which the proof of the law rests."""
+    """The lemma that no longer holds if a definition was changed, and on which the proof of the law rests."""
     proof = f"./proofs/{body.function.split('::', 1)[1].replace('::', '/')}/"
     rests = next((re.search(r"depends? on `([^`]+)`", it) for it in said if it.startswith(proof) and "not checked" in it), None)
     return refused_lemma(rests[1], said) if rests else ""
@@ -240,7 +240,7 @@ def try_crate(crate):
     left, most = [it for it in bodies if not it.test], len(bodies)
     while left:
         judged, left = try_some(crate, left, most)
-        # (which of several doesn't compile is seen where each is tried alone)
+        # (which of several doesn't compile is seen if each is tried alone)
         if any(came == "NO BODY" for _, came, _ in judged):
             most = 1
         for body, came, why in judged:

@@ -4,7 +4,7 @@
 
 namespace bare {
 
-// The next card of the pass, or the number of cards where none is left.
+// The next card of the pass, or the number of cards if none is left.
 inline uint64_t next_card(const Heap &heap) {
     if (heap.words[kNextCard].load() >= heap.cards) return heap.cards;
     return std::min(heap.words[kNextCard].fetch_add(1), heap.cards);
@@ -22,7 +22,7 @@ inline uint64_t clean_card(const Heap &heap, Packet &out, uint64_t card) {
     return rescanned;
 }
 
-// With a packet that it takes for it. False where there was none.
+// With a packet that it takes for it. False if there was none.
 inline bool clean_one(const Heap &heap, uint64_t card, uint64_t &rescanned) {
     Packet out = take_output(heap);
     if (!out) return false;
@@ -50,7 +50,7 @@ inline uint64_t clean_dirty(const Heap &heap) {
     return rescanned;
 }
 
-// Traces a quota, and cleans cards of the pass where there is nothing to trace.
+// Traces a quota, and cleans cards of the pass if there is nothing to trace.
 inline Traced trace_and_clean(const Heap &heap, uint64_t quota, uint64_t &rescanned) {
     Traced traced = trace(heap, quota);
     while (traced.stopped == Stopped::NoWork) {

@@ -53,7 +53,7 @@ inline uint64_t drain_alone(const Heap &heap) {
     return rescanned;
 }
 
-// The next block of a sweep, or the number of blocks where none is left.
+// The next block of a sweep, or the number of blocks if none is left.
 inline uint64_t next_block(const Heap &heap) {
     if (heap.words[kNextBlock].load() >= heap.blocks) return heap.blocks;
     return std::min(heap.words[kNextBlock].fetch_add(1), heap.blocks);

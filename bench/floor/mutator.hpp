@@ -4,7 +4,7 @@
 
 namespace bare {
 
-// Claims block b where it is nobody's and has a free cell.
+// Claims block b if it is nobody's and has a free cell.
 inline bool claim_block(const Heap &heap, Seat &seat, uint64_t b) {
     uint64_t nobody = 0;
     if (!heap.words[heap.owners + b].compare_exchange_strong(nobody, seat.section + 1)) return false;
@@ -32,7 +32,7 @@ inline bool claim(const Heap &heap, Seat &seat) {
     return false;
 }
 
-// Publishes what was made, and gives the block up, where there is one.
+// Publishes what was made, and gives the block up, if there is one.
 inline void retire(const Heap &heap, Seat &seat) {
     if (seat.block == kNothing) return;
     if (seat.used != 0) heap.words[heap.allocs + seat.block].fetch_or(seat.used);
@@ -61,7 +61,7 @@ inline void create(const Heap &heap, Seat &seat, uint64_t v, uint64_t value) {
 
 inline bool is_own(const Heap &heap, const Seat &seat, uint64_t c) { return heap.words[heap.identities + c].load() / kFlag == seat.section; }
 
-// Stores variable w in field f of variable v's object, and dirties the object's card where it is published. True where the object is another's.
+// Stores variable w in field f of variable v's object, and dirties the object's card if it is published. True if the object is another's.
 inline bool set(const Heap &heap, Seat &seat, uint64_t v, uint64_t f, uint64_t w) {
     if (seat.variables[v] == 0) return false;
     uint64_t c = seat.variables[v] - 1;
@@ -86,7 +86,7 @@ inline void follow(const Heap &heap, Seat &seat, uint64_t v, uint64_t w, uint64_
 
 inline void lend(const Heap &heap, Seat &seat, uint64_t v, uint64_t c) { store_root(heap, seat, v, heap.words[heap.roots + c].load()); }
 
-// The objects from variable v along field f, at most so many, and the sum of their values. Where the walk ends before nil, the variable is stored again.
+// The objects from variable v along field f, at most so many, and the sum of their values. If the walk ends before nil, the variable is stored again.
 inline void walk(const Heap &heap, Seat &seat, uint64_t v, uint64_t f, uint64_t limit, uint64_t &count, uint64_t &total) {
     uint64_t word = seat.variables[v];
     count = total = 0;

@@ -99,7 +99,7 @@ class Play {
         go_out(heap_, p.seat, p.count);
     }
 
-    // A safe point: where a stop is under way the seat gives way. Then the phase is read, and the season where it isn't known.
+    // A safe point: if a stop is under way the seat gives way. Then the phase is read, and the season if it isn't known.
     void await_turn(Player &p, uint64_t turn) {
         if (heap_.words[kWorld].load() & kFlag) give_way(p);
         p.seat.phase = heap_.words[kPhase].load();
@@ -165,7 +165,7 @@ class Play {
         }
     }
 
-    // Traces 64 objects, cleans at most 64 cards where there is nothing to trace, and brings back what was put off.
+    // Traces 64 objects, cleans at most 64 cards if there is nothing to trace, and brings back what was put off.
     void tend() {
         Traced traced = trace(heap_, 64);
         uint64_t rescanned = 0;

@@ -34,7 +34,7 @@ inline Packet take_at(const Heap &heap, uint64_t q, uint64_t p) {
     return {p, heap.words[heap.heads + p].load()};
 }
 
-// A packet of a pool, with room where that is wanted.
+// A packet of a pool, with room if that is wanted.
 inline Packet take(const Heap &heap, uint64_t q, bool room) {
     for (uint64_t g = 0; g < heap.pool_words; g++) {
         for (uint64_t bits = heap.pool(q, g).load(); bits != 0; bits &= bits - 1) {
@@ -66,7 +66,7 @@ inline Packet take_some(const Heap &heap) {
     return packet ? packet : take_input(heap);
 }
 
-// Marks a cell and pushes it where it was white. True where no packet had room, and its card was dirtied instead.
+// Marks a cell and pushes it if it was white. True if no packet had room, and its card was dirtied instead.
 inline bool mark(const Heap &heap, Packet &out, uint64_t c) {
     uint64_t bit = uint64_t{1} << c % 64;
     if (heap.words[heap.marks + c / 64].fetch_or(bit) & bit) return false;
@@ -113,7 +113,7 @@ struct Packets {
     Packet input, output, deferred;
 };
 
-// Sees to it that the input has a cell, where one is to be had.
+// Sees to it that the input has a cell, if one is to be had.
 inline bool find_input(const Heap &heap, Packets &packets) {
     if (packets.input.length != 0) return true;
     if (packets.output && packets.output.length != 0) {

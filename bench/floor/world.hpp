@@ -32,7 +32,7 @@ inline bool enter(const Heap &heap, Seat &seat) {
     return false;
 }
 
-// Joins the helpers where help is open.
+// Joins the helpers if help is open.
 inline void help_once(const Heap &heap) {
     if (heap.words[heap.help].fetch_add(1) & kFlag) {
         uint64_t phase = heap.words[kPhase].load(), rescanned = 0;
@@ -72,7 +72,7 @@ inline void await_stopped(const Heap &heap, Seat &seat) {
 
 inline bool raise(const Heap &heap) { return (heap.words[kWorld].fetch_or(kFlag) & kFlag) == 0; }
 
-// Asks for a stop. False where another's came first and has ended.
+// Asks for a stop. False if another's came first and has ended.
 inline bool stop(const Heap &heap, Seat &seat, uint64_t done) {
     go_out(heap, seat, done);
     if (raise(heap)) {
@@ -106,7 +106,7 @@ inline uint64_t statistic(const Heap &heap, uint64_t word) {
     return number >> 63 ? 0 : std::min<uint64_t>(number, 16777216);
 }
 
-// Begins a cycle where free cells run short.
+// Begins a cycle if free cells run short.
 inline void kick_off(const Heap &heap) {
     uint64_t last = statistic(heap, kLast), rescanned = statistic(heap, kRescanned), free = statistic(heap, kFree);
     if (8 * free >= last + rescanned) return;

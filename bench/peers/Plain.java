@@ -98,7 +98,7 @@ final class Plain {
         for (Section ignored : sections) players.add(new Player());
     }
 
-    // The object of a variable where it may be stored into: a store is dropped where the object is the catalogue's.
+    // The object of a variable if it may be stored into: a store is dropped if the object is the catalogue's.
     static Cell own(int k, Player at, int v) {
         Cell cell = at.variables[v];
         if (cell != null && cell.section != k) {

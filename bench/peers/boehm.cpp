@@ -1,4 +1,4 @@
-// The same interpreter over the collector of Boehm, Demers and Weiser: incremental where GC_ENABLE_INCREMENTAL is in the environment.
+// The same interpreter over the collector of Boehm, Demers and Weiser: incremental if GC_ENABLE_INCREMENTAL is in the environment.
 #define GC_THREADS
 #include <gc.h>
 

@@ -65,7 +65,7 @@ class Interpreter {
         p.variables[c.v] = object;
     }
 
-    // A store is dropped where the object is the catalogue's.
+    // A store is dropped if the object is the catalogue's.
     template <class Store>
     void store(size_t k, Player &p, Object *object, Store into) {
         if (object == nullptr) return;

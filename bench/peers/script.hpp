@@ -45,7 +45,7 @@ struct Section {
     }
 };
 
-// Section 0 is the catalogue, also where the script has none.
+// Section 0 is the catalogue, also if the script has none.
 struct Script {
     std::string source;
     uint32_t fields = 4, seasons = 1;
@@ -54,7 +54,7 @@ struct Script {
     std::vector<std::string_view> labels;
 };
 
-// The words of a line, none where it is a comment.
+// The words of a line, none if it is a comment.
 inline std::vector<std::string_view> words_of(std::string_view line) {
     std::vector<std::string_view> words;
     for (size_t at = 0; at < line.size();) {
@@ -68,7 +68,7 @@ inline std::vector<std::string_view> words_of(std::string_view line) {
 
 inline uint32_t number_of(std::string_view word) { return strtoul(std::string(word).c_str(), nullptr, 10); }
 
-// A command of a section. A variable gets its number where it is first written, and the catalogue's names are looked up in the catalogue.
+// A command of a section. A variable gets its number if it is first written, and the catalogue's names are looked up in the catalogue.
 inline Command command_of(Script &s, Section &in, const std::vector<std::string_view> &words) {
     auto variable = [&](size_t k) { return in.variable(words[k]); };
     auto field = [&](size_t k) { return static_cast<uint8_t>(number_of(words[k])); };

@@ -2,7 +2,7 @@
  * How many steps the longest call takes, and how long it takes: a line for each kind of call. Each thread makes lists, the leaves of a tree of its own, which fill six
  * tenths of the cells, and stores in each object; the last one to be done collects. Then they replace lists at random, and at the end one collects again. All use calls alone that don't wait,
  * and take what may take long step by step. Tracers take turns beside. The library counts steps: bench/longest.sh builds it, and kinds.h.
- * Arguments: cells, 1 where objects are shared, mutators, tracers, what a step does at most, rounds.
+ * Arguments: cells, 1 if objects are shared, mutators, tracers, what a step does at most, rounds.
  */
 #include "../../examples/c/heap.h"
 #include "calls.h"
@@ -20,7 +20,7 @@ static uint64_t begun;
 
 static uint64_t in_round(void) { return (nanos() - begun) % ROUND; }
 
-/* Rests where it is time to, until the next round begins. */
+/* Rests if it is time to, until the next round begins. */
 static void rest_if_due(struct caller *t) {
     uint64_t gone = in_round();
     struct timespec pause = {0, (long)(ROUND - gone)};
@@ -74,7 +74,7 @@ static void make(struct caller *t, uint32_t v, uint32_t value) {
     }
 }
 
-/* A list of new objects becomes leaf k of the tree, whose nodes are made where they aren't there. */
+/* A list of new objects becomes leaf k of the tree, whose nodes are made if they aren't there. */
 static void replace(struct caller *t, uint32_t k) {
     uint32_t i, nil = 0;
     DOES(t, FORGETS, mh_forget(&t->m, LIST));

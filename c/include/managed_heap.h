@@ -3,7 +3,7 @@
  *
  * A *world* is a heap that threads share. A thread acts on it through a *mutator* of its own, which has 32 variables, 0 to 31. They are its roots: what
  * can be reached from them is kept, and all else is garbage. An object has a value of 32 bits and as many references as the world's sizes say. No call
- * hands out an address of an object, so the collector misses none. Marking goes on as the mutators make objects. Where a processor is free, a thread marks
+ * hands out an address of an object, so the collector misses none. Marking goes on as the mutators make objects. If a processor is free, a thread marks
  * beside them with a *tracer*.
  *
  * In a world that isn't shared each mutator has objects of its own. In a *shared* world all mutators read and store in all objects, and begin at one object,
@@ -28,10 +28,10 @@
 extern "C" {
 #endif
 
-/* The version of these calls. The first number rises where a program has to be changed or compiled again. */
+/* The version of these calls. The first number rises if a program has to be changed or compiled again. */
 #define MH_VERSION "3.1"
 
-/* What a call came to. Where it isn't MH_OK, objects and variables are as before, but for what a line here says. */
+/* What a call came to. If it isn't MH_OK, objects and variables are as before, but for what a line here says. */
 typedef enum mh_status {
     MH_OK = 0,            /* it is done */
     MH_NOT_YET = 1,       /* a step more is to be made: call again */
@@ -42,7 +42,7 @@ typedef enum mh_status {
     MH_COLLECTING = 5,    /* the mutator is between two steps of its collection: mh_collect_step first */
     MH_OUT_OF_RANGE = 6,  /* a variable is not below 32, a field or a slot not below the world's, a size not in its range, or the bound of a step is 0 */
     MH_NIL = 7,           /* the variable refers to no object: there is no value, no place and no number, and nothing is stored */
-    MH_FULL = 8,          /* the reachable objects fill all cells, for good, as a mutator in Rattle has found: none enters any more. Where C has all mutators,
+    MH_FULL = 8,          /* the reachable objects fill all cells, for good, as a mutator in Rattle has found: none enters any more. If C has all mutators,
                              MH_NO_CELL comes instead, and isn't final */
     MH_SPENT = 9,         /* the mutator has made 4,294,967,295 objects, which are all that have numbers */
     MH_OUT_OF_MEMORY = 10, /* there is no memory for the world or the handle */
@@ -91,7 +91,7 @@ static inline const char *mh_status_text(mh_status s) {
  *
  * One thread uses a handle at a time. A call marks what is behind its handle, and a second one that finds the mark is MH_IN_USE: one that comes while a step of
  * a collection runs, or that a signal handler makes. Two threads whose calls begin within some nanoseconds may both miss it, and then the heap may be spoiled.
- * Where MH_CHECKED is defined, for all files of a program, each call exchanges a word of the handle, and a second one is always MH_IN_USE. That is for tests: it
+ * If MH_CHECKED is defined, for all files of a program, each call exchanges a word of the handle, and a second one is always MH_IN_USE. That is for tests: it
  * adds some 7 nanoseconds to a call.
  */
 typedef struct mh_world { void *at; struct mh_book *book; } mh_world;
@@ -133,8 +133,8 @@ typedef struct mh_numbers {
 typedef struct mh_cycle {
     uint64_t number;  /* how many cycles had ended in this world, with this one */
     uint64_t why;     /* MH_ASKED or MH_LACKED */
-    uint64_t beside;  /* 1 where a cycle was marking beside the program as the world stopped, else 0. What it had marked was finished, and marked anew */
-    uint64_t marked;  /* how long one was seen to mark beside the program, before the stop was asked for; 0 where none was seen */
+    uint64_t beside;  /* 1 if a cycle was marking beside the program as the world stopped, else 0. What it had marked was finished, and marked anew */
+    uint64_t marked;  /* how long one was seen to mark beside the program, before the stop was asked for; 0 if none was seen */
     uint64_t tracers; /* how many objects tracers traced beside the program since the cycle before */
     uint64_t waited;  /* how long the world took to stop */
     uint64_t stopped; /* how long it stood still, */
@@ -149,7 +149,7 @@ typedef struct mh_cycle {
 /* Why a cycle ended: a collection was asked for, or no cell was free for an object. */
 enum { MH_ASKED = 0, MH_LACKED = 1 };
 
-/* How far the collection of a mutator is: where it stands; 1 where it is to mark once more, and 1 where it read last that a cycle is marking, else 0; how many cells
+/* How far the collection of a mutator is: where it stands; 1 if it is to mark once more, and 1 if it read last that a cycle is marking, else 0; how many cells
    its sweep has freed, and how many in use it has counted. At MH_AT_END its next step ends the cycle by these two. */
 typedef struct mh_course {
     uint32_t stage;
@@ -243,7 +243,7 @@ static inline uint64_t mh_noted(const uint64_t *number) { return __atomic_load_n
 static inline void mh_note(uint64_t *number, uint64_t n) { __atomic_store_n(number, n, __ATOMIC_RELEASE); }
 static inline void mh_add(uint64_t *number, uint64_t n) { __atomic_fetch_add(number, n, __ATOMIC_SEQ_CST); }
 
-/* The time, in nanoseconds: by a clock that nobody sets where <time.h> has it, as under -std=gnu11 or with _POSIX_C_SOURCE. */
+/* The time, in nanoseconds: by a clock that nobody sets, if <time.h> has it, as under -std=gnu11 or with _POSIX_C_SOURCE. */
 static inline uint64_t mh_now(void) {
 #ifdef CLOCK_MONOTONIC
     struct timespec t;
@@ -256,7 +256,7 @@ static inline uint64_t mh_now(void) {
 #endif
 }
 
-/* How long it was between two moments: 0 where the clock was set back meanwhile. */
+/* How long it was between two moments: 0 if the clock was set back meanwhile. */
 static inline uint64_t mh_since(uint64_t from, uint64_t to) { return from < to ? to - from : 0; }
 
 /* The cycle that the mutator is about to end is written. Nobody else writes one meanwhile, since the world stands still. */
@@ -304,7 +304,7 @@ static inline void mh_note_course(mh_book *book, const mh_course *course, const 
     }
 }
 
-/* Adds what the mutator has traced to pay for its cells since it told last. It tells with each 64th object, where a call makes none, and before it leaves. */
+/* Adds what the mutator has traced to pay for its cells since it told last. It tells with each 64th object, when a call makes none, and before it leaves. */
 static inline void mh_tell(mh_mutator *m, const mh_work *work) {
     mh_add(&m->book->paid, work->paid - m->told);
     m->told = work->paid;
@@ -370,15 +370,15 @@ static inline mh_status mh_given_tracer(mh_tracer *t, mh_status s) {
 }
 /* Gives a tracer back. Its handle is all zero afterwards. */
 static inline mh_status mh_give_back_tracer(mh_world *w, mh_tracer *t) { return MH_BY(t, w->at ? mh_given_tracer(t, mhl_give_back_tracer(w, t)) : MH_GIVEN_BACK); }
-/* Tells the tracers that they are dismissed, for good; MH_STOPPED where a stop is under way, and nothing is told. */
+/* Tells the tracers that they are dismissed, for good; MH_STOPPED if a stop is under way, and nothing is told. */
 static inline mh_status mh_dismiss_step(mh_world *w) { return w->at ? mhl_dismiss_step(w) : MH_GIVEN_BACK; }
-/* Frees the heap; MH_STILL_LENT where a mutator or a tracer isn't back. The handle is all zero afterwards. */
+/* Frees the heap; MH_STILL_LENT if a mutator or a tracer isn't back. The handle is all zero afterwards. */
 static inline mh_status mh_close(mh_world *w) {
     mh_status s = w->at ? mh_emptied(&w->at, mhl_close(w)) : MH_GIVEN_BACK;
     if (s == MH_OK) { free(w->book); w->book = 0; }
     return s;
 }
-/* The last cycle that has ended; MH_NOT_YET where none has, and nothing is written. Any thread may ask, while the world is open. */
+/* The last cycle that has ended; MH_NOT_YET if none has, and nothing is written. Any thread may ask, while the world is open. */
 static inline mh_status mh_last_cycle(const mh_world *w, mh_cycle *cycle) {
     const mh_book *book = w->book;
     uint64_t n[MH_CYCLE_NUMBERS];
@@ -407,7 +407,7 @@ static inline mh_status mh_last_cycle(const mh_world *w, mh_cycle *cycle) {
 
 /* A mutator: for one thread at a time. */
 
-/* Enters the world, where no stop is under way. */
+/* Enters the world, if no stop is under way. */
 static inline mh_status mh_enter_step(mh_mutator *m) { return MH_BY(m, mhl_enter_step(m)); }
 /* Leaves the world. What its variables refer to is kept. */
 static inline mh_status mh_leave(mh_mutator *m) { return MH_BY(m, (mh_tell_paid(m), mhl_leave(m))); }
@@ -415,7 +415,7 @@ static inline mh_status mh_told_unless_done(mh_mutator *m, mh_status s) {
     if (s != MH_OK) mh_tell_paid(m);
     return s;
 }
-/* A safe point: MH_STOPPED where the mutator left, as a stop is under way. */
+/* A safe point: MH_STOPPED if the mutator left, as a stop is under way. */
 static inline mh_status mh_safe_point_step(mh_mutator *m) { return MH_BY(m, mh_told_unless_done(m, mhl_pass(m))); }
 
 /* Notes when a cycle is seen to mark first. Each 64th object of a mutator is looked at: it gets cells for as many at most at a time, and reads the phase then. */
@@ -433,15 +433,15 @@ static inline mh_status mh_counted(mh_mutator *m, mh_status s) {
     return s;
 }
 
-/* v refers to a new object, whose fields are nil; MH_NO_CELL where no cell is free. It is a safe point too. */
+/* v refers to a new object, whose fields are nil; MH_NO_CELL if no cell is free. It is a safe point too. */
 static inline mh_status mh_make_step(mh_mutator *m, uint32_t v, uint32_t value) { return MH_BY(m, mh_counted(m, mhl_make(m, v, value))); }
-/* As mh_make_step, but it looks for no cell: MH_NO_CACHE where no cell of the mutator's cache is free. So it takes few steps, whatever the heap's size. */
+/* As mh_make_step, but it looks for no cell: MH_NO_CACHE if no cell of the mutator's cache is free. So it takes few steps, whatever the heap's size. */
 static inline mh_status mh_make_cached(mh_mutator *m, uint32_t v, uint32_t value) { return MH_BY(m, mh_counted(m, mhl_make_cached(m, v, value))); }
 static inline mh_status mh_told_at_end(mh_mutator *m, mh_status s) {
     if (s != MH_NOT_YET) mh_tell_paid(m);
     return s;
 }
-/* The next step on the way to a cache with a free cell: MH_OK where the mutator has one, and MH_NOT_YET where there are more blocks to look at. It looks at no
+/* The next step on the way to a cache with a free cell: MH_OK if the mutator has one, and MH_NOT_YET if there are more blocks to look at. It looks at no
    more than so many blocks of 64 cells. MH_NO_CELL where its steps looked at as many blocks as there are and found none, or where a cycle is done with marking:
    collect. Where the cache has no free cell yet it is a safe point too. */
 static inline mh_status mh_refill_step(mh_mutator *m, uint32_t most) { return MH_BY(m, mh_told_at_end(m, mhl_refill_step(m, most))); }
@@ -456,21 +456,21 @@ static inline mh_status mh_make_with_step(mh_mutator *m, uint32_t v, uint32_t va
     uint32_t none = MH_NOTHING;
     return MH_BY(m, mh_counted(m, mhl_make_with(m, v, value, count ? fields : &none, count)));
 }
-/* Field i of v's object becomes w; MH_NIL where v is nil. */
+/* Field i of v's object becomes w; MH_NIL if v is nil. */
 static inline mh_status mh_set(mh_mutator *m, uint32_t v, uint32_t i, uint32_t w) { return MH_BY(m, mhl_set(m, v, i, w)); }
-/* w becomes field i of v's object; nil where v is. */
+/* w becomes field i of v's object; nil if v is. */
 static inline mh_status mh_get(mh_mutator *m, uint32_t w, uint32_t v, uint32_t i) { return MH_BY(m, mhl_get(m, w, v, i)); }
 /* w becomes v. */
 static inline mh_status mh_copy(mh_mutator *m, uint32_t w, uint32_t v) { return MH_BY(m, mhl_copy(m, w, v)); }
 /* v becomes nil. */
 static inline mh_status mh_forget(mh_mutator *m, uint32_t v) { return MH_BY(m, mhl_forget(m, v)); }
-/* The value of v's object becomes this; MH_NIL where v is nil. */
+/* The value of v's object becomes this; MH_NIL if v is nil. */
 static inline mh_status mh_put(mh_mutator *m, uint32_t v, uint32_t value) { return MH_BY(m, mhl_put(m, v, value)); }
-/* The value of v's object; MH_NIL where v is nil. */
+/* The value of v's object; MH_NIL if v is nil. */
 static inline mh_status mh_value(mh_mutator *m, uint32_t v, uint32_t *out) { return MH_BY(m, mhl_value(m, v, out)); }
-/* 1 where v refers to nothing, else 0. */
+/* 1 if v refers to nothing, else 0. */
 static inline mh_status mh_is_nil(mh_mutator *m, uint32_t v, uint32_t *out) { return MH_BY(m, mhl_is_nil(m, v, out)); }
-/* 1 where v and w refer to one object, or both to nothing, else 0. */
+/* 1 if v and w refer to one object, or both to nothing, else 0. */
 static inline mh_status mh_same(mh_mutator *m, uint32_t v, uint32_t w, uint32_t *out) { return MH_BY(m, mhl_same(m, v, w, out)); }
 static inline mh_status mh_noted_step(mh_mutator *m, mh_status s, uint64_t why) {
     mh_course course;
@@ -485,19 +485,19 @@ static inline mh_status mh_collect_step_for(mh_mutator *m, uint32_t most, uint64
 /* The next step of a collection of the mutator's own: at most so many roots, objects, cards of 16 cells or blocks of 64 are done in it. Blocks are cleared and
    swept in stretches (of 1 to 128, by the heap's size), and one at least. */
 static inline mh_status mh_collect_step(mh_mutator *m, uint32_t most) { return mh_collect_step_for(m, most, MH_ASKED); }
-/* 1 where its collection waits for the mutators that are inside, so that a rest is due before its next step, else 0. */
+/* 1 if its collection waits for the mutators that are inside, so that a rest is due before its next step, else 0. */
 static inline mh_status mh_is_stopping(mh_mutator *m, uint32_t *out) { return MH_BY(m, mhl_is_stopping(m, out)); }
 
-/* What a mutator does in a shared world alone, but for mh_place. Elsewhere each other is MH_NOT_SHARED. */
+/* What a mutator does only in a shared world, but for mh_place. Elsewhere each other is MH_NOT_SHARED. */
 
 /* v becomes the root: the object that the world made as it opened, by which its mutators find each other's objects. */
 static inline mh_status mh_root(mh_mutator *m, uint32_t v) { return MH_BY(m, mhl_root(m, v)); }
-/* Where field i of v's object is what the variable `expected` is, it becomes what the variable `next` is, in one step, and `won` 1, else 0. Either variable may
+/* If field i of v's object is what the variable `expected` is, it becomes what the variable `next` is, in one step, and `won` 1, else 0. Either variable may
    be nil; MH_NIL where v is. */
 static inline mh_status mh_exchange(mh_mutator *m, uint32_t v, uint32_t i, uint32_t expected, uint32_t next, uint32_t *won) {
     return MH_BY(m, mhl_exchange(m, v, i, expected, next, won));
 }
-/* Where the value of v's object is the number `expected` it becomes the number `next`, in one step, and `won` 1, else 0. MH_NIL where v is nil. */
+/* If the value of v's object is the number `expected` it becomes the number `next`, in one step, and `won` 1, else 0. MH_NIL if v is nil. */
 static inline mh_status mh_exchange_value(mh_mutator *m, uint32_t v, uint32_t expected, uint32_t next, uint32_t *won) {
     return MH_BY(m, mhl_exchange_value(m, v, expected, next, won));
 }
@@ -531,7 +531,7 @@ static inline mh_status mh_told_turn(mh_tracer *t, mh_status s) {
     }
     return s;
 }
-/* One turn, which marks at most 64 objects and passes at most 1,024 cards: MH_OK where a cycle is marking, MH_IDLE where none is, MH_STOPPED where a stop is
+/* One turn, which marks at most 64 objects and passes at most 1,024 cards: MH_OK if a cycle is marking, MH_IDLE if none is, MH_STOPPED if a stop is
    under way, MH_DISMISSED and MH_FULL where no turn is to follow. */
 static inline mh_status mh_trace_turn(mh_tracer *t) { return MH_BY(t, mh_told_turn(t, mhl_trace_turn(t))); }
 
@@ -540,7 +540,7 @@ static inline mh_status mh_trace_turn(mh_tracer *t) { return MH_BY(t, mh_told_tu
 /* How often a thread that waits yields, and how long it sleeps from then on, at first and at most, in microseconds. */
 enum { MH_YIELDS = 16, MH_SHORTEST = 50, MH_LONGEST = 1000 };
 
-/* What a waiting thread sleeps by, where the program sets it: it is handed how long, in microseconds. No call of the library is under way then, so a program may
+/* What a waiting thread sleeps by, if the program sets it: it is handed how long, in microseconds. No call of the library is under way then, so a program may
    leave by longjmp from there, or let in a signal that is blocked elsewhere. Each file that includes this has the variable, and the linker keeps one. */
 extern void (*mh_sleeps_by)(uint32_t microseconds);
 __attribute__((weak)) void (*mh_sleeps_by)(uint32_t microseconds) = 0;
@@ -594,19 +594,19 @@ static inline mh_status mh_collect_for(mh_mutator *m, uint64_t why) {
     return s == MH_STOPPED ? mh_enter(m) : s;
 }
 
-/* A collection of the mutator's own; MH_OK too where another's came first. */
+/* A collection of the mutator's own; MH_OK too if another's came first. */
 static inline mh_status mh_collect(mh_mutator *m) { return mh_collect_for(m, MH_ASKED); }
 
 /* How many collections of its own mh_make makes for one object, before it answers MH_NO_CELL. */
 enum { MH_TRIES = 3 };
 
-/* What a call does that makes an object, where a step came to s and made none: MH_OK where it is to take the next step. */
+/* What a call does that makes an object, if a step came to s and made none: MH_OK if it is to take the next step. */
 static inline mh_status mh_make_room(mh_mutator *m, mh_status s, int *tries) {
     if (s == MH_STOPPED) return mh_enter(m);
     return s != MH_NO_CELL || (*tries)++ == MH_TRIES ? s : mh_collect_for(m, MH_LACKED);
 }
 
-/* v refers to a new object, whose fields are nil, with a collection where no cell is free. MH_NO_CELL: the collections left none for this mutator; others have
+/* v refers to a new object, whose fields are nil, with a collection if no cell is free. MH_NO_CELL: the collections left none for this mutator; others have
    taken what they freed. */
 static inline mh_status mh_make(mh_mutator *m, uint32_t v, uint32_t value) {
     int tries = 0;
@@ -615,7 +615,7 @@ static inline mh_status mh_make(mh_mutator *m, uint32_t v, uint32_t value) {
     return s;
 }
 
-/* v refers to a new object, whose first `count` fields become what the variables of these numbers are: mh_make_with_step, with a collection where no cell is
+/* v refers to a new object, whose first `count` fields become what the variables of these numbers are: mh_make_with_step, with a collection if no cell is
    free. */
 static inline mh_status mh_make_with(mh_mutator *m, uint32_t v, uint32_t value, const uint32_t *fields, uint32_t count) {
     int tries = 0;
@@ -624,7 +624,7 @@ static inline mh_status mh_make_with(mh_mutator *m, uint32_t v, uint32_t value, 
     return s;
 }
 
-/* One step of mh_abandon, which doesn't wait: MH_NOT_YET where a step more is to be made, MH_STOPPED where another's collection is under way. A step of a collection
+/* One step of mh_abandon, which doesn't wait: MH_NOT_YET if a step more is to be made, MH_STOPPED if another's collection is under way. A step of a collection
    that was begun does at most so many roots, objects, cards or blocks. */
 static inline mh_status mh_abandon_step(mh_world *w, mh_mutator *m, int keeps, uint32_t most) {
     mh_status s;
@@ -653,7 +653,7 @@ static inline mh_status mh_abandon(mh_world *w, mh_mutator *m, int keeps) {
     return s;
 }
 
-/* What a tracer does between two turns, the first of which came to s: it yields where a cycle is marking, rests where a stop is under way, and sleeps longest
+/* What a tracer does between two turns, the first of which came to s: it yields if a cycle is marking, rests if a stop is under way, and sleeps longest
    where there is nothing to do. The count is as for mh_rest. */
 static inline void mh_rest_turn(mh_status s, uint32_t *count) {
     int k;

@@ -1,4 +1,4 @@
-# Each commit that a page names is one of the repository's, where its history is there.
+# Each commit that a page names is one of the repository's, if its history is there.
 set -eu
 
 [ "$(git rev-parse --is-shallow-repository 2>/dev/null)" = false ] || exit 0

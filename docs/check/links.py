@@ -1,4 +1,4 @@
-"""Each link leads to a page, and to a heading of it where it names one."""
+"""Each link leads to a page, and to a heading of it if it names one."""
 import os
 import re
 import sys

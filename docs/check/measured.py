@@ -28,7 +28,7 @@ def row(program, size=FRONT):
 def check_front():
     """The stops that README.md tells first: four workers in the largest heap, a tracer and none."""
     told = [milliseconds(it) for program in ("beside, 1", "beside, 0", "stops, 1", "stops, 0") for it in row(program)[1:3]]
-    pattern = r"stops took ([\d.]+) ms in the mean and ([\d.]+) at the longest with the default of one tracer, ([\d.]+) and ([\d.]+) with none, where collecting in stops alone took ([\d.]+) and ([\d.]+), and ([\d.]+) and ([\d.]+)"
+    pattern = r"stops took ([\d.]+) ms in the mean and ([\d.]+) at the longest with the default of one tracer, ([\d.]+) and ([\d.]+) with none, and collecting only in stops ([\d.]+) and ([\d.]+), and ([\d.]+) and ([\d.]+)"
     says("stops", "README.md", pattern, *told)
     says("stops of Boehm's", "README.md", r"stopping the world, took ([\d.]+) and ([\d.]+)", *(milliseconds(it) for it in row("Boehm, stop")[1:3]))
     says("orders of Boehm's", "README.md", r"with ([\d.]+) times the throughput", row("Boehm, stop")[0] / row("beside, 1")[0], near=0.05)

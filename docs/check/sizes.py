@@ -6,7 +6,7 @@ import sys
 sys.path.insert(0, "docs")
 from pages import stands, text_of  # noqa: E402
 
-CORE, OWN, SHARED, SEATS, FOR_C = (f"crates/{it}/" for it in ("mark_core", "managed_heap", "shared_heap", "world_seats", "managed_heap_c"))
+CORE, OWN, SHARED, FOR_C = (f"crates/{it}/" for it in ("mark_core", "managed_heap", "shared_heap", "managed_heap_c"))
 PAGE, PAGE_C, HEADER, RUST = "docs/EMBEDDING.md", "docs/EMBEDDING_C.md", "c/include/managed_heap.h", "rust/managed_heap/src/"
 WORLD = ["cells", "fields", "mutators", "tracers", "slots", "packets", "entries"]
 LOWEST = ["fields", "mutators", "packets", "entries"]
@@ -64,7 +64,7 @@ PLACES = [
 
 def places_of(sizes):
     """Where the sizes of the libraries' worlds stand."""
-    specs, code = SEATS + "specs/Sizing.antt", SEATS + "src/sizes.rt"
+    specs, code = OWN + "specs/Sizing.antt", OWN + "src/sizes.rt"
     several = [it for it in sizes if it not in ("packets", "entries", "cells")]
     return [
         (specs, "pub NAME : (@least ≤ s.NAME) × (s.NAME ≤ @most)", LOWEST),
@@ -103,8 +103,8 @@ def sizes():
 
 def room():
     """How many packets a world has if nobody says, and how many entries a packet has then."""
-    part, least, most = re.search(r"min \(max \(cells / (\d+)\) (\d+)\) (\d+)", text_of(SEATS + "specs/Sizing.antt")).groups()
-    packets = re.search(r"packets = (\d+); entries = usual cells", text_of(SEATS + "src/sizes.rt"))[1]
+    part, least, most = re.search(r"min \(max \(cells / (\d+)\) (\d+)\) (\d+)", text_of(OWN + "specs/Sizing.antt")).groups()
+    packets = re.search(r"packets = (\d+); entries = usual cells", text_of(OWN + "src/sizes.rt"))[1]
     return {"part": int(part), "least": int(least), "most": int(most), "packets": int(packets)}
 
 

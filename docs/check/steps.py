@@ -15,7 +15,7 @@ SAME = re.compile(r"(?:^|\()y ≡ (?:x|None)(?:\)|$)")
 
 
 def argument(words, start):
-    """The next argument in these words, a word or what stands in brackets, and where it ends; None where there is none."""
+    """The next argument in these words, a word or what stands in brackets, and where it ends; None if there is none."""
     while words[start : start + 1] == " ":
         start += 1
     if words[start : start + 1] != "(":
@@ -85,7 +85,7 @@ def of_words(words, page, operation):
 
 
 def of_cases(cases, page, operation):
-    """The largest bound of these cases, where each has one."""
+    """The largest bound of these cases, if each has one."""
     bounds = [of_words(it, page, operation) for it in cases]
     return max(bounds, key=size) if bounds and all(bounds) else None
 

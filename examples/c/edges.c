@@ -21,7 +21,7 @@ static uint32_t value_of(uint32_t v) {
     return value;
 }
 
-/* Field i of the object of v refers to what variable w does, or to nothing where w is MH_NOTHING. Variable 31 is there for it. */
+/* Field i of the object of v refers to what variable w does, or to nothing if w is MH_NOTHING. Variable 31 is there for it. */
 static void field_is(uint32_t v, uint32_t i, uint32_t w, const char *what) {
     uint32_t out = 7;
     MUST(mh_get(&m, 31, v, i));
@@ -196,7 +196,7 @@ static void shared_world(void) {
     MUST(mh_close(&shared));
 }
 
-/* Neither kind of world takes a mutator of the other kind, also where both have one name. */
+/* Neither kind of world takes a mutator of the other kind, also if both have one name. */
 static void kinds(void) {
     mh_sizes sizes = {64, 1, 1, 7, 0, 0, 0};
     mh_world own = {0}, shared = {0};

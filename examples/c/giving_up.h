@@ -19,7 +19,7 @@ static void forget_all(struct job *j) {
     if (wanted == MH_OK) forget_roots(j);
 }
 
-/* One step by which the handle is given up; where it was the last, the mutator is taken again, by which it can't be another's. */
+/* One step by which the handle is given up; if it was the last, the mutator is taken again, by which it can't be another's. */
 static mh_status abandon_step(struct job *j, int keeps) {
     mh_status s;
     pthread_mutex_lock(&lending);

@@ -16,7 +16,7 @@
 #include <sys/resource.h>
 #include <time.h>
 
-/* Ends the program where a call came to something else. */
+/* Ends the program if a call came to something else. */
 #define MUST(call) must((call), MH_OK, #call, __FILE__, __LINE__)
 #define MUST_BE(wanted, call) must((call), (wanted), #call, __FILE__, __LINE__)
 

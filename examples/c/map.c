@@ -15,7 +15,7 @@ static uint64_t taken[THREADS], left;
 
 static void nothing(mh_mutator *m, uint32_t number) { (void)m; (void)number; }
 
-/* AT becomes the object of this key that has a count, by the chain that OLD begins; 0 where there is none. */
+/* AT becomes the object of this key that has a count, by the chain that OLD begins; 0 if there is none. */
 static int find(mh_mutator *m, uint32_t key, uint32_t *value) {
     MUST(mh_copy(m, AT, OLD));
     for (; !is_nil(m, AT); MUST(mh_get(m, AT, AT, 0))) {

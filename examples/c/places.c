@@ -5,7 +5,7 @@
  * 1. Who made an object lays its text at its place before others can find it, and frees what lay there, which was of an object that is gone.
  * 2. Whoever looks at a text has a variable that refers to its object until it has looked.
  * 3. Who frees or reads a text got its address from the place anew.
- * 4. Who knows that an object is gone, and frees its text before the place is taken again, frees it only where it is that object's still: the text is labelled by
+ * 4. Who knows that an object is gone, and frees its text before the place is taken again, frees it only if it is that object's still: the text is labelled by
  *    the object's number, which no other object ever has, and whoever takes the label away by an exchange frees the text.
  *
  * A fourth argument breaks a rule. 1: a place is used after its object was forgotten, and then another object's text is there; the program says so, and ends with
@@ -20,7 +20,7 @@ enum { ROOT, NEW, FOUND, FIELDS = 8, LONG = 24 };
 enum broken { NONE, PLACE_KEPT, ADDRESS_KEPT, LABEL_IGNORED };
 static uint32_t threads, many, cells, broken;
 
-/* The texts and their labels, by place: a label is 0 where no text lies. How often each place was looked at tells a sanitizer, which doesn't see into the library, that who looked did so before the object died. */
+/* The texts and their labels, by place: a label is 0 if no text lies. How often each place was looked at tells a sanitizer, which doesn't see into the library, that who looked did so before the object died. */
 static char **text_at;
 static uint64_t *label_at;
 static uint32_t *looks;
@@ -56,7 +56,7 @@ static void lay_text(mh_mutator *m) {
     __atomic_fetch_add(&texts_made, 1, __ATOMIC_RELAXED);
 }
 
-/* The text is freed that lay here, of an object that is gone, where nobody has freed it yet. It is read before the label is taken: as long as the label stands the
+/* The text is freed that lay here, of an object that is gone, if nobody has freed it yet. It is read before the label is taken: as long as the label stands the
    text is that object's, and once it is gone it never comes back. */
 static void drop_text(uint32_t place, uint64_t label) {
     char *text = __atomic_load_n(&text_at[place], __ATOMIC_ACQUIRE);

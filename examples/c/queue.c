@@ -39,7 +39,7 @@ static void put(mh_mutator *m, uint32_t value) {
     let_go(m);
 }
 
-/* Takes the first number; 0 where there is none. */
+/* Takes the first number; 0 if there is none. */
 static int take(mh_mutator *m, uint32_t *value) {
     int some = 0;
     for (;;) {

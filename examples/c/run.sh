@@ -1,11 +1,11 @@
 #!/bin/sh
 # Builds the C programs over the library and over Boehm's collector, runs them, then runs them under the sanitizers that the compiler has, and prints a line
-# for each run. Ends with status 1 where an answer was wrong.
+# for each run. Ends with status 1 if an answer was wrong.
 #
 #     sh examples/c/run.sh             everything but the long run
 #     sh examples/c/run.sh --long      besides, 10^9 objects in 65,536 cells
 #
-# The library is the one that c/install.sh installs: it is proved and built where it isn't there. LIBRARY names another archive, KIT the folder of the kit.
+# The library is the one that c/install.sh installs: it is proved and built if it isn't there. LIBRARY names another archive, KIT the folder of the kit.
 here=$(cd "$(dirname "$0")" && pwd)
 top=$(cd "$here/../.." && pwd)
 work=$(mktemp -d)

@@ -57,7 +57,7 @@ static uint32_t some_number(struct job *j, uint32_t below) {
 static uint32_t some_variable(struct job *j) { return some_number(j, NEXT); }
 static uint32_t some_field(struct job *j) { return some_number(j, FIELDS); }
 
-/* What a root of this number refers to is listed in waiting, where it is found for the first time. */
+/* What a root of this number refers to is listed in waiting, if it is found for the first time. */
 static uint32_t find_root(struct job *j, uint32_t n, int32_t o, uint32_t by) {
     if (o < 0 || j->of[o].seen == j->round) return n;
     j->of[o].seen = j->round; j->of[o].from = -1; j->of[o].by = (int32_t)by;
@@ -123,7 +123,7 @@ static void compare_number(struct job *j, const struct shadow *o) {
     wrong("the maker of an object", maker, j->maker);
 }
 
-/* A value that is put into FOUND's object is read by variable k where it refers to that object, and else not. */
+/* A value that is put into FOUND's object is read by variable k if it refers to that object, and else not. */
 static void compare_variable(struct job *j, int32_t o, uint32_t k) {
     uint32_t one, value;
     MUST(mh_same(&j->m, FOUND, k, &one));
@@ -192,7 +192,7 @@ static mh_status expected(struct job *j, int in_range) {
     return j->place == OUTSIDE ? MH_OUTSIDE : j->place == COLLECTING ? MH_COLLECTING : MH_OK;
 }
 
-/* The same of an operation that wants an object, where the variable's is this one. */
+/* The same of an operation that wants an object, if the variable's is this one. */
 static mh_status unless_nil(mh_status s, int32_t o) { return s == MH_OK && o < 0 ? MH_NIL : s; }
 
 #define SAYS(wanted, call) must(told(j, (call)), (wanted), #call, __FILE__, __LINE__)

@@ -16,7 +16,7 @@ static inline void rest(mh_mutator *m) {
     MUST(mh_enter(m));
 }
 
-/* A new object. Where the others' objects fill all cells it waits until they let go of some. */
+/* A new object. If the others' objects fill all cells it waits until they let go of some. */
 static inline void make(mh_mutator *m, uint32_t v, uint32_t value) {
     mh_status s;
     while ((s = mh_make(m, v, value)) == MH_NO_CELL) rest(m);

@@ -3,7 +3,7 @@
  * object's value says who made it and as which of its objects. Each thread keeps a log of its stores and of its reads.
  *
  * Afterwards each reference that was read was one that was stored in that field of that object. A walk of what the root reaches agrees with the stores: a field
- * has what some thread stored there last, or nothing where none stored. A field of the root is only exchanged, so that it has the one reference by which the
+ * has what some thread stored there last, or nothing if none stored. A field of the root is only exchanged, so that it has the one reference by which the
  * exchanges that were won hang together. Where an object lies, and which one it is, is what its maker was told.
  * Arguments: threads, steps of each thread, cells, tracers, seed.
  */
@@ -17,7 +17,7 @@ enum { ROOT, NIL, OWN, FOUND = 28, OTHER, SLOTS = 40, FIELDS = 3 };
 enum { BY = 26, MOST = (1u << BY) - 1 };
 #define NONE 0xffffffffu
 
-/* A store: field `field` of object `in` became `what`; by an exchange where it was `from`. A read has the same, and no `from`. */
+/* A store: field `field` of object `in` became `what`; by an exchange if it was `from`. A read has the same, and no `from`. */
 struct entry { uint32_t in, field, what, from, thread, at; };
 struct log { struct entry *of; uint32_t count, room; };
 

@@ -1,7 +1,7 @@
 /* Calls: of closures, whose operands become the ribs of a new environment, of primitives, and of continuations. */
 #include "machine.h"
 
-/* The value of the operand at a position: computed now where it is simple, and else from the frames. */
+/* The value of the operand at a position: computed now if it is simple, and else from the frames. */
 static value operand(const struct node *call, uint32_t i, uint32_t t) {
     return operands[call->b + call->c + i] ? kept_value(call, i, t) : simple(part_of(call, i), t);
 }
@@ -59,7 +59,7 @@ static void check_arity(uint32_t arity, uint32_t n) {
     if (n < least || (n > least && !(arity & LISTED))) fail("a procedure of %u operands got %u", (unsigned)least, (unsigned)n);
 }
 
-/* Enters a lambda: its variables are the operands, and what its body defines. The parent is where it was made. Where no rib is made there is a safe point, so
+/* Enters a lambda: its variables are the operands, and what its body defines. The parent is where it was made. If no rib is made there is a safe point, so
    that each loop has one. */
 static uint32_t enter(const struct node *lambda, uint32_t parent, uint32_t from, uint32_t n, int has_frame) {
     uint32_t least = lambda->b & LEAST, listed = (lambda->b & LISTED) != 0, defined;
@@ -169,7 +169,7 @@ static uint32_t touch_at(value v) {
     return touch();
 }
 
-/* A call of a primitive: with its operands in variables where they are few. */
+/* A call of a primitive: with its operands in variables if they are few. */
 static uint32_t by_primitive(uint32_t primitive, uint32_t pc, int has_frame) {
     const struct node *n = &code[pc];
     const struct primitive *it = &primitives[primitive];

@@ -12,7 +12,7 @@ enum { DEEPEST = 2000 };
 
 static uint32_t larger(uint32_t a, uint32_t b) { return a > b ? a : b; }
 
-/* What a node needs whose parts are these: complex where one is. */
+/* What a node needs whose parts are these: complex if one is. */
 static uint32_t needs_of(enum op op, const struct node *n) {
     uint32_t all;
     switch (op) {
@@ -68,7 +68,7 @@ uint32_t call(enum op op, uint32_t a, const uint32_t *args, uint32_t n) {
     return it;
 }
 
-/* A call of a primitive by its mode; 0 where it isn't one of two or three operands, as a comparison of three is. */
+/* A call of a primitive by its mode; 0 if it isn't one of two or three operands, as a comparison of three is. */
 uint32_t primitive_call(uint32_t primitive, const uint32_t *args, uint32_t n) {
     const struct primitive *it = &primitives[primitive];
     uint32_t two[2], i;
@@ -88,7 +88,7 @@ uint32_t primitive_call(uint32_t primitive, const uint32_t *args, uint32_t n) {
     return it->mode < WHOLE && n >= it->least && n <= it->most ? call(PRIM, primitive, args, n) : 0;
 }
 
-/* VAL becomes the part i of the form; 0 where it has none. */
+/* VAL becomes the part i of the form; 0 if it has none. */
 int element(uint32_t i) {
     rest_from(i);
     if (KIND(word(VAL)) != PAIR) return 0;
@@ -114,7 +114,7 @@ void add_name(struct scope *scope) {
     scope->name[scope->count++] = DATA(w);
 }
 
-/* Where a name lies: 0 where in no scope. The last variable of a scope lies in the first field of the innermost rib. */
+/* Where a name lies: 0 if in no scope. The last variable of a scope lies in the first field of the innermost rib. */
 static int find(struct scope *scope, uint32_t name, uint32_t *links, uint32_t *field) {
     uint32_t i;
     for (*links = 0; scope; *links += (scope->count + IN_RIB - 1) / IN_RIB, scope = scope->outer)

@@ -1,8 +1,8 @@
 /*
  * What is left to do: a chain of frames, at whose end is the future whose value is computed. The newest frames lie in slots of the thread, two for each: its
  * environment, and the value of the operand that it waited for. The others are objects that never change: field 0 is the next one, field 1 the environment;
- * those of a call have in field 2 the value that was computed before, and in field 3 the frame with the values before that. All become objects where a
- * continuation is made, where a future is waited for, and where slots get few; so a recursion is as deep as the heap, and a continuation is kept by keeping a
+ * those of a call have in field 2 the value that was computed before, and in field 3 the frame with the values before that. All become objects if a
+ * continuation is made, if a future is waited for, and if slots get few; so a recursion is as deep as the heap, and a continuation is kept by keeping a
  * reference.
  */
 #include "machine.h"

@@ -121,7 +121,7 @@ static void finish(enum state state) {
     forget_frames();
 }
 
-/* VAL becomes the text that the thread gathered of a failure; 0 where the heap has no room for it. */
+/* VAL becomes the text that the thread gathered of a failure; 0 if the heap has no room for it. */
 static int keeps_text(void) {
     jmp_buf full, *outer = handler;
     const char *text;
@@ -144,7 +144,7 @@ static void finish_failed(void) {
     finish(keeps_text() ? FAILED : FULL);
 }
 
-/* The line is that of the node in a word of this kind; that of the expression at the top, where it is another kind or the node has none. */
+/* The line is that of the node in a word of this kind; that of the expression at the top, if it is another kind or the node has none. */
 static void at_line_of(uint32_t w, enum kind kind) {
     uint32_t line = KIND(w) == kind ? code[DATA(w)].line : 0;
     line_now = line ? line : top_line;
@@ -169,7 +169,7 @@ static uint32_t begin(void) {
     return apply();
 }
 
-/* Under the lock. Whether there is nothing more to do: for the first thread where no other has a task. */
+/* Under the lock. Whether there is nothing more to do: for the first thread if no other has a task. */
 static int is_over(int is_first) { return is_first ? waiting == threads - 1 : is_closing; }
 
 /* Under the lock, which is given up meanwhile: waits outside the world until there is a task, or all is over. What the thread had is no root meanwhile. */
@@ -186,7 +186,7 @@ static void rest(int is_first) {
     pthread_mutex_lock(&lock);
 }
 
-/* T0 becomes the next task; 0 where all is over. */
+/* T0 becomes the next task; 0 if all is over. */
 static int next_task(int is_first) {
     int is_there;
     pthread_mutex_lock(&lock);

@@ -1,5 +1,5 @@
 /*
- * The heap that the interpreter runs over, by the few calls that it makes: over managed_heap.h, or over Boehm's collector where OVER_BOEHM is defined.
+ * The heap that the interpreter runs over, by the few calls that it makes: over managed_heap.h, or over Boehm's collector if OVER_BOEHM is defined.
  * Threads share its objects. Each has 32 variables and some slots, which are its roots, and all find the root. An object has a word of 32 bits and up to four
  * fields; or, in their place, some bytes beside it. What opens and fills is in heap_managed.c and heap_boehm.c; what is called most is in over_managed.h and
  * over_boehm.h, so that the compiler sees through it.
@@ -25,7 +25,7 @@ void heap_collect(void);
 uint64_t heap_free(void);
 /* A call that answered what the program doesn't provide for: it ends here. */
 void heap_refused(int status);
-/* What the program does where no cell is free. It doesn't return. */
+/* What the program does if no cell is free. It doesn't return. */
 void heap_is_full(void);
 
 /* The bytes beside an object, at this address while a variable refers to it. Threads may read and write them at once, so each access is an atomic one. */

@@ -34,7 +34,7 @@ value p_path(value *a, uint32_t n, uint32_t t) {
 
 value p_set_car(value *a, uint32_t n, uint32_t t) { UNUSED(n, t); set(pair_at(a[0]), 0, in_variable(a[1], S0)); return nothing_(); }
 value p_set_cdr(value *a, uint32_t n, uint32_t t) { UNUSED(n, t); set(pair_at(a[0]), 1, in_variable(a[1], S0)); return nothing_(); }
-/* Where the first of the pair is eqv? to a[1] it becomes a[2], in one step. */
+/* If the first of the pair is eqv? to a[1] it becomes a[2], in one step. */
 value p_compare_and_set(value *a, uint32_t n, uint32_t t) {
     uint32_t of = pair_at(a[0]), next = in_variable(a[2], S1);
     UNUSED(n, t);
@@ -171,7 +171,7 @@ value p_eq(value *a, uint32_t n, uint32_t t) {
 value p_eqv(value *a, uint32_t n, uint32_t t) { UNUSED(n, t); return truth(are_eqv(a[0], a[1])); }
 value p_equal(value *a, uint32_t n, uint32_t t) { UNUSED(n, t); return truth(are_equal(a[0], a[1])); }
 
-/* t becomes the first part of the list whose first, or whose first's first, the operand is the same as; #f where none is. */
+/* t becomes the first part of the list whose first, or whose first's first, the operand is the same as; #f if none is. */
 static value found(value *a, uint32_t t, int in_pairs, int (*are_same)(value, value)) {
     copy(t, in_variable(a[1], t));
     for (; KIND(word(t)) == PAIR; get(t, t, 1)) {

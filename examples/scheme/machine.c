@@ -18,7 +18,7 @@ static uint32_t next_argument(uint32_t pc) {
     return part_of(&code[n->a], code[n->c].b);
 }
 
-/* One step: RETURN where the value is there. */
+/* One step: RETURN if the value is there. */
 static uint32_t go(uint32_t pc) {
     const struct node *n = &code[pc];
     uint32_t first, i;

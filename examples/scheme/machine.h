@@ -38,7 +38,7 @@ value invoke(uint32_t primitive, value *a, uint32_t n, uint32_t t);
 void assign(const struct node *n, value v);
 uint32_t give(value v);
 
-/* frames.c. A frame at this node becomes the first one; the node of the first frame, whose environment becomes the machine's, or HALT where there is none;
+/* frames.c. A frame at this node becomes the first one; the node of the first frame, whose environment becomes the machine's, or HALT if there is none;
    the first one ends. */
 void push_frame(uint32_t pc);
 uint32_t top_frame(void);

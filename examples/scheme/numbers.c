@@ -1,4 +1,4 @@
-/* Numbers: integers of 32 bits, which fail by name where a result has more, and flonums. An integer of 28 bits is a word; a wider one, and a flonum, lies
+/* Numbers: integers of 32 bits, which fail by name if a result has more, and flonums. An integer of 28 bits is a word; a wider one, and a flonum, lies
    beside its object. */
 #include "primitives.h"
 
@@ -50,7 +50,7 @@ int is_number(value v) {
     return kind == INTEGER || kind == WIDE || kind == FLONUM;
 }
 
-/* Numbers are the same where they are of one kind and equal; what is a word by its word, and all else by the object. */
+/* Numbers are the same if they are of one kind and equal; what is a word by its word, and all else by the object. */
 int are_eqv(value a, value b) {
     uint32_t x = word_of(a), y = word_of(b);
     if (KIND(x) <= EMPTY || KIND(y) <= EMPTY) return x == y;
@@ -174,7 +174,7 @@ value number_read(const char *text, uint32_t t) {
     return *digits ? truth(0) : flonum(d, t);
 }
 
-/* A flonum by 15 digits, or by 16 or 17 where they say more. */
+/* A flonum by 15 digits, or by 16 or 17 if they say more. */
 void number_text(value v, char *to) {
     struct number x = number_of(v);
     int digits = 15;

@@ -19,13 +19,13 @@ static inline void make(uint32_t v, uint32_t word, uint32_t fields) {
 }
 /* Field i of v's object becomes w. */
 static inline void set(uint32_t v, uint32_t i, uint32_t w) { heap_must(mh_set(&heap_mutator, v, i, w)); }
-/* w becomes field i of v's object; nil where v is. */
+/* w becomes field i of v's object; nil if v is. */
 static inline void get(uint32_t w, uint32_t v, uint32_t i) { heap_must(mh_get(&heap_mutator, w, v, i)); }
 static inline void copy(uint32_t w, uint32_t v) { heap_must(mh_copy(&heap_mutator, w, v)); }
 static inline void forget(uint32_t v) { heap_must(mh_forget(&heap_mutator, v)); }
 /* The word of v's object becomes this. */
 static inline void put(uint32_t v, uint32_t word) { heap_must(mh_put(&heap_mutator, v, word)); }
-/* The word of v's object, or this where v is nil. */
+/* The word of v's object, or this if v is nil. */
 static inline uint32_t word_or(uint32_t v, uint32_t otherwise) {
     uint32_t word = otherwise;
     mh_status s = mh_value(&heap_mutator, v, &word);
@@ -46,7 +46,7 @@ static inline void forget_slots(uint32_t from, uint32_t to) { heap_must(mh_forge
 
 /* v becomes the root. */
 static inline void root(uint32_t v) { heap_must(mh_root(&heap_mutator, v)); }
-/* Where field i of v's object is what `expected` is it becomes what `next` is, in one step; whether it did. */
+/* If field i of v's object is what `expected` is it becomes what `next` is, in one step; whether it did. */
 static inline int exchange(uint32_t v, uint32_t i, uint32_t expected, uint32_t next) {
     uint32_t won = 0;
     heap_must(mh_exchange(&heap_mutator, v, i, expected, next, &won));

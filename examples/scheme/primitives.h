@@ -1,4 +1,4 @@
-/* The functions of the primitives. Each takes its operands, how many they are, and the variable t for the result. The operand may be in t where it is the only
+/* The functions of the primitives. Each takes its operands, how many they are, and the variable t for the result. The operand may be in t if it is the only
    one. They use S0 to S4. */
 #ifndef PRIMITIVES_H
 #define PRIMITIVES_H

@@ -37,7 +37,7 @@ static void print_leaf(value v, int is_written) {
     }
 }
 
-/* After a datum: S0 becomes the next one of the innermost list. 0 where all lists are at their ends. */
+/* After a datum: S0 becomes the next one of the innermost list. 0 if all lists are at their ends. */
 static int next_datum(uint32_t *depth) {
     while (*depth) {
         uint32_t kind;

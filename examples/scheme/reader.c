@@ -138,7 +138,7 @@ static void read_atom(const char *text, uint32_t length) {
     copy(VAL, in_variable(v, VAL));
 }
 
-/* VAL becomes the datum that begins with c; 0 where that is a dot alone. */
+/* VAL becomes the datum that begins with c; 0 if that is a dot alone. */
 static int read_datum(struct source *from, int c) {
     char text[TOKEN];
     uint32_t length;

@@ -1,11 +1,11 @@
 #!/bin/sh
 # Builds the interpreter over the library and over Boehm's collector, runs the tests of the language and the programs with one thread and with four, and
-# compares what they print with what is known. Ends with status 1 where something differs.
+# compares what they print with what is known. Ends with status 1 if something differs.
 #
 #     sh examples/scheme/run.sh            each program once with one thread and once with four, and those of futures with more
 #     sh examples/scheme/run.sh --times    besides, how long each takes: medians of five in turns, real-time priority if allowed
 #
-# The library is the proved one where it is built, and else one that c/unproved.sh makes. LIBRARY names another archive. CELLS is the size of the heap.
+# The library is the proved one if it is built, and otherwise one that c/unproved.sh makes. LIBRARY names another archive. CELLS is the size of the heap.
 here=$(cd "$(dirname "$0")" && pwd)
 top=$(cd "$here/../.." && pwd)
 work=$(mktemp -d)

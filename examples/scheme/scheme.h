@@ -34,7 +34,7 @@ enum {
 /* The root's fields: the places' tree, the tasks that no thread has begun, the pair of #f and #t, and the future that is the expression at the top. */
 enum { ROOT_PLACES, ROOT_TASKS, ROOT_CONSTANTS, ROOT_TOP };
 
-/* A value as C has it: in a variable, or, where that is NOWHERE, a word that no object holds yet. */
+/* A value as C has it: in a variable, or, if that is NOWHERE, a word that no object holds yet. */
 typedef struct value { uint32_t reg, word; } value;
 enum { NOWHERE = 255 };
 
@@ -46,7 +46,7 @@ static inline value nothing_(void) { return plain(WORD(CONSTANT, NOTHING)); }
 static inline uint32_t word_of(value v) { return v.reg == NOWHERE ? v.word : word(v.reg); }
 static inline int is_true(value v) { return word_of(v) != WORD(CONSTANT, NO); }
 
-/* The variable that has the value: t, with a new object in it, where none had. */
+/* The variable that has the value: t, with a new object in it, if none had. */
 static inline uint32_t in_variable(value v, uint32_t t) {
     if (v.reg != NOWHERE) return v.reg;
     if (v.word == EMPTY) return NIL;
@@ -97,7 +97,7 @@ enum mode { FIXED, FOLDED, CHAINED, WHOLE, APPLY, CALLCC, TOUCH };
 struct primitive { const char *name; uint32_t least, most; enum mode mode; value (*call)(value *a, uint32_t n, uint32_t t); };
 extern const struct primitive primitives[];
 extern const uint32_t primitive_count;
-/* The primitive that runs, for what it says where it fails. */
+/* The primitive that runs, for what it says if it fails. */
 extern PER_THREAD uint32_t running;
 
 /* output.c. What a thread prints is gathered in a text of its own, until it is written as one piece. */
@@ -115,7 +115,7 @@ extern PER_THREAD jmp_buf *handler;
 extern const char *file_name;
 /* Says what is wrong, and ends what is under way: what is said is the text that the thread has gathered. */
 void fail(const char *format, ...);
-/* The value isn't what is wanted; where nothing is, it is the list of a message and of what that is about. */
+/* The value isn't what is wanted; if nothing is, it is the list of a message and of what that is about. */
 void fail_at(value v, const char *wanted);
 /* A failure once more, by the text that was said. */
 void fail_again(uint32_t text);
@@ -137,7 +137,7 @@ void place_value(uint32_t to, uint32_t place);
 void names_open(void);
 void names_join(void);
 
-/* reader.c. VAL becomes what is read next from a file or a text, whose lines count where it isn't the interpreter's own; 0 at the end of the input. */
+/* reader.c. VAL becomes what is read next from a file or a text, whose lines count if it isn't the interpreter's own; 0 at the end of the input. */
 struct source { FILE *file; const char *text; uint32_t line; int is_ours; };
 int read_next(struct source *from);
 

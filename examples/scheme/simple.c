@@ -31,7 +31,7 @@ static value simple_primitive(const struct node *n, uint32_t t) {
     return invoke(n->a, a, n->c, t);
 }
 
-/* The rib so many links up: in S0, where it isn't the innermost. */
+/* The rib so many links up: in S0, if it isn't the innermost. */
 static uint32_t rib_at(uint32_t links) {
     if (!links) return env;
     get(S0, env, 0);

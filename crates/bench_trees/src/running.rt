@@ -16,7 +16,7 @@ use std::thread::Threads;
 /// What was counted.
 #[derive(Clone, Copy, Drop)]
 pub struct Counted {
-    /// What one thread counted alone.
+    /// What one thread counted by itself.
     pub alone: Alone,
     /// The nodes of all workers' short-lived trees, by their depths.
     pub checks: Checks,

@@ -19,7 +19,7 @@ pub struct Worker {
     pub came: Result<Checks, Halt>,
 }
 
-/// What the first worker counted alone.
+/// What the first worker counted by itself.
 #[derive(Clone, Copy, Drop)]
 pub struct Alone {
     /// The nodes of the tree that stretched the heap.

@@ -1,4 +1,4 @@
--- What each refill keeps to, whether it marks beside the mutators or collects in stops alone.
+-- What each refill keeps to, whether it marks beside the mutators or collects only in stops.
 use Rattle.std.specs.Prelude.{IsTrue}
 use Rattle.mark_core.specs.declared.kinds.Shape.{Shape}
 use Rattle.gc_table.specs.Log.{Only, events}

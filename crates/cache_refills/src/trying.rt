@@ -1,6 +1,6 @@
 //! Safe points, entries and caches for a mutator whose caller (in C, say) has no runtime to wait with. If another
 //! seat's stop is under way it is told so, and comes again. If a collection is called for it makes it in steps
-//! (`cycle_steps`).
+//! (`gc_cycle`).
 ghost use Rattle.std.specs.Bool.{OnFalse, OnTrue};
 ghost use Rattle.std.specs.Prelude.{◌≡◌, ◌≤◌, ◌+◌, ◌*◌, [], length, None, Some, IfNone, IfSome, IsFalse, IsTrue, is_some};
 ghost use Rattle.mark_core.specs.Layout.{block_count};

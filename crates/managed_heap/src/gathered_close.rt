@@ -50,8 +50,7 @@ fn are_there<W: Opened, M: Lent>(world: &W, mutators: &[M], tracers: &[Tracer]) 
     are_all(1, sections - 1, mutators) && are_all(sections, world.tracer_count(), tracers)
 }
 
-/// The words of a heap whose seats are these. None where there is no memory for them, or where somebody else has
-/// the heap.
+/// The words of a heap whose seats are these. None if there is no memory for them, or somebody else has the heap.
 fn words_of(heap: Arc<Heap, Global>, alloc: Global, seats: Vec<HeapSeat>) -> Option<Words>
     requires some { 0 < vec_len seats }
     requires rest { All (RestsOutside (arc_value heap)) seats.items }
@@ -90,7 +89,7 @@ fn close_all<W: Opened, M: Lent>(
 }
 
 /// Closes a world with all its mutators and all its tracers, each in the order of their numbers, and hands out what
-/// its words say. Where one is missing, or where there is no memory to gather them in, all is handed back.
+/// its words say. If one is missing, or there is no memory to gather them in, all is handed back.
 pub fn close_world<W: Opened, M: Lent>(
     world: W,
     alloc: Global,

@@ -35,7 +35,7 @@ fn read_named(heap: &Heap, seat: &mut HeapSeat) -> u64
 
 impl World {
     /// A world of these sizes, in which nothing has happened. It has all its mutators and tracers. It is refused
-    /// where a size is out of its range, where slots are asked for, or where there is no memory.
+    /// if a size is out of its range, slots are asked for, or there is no memory.
     pub fn open(alloc: Global, sizes: Sizes) -> Result<World, NotOpened>
         ensures opened { IfOk result (λ w. IsOpened sizes w) }
         ensures refused { IfErr result (λ e. e ≡ OutOfRange → FitsWorld sizes → ⊥) }

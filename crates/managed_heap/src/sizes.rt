@@ -33,7 +33,7 @@ pub struct Sizes {
     pub entries: u32,
     /// The world's name.
     pub name: u32,
-    /// Whether mutators collect in stops alone. Where they share their objects they don't.
+    /// Whether mutators collect only in stops. If they share their objects they don't.
     pub in_stops: bool,
 }
 

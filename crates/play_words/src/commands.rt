@@ -1,7 +1,7 @@
-//! The commands but for `run`, which stands in `play_run` with what it shares with them.
+//! The commands but for `run`, which stands in `gc_play` with what it shares with them.
 //!
 //! A command takes its input whole before it writes, so a source that fails or a script with a fault leaves nothing
-//! written but the fault's text. How each ends is `CommandEnds` in `specs/Ending.antt` of `play_run`, for the texts
+//! written but the fault's text. How each ends is `CommandEnds` in `specs/Ending.antt` of `gc_play`, for the texts
 //! that `specs/Answers.antt` allows it.
 ghost use Rattle.std.specs.Prelude.{◌≡◌, IfSome, Some, true, false};
 ghost use Rattle.command_words.specs.Commands.{IsCommandInRange, command_of};

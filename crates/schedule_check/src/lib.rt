@@ -17,7 +17,7 @@
 //!    and the least part of the step's condition that fails.
 //! 3. [`write_verdict`] and [`write_schedule_fault`] write the texts.
 //!
-//! `script_lines` cuts lines into words and reads numbers of 32 bits. `table` has the names of all steps with the
+//! `gc_script` cuts lines into words and reads numbers of 32 bits. `table` has the names of all steps with the
 //! forms of their parameters; each row is proved against the same table in `specs/Table.antt`.
 #![tactic(auto)]
 

@@ -30,8 +30,8 @@ use seat_turns::leave;
 /// How many roots, objects, cards or blocks a step does at most, if its caller says nothing of it.
 const STEP: u32 = 4_096;
 
-/// Asks for a stop, with the number of objects that were made. False where another's comes first, and then the seat
-/// is outside.
+/// Asks for a stop, with the number of objects that were made. False if another's comes first, and then the seat is
+/// outside.
 fn asks(heap: &Heap, seat: &mut HeapSeat) -> bool
     requires halts { Halts heap.now seat.old }
     ensures yours { OnTrue result (Collects AwaitsStop WaitsSinceAsked heap.now seat.new) }

@@ -104,7 +104,7 @@ fn come_to_turn<R: Wait>(
     }
 }
 
-/// Enters the world, as soon as no stop is under way, and comes to its turn. Refused only where the heap is full;
+/// Enters the world, as soon as no stop is under way, and comes to its turn. Refused only if the heap is full;
 /// the seat is outside then.
 pub fn enter_turn<R: Wait>(rt: &R, heap: &Heap, seat: &mut HeapSeat) -> Result<(), Refused>
     requires waits { IsMutatorOutside heap.now seat.old }

@@ -18,7 +18,7 @@ use std::alloc::Global;
 
 impl SharedWorld {
     /// A world of these sizes with its root, an object with value 0 whose references refer to nothing. It is
-    /// refused where a size is out of its range, where stops are asked for, or where there is no memory.
+    /// refused if a size is out of its range, stops are asked for, or there is no memory.
     pub fn open(alloc: Global, sizes: Sizes) -> Result<SharedWorld, NotOpened>
         ensures opened { IfOk result (λ w. IsSharedOpened sizes w) }
         ensures refused { IfErr result (λ e. e ≡ OutOfRange → FitsShared sizes → ⊥) }

@@ -16,7 +16,7 @@
 //!
 //! A call is described by the *steps* that it takes, each an atomic operation on one word, and by what they found.
 //! There is one order of all steps of all mutators, in which each mutator's come in its own order, and which a
-//! plain heap explains that forgets nothing: the crate `heap_runs` proves this of every run. It is sequential
+//! plain heap explains that forgets nothing: `gc_table` proves this of every run. It is sequential
 //! consistency: what a thread learns of another outside the heap says nothing about that order.
 //!
 //! # Where things are

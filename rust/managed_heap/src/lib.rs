@@ -20,7 +20,7 @@
 //! # }
 //! ```
 //!
-//! Where the sizes say nothing else, each mutator has objects of its own. It may go to a thread:
+//! If the sizes say nothing else, each mutator has objects of its own. It may go to a thread:
 //!
 //! ```
 //! use managed_heap::{Error, Sizes, World};

@@ -116,7 +116,7 @@ impl Handle {
         Handle::filled(|out| unsafe { mhl_take_tracer(self, out) })
     }
 
-    /// Frees what was behind a handle that is given back, or of a world that is closed. Where it isn't, nobody could use it any more, and it is left.
+    /// Frees what was behind a handle that is given back, or of a world that is closed. If it isn't, nobody could use it any more, and it is left.
     fn spend(&mut self, status: u32) {
         if status == 0 {
             unsafe { free(self.at) };

@@ -17,7 +17,7 @@ const STEP: u32 = 4096;
 /// How many references an object has at most.
 const FIELDS: usize = 16;
 
-/// What stands for no variable where one may be given.
+/// What stands for no variable if one may be given.
 const NOTHING: u32 = u32::MAX;
 
 /// With each of so many objects it looks whether a cycle is marking: it gets cells for as many at most at a time, and reads the phase then.
@@ -64,7 +64,7 @@ impl Mutator {
         Error::of(self.handle.leave())
     }
 
-    /// Tells what it has traced to pay for its cells since it told last: with each 64th object, where a stop is under way, and before it leaves.
+    /// Tells what it has traced to pay for its cells since it told last: with each 64th object, when a stop is under way, and before it leaves.
     fn tell(&mut self) {
         let paid = self.handle.work().paid;
         if paid != self.told {
@@ -73,7 +73,7 @@ impl Mutator {
         }
     }
 
-    /// Goes in again, where a stop made it leave.
+    /// Goes in again, if a stop made it leave.
     fn come_back(&mut self) -> Result<(), Error> {
         self.tell();
         self.enter()
@@ -87,7 +87,7 @@ impl Mutator {
         }
     }
 
-    /// An object is made by this call, with a collection where no cell is free.
+    /// An object is made by this call, with a collection if no cell is free.
     fn makes(&mut self, mut make: impl FnMut(&mut Handle) -> u32) -> Result<(), Error> {
         let mut tries = 0;
         loop {
@@ -120,12 +120,12 @@ impl Mutator {
         self.tell();
     }
 
-    /// Variable v refers to a new object of this value, whose fields refer to nothing. Where no cell is free it collects. It is a safe point too.
+    /// Variable v refers to a new object of this value, whose fields refer to nothing. If no cell is free it collects. It is a safe point too.
     pub fn make(&mut self, v: u32, value: u32) -> Result<(), Error> {
         self.makes(|handle| handle.make(v, value))
     }
 
-    /// Makes an object as [`Mutator::make`] does, of a cell that is free in the mutator's cache. It looks for no cell: false where none is free there, and nothing
+    /// Makes an object as [`Mutator::make`] does, of a cell that is free in the mutator's cache. It looks for no cell: false if none is free there, and nothing
     /// is made. Then [`Mutator::refill_step`] is to be called until it is true.
     pub fn make_cached(&mut self, v: u32, value: u32) -> Result<bool, Error> {
         loop {
@@ -137,8 +137,8 @@ impl Mutator {
         }
     }
 
-    /// The next step on the way to a cache with a free cell: it looks at no more than so many blocks of 64 cells, which are at least 1. True where the mutator has
-    /// such a cache, and false where it is to take the next step. [`Error::NoCell`] where no block has a free cell, or a cycle is done with marking: it is to collect.
+    /// The next step on the way to a cache with a free cell: it looks at no more than so many blocks of 64 cells, which are at least 1. True if the mutator has
+    /// such a cache, and false if it is to take the next step. [`Error::NoCell`] if no block has a free cell, or a cycle is done with marking: it is to collect.
     pub fn refill_step(&mut self, most: u32) -> Result<bool, Error> {
         match self.handle.refill_step(most) {
             NOT_YET => Ok(false),
@@ -151,7 +151,7 @@ impl Mutator {
     }
 
     /// Variable v refers to a new object of this value, whose first fields become what these variables are, or refer to nothing for `None`; so do the others. v
-    /// itself stands for the new object there. All of it is done, or nothing: [`Error::OutOfRange`] where a variable isn't below 32, or where an object has
+    /// itself stands for the new object there. All of it is done, or nothing: [`Error::OutOfRange`] if a variable isn't below 32, or if an object has
     /// fewer fields. Else as [`Mutator::make`].
     pub fn make_with(&mut self, v: u32, value: u32, fields: &[Option<u32>]) -> Result<(), Error> {
         let mut numbers = [NOTHING; FIELDS];
@@ -162,12 +162,12 @@ impl Mutator {
         self.makes(|handle| handle.make_with(v, value, numbers))
     }
 
-    /// Field i of variable v's object becomes what variable w refers to. [`Error::Nil`] where v refers to nothing.
+    /// Field i of variable v's object becomes what variable w refers to. [`Error::Nil`] if v refers to nothing.
     pub fn set(&mut self, v: u32, i: u32, w: u32) -> Result<(), Error> {
         Error::of(self.handle.set(v, i, w))
     }
 
-    /// Variable w becomes what field i of variable v's object refers to; nothing, where v refers to nothing.
+    /// Variable w becomes what field i of variable v's object refers to; nothing, if v refers to nothing.
     pub fn get(&mut self, w: u32, v: u32, i: u32) -> Result<(), Error> {
         Error::of(self.handle.get(w, v, i))
     }
@@ -182,12 +182,12 @@ impl Mutator {
         Error::of(self.handle.forget(v))
     }
 
-    /// The value of variable v's object becomes this one. [`Error::Nil`] where v refers to nothing.
+    /// The value of variable v's object becomes this one. [`Error::Nil`] if v refers to nothing.
     pub fn put(&mut self, v: u32, value: u32) -> Result<(), Error> {
         Error::of(self.handle.put(v, value))
     }
 
-    /// The value of variable v's object. [`Error::Nil`] where v refers to nothing.
+    /// The value of variable v's object. [`Error::Nil`] if v refers to nothing.
     pub fn value(&mut self, v: u32) -> Result<u32, Error> {
         self.handle.value(v)
     }
@@ -207,13 +207,13 @@ impl Mutator {
         Error::of(self.handle.root(v))
     }
 
-    /// Where field i of variable v's object is what variable `expected` is, it becomes what variable `next` is, in one step: true where it was. Either may refer
-    /// to nothing. [`Error::Nil`] where v does.
+    /// If field i of variable v's object is what variable `expected` is, it becomes what variable `next` is, in one step: true if it was. Either may refer
+    /// to nothing. [`Error::Nil`] if v does.
     pub fn exchange(&mut self, v: u32, i: u32, expected: u32, next: u32) -> Result<bool, Error> {
         self.handle.exchange(v, i, expected, next)
     }
 
-    /// Where the value of variable v's object is `expected` it becomes `next`, in one step: true where it was. [`Error::Nil`] where v refers to nothing.
+    /// If the value of variable v's object is `expected` it becomes `next`, in one step: true if it was. [`Error::Nil`] if v refers to nothing.
     pub fn exchange_value(&mut self, v: u32, expected: u32, next: u32) -> Result<bool, Error> {
         self.handle.exchange_value(v, expected, next)
     }
@@ -234,13 +234,13 @@ impl Mutator {
     }
 
     /// The place of variable v's object, a number below the world's number of cells. The object stays there as long as it is reachable, and meanwhile no other
-    /// is there: keep a variable on it while you use what you have under that number. [`Error::Nil`] where v refers to nothing.
+    /// is there: keep a variable on it while you use what you have under that number. [`Error::Nil`] if v refers to nothing.
     pub fn place(&mut self, v: u32) -> Result<u32, Error> {
         self.handle.place(v)
     }
 
     /// Which object variable v's is: the number of the mutator that made it, from 1 on, and how many that one had made before; 0 and 0 for the root. No other
-    /// object of the world ever has both. [`Error::Nil`] where v refers to nothing.
+    /// object of the world ever has both. [`Error::Nil`] if v refers to nothing.
     pub fn number(&mut self, v: u32) -> Result<(u32, u32), Error> {
         self.handle.number(v)
     }
@@ -254,7 +254,7 @@ impl Mutator {
         }
     }
 
-    /// A collection, after which exactly the objects that can be reached are kept; or another's, where that comes first.
+    /// A collection, after which exactly the objects that can be reached are kept; or another's, if that comes first.
     pub fn collect(&mut self) -> Result<(), Error> {
         self.collect_for(Why::Asked)
     }

@@ -21,7 +21,7 @@ pub enum Turn {
     Dismissed,
 }
 
-/// What a thread marks through beside the mutators, where a processor is free for it.
+/// What a thread marks through beside the mutators, if a processor is free for it.
 ///
 /// ```compile_fail
 /// fn shared<T: Sync>() {}

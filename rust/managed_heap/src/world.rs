@@ -21,7 +21,7 @@ pub struct Sizes {
 }
 
 impl Sizes {
-    /// So many cells, 64 to 16,777,216 in multiples of 64: as many objects fit. Objects have two fields, and there is one mutator and no tracer, where
+    /// So many cells, 64 to 16,777,216 in multiples of 64: as many objects fit. Objects have two fields, and there is one mutator and no tracer, if
     /// nothing else is said; objects aren't shared, and there are no slots.
     pub fn of_cells(cells: u32) -> Sizes {
         Sizes { cells, fields: 2, mutators: 1, tracers: 0, shared: false, slots: 0 }
@@ -97,7 +97,7 @@ pub struct World {
 }
 
 impl World {
-    /// Opens a world. [`Error::OutOfRange`] where a size is, and [`Error::OutOfMemory`].
+    /// Opens a world. [`Error::OutOfRange`] if a size is, and [`Error::OutOfMemory`].
     pub fn open(sizes: Sizes) -> Result<World, Error> {
         let Sizes { cells, fields, mutators, tracers, shared, slots } = sizes;
         let name = NAMES | (OPENED.fetch_add(1, Ordering::Relaxed) & !NAMES);
@@ -105,14 +105,14 @@ impl World {
         Ok(World { shared: Arc::new(Shared { handle: Mutex::new(handle), slots, cycles: Cycles::new() }) })
     }
 
-    /// One of its mutators, outside the world, whose variables and slots all refer to nothing. [`Error::NoneLeft`] where all are taken. One that is dropped is the
+    /// One of its mutators, outside the world, whose variables and slots all refer to nothing. [`Error::NoneLeft`] if all are taken. One that is dropped is the
     /// world's again.
     pub fn mutator(&self) -> Result<Mutator, Error> {
         let handle = self.shared.lock().take_mutator()?;
         Ok(Mutator::new(handle, Arc::clone(&self.shared)))
     }
 
-    /// One of its tracers. [`Error::NoneLeft`] where all are taken. One that is dropped is the world's again.
+    /// One of its tracers. [`Error::NoneLeft`] if all are taken. One that is dropped is the world's again.
     pub fn tracer(&self) -> Result<Tracer, Error> {
         let handle = self.shared.lock().take_tracer()?;
         Ok(Tracer::new(handle, Arc::clone(&self.shared)))
@@ -136,7 +136,7 @@ impl World {
         Ok(Statistics { cells: numbers.cells, free: numbers.free, marked: numbers.marked })
     }
 
-    /// The last cycle that has ended; `None` where none has.
+    /// The last cycle that has ended; `None` if none has.
     pub fn last_cycle(&self) -> Option<Cycle> {
         self.shared.cycles.last()
     }

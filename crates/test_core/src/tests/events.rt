@@ -200,7 +200,7 @@ fn step_of(name: &str, told: Parameters) -> Option<Step> {
         .or(of_blocks(name, told))
 }
 
-/// Applies the event of these words: whether it is allowed, or the rule by which it is refused. None where there is
+/// Applies the event of these words: whether it is allowed, or the rule by which it is refused. None if there is
 /// no such event.
 pub fn applied(core: &mut CoreState, told: &str) -> Option<Result<(), Rule>> {
     let mut words = told.split_whitespace();

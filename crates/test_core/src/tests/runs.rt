@@ -116,7 +116,7 @@ fn has_record(core: &CoreState, told: &str) -> Option<bool> {
     }
 }
 
-/// Whether the line holds; None where it has no such form.
+/// Whether the line holds; None if it has no such form.
 fn holds(core: &mut CoreState, line: &str) -> Option<bool> {
     if line.is_empty() || line.starts_with('#') {
         return Some(true);
@@ -133,7 +133,7 @@ fn holds(core: &mut CoreState, line: &str) -> Option<bool> {
     }
 }
 
-/// The first line of the run that doesn't hold, or its head where it has no such form; nothing where all hold.
+/// The first line of the run that doesn't hold, or its head if it has no such form; nothing if all hold.
 fn first_wrong<'a>(alloc: Global, run: &'a str) -> Option<&'a str> {
     let Some((head, lines)) = run.split_once("\nheap ") else {
         return Some(run);
