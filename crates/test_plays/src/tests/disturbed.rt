@@ -2,12 +2,13 @@
 //! every room.
 use crate::tests::commands::COMMANDS;
 use crate::tests::faults::FAULTS;
+use crate::tests::outside::{Outside, answer_of, sure};
+use crate::tests::written::{Case, case_of};
 use std::alloc::Global;
 use std::process::Abort;
 use std::sync::Wait;
 use std::test::Fail;
 use std::thread::Threads;
-use test_cases::{Case, Outside, answer_of, case_of, sure};
 
 fn sizes_of(alloc: Global, case: &Case<'_>) -> Result<Vec<usize>, Fail> {
     let mut sizes = Vec::new(alloc);
@@ -47,10 +48,10 @@ fn ends_with<R: Abort + AllocGlobal + Threads + Wait + Sync>(
     status: u8,
     end: usize,
 ) -> Result<(), Fail> {
-    let (found, written) = answer_of(rt, case.words, outside)?;
+    let (found, written) = answer_of(rt, case.words, outside).ok_or("memory")?;
     assert!(rt;
         found == status && case.text.as_bytes().get(..end) == Some(written.as_slice()),
-        "{}: {outside:?}",
+        "{}: {status} {end}",
         case.words
     );
     Ok(())
@@ -137,7 +138,7 @@ fn is_disturbed<R: Abort + AllocGlobal + Threads + Wait + Sync>(
     rt: &R,
     told: &str,
 ) -> Result<(), Fail> {
-    let case = case_of(rt.alloc(), told)?;
+    let case = case_of(rt.alloc(), told).ok_or("no case")?;
     for part in [1, 4, 4_096] {
         fails_to_read(rt, &case, part)?;
         fails_to_write(rt, &case, part)?;
@@ -152,7 +153,7 @@ fn disturbs_commands(rt: HostRuntime) -> Result<(), Fail> {
     }
     for row in FAULTS.split("$ ").skip(1) {
         let (script, fault) = row.split_once("=> ").ok_or("row")?;
-        let told = format!(in rt.alloc(); "run\n{script}=> 2\n{fault}")?;
+        let told = format!(in rt.alloc(); "run; {script}=> 2; {fault}")?;
         is_disturbed(&rt, told.as_str())?;
     }
     Ok(())

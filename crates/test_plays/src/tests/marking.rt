@@ -6,6 +6,7 @@
 //! is left to trace when it takes its fifth cache, and the cycle ends there. If the tracer traced nothing, the
 //! warehouse would go on in the cycle for some nine caches.
 use crate::tests::signal::Signal;
+use crate::tests::written::expanded;
 use gc_play::{Gate, play};
 use gc_script::{Section, read};
 use gc_table::HeapSeat;
@@ -15,33 +16,15 @@ use std::sync::Wait;
 use std::sync::atomic::AtomicU64;
 use std::sync::atomic::Ordering::SeqCst;
 use std::test::Fail;
-use test_cases::expanded;
 
 /// A chain whose objects fill seven cells of eight, an object behind it, and a collection.
-pub const CHAIN: &str = "gcscript 3
-fields 4
-warehouse
-new a 1
-let t a
-repeat 127
-{7*new n 2
-set t 0 n
-let t n
-}new g 4
-end
-new w 9
-set t 0 w
-nil w
-nil t
-nil n
-nil g
-collect
+pub const CHAIN: &str =
+    "gcscript 3; fields 4; warehouse; new a 1; let t a; repeat 127; {7*new n 2; set t 0 n; let t n
+}new g 4; end; new w 9; set t 0 w; nil w; nil t; nil n; nil g; collect
 ";
 
 /// Twelve caches of eight cells.
-const MORE: &str = "repeat 96
-new g 5
-end
+const MORE: &str = "repeat 96; new g 5; end
 ";
 
 /// Whether the seat has read that a cycle is marking.
@@ -89,7 +72,7 @@ fn a_tracer_traces_while_a_warehouse_is_held(rt: HostRuntime) -> Result<(), Fail
         ..USUAL
     };
     let alloc = rt.alloc();
-    let source = expanded(alloc, format!(in alloc; "{CHAIN}{MORE}")?.as_str())?;
+    let source = expanded(alloc, format!(in alloc; "{CHAIN}{MORE}")?.as_str()).ok_or("memory")?;
     let script = read(alloc, source.as_bytes())?;
     let gate = Tracing {
         rt: &rt,

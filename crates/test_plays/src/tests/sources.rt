@@ -1,9 +1,9 @@
 //! A script of one object from sources and to sinks of several kinds.
+use crate::tests::outside::{Outside, answer_of, sure};
 use gc_play::OpenGate;
 use play_report::{CountSink, SureSource};
 use play_words::play_words;
 use std::test::Fail;
-use test_cases::{Outside, answer_of, sure};
 
 const SCRIPT: &str = "gcscript 1\nwarehouse\nnew x 5\nsay a x\n";
 
@@ -30,7 +30,7 @@ fn reads_ten_bytes_at_a_time(rt: HostRuntime) -> Result<(), Fail> {
             reads: &[read],
             ..sure(SCRIPT.as_bytes())
         };
-        let (status, text) = answer_of(&rt, "run", &outside)?;
+        let (status, text) = answer_of(&rt, "run", &outside).ok_or("memory")?;
         if read == 6 {
             assert!(rt; status == 0 && text.as_slice() == TEXT.as_bytes());
         } else {

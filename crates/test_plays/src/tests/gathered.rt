@@ -1,6 +1,7 @@
 //! Runs through a sink that gathers what is written, as the program's own does, over one that fails.
 ghost use Rattle.std.specs.Prelude.{◌≡◌, IfOk};
 
+use crate::tests::written::expanded;
 use gc_play::OpenGate;
 use play_report::{GatheredSink, MemorySink, SureSource, write_all};
 use play_words::{play_words, settle};
@@ -9,7 +10,6 @@ use std::process::Abort;
 use std::sync::Wait;
 use std::test::Fail;
 use std::thread::Threads;
-use test_cases::expanded;
 
 /// A gathering sink over one that has room, takes so many bytes a call and fails in this call.
 fn gathering(alloc: Global, per_call: usize, failing: u32) -> Result<GatheredSink<MemorySink>, Fail>
@@ -58,10 +58,8 @@ say aaaaaaaaaaaaaaaaaaaaaaaaaaaaaaaa x
 end
 ";
 
-const TEXT: &str = "warehouse 1
-{1820*aaaaaaaaaaaaaaaaaaaaaaaaaaaaaaaa 4294967295
-}dropped 0
-survivors 1
+const TEXT: &str =
+    "warehouse 1; {1820*aaaaaaaaaaaaaaaaaaaaaaaaaaaaaaaa 4294967295; }dropped 0; survivors 1
 1 0 4294967295
 ";
 
@@ -80,7 +78,7 @@ fn ends<R: Abort + AllocGlobal + Threads + Wait + Sync>(
 /// Of 80,129 bytes the first 65,536 or a few more go on in three calls, and the rest at the end.
 #[test]
 fn a_gathered_text_is_written_up_to_the_fault(rt: HostRuntime) -> Result<(), Fail> {
-    let text = expanded(rt.alloc(), TEXT)?;
+    let text = expanded(rt.alloc(), TEXT).ok_or("memory")?;
     assert!(rt; text.len() == 80_129);
     for (failing, status, least) in [
         (1, 5, 0),

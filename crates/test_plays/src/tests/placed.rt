@@ -1,50 +1,16 @@
 //! Where objects lie: cells are used again, but not while their object is reachable.
+use crate::tests::outside::{answer_of, sure};
+use crate::tests::written::expanded;
 use std::alloc::Global;
 use std::test::Fail;
-use test_cases::{answer_of, sure};
 
 /// How many objects stay reachable, a script that makes 130 objects in 64 cells, and the text before their cells.
-const ROWS: &str = "$ 0
-gcscript 1
-warehouse
-repeat 130
-new x 1
-end
-=> warehouse 1
-dropped 0
-survivors 1
-1 129 1
-placed 130
-$ 1
-gcscript 1
-warehouse
-new k 2
-repeat 129
-new x 1
-end
-=> warehouse 1
-dropped 0
-survivors 2
-1 0 2
-1 129 1
-placed 130
-$ 2
-gcscript 1
-warehouse
-new k 2
-new l 3
-set k 0 l
-nil l
-repeat 128
-new x 1
-end
-=> warehouse 1
-dropped 0
-survivors 3
-1 0 2
-1 1 3
-1 129 1
-placed 130
+const ROWS: &str = "$ 0; gcscript 1; warehouse; repeat 130; new x 1; end
+=> warehouse 1; dropped 0; survivors 1; 1 129 1; placed 130
+$ 1; gcscript 1; warehouse; new k 2; repeat 129; new x 1; end
+=> warehouse 1; dropped 0; survivors 2; 1 0 2; 1 129 1; placed 130
+$ 2; gcscript 1; warehouse; new k 2; new l 3; set k 0 l; nil l; repeat 128; new x 1; end
+=> warehouse 1; dropped 0; survivors 3; 1 0 2; 1 1 3; 1 129 1; placed 130
 ";
 
 /// The cells of the objects, in order.
@@ -73,9 +39,14 @@ fn may_lie(cells: &[u32], kept: usize) -> bool {
 #[test]
 fn reuses_cells(rt: HostRuntime) -> Result<(), Fail> {
     for row in ROWS.split("$ ").skip(1) {
-        let (kept, rest) = row.split_once('\n').ok_or("kept")?;
+        let whole = expanded(rt.alloc(), row).ok_or("memory")?;
+        let (kept, rest) = whole.as_str().split_once('\n').ok_or("kept")?;
         let (script, front) = rest.split_once("=> ").ok_or("script")?;
-        let (status, text) = answer_of(&rt, "run --cells 64 --place", &sure(script.as_bytes()))?;
+        let (status, text) = answer_of(
+            &rt,
+            "run --cells 64 --place",
+            &sure(script.as_bytes()),
+        ).ok_or("memory")?;
         let lines = str::from_utf8(text.as_slice())?
             .strip_prefix(front)
             .ok_or("front")?;

@@ -8,6 +8,7 @@
 //! scanned before the store: only the card that the store dirtied keeps it.
 use crate::tests::marking::{CHAIN, is_marking};
 use crate::tests::signal::Signal;
+use crate::tests::written::expanded;
 use gc_play::{Gate, OpenGate, play};
 use gc_script::{Section, read};
 use gc_table::HeapSeat;
@@ -19,49 +20,16 @@ use std::sync::atomic::AtomicU64;
 use std::sync::atomic::Ordering::SeqCst;
 use std::test::Fail;
 use std::thread::Threads;
-use test_cases::expanded;
 
 /// What the warehouses do after the chain was made and the heap collected.
-const HIDE: &str = "season
-repeat 28
-new g 5
-end
-let y a
-repeat 889
-get y y 0
-end
-get w y 0
-set a 1 w
-nil w
-set y 0 w
-nil y
-repeat 1200
-new g 6
-end
-get w a 1
-say found w
-nil g
-set a 0 g
-warehouse
-season
-nil h
-repeat 300
-new h 7
-end
-say last h
-nil h
+const HIDE: &str =
+    "season; repeat 28; new g 5; end; let y a; repeat 889; get y y 0; end; get w y 0; set a 1 w; nil w
+set y 0 w; nil y; repeat 1200; new g 6; end; get w a 1; say found w; nil g; set a 0 g; warehouse; season; nil h
+repeat 300; new h 7; end; say last h; nil h
 ";
 
-const TEXT: &str = "warehouse 1
-found 9
-dropped 0
-warehouse 2
-last 7
-dropped 0
-survivors 2
-1 0 1
-1 1017 9
-";
+const TEXT: &str =
+    "warehouse 1\nfound 9\ndropped 0\nwarehouse 2\nlast 7\ndropped 0\nsurvivors 2\n1 0 1\n1 1017 9\n";
 
 /// The first command of the walk, by section and number: 2,803 make the chain and collect, and 28 more objects
 /// begin a cycle.
@@ -131,7 +99,7 @@ fn is_written<R: Abort + AllocGlobal + Threads + Wait + Sync, G: Gate + Sync>(
         ..USUAL
     };
     let alloc = rt.alloc();
-    let source = expanded(alloc, format!(in alloc; "{CHAIN}{HIDE}")?.as_str())?;
+    let source = expanded(alloc, format!(in alloc; "{CHAIN}{HIDE}")?.as_str()).ok_or("memory")?;
     let script = read(alloc, source.as_bytes())?;
     let Ok(report) = play(rt, alloc, &script, &options, gate) else {
         return Ok(false);

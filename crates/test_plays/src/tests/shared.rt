@@ -1,35 +1,26 @@
+use crate::tests::written::expanded;
 use gc_play::{OpenGate, play};
 use gc_script::read;
 use play_end::{Options, USUAL};
 use play_report::{MemorySink, write_report};
 use std::test::Fail;
-use test_cases::expanded;
 
 /// Each warehouse keeps its first two objects and the last of fifty more.
-const WAREHOUSE: &str = "warehouse
-new a 1
-new b 2
-set a 0 b
-{50*new c 3
+const WAREHOUSE: &str = "warehouse; new a 1; new b 2; set a 0 b; {50*new c 3
 }";
 
-const TEXT: &str = "{1..9*warehouse %
-dropped 0
-}survivors 24
-{1..9*% 0 1
-% 1 2
-% 51 3
+const TEXT: &str = "{1..9*warehouse %; dropped 0; }survivors 24; {1..9*% 0 1; % 1 2; % 51 3
 }";
 
 #[test]
 fn eight_warehouses_share_64_cells(rt: HostRuntime) -> Result<(), Fail> {
     let alloc = rt.alloc();
-    let warehouse = expanded(alloc, WAREHOUSE)?;
+    let warehouse = expanded(alloc, WAREHOUSE).ok_or("memory")?;
     let mut source = "gcscript 1\n".to_string(alloc)?;
     for _ in 0..8u32 {
         source.push_str(warehouse.as_str())?;
     }
-    let text = expanded(alloc, TEXT)?;
+    let text = expanded(alloc, TEXT).ok_or("memory")?;
     let script = read(alloc, source.as_bytes())?;
     for workers in [1, 2, 4, 8] {
         let options = Options {

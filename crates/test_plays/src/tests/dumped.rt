@@ -1,5 +1,6 @@
 //! What `dump`, `undump`, `census` and `load` write, beside heaps that forget nothing.
 use crate::tests::graph::{Graph, graph_of};
+use crate::tests::outside::{answer_of, sure};
 use gc_script::read;
 use load_gen::generate;
 use std::alloc::{AllocError, Global};
@@ -7,7 +8,6 @@ use std::process::Abort;
 use std::sync::Wait;
 use std::test::Fail;
 use std::thread::Threads;
-use test_cases::{answer_of, sure};
 
 fn push_numbers(dump: &mut Vec<u8>, numbers: &[u32]) -> Result<(), AllocError> {
     for number in numbers {
@@ -114,7 +114,7 @@ fn writes<R: Abort + AllocGlobal + Threads + Wait + Sync>(
     source: &[u8],
     text: &[u8],
 ) -> Result<(), Fail> {
-    let (status, written) = answer_of(rt, words, &sure(source))?;
+    let (status, written) = answer_of(rt, words, &sure(source)).ok_or("memory")?;
     assert!(rt; status == 0 && written.as_slice() == text, "{words}");
     Ok(())
 }

@@ -1,6 +1,5 @@
-ghost use Rattle.std.specs.Prelude.{◌≡◌, ◌∷◌, [], Contains, IfOk};
+ghost use Rattle.std.specs.Prelude.{◌≡◌, ◌∷◌, [], Contains, IfSome};
 
-use crate::not_run::NotRun;
 use gc_play::OpenGate;
 use play_report::{MemorySink, MemorySource};
 use play_words::play_words;
@@ -10,7 +9,7 @@ use std::thread::Threads;
 
 /// A source that gives `per_read` bytes in a call and a sink that takes `per_write` and has room for `room`; the
 /// listed reads and writes fail.
-#[derive(Clone, Copy, Debug)]
+#[derive(Drop)]
 pub struct Outside<'a> {
     pub bytes: &'a [u8],
     pub per_read: usize,
@@ -33,34 +32,35 @@ pub fn sure(bytes: &[u8]) -> Outside<'_> {
 }
 
 /// The words, one after another.
-fn words_of(alloc: Global, words: &str) -> Result<Vec<String>, NotRun> {
+fn words_of(alloc: Global, words: &str) -> Option<Vec<String>> {
     let mut given = Vec::new(alloc);
     for word in words.split_whitespace() {
-        let word = word.to_string(alloc).ok().ok_or(NotRun::OutOfMemory)?;
-        given.push(word).ok().ok_or(NotRun::OutOfMemory)?;
+        given.push(word.to_string(alloc).ok()?).ok()?;
     }
-    Ok(given)
+    Some(given)
 }
 
-/// The status of a run with these words, and what it writes.
+/// The status of a run with these words, and what it writes. None if there is no memory, or a call gives or takes
+/// no byte.
 pub fn answer_of<R: AllocGlobal + Threads + Wait + Sync>(
     rt: &R,
     words: &str,
     outside: &Outside<'_>,
-) -> Result<(u8, Vec<u8>), NotRun>
-    ensures statuses { IfOk result (λ r. Contains (0 ∷ 1 ∷ 2 ∷ 3 ∷ 4 ∷ 5 ∷ 6 ∷ 7 ∷ []) r.0) }
+) -> Option<(u8, Vec<u8>)>
+    ensures statuses { IfSome result (λ r. Contains (0 ∷ 1 ∷ 2 ∷ 3 ∷ 4 ∷ 5 ∷ 6 ∷ 7 ∷ []) r.0) }
 {
     if outside.per_read == 0 || outside.per_write == 0 {
-        return Err(NotRun::NoBytes);
+        return None;
     }
     let alloc = rt.alloc();
     let given = words_of(alloc, words)?;
-    let mut source = MemorySource::make(alloc, outside.bytes, outside.per_read, outside.reads)
-        .ok()
-        .ok_or(NotRun::OutOfMemory)?;
-    let mut sink = MemorySink::make(alloc, outside.room, outside.per_write, outside.writes)
-        .ok()
-        .ok_or(NotRun::OutOfMemory)?;
+    let mut source = MemorySource::make(
+        alloc,
+        outside.bytes,
+        outside.per_read,
+        outside.reads,
+    ).ok()?;
+    let mut sink = MemorySink::make(alloc, outside.room, outside.per_write, outside.writes).ok()?;
     let status = play_words(
         rt,
         alloc,
@@ -69,6 +69,5 @@ pub fn answer_of<R: AllocGlobal + Threads + Wait + Sync>(
         &mut sink,
         &OpenGate,
     );
-    let written = sink.bytes().to_vec(alloc).ok().ok_or(NotRun::OutOfMemory)?;
-    Ok((status, written))
+    Some((status, sink.bytes().to_vec(alloc).ok()?))
 }
