@@ -13,6 +13,7 @@ use super::batches::{said, said_of_many};
 use super::dumps::first_fault;
 use super::generated::line_of;
 use super::heaps::played;
+use super::schedules::told_of;
 use super::scripts::fault_of;
 use super::texts::fault_text;
 use super::words::asked_by;
@@ -41,6 +42,8 @@ pub enum Kind {
     Long,
     /// The length of the dump of one object, and its bytes that are changed.
     Dump,
+    /// A schedule, in which `; ` ends a line as a line's end does.
+    Schedule,
 }
 
 /// What that comes to.
@@ -55,6 +58,7 @@ fn found(alloc: Global, kind: Kind, read: &str) -> Result<String, Fail> {
         Kind::Batch => said(alloc, read.as_bytes()),
         Kind::Long => said_of_many(alloc, read),
         Kind::Dump => first_fault(alloc, read),
+        Kind::Schedule => Ok(told_of(alloc, read).ok_or("untold")?),
     }
 }
 
