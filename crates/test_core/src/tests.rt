@@ -42,8 +42,3 @@ fn full_heap_is_found(rt: HostRuntime) {
     };
     all_hold(&rt, run.as_str());
 }
-
-/// Whether these are so many words, all 0.
-fn are_zero(words: &[u64], count: usize) -> bool {
-    words.len() == count && words.iter().all(|x| *x == 0)
-}

@@ -10,7 +10,7 @@ ghost use Rattle.test_heaps.specs.Seats.{New};
 use super::blocks::{publish, take_block};
 use super::cells::make_cell;
 use super::claims::release;
-use super::seats::{begin, close, leave, open_two, takes_part};
+use super::seats::{begin, close, leave, open_two, takes_part, unlike};
 use gc_table::{Heap, HeapSeat, Words};
 use mark_core::{CARD_CELLS, Phase, Shape, VARIABLES};
 use std::alloc::Global;
@@ -147,21 +147,7 @@ fn stored<R: Wait>(rt: &R, alloc: Global) -> Option<Words> {
 
 #[test]
 fn owed_card(rt: HostRuntime) {
-    let Some(words) = stored(&rt, rt.alloc()) else {
-        panic!(&rt; "a step")
-    };
-    assert!(&rt; words.phase == Phase::Marking && words.named == 0, "phase");
-    assert!(&rt;
-        words.alloc.len() == 1 && words.alloc[0] == 3,
-        "allocation bits"
-    );
-    assert!(&rt;
-        words.roots.len() == 64 && words.roots[32] == 1 && words.roots[33] == 2,
-        "roots"
-    );
-    assert!(&rt;
-        words.values.len() == 64 && words.values[0] == 7 && words.values[1] == 8,
-        "values"
-    );
-    assert!(&rt; words.fields.len() == 256 && words.fields[0] == 2, "fields");
+    let words = stored(&rt, rt.alloc());
+    let told = "alloc 1 0=3, roots 64 32=1 33=2, values 64 0=7 1=8, fields 256 0=2";
+    assert_eq!(&rt; unlike(&words, Phase::Marking, told), None);
 }

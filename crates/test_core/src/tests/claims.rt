@@ -7,8 +7,7 @@ ghost use Rattle.gc_table.specs.SeatRecords.{resting};
 ghost use Rattle.test_core.specs.Ready.{Ready};
 ghost use Rattle.test_heaps.specs.Seats.{New};
 
-use super::are_zero;
-use super::seats::{begin, close, is_running, leave, open_two};
+use super::seats::{begin, close, is_running, leave, open_two, unlike};
 use gc_table::{Heap, HeapSeat, Words};
 use mark_core::{BLOCK_CELLS, Phase};
 use std::alloc::Global;
@@ -110,12 +109,7 @@ fn claimed<R: Wait>(rt: &R, alloc: Global) -> Option<Words> {
 
 #[test]
 fn one_owner(rt: HostRuntime) {
-    let Some(words) = claimed(&rt, rt.alloc()) else {
-        panic!(&rt; "a step")
-    };
-    assert!(&rt; words.phase == Phase::Marking && words.named == 0, "phase");
-    assert!(&rt; are_zero(words.alloc.as_slice(), 1), "allocation bits");
-    assert!(&rt; are_zero(words.idents.as_slice(), 64), "identities");
-    assert!(&rt; are_zero(words.values.as_slice(), 64), "values");
-    assert!(&rt; are_zero(words.roots.as_slice(), 64), "roots");
+    let words = claimed(&rt, rt.alloc());
+    let told = "alloc 1, idents 64, values 64, roots 64";
+    assert_eq!(&rt; unlike(&words, Phase::Marking, told), None);
 }

@@ -1,8 +1,7 @@
 //! The pool of empty packets, one more than fit into a word of it.
 ghost use Rattle.test_core.specs.Ready.{Ready};
 
-use super::are_zero;
-use super::seats::{both_mark, close, leave, open_two};
+use super::seats::{both_mark, close, leave, open_two, unlike};
 use gc_table::{Heap, HeapSeat, Words};
 use mark_core::{EMPTY_POOL, Phase, Shape};
 use std::alloc::Global;
@@ -127,11 +126,7 @@ fn taken(alloc: Global) -> Option<Words> {
 
 #[test]
 fn last_packet(rt: HostRuntime) {
-    let Some(words) = taken(rt.alloc()) else {
-        panic!(&rt; "a step")
-    };
-    assert!(&rt; words.phase == Phase::Marking && words.named == 0, "phase");
-    assert!(&rt; are_zero(words.alloc.as_slice(), 1), "allocation bits");
-    assert!(&rt; are_zero(words.idents.as_slice(), 64), "identities");
-    assert!(&rt; are_zero(words.roots.as_slice(), 64), "roots");
+    let words = taken(rt.alloc());
+    let told = "alloc 1, idents 64, roots 64";
+    assert_eq!(&rt; unlike(&words, Phase::Marking, told), None);
 }

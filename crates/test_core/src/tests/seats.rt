@@ -8,7 +8,6 @@ ghost use Rattle.mark_core.specs.Shapes.{IsShape};
 ghost use Rattle.test_core.specs.Ready.{Ready};
 ghost use Rattle.test_heaps.specs.Seats.{New};
 
-use super::are_zero;
 use gc_table::{Heap, HeapSeat, Words};
 use mark_core::{Phase, SEATS, Shape};
 use plain_heap::NoPlan;
@@ -157,16 +156,66 @@ fn words_of_largest(alloc: Global) -> Option<Words> {
     }
 }
 
+/// The words of a list by its name.
+fn list_of<'a>(words: &'a Words, name: &str) -> Option<&'a [u64]> {
+    match name {
+        "idents" => Some(words.idents.as_slice()),
+        "values" => Some(words.values.as_slice()),
+        "fields" => Some(words.fields.as_slice()),
+        "alloc" => Some(words.alloc.as_slice()),
+        "positions" => Some(words.positions.as_slice()),
+        "roots" => Some(words.roots.as_slice()),
+        _ => None,
+    }
+}
+
+fn count_others(words: &[u64]) -> usize {
+    let mut others = 0usize;
+    for word in words {
+        if *word != 0 {
+            others = others.saturating_add(1);
+        }
+    }
+    others
+}
+
+/// Whether a list has so many words, which are 0 but for those that are told, as `alloc 1 0=3` says.
+fn is_list(words: &Words, told: &str) -> Option<bool> {
+    let mut told = told.split(' ');
+    let list = list_of(words, told.next()?)?;
+    let count = told.next()?.parse::<usize>().ok()?;
+    let mut others = count_others(list);
+    for other in told {
+        let (i, n) = other.split_once('=')?;
+        if *list.get(i.parse::<usize>().ok()?)? != n.parse::<u64>().ok()? {
+            return Some(false);
+        }
+        others = others.saturating_sub(1);
+    }
+    Some(list.len() == count && others == 0)
+}
+
+/// The first of the lists that isn't as told, or what else differs.
+pub fn unlike<'a>(words: &Option<Words>, phase: Phase, lists: &'a str) -> Option<&'a str> {
+    let Some(words) = words else {
+        return Some("a step");
+    };
+    if words.phase != phase || words.named != 0 {
+        return Some("phase");
+    }
+    for told in lists.split(", ") {
+        if is_list(words, told) != Some(true) {
+            return Some(told);
+        }
+    }
+    None
+}
+
+const LARGEST: &str =
+    "idents 65536, values 65536, fields 1048576, alloc 1024, positions 33, roots 1056";
+
 #[test]
 fn largest(rt: HostRuntime) {
-    let Some(words) = words_of_largest(rt.alloc()) else {
-        panic!(&rt; "memory")
-    };
-    assert!(&rt; are_zero(words.idents.as_slice(), 65536), "identities");
-    assert!(&rt; are_zero(words.values.as_slice(), 65536), "values");
-    assert!(&rt; are_zero(words.fields.as_slice(), 1_048_576), "fields");
-    assert!(&rt; are_zero(words.alloc.as_slice(), 1024), "allocation bits");
-    assert!(&rt; are_zero(words.positions.as_slice(), 33), "positions");
-    assert!(&rt; are_zero(words.roots.as_slice(), 1056), "roots");
-    assert!(&rt; words.phase == Phase::Idle && words.named == 0, "phase");
+    let words = words_of_largest(rt.alloc());
+    assert_eq!(&rt; unlike(&words, Phase::Idle, LARGEST), None);
 }
