@@ -134,7 +134,7 @@ outcome words nd = program_outcome forms by_name covers words nd
 
 -- a parse that fails for another reason than memory
 pub none_after_fault : (words : List Text) (e : Error) → has_no_dashes words ≡ true → HasKind (fault_of asked_program words) e → (kind_of e ≡ OutOfMemory → ⊥) → None ≡ command words
-none_after_fault words e nd has other = sym (means words ∙ go (fault_of asked_program words) (subcommand_of asked_program words) has (outcome words nd))
+none_after_fault words e nd kind other = sym (means words ∙ go (fault_of asked_program words) (subcommand_of asked_program words) kind (outcome words nd))
   where
     go : (f : Kinds) (sub : Option (Text × List Row)) → HasKind f e → Outcome forms by_name words f sub → meant forms by_name words ≡ None
     go [] sub (inl m) r = absurd (other m)
