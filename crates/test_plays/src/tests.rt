@@ -23,10 +23,8 @@ mod sources;
 mod told;
 mod written;
 
-use std::test::Fail;
-
 #[test]
-fn each_case_holds(rt: HostRuntime) -> Result<(), Fail> {
+fn each_case_holds(rt: HostRuntime) {
     for cases in [
         played::PLAYED,
         played::LONG,
@@ -35,7 +33,6 @@ fn each_case_holds(rt: HostRuntime) -> Result<(), Fail> {
         others::BATCHES,
         others::OTHERS,
     ] {
-        written::all_hold(&rt, cases, "")?;
+        written::all_hold(&rt, cases, "");
     }
-    Ok(())
 }

@@ -7,11 +7,9 @@ use gc_play::{Gate, play};
 use gc_script::{Section, read};
 use gc_table::HeapSeat;
 use play_end::{Options, USUAL};
-use std::process::Abort;
 use std::sync::Wait;
 use std::sync::atomic::AtomicU64;
 use std::sync::atomic::Ordering::SeqCst;
-use std::test::Fail;
 use std::thread::Threads;
 
 /// Holds sections in their first command, until commands of others were passed, and a tracer's seat has had a turn.
@@ -93,11 +91,13 @@ const ROWS: [Row; 4] = [
 ];
 
 /// Whether the script is played so, and nothing waited for was given up.
-fn meets<R: Abort + AllocGlobal + Threads + Wait + Sync>(rt: &R, row: &Row) -> Result<bool, Fail> {
+fn meets<R: AllocGlobal + Threads + Wait + Sync>(rt: &R, row: &Row) -> Option<bool> {
     let (script, commands, workers, held, awaited, turns) = *row;
-    assert!(rt; 1 <= workers && workers <= 32);
+    if workers < 1 || 32 < workers {
+        return None;
+    }
     let options = Options { workers, ..USUAL };
-    let script = read(rt.alloc(), script)?;
+    let script = read(rt.alloc(), script).ok()?;
     let gate = Holding {
         rt,
         held,
@@ -108,13 +108,12 @@ fn meets<R: Abort + AllocGlobal + Threads + Wait + Sync>(rt: &R, row: &Row) -> R
     };
     let is_done = play(rt, rt.alloc(), &script, &options, &gate).is_ok();
     let has_met = !gate.passed.was_given_up() && !gate.turned.was_given_up();
-    Ok(is_done && has_met && gate.own.load(SeqCst) == commands)
+    Some(is_done && has_met && gate.own.load(SeqCst) == commands)
 }
 
 #[test]
-fn side_by_side(rt: HostRuntime) -> Result<(), Fail> {
+fn side_by_side(rt: HostRuntime) {
     for (i, row) in ROWS.iter().enumerate() {
-        assert!(rt; meets(&rt, row)?, "row {i}");
+        assert!(rt; meets(&rt, row) == Some(true), "row {i}");
     }
-    Ok(())
 }

@@ -4,9 +4,7 @@ use crate::tests::outside::{answer_of, sure};
 use gc_script::read;
 use load_gen::generate;
 use std::alloc::{AllocError, Global};
-use std::process::Abort;
 use std::sync::Wait;
-use std::test::Fail;
 use std::thread::Threads;
 
 fn push_numbers(dump: &mut Vec<u8>, numbers: &[u32]) -> Result<(), AllocError> {
@@ -107,16 +105,32 @@ fn census_of(alloc: Global, graph: &Graph) -> Result<String, AllocError> {
     Ok(text)
 }
 
-/// Fails if the words with this source don't write this text.
-fn writes<R: Abort + AllocGlobal + Threads + Wait + Sync>(
+/// Whether the words with this source write this text.
+fn writes<R: AllocGlobal + Threads + Wait + Sync>(
     rt: &R,
     words: &str,
     source: &[u8],
     text: &[u8],
-) -> Result<(), Fail> {
-    let (status, written) = answer_of(rt, words, &sure(source)).ok_or("memory")?;
-    assert!(rt; status == 0 && written.as_slice() == text, "{words}");
-    Ok(())
+) -> Option<bool> {
+    let (status, written) = answer_of(rt, words, &sure(source))?;
+    Some(status == 0 && written.as_slice() == text)
+}
+
+/// Whether the command with each of these options, a line each, writes this text.
+fn writes_always<R: AllocGlobal + Threads + Wait + Sync>(
+    rt: &R,
+    command: &str,
+    options: &str,
+    source: &[u8],
+    text: &[u8],
+) -> Option<bool> {
+    for options in options.lines() {
+        let words = format!(in rt.alloc(); "{command} {options}").ok()?;
+        if !writes(rt, words.as_str(), source, text)? {
+            return Some(false);
+        }
+    }
+    Some(true)
 }
 
 const OPTIONS: &str = "
@@ -124,22 +138,17 @@ const OPTIONS: &str = "
 --cells=256 --workers=32 --tracers=8 --packets=2 --entries=2
 ";
 
-/// Fails if the three commands don't write what the heaps say of a script.
-fn is_dumped<R: Abort + AllocGlobal + Threads + Wait + Sync>(
-    rt: &R,
-    source: &[u8],
-) -> Result<(), Fail> {
+/// Whether the three commands write what the heaps say of a script.
+fn is_dumped<R: AllocGlobal + Threads + Wait + Sync>(rt: &R, source: &[u8]) -> Option<bool> {
     let alloc = rt.alloc();
-    let graph = graph_of(alloc, &read(alloc, source)?)?;
-    let dump = dump_of(alloc, &graph)?;
-    for options in OPTIONS.lines() {
-        let words = format!(in alloc; "dump {options}")?;
-        writes(rt, words.as_str(), source, dump.as_slice())?;
-    }
-    let listed = undump_of(alloc, &graph)?;
-    writes(rt, "undump", dump.as_slice(), listed.as_bytes())?;
-    let counted = census_of(alloc, &graph)?;
-    writes(rt, "census", dump.as_slice(), counted.as_bytes())
+    let graph = graph_of(alloc, &read(alloc, source).ok()?)?;
+    let dump = dump_of(alloc, &graph).ok()?;
+    let listed = undump_of(alloc, &graph).ok()?;
+    let counted = census_of(alloc, &graph).ok()?;
+    let is_whole = writes_always(rt, "dump", OPTIONS, source, dump.as_slice())?
+        && writes(rt, "undump", dump.as_slice(), listed.as_bytes())?
+        && writes(rt, "census", dump.as_slice(), counted.as_bytes())?;
+    Some(is_whole)
 }
 
 /// The scripts of the folder `examples`, each behind `$ `.
@@ -211,15 +220,16 @@ say other y
 ";
 
 #[test]
-fn dumps_as_heaps_that_forget_nothing(rt: HostRuntime) -> Result<(), Fail> {
+fn dumps_as_heaps_that_forget_nothing(rt: HostRuntime) {
     for source in EXAMPLES.split("$ ").skip(1) {
-        is_dumped(&rt, source.as_bytes())?;
+        assert!(rt; is_dumped(&rt, source.as_bytes()) == Some(true), "{source}");
     }
     for number in [1, 7, 4_294_967_295] {
-        let source = generate(rt.alloc(), number, 300).ok().ok_or("memory")?;
-        is_dumped(&rt, source.as_bytes())?;
+        let Ok(source) = generate(rt.alloc(), number, 300) else {
+            panic!(rt; "memory")
+        };
+        assert!(rt; is_dumped(&rt, source.as_bytes()) == Some(true), "{number}");
     }
-    Ok(())
 }
 
 const LOADS: &str = "
@@ -228,19 +238,26 @@ const LOADS: &str = "
 --cells=256 --packets=2 --entries=2
 ";
 
-#[test]
-fn loads_as_heaps_that_forget_nothing(rt: HostRuntime) -> Result<(), Fail> {
+/// Whether a load of number 7 with 20,000 lines a warehouse writes what the heaps say.
+fn loads<R: AllocGlobal + Threads + Wait + Sync>(rt: &R) -> Option<bool> {
     let alloc = rt.alloc();
-    let generated = generate(alloc, 7, 20_000).ok().ok_or("memory")?;
-    let graph = graph_of(alloc, &read(alloc, generated.as_bytes())?)?;
+    let generated = generate(alloc, 7, 20_000).ok()?;
+    let graph = graph_of(alloc, &read(alloc, generated.as_bytes()).ok()?)?;
     let objects = graph.nodes.len();
     let (survivors, total) = count_of(&graph, None, None, None);
     let text = format!(in alloc;
         "commands 80000\nobjects {objects}\nlines 1248\nsurvivors {survivors}\ntotal {total}\n"
-    )?;
-    for options in LOADS.lines() {
-        let words = format!(in alloc; "load --number=7 --size=20000 {options}")?;
-        writes(&rt, words.as_str(), b"", text.as_bytes())?;
-    }
-    Ok(())
+    ).ok()?;
+    writes_always(
+        rt,
+        "load --number=7 --size=20000",
+        LOADS,
+        b"",
+        text.as_bytes(),
+    )
+}
+
+#[test]
+fn loads_as_heaps_that_forget_nothing(rt: HostRuntime) {
+    assert!(rt; loads(&rt) == Some(true));
 }

@@ -1,9 +1,9 @@
 //! Scripts with a fault, which `run` and `convert` both tell, and scripts at the limits of the language and just past
 //! them. One of version 2 or 3 without a fault converts to itself.
 use crate::tests::written::all_hold;
+use std::alloc::Global;
 use std::process::Abort;
 use std::sync::Wait;
-use std::test::Fail;
 use std::thread::Threads;
 
 /// Scripts, each with its fault. A number too large comes before an unknown name in the same line, an open `repeat`
@@ -111,33 +111,34 @@ $ warehouse; {32*nil a%; }get b c 0; => 4 UnknownName line 36
 $ warehouse; {32*nil a%; }get b a0 0; => 5 TooManyNames line 36
 ";
 
-/// Fails if a script behind this head isn't judged so: its fault is told, or, as `itself` says, it converts to
-/// itself.
-fn all_are_judged<R: Abort + AllocGlobal + Threads + Wait + Sync>(
-    rt: &R,
-    rows: &str,
-    head: &str,
-) -> Result<(), Fail> {
-    for row in rows.split("$ ").skip(1) {
-        let (lines, fault) = row.split_once("=> ").ok_or("row")?;
-        let script = format!(in rt.alloc(); "{head}{lines}")?;
-        let cases = if fault == "itself\n" {
-            format!(in rt.alloc(); "$ convert; {script}=> 0; {script}")?
-        } else {
-            format!(in rt.alloc(); "$ run; {script}=> 2; {fault}$ convert; {script}=> 2; {fault}")?
-        };
-        all_hold(rt, cases.as_str(), "")?;
+/// The cases of a script behind this head: its fault is told, or, as `itself` says, it converts to itself.
+fn cases_of(alloc: Global, head: &str, row: &str) -> Option<String> {
+    let (lines, fault) = row.split_once("=> ")?;
+    let script = format!(in alloc; "{head}{lines}").ok()?;
+    if fault == "itself\n" {
+        format!(in alloc; "$ convert; {script}=> 0; {script}").ok()
+    } else {
+        format!(in alloc; "$ run; {script}=> 2; {fault}$ convert; {script}=> 2; {fault}").ok()
     }
-    Ok(())
+}
+
+/// Fails if a script behind this head isn't judged so.
+fn all_are_judged<R: Abort + AllocGlobal + Threads + Wait + Sync>(rt: &R, rows: &str, head: &str) {
+    for row in rows.split("$ ").skip(1) {
+        let Some(cases) = cases_of(rt.alloc(), head, row) else {
+            panic!(rt; "no case, or no memory: {row}")
+        };
+        all_hold(rt, cases.as_str(), "");
+    }
 }
 
 #[test]
-fn tells_faults(rt: HostRuntime) -> Result<(), Fail> {
-    all_are_judged(&rt, FAULTS, "")
+fn tells_faults(rt: HostRuntime) {
+    all_are_judged(&rt, FAULTS, "");
 }
 
 #[test]
-fn judges_lines(rt: HostRuntime) -> Result<(), Fail> {
-    all_are_judged(&rt, LINES, "gcscript 2; fields 4; warehouse; ")?;
-    all_are_judged(&rt, SECTIONS, "gcscript 3; fields 1; ")
+fn judges_lines(rt: HostRuntime) {
+    all_are_judged(&rt, LINES, "gcscript 2; fields 4; warehouse; ");
+    all_are_judged(&rt, SECTIONS, "gcscript 3; fields 1; ");
 }

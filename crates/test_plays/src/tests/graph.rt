@@ -5,7 +5,6 @@ ghost use Rattle.plain_heap.specs.PlainStep.{IsInRange};
 use gc_script::{Script, Section};
 use plain_heap::{Op, PlainHeap, Ref};
 use std::alloc::{AllocError, Global};
-use std::test::Fail;
 
 /// An object: its section, number and value, the places of what its fields refer to, and if it is reached, the
 /// least number of references to it from a variable and its place among the reached.
@@ -47,30 +46,24 @@ fn is_in_range(op: Op, fields: u32) -> bool
     }
 }
 
-fn step_once(heap: &mut PlainHeap, cat: Option<&PlainHeap>, op: Op) -> Result<(), Fail> {
+fn step_once(heap: &mut PlainHeap, cat: Option<&PlainHeap>, op: Op) -> Option<()> {
     let has_room = heap.objects().len() < 2_000_000 && heap.dropped() < 2_000_000;
     if !has_room || !is_in_range(op, heap.fields()) {
-        return Err(Fail::from("range"));
+        return None;
     }
-    match heap.step(cat, op) {
-        Ok(_) => Ok(()),
-        Err(_) => Err(Fail::from("memory")),
-    }
+    heap.step(cat, op).ok()?;
+    Some(())
 }
 
 /// The heap of a section, or of the catalogue if none is given, after all commands of a script.
-fn heap_of(
-    alloc: Global,
-    script: &Script<'_>,
-    section: Option<&Section<'_>>,
-) -> Result<PlainHeap, Fail> {
+fn heap_of(alloc: Global, script: &Script<'_>, section: Option<&Section<'_>>) -> Option<PlainHeap> {
     let fields = script.fields();
-    let mut catalogue = PlainHeap::new(alloc, 0, fields).ok().ok_or("memory")?;
+    let mut catalogue = PlainHeap::new(alloc, 0, fields).ok()?;
     let number = match section {
         Some(section) => section.number(),
         None => 0,
     };
-    let mut heap = PlainHeap::new(alloc, number, fields).ok().ok_or("memory")?;
+    let mut heap = PlainHeap::new(alloc, number, fields).ok()?;
     for season in 1..=script.seasons() {
         if let Some(lender) = script.catalogue() {
             for command in lender.commands_of(season) {
@@ -83,7 +76,7 @@ fn heap_of(
             }
         }
     }
-    Ok(if section.is_some() { heap } else { catalogue })
+    Some(if section.is_some() { heap } else { catalogue })
 }
 
 /// The place of what a reference names, if the section's objects begin at this place and the catalogue's at the
@@ -153,8 +146,8 @@ fn number_records(graph: &mut Graph) {
     graph.records = count;
 }
 
-/// The objects that the script leaves, reached or not.
-pub fn graph_of(alloc: Global, script: &Script<'_>) -> Result<Graph, Fail> {
+/// The objects that the script leaves, reached or not. None if there is no memory.
+pub fn graph_of(alloc: Global, script: &Script<'_>) -> Option<Graph> {
     let mut graph = Graph {
         fields: script.fields(),
         sections: 0,
@@ -162,11 +155,11 @@ pub fn graph_of(alloc: Global, script: &Script<'_>) -> Result<Graph, Fail> {
         records: 0,
         roots: Vec::new(alloc),
     };
-    add_heap(alloc, &mut graph, &heap_of(alloc, script, None)?)?;
+    add_heap(alloc, &mut graph, &heap_of(alloc, script, None)?).ok()?;
     for section in script.warehouses() {
-        add_heap(alloc, &mut graph, &heap_of(alloc, script, Some(section))?)?;
+        add_heap(alloc, &mut graph, &heap_of(alloc, script, Some(section))?).ok()?;
     }
-    find_levels(alloc, &mut graph)?;
+    find_levels(alloc, &mut graph).ok()?;
     number_records(&mut graph);
-    Ok(graph)
+    Some(graph)
 }

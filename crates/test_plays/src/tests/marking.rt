@@ -12,13 +12,14 @@ use gc_script::{Section, read};
 use gc_table::HeapSeat;
 use mark_core::Phase;
 use play_end::{Options, USUAL};
+use std::alloc::Global;
 use std::sync::Wait;
 use std::sync::atomic::AtomicU64;
 use std::sync::atomic::Ordering::SeqCst;
 use std::test::Fail;
 
 /// A chain whose objects fill seven cells of eight, an object behind it, and a collection.
-pub const CHAIN: &str =
+const CHAIN: &str =
     "gcscript 3; fields 4; warehouse; new a 1; let t a; repeat 127; {7*new n 2; set t 0 n; let t n
 }new g 4; end; new w 9; set t 0 w; nil w; nil t; nil n; nil g; collect
 ";
@@ -26,6 +27,12 @@ pub const CHAIN: &str =
 /// Twelve caches of eight cells.
 const MORE: &str = "repeat 96; new g 5; end
 ";
+
+/// The script of the chain with these lines behind it.
+pub fn behind_chain(alloc: Global, lines: &str) -> Option<String> {
+    let whole = format!(in alloc; "{CHAIN}{lines}").ok()?;
+    expanded(alloc, whole.as_str())
+}
 
 /// Whether the seat has read that a cycle is marking.
 pub fn is_marking(seat: &HeapSeat) -> bool {
@@ -72,7 +79,7 @@ fn a_tracer_traces_while_a_warehouse_is_held(rt: HostRuntime) -> Result<(), Fail
         ..USUAL
     };
     let alloc = rt.alloc();
-    let source = expanded(alloc, format!(in alloc; "{CHAIN}{MORE}")?.as_str()).ok_or("memory")?;
+    let source = behind_chain(alloc, MORE).ok_or("memory")?;
     let script = read(alloc, source.as_bytes())?;
     let gate = Tracing {
         rt: &rt,

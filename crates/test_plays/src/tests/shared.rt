@@ -6,8 +6,8 @@ use play_report::{MemorySink, write_report};
 use std::test::Fail;
 
 /// Each warehouse keeps its first two objects and the last of fifty more.
-const WAREHOUSE: &str = "warehouse; new a 1; new b 2; set a 0 b; {50*new c 3
-}";
+const SOURCE: &str =
+    "gcscript 1; {8*warehouse; new a 1; new b 2; set a 0 b; repeat 50; new c 3; end; }";
 
 const TEXT: &str = "{1..9*warehouse %; dropped 0; }survivors 24; {1..9*% 0 1; % 1 2; % 51 3
 }";
@@ -15,11 +15,7 @@ const TEXT: &str = "{1..9*warehouse %; dropped 0; }survivors 24; {1..9*% 0 1; % 
 #[test]
 fn eight_warehouses_share_64_cells(rt: HostRuntime) -> Result<(), Fail> {
     let alloc = rt.alloc();
-    let warehouse = expanded(alloc, WAREHOUSE).ok_or("memory")?;
-    let mut source = "gcscript 1\n".to_string(alloc)?;
-    for _ in 0..8u32 {
-        source.push_str(warehouse.as_str())?;
-    }
+    let source = expanded(alloc, SOURCE).ok_or("memory")?;
     let text = expanded(alloc, TEXT).ok_or("memory")?;
     let script = read(alloc, source.as_bytes())?;
     for workers in [1, 2, 4, 8] {

@@ -15,7 +15,6 @@ use crate::tests::outside::{answer_of, sure};
 use std::alloc::{AllocError, Global};
 use std::process::Abort;
 use std::sync::Wait;
-use std::test::Fail;
 use std::thread::Threads;
 
 fn push_number(alloc: Global, whole: &mut String, number: u32) -> Result<(), AllocError> {
@@ -92,6 +91,7 @@ pub fn case_of(alloc: Global, told: &str) -> Option<Case<'_>> {
     })
 }
 
+/// None if there is no memory, or it is no case.
 fn is_answered<R: AllocGlobal + Threads + Wait + Sync>(
     rt: &R,
     told: &str,
@@ -104,14 +104,9 @@ fn is_answered<R: AllocGlobal + Threads + Wait + Sync>(
 }
 
 /// Fails if one of the cases isn't answered so, with these words behind its own.
-pub fn all_hold<R: Abort + AllocGlobal + Threads + Wait + Sync>(
-    rt: &R,
-    cases: &str,
-    more: &str,
-) -> Result<(), Fail> {
+pub fn all_hold<R: Abort + AllocGlobal + Threads + Wait + Sync>(rt: &R, cases: &str, more: &str) {
     for told in cases.split("$ ").skip(1) {
-        let is_answered = is_answered(rt, told, more).ok_or("memory, or no case")?;
-        assert!(rt; is_answered, "{more}: {told}");
+        let is_answered = is_answered(rt, told, more);
+        assert!(rt; is_answered == Some(true), "{is_answered:?} {more}: {told}");
     }
-    Ok(())
 }
