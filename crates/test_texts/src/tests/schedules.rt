@@ -48,8 +48,8 @@ $ gcschedule 1; shape 64 2 2 2 4 2; 4294967295 enter_step; 1 reserve; => Refused
 ";
 
 #[test]
-fn schedules_are_judged(rt: HostRuntime) -> Result<(), Fail> {
-    all_hold(&rt, Kind::Schedule, VERDICTS)
+fn schedules_are_judged(rt: HostRuntime) {
+    all_hold(&rt, Kind::Schedule, VERDICTS);
 }
 
 /// Foreign bytes come before all lines, the header is the first line, and the sizes come before events.
@@ -122,11 +122,10 @@ $ gcschedule 1; shape 4294967360 2 2 2 4 2=> Faulty: 23 BadShape
 ";
 
 #[test]
-fn the_first_fault_of_a_schedule_is_told(rt: HostRuntime) -> Result<(), Fail> {
+fn the_first_fault_of_a_schedule_is_told(rt: HostRuntime) {
     for cases in [HEADS, EVENTS, SIZES] {
-        all_hold(&rt, Kind::Schedule, cases)?;
+        all_hold(&rt, Kind::Schedule, cases);
     }
-    Ok(())
 }
 
 #[test]
