@@ -27,8 +27,8 @@ def has_body(crate, what):
 
 
 def has_case(crate, file, line):
-    """Whether the file of cases has this line."""
-    return any(line in text.split("\n") for text in texts(f"crates/{crate}/src/tests/{file}"))
+    """Whether the file of cases has this line; where `; ` ends lines, too, it is one of these."""
+    return any(line in re.split("\n|; ", text) for text in texts(f"crates/{crate}/src/tests/{file}"))
 
 
 def is_there(kind, rest):

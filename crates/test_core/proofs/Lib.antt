@@ -1,2 +1,3 @@
 mod Rows
 mod Runs
+pub mod Owned

@@ -1,19 +1,18 @@
-//! Runs of events from the start, with what they are answered and what they leave, written down as texts.
+//! Runs of events from the start, with what they are answered and what they leave, written down as texts (`runs`);
+//! and sequences of the table's typed steps: the seats 0 and 1 of a heap take steps in turn.
 mod barrier;
-mod deferred;
+mod blocks;
+mod cells;
+mod claims;
 mod events;
-mod exchanging;
 mod filled;
 mod first;
 mod heaps;
-mod helped;
-mod overflow;
-mod precise;
+mod marking;
+mod packets;
 mod runs;
-mod shared;
-mod slots;
-mod storing;
-mod stretches;
+mod seats;
+mod sharing;
 
 use runs::all_hold;
 
@@ -21,16 +20,16 @@ use runs::all_hold;
 fn each_run_goes_as_told(rt: HostRuntime) {
     for runs in [
         first::FIRST,
-        barrier::BARRIER,
-        deferred::DEFERRED,
-        overflow::OVERFLOW,
-        precise::PRECISE,
-        helped::HELPED,
-        stretches::STRETCHES,
-        shared::SHARED,
-        storing::STORING,
-        exchanging::EXCHANGING,
-        slots::SLOTS,
+        marking::BARRIER,
+        marking::DEFERRED,
+        marking::OVERFLOW,
+        marking::PRECISE,
+        marking::HELPED,
+        first::STRETCHES,
+        sharing::SHARED,
+        sharing::STORING,
+        sharing::EXCHANGING,
+        sharing::SLOTS,
     ] {
         all_hold(&rt, runs);
     }

@@ -1,5 +1,5 @@
 //! Whole runs of the program, from the words and the bytes in to the bytes out, as tests. They stand apart so that
-//! `play_words` is proved once, and not with its tests a second time.
+//! `play_words` and `gc_play` are proved once, and not with their tests a second time.
 #![tactic(auto)]
 
 #[cfg(test)]

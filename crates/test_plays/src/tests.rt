@@ -1,15 +1,38 @@
-//! What no clause says: whole runs of the program, from the words and the bytes in to the bytes out, written down
-//! as texts. Those of `cases` are judged as they stand.
+//! What no clause says: whole runs of the program, from the words and the bytes in to the bytes out, most of them
+//! written down as texts (`written`), and plays under gates.
 
-mod batches;
-mod broad;
-mod cases;
+mod beside;
 mod commands;
-mod converts;
 mod cuts;
 mod disturbed;
-mod edges;
+mod dumped;
+mod ended;
 mod faults;
-mod long;
+mod gathered;
+mod graph;
+mod hiding;
+mod marking;
+mod narrow;
 mod others;
+mod outside;
+mod placed;
 mod played;
+mod shared;
+mod signal;
+mod sources;
+mod told;
+mod written;
+
+#[test]
+fn each_case_holds(rt: HostRuntime) {
+    for cases in [
+        played::PLAYED,
+        played::LONG,
+        played::BROAD,
+        others::CONVERTS,
+        others::BATCHES,
+        others::OTHERS,
+    ] {
+        written::all_hold(&rt, cases, "");
+    }
+}

@@ -16,7 +16,7 @@ use gc_cycle::{
 use gc_table::{Heap, HeapSeat};
 
 /// What a drain did.
-#[derive(Clone, Copy, Debug, PartialEq, Eq, Drop)]
+#[derive(PartialEq, Drop)]
 pub struct Drained {
     /// How many objects it popped.
     pub popped: u32,
@@ -27,7 +27,7 @@ pub struct Drained {
 }
 
 /// What a sweep did.
-#[derive(Clone, Copy, Debug, PartialEq, Eq, Drop)]
+#[derive(Drop)]
 pub struct Swept {
     /// How many of its pieces were full.
     pub full: u32,
@@ -210,7 +210,7 @@ fn begins(heap: &Heap, seat: &mut HeapSeat) -> bool
 }
 
 /// How many pieces that saw to roots were full, and what the drain did after them.
-#[derive(Clone, Copy, Debug, PartialEq, Eq, Drop)]
+#[derive(PartialEq, Drop)]
 pub struct Marked {
     pub roots: u32,
     pub drained: Drained,
@@ -227,7 +227,7 @@ fn marks(heap: &Heap, seat: &mut HeapSeat, most: u32) -> Option<Marked>
 
 /// What a collection in steps did: what was marked, twice; how many full pieces cleared, swept and counted; and
 /// what was found.
-#[derive(Clone, Copy, Debug, PartialEq, Eq, Drop)]
+#[derive(PartialEq, Drop)]
 pub struct Collected {
     pub first: Marked,
     pub cleared: u32,

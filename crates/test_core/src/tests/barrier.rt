@@ -1,46 +1,153 @@
-//! A mutator stores while a tracer marks, and what it hid is found by cleaning the card.
+//! A mutator stores a reference in an object, and then dirties the object's card, unless nobody else can know the
+//! object.
+ghost use Rattle.std.specs.Prelude.{◌≡◌, ◌<◌, is_none, true};
+ghost use Rattle.std.specs.Bool.{OnTrue};
+ghost use Rattle.gc_table.specs.Seats.{state_of};
+ghost use Rattle.gc_table.specs.SeatRecords.{resting};
+ghost use Rattle.test_core.specs.Ready.{Ready, SeatHasOwn, may_link as may_link_of};
+ghost use Rattle.test_heaps.specs.Seats.{New};
 
-pub const BARRIER: &str = "
-$ a store hides a cell, and cleaning its card finds it
-heap one 3
-# cell 0 is variable 0's and cell 1 is variable 1's; nobody names cell 2
-0 raise_step, 0 observe, 0 next_season, 0 drop_step, 0 leave_step, 1 enter_step, 1 read_season, 1 claim_block 0
-1 read_free
-1 store_new 0 0 0, 1 store_new 0 1 5, 1 store_new 0 2 4294967296, 1 store_root 0 1
-1 store_new 1 0 0, 1 store_new 1 1 5, 1 store_new 1 2 4294967297, 1 store_root 1 2
-1 store_new 2 0 0, 1 store_new 2 1 5, 1 store_new 2 2 4294967298
-1 publish_cells, 1 release_block
-# marking begins, and seat 2 traces: it marks cell 0 and scans it while its field is still nil
-1 store_phase 1, 2 enter_step, 2 read_phase
-2 reserve, 2 take 0 0, 2 read_length 0
-2 read_root 1 0
-2 set_mark 0, 2 push 0 0
-2 pop 0, 2 read_alloc 0, 2 read_field 0 0
-# bits 0 to 2 are published, and bit 0 alone is marked; one packet is out, so the count is 64 + 2 - 1
-words alloc 7, mark 1, empty 65, card 0
-# then the mutator stores its only other reference to cell 1 in cell 0's field
-1 store_field 0 0 1
-# the field of cell 0 names cell 1, by its number and 1; its card is owed, and not dirty yet
-words field 2, card 0
-seat 1 owes 0
-# while it owes the card, the mutator can't forget variable 1
-1 store_root 1 0 => 19 3
-1 dirty_card 0, 1 store_root 1 0
-# so no root names cell 1 any more when the tracer comes to variable 1
-2 read_root 1 1
-seat 2 value -
-words mark 1, card 1
-# the tracer cleans the card, scans cell 0 once more, and then cell 1: the cleaning marks cell 1 besides, bits 0 and 1
-2 clear_card 0, 2 read_marks 0, 2 read_alloc 0
-2 read_field 0 0
-2 set_mark 1, 2 push 0 1
-2 pop 0, 2 read_alloc 0, 2 read_field 1 0
-2 store_length 0, 2 give 0 0, 2 credit
-words mark 3, card 0, empty 66
-# both leave, and seat 1 stops the world and sweeps: cell 2 is freed; of the seats seat 1 alone runs
-2 leave_step, 1 leave_step
-1 raise_step, 1 observe, 1 store_phase 2
-1 store_phase 3, 1 read_stat 1, 1 next_block, 1 read_alloc 0, 1 read_block_marks, 1 store_alloc, 1 clear_marks
-1 store_phase 0, 1 drop_step
-words phase 0, world 1, alloc 3, mark 0, empty 66
-";
+use super::blocks::{publish, take_block};
+use super::cells::make_cell;
+use super::claims::release;
+use super::seats::{begin, close, leave, open_two, takes_part, unlike};
+use gc_table::{Heap, HeapSeat, Words};
+use mark_core::{CARD_CELLS, Phase, Shape, VARIABLES};
+use std::alloc::Global;
+use std::sync::Wait;
+use test_heaps::{SMALL, is_marking, may_mutate};
+
+fn may_link(shape: &Shape, seat: &HeapSeat, v: u8, i: u8, w: u8) -> bool
+    ensures { result ≡ may_link_of shape.now (state_of seat.now) v i w }
+{
+    let s = seat.state();
+    (v < VARIABLES && u32::from(i) < shape.fields && w < VARIABLES && may_mutate(seat))
+        && (s.owes.is_none() && !s.spent && !shape.sharing)
+}
+
+/// Stores variable w in field i of variable 0's object: true if the seat owed no card, and has read that marking is
+/// under way.
+fn link(heap: &Heap, seat: &mut HeapSeat, i: u8, w: u8) -> bool
+    requires { Ready heap.now seat.old × SeatHasOwn seat.old 0 }
+    ensures { Ready heap.now seat.new × SeatHasOwn seat.new 0 }
+{
+    let shape = heap.shape();
+    if may_link(&shape, seat, 0, i, w) && is_marking(seat) {
+        heap.store_field(seat, 0, i, Some(w));
+        true
+    } else {
+        false
+    }
+}
+
+fn owed(seat: &HeapSeat) -> Option<u32>
+    ensures { result ≡ (state_of seat.now).owes }
+{
+    seat.state().owes
+}
+
+/// Dirties the card that the seat owes: true if it owed one, and owes none now.
+fn dirty_owed(heap: &Heap, seat: &mut HeapSeat) -> bool
+    requires { Ready heap.now seat.old × SeatHasOwn seat.old 0 }
+    ensures ready { Ready heap.now seat.new × SeatHasOwn seat.new 0 }
+    ensures paid { OnTrue result (is_none (state_of seat.new).owes ≡ true) }
+{
+    let Some(card) = owed(seat) else {
+        return false;
+    };
+    if card < heap.shape().cells / CARD_CELLS && takes_part(seat) {
+        heap.dirty_card(seat, card);
+        true
+    } else {
+        false
+    }
+}
+
+fn is_dirty(heap: &Heap, seat: &mut HeapSeat) -> Option<bool>
+    requires { Ready heap.now seat.old × SeatHasOwn seat.old 0 }
+    ensures { Ready heap.now seat.new × SeatHasOwn seat.new 0 }
+{
+    if heap.shape().cells >= CARD_CELLS {
+        Some(heap.read_card(seat, 0))
+    } else {
+        None
+    }
+}
+
+/// The whole barrier: the field is stored, then its card is dirtied.
+fn store(heap: &Heap, seat: &mut HeapSeat, i: u8, w: u8) -> bool
+    requires { Ready heap.now seat.old × SeatHasOwn seat.old 0 }
+    ensures ready { Ready heap.now seat.new × SeatHasOwn seat.new 0 }
+    ensures paid { OnTrue result (is_none (state_of seat.new).owes ≡ true) }
+{
+    link(heap, seat, i, w) && dirty_owed(heap, seat)
+}
+
+/// An object that isn't published owes no card.
+fn links_new(heap: &Heap, seat: &mut HeapSeat) -> bool
+    requires { Ready heap.now seat.old × SeatHasOwn seat.old 0 }
+    ensures { Ready heap.now seat.new × SeatHasOwn seat.new 0 }
+{
+    link(heap, seat, 0, 1) && owed(seat).is_none() && is_dirty(heap, seat) == Some(false)
+}
+
+/// Publishes the two cells.
+fn publish_both(heap: &Heap, seat: &mut HeapSeat) -> bool
+    requires { Ready heap.now seat.old × SeatHasOwn seat.old 0 }
+    ensures { Ready heap.now seat.new × SeatHasOwn seat.new 0 }
+{
+    publish(heap, seat) == Some(0)
+}
+
+fn links_published(heap: &Heap, seat: &mut HeapSeat) -> bool
+    requires { Ready heap.now seat.old × SeatHasOwn seat.old 0 }
+    ensures { Ready heap.now seat.new × SeatHasOwn seat.new 0 }
+{
+    link(heap, seat, 0, 1)
+        && owed(seat) == Some(0)
+        && is_dirty(heap, seat) == Some(false)
+        && dirty_owed(heap, seat)
+        && is_dirty(heap, seat) == Some(true)
+}
+
+/// The barrier before and after two cells are published: what each store owes, and when a card is dirty.
+fn links(heap: &Heap, seat: &mut HeapSeat) -> bool
+    requires { Ready heap.now seat.old × SeatHasOwn seat.old 0 }
+    ensures { Ready heap.now seat.new }
+{
+    links_new(heap, seat)
+        && publish_both(heap, seat)
+        && links_published(heap, seat)
+        && store(heap, seat, 0, 1)
+        && release(heap, seat)
+}
+
+fn stores<R: Wait>(rt: &R, heap: &Heap, zero: &mut HeapSeat, one: &mut HeapSeat) -> bool
+    requires zero { New heap.now resting 0 zero.old × (0 < heap.now.shape.sections) }
+    requires one { Ready heap.now one.old }
+    ensures { OnTrue result (Ready heap.now zero.new × Ready heap.now one.new) }
+{
+    if !begin(rt, heap, zero, one) || !take_block(heap, one, 0) || !make_cell(heap, one, 1, 8, 1) {
+        return false;
+    }
+    if !make_cell(heap, one, 0, 7, 0) {
+        return false;
+    }
+    links(heap, one) && leave(heap, zero) && leave(heap, one)
+}
+
+fn stored<R: Wait>(rt: &R, alloc: Global) -> Option<Words> {
+    let (heap, mut zero, mut one) = open_two(alloc, SMALL)?;
+    if stores(rt, &heap, &mut zero, &mut one) {
+        close(alloc, heap, zero, one)
+    } else {
+        None
+    }
+}
+
+#[test]
+fn owed_card(rt: HostRuntime) {
+    let words = stored(&rt, rt.alloc());
+    let told = "alloc 1 0=3, roots 64 32=1 33=2, values 64 0=7 1=8, fields 256 0=2";
+    assert_eq!(&rt; unlike(&words, Phase::Marking, told), None);
+}

@@ -2,41 +2,41 @@
 //! every room.
 use crate::tests::commands::COMMANDS;
 use crate::tests::faults::FAULTS;
+use crate::tests::outside::{Outside, answer_of, sure};
+use crate::tests::written::{Case, case_of};
 use std::alloc::Global;
 use std::process::Abort;
 use std::sync::Wait;
-use std::test::Fail;
 use std::thread::Threads;
-use test_cases::{Case, Outside, answer_of, case_of, sure};
 
-fn sizes_of(alloc: Global, case: &Case<'_>) -> Result<Vec<usize>, Fail> {
+fn sizes_of(alloc: Global, case: &Case<'_>) -> Option<Vec<usize>> {
     let mut sizes = Vec::new(alloc);
     if case.sizes.is_empty() {
         for line in case.text.lines() {
-            sizes.push(line.len().saturating_add(1))?;
+            sizes.push(line.len().saturating_add(1)).ok()?;
         }
     } else {
         for size in case.sizes.split(' ') {
-            sizes.push(size.parse::<usize>()?)?;
+            sizes.push(size.parse::<usize>().ok()?).ok()?;
         }
     }
-    Ok(sizes)
+    Some(sizes)
 }
 
 /// How many bytes are written before each write and after the last, if a write takes at most `part`.
-fn ends_of(alloc: Global, case: &Case<'_>, part: usize) -> Result<Vec<usize>, Fail> {
-    let mut ends = [0usize].to_vec(alloc)?;
+fn ends_of(alloc: Global, case: &Case<'_>, part: usize) -> Option<Vec<usize>> {
+    let mut ends = [0usize].to_vec(alloc).ok()?;
     let mut end = 0usize;
     for size in sizes_of(alloc, case)?.iter() {
         let last = end.saturating_add(*size);
         for _ in 0..*size {
             if end < last {
                 end = end.saturating_add(part).min(last);
-                ends.push(end)?;
+                ends.push(end).ok()?;
             }
         }
     }
-    Ok(ends)
+    Some(ends)
 }
 
 /// Fails if the case so disturbed doesn't end with this status and this prefix of its text.
@@ -46,14 +46,14 @@ fn ends_with<R: Abort + AllocGlobal + Threads + Wait + Sync>(
     outside: &Outside<'_>,
     status: u8,
     end: usize,
-) -> Result<(), Fail> {
-    let (found, written) = answer_of(rt, case.words, outside)?;
-    assert!(rt;
-        found == status && case.text.as_bytes().get(..end) == Some(written.as_slice()),
-        "{}: {outside:?}",
-        case.words
-    );
-    Ok(())
+) {
+    let is_so = match answer_of(rt, case.words, outside) {
+        Some((found, written)) => {
+            found == status && case.text.as_bytes().get(..end) == Some(written.as_slice())
+        }
+        None => false,
+    };
+    assert!(rt; is_so, "{}: {status} {end}", case.words);
 }
 
 /// A read that fails is told, and nothing is written. One read more than there are fails nowhere.
@@ -61,7 +61,7 @@ fn fails_to_read<R: Abort + AllocGlobal + Threads + Wait + Sync>(
     rt: &R,
     case: &Case<'_>,
     part: usize,
-) -> Result<(), Fail> {
+) {
     let reads = if case.status == 1
         || case.words.starts_with("gen")
         || case.words.starts_with("load")
@@ -79,12 +79,11 @@ fn fails_to_read<R: Abort + AllocGlobal + Threads + Wait + Sync>(
             ..sure(case.source.as_bytes())
         };
         if read < reads {
-            ends_with(rt, case, &outside, 4, 0)?;
+            ends_with(rt, case, &outside, 4, 0);
         } else {
-            ends_with(rt, case, &outside, case.status, case.text.len())?;
+            ends_with(rt, case, &outside, case.status, case.text.len());
         }
     }
-    Ok(())
 }
 
 /// A write that fails is told, and what came before it is written. One write more than there are fails nowhere.
@@ -92,8 +91,10 @@ fn fails_to_write<R: Abort + AllocGlobal + Threads + Wait + Sync>(
     rt: &R,
     case: &Case<'_>,
     part: usize,
-) -> Result<(), Fail> {
-    let ends = ends_of(rt.alloc(), case, part)?;
+) {
+    let Some(ends) = ends_of(rt.alloc(), case, part) else {
+        panic!(rt; "memory")
+    };
     assert!(rt; ends.last() == Some(&case.text.len()), "{}", case.words);
     let mut call = 0u32;
     for end in ends.iter() {
@@ -108,16 +109,12 @@ fn fails_to_write<R: Abort + AllocGlobal + Threads + Wait + Sync>(
         } else {
             case.status
         };
-        ends_with(rt, case, &outside, status, *end)?;
+        ends_with(rt, case, &outside, status, *end);
     }
-    Ok(())
 }
 
 /// A sink with too little room has as much of the text as fits.
-fn lacks_room<R: Abort + AllocGlobal + Threads + Wait + Sync>(
-    rt: &R,
-    case: &Case<'_>,
-) -> Result<(), Fail> {
+fn lacks_room<R: Abort + AllocGlobal + Threads + Wait + Sync>(rt: &R, case: &Case<'_>) {
     for room in 0..=case.text.len() {
         let outside = Outside {
             room,
@@ -128,32 +125,36 @@ fn lacks_room<R: Abort + AllocGlobal + Threads + Wait + Sync>(
         } else {
             case.status
         };
-        ends_with(rt, case, &outside, status, room)?;
+        ends_with(rt, case, &outside, status, room);
     }
-    Ok(())
 }
 
-fn is_disturbed<R: Abort + AllocGlobal + Threads + Wait + Sync>(
-    rt: &R,
-    told: &str,
-) -> Result<(), Fail> {
-    let case = case_of(rt.alloc(), told)?;
+fn is_disturbed<R: Abort + AllocGlobal + Threads + Wait + Sync>(rt: &R, told: &str) {
+    let Some(case) = case_of(rt.alloc(), told) else {
+        panic!(rt; "no case, or no memory: {told}")
+    };
     for part in [1, 4, 4_096] {
-        fails_to_read(rt, &case, part)?;
-        fails_to_write(rt, &case, part)?;
+        fails_to_read(rt, &case, part);
+        fails_to_write(rt, &case, part);
     }
-    lacks_room(rt, &case)
+    lacks_room(rt, &case);
+}
+
+/// The case of a script with its fault.
+fn faulty(alloc: Global, row: &str) -> Option<String> {
+    let (script, fault) = row.split_once("=> ")?;
+    format!(in alloc; "run; {script}=> 2; {fault}").ok()
 }
 
 #[test]
-fn disturbs_commands(rt: HostRuntime) -> Result<(), Fail> {
+fn disturbs_commands(rt: HostRuntime) {
     for told in COMMANDS.split("$ ").skip(1) {
-        is_disturbed(&rt, told)?;
+        is_disturbed(&rt, told);
     }
     for row in FAULTS.split("$ ").skip(1) {
-        let (script, fault) = row.split_once("=> ").ok_or("row")?;
-        let told = format!(in rt.alloc(); "run\n{script}=> 2\n{fault}")?;
-        is_disturbed(&rt, told.as_str())?;
+        let Some(told) = faulty(rt.alloc(), row) else {
+            panic!(rt; "no row, or no memory: {row}")
+        };
+        is_disturbed(&rt, told.as_str());
     }
-    Ok(())
 }

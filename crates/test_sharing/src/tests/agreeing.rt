@@ -37,18 +37,19 @@ fn left_in_root(players: &[Player], i: u32) -> u32 {
 /// Whether a field may have this at the end: what some thread stored there last, or nothing. A field of the root
 /// has what the exchanges left.
 fn may_have(players: &[Player], entry: Entry) -> bool {
-    if entry.field / FIELDS == ROOTED {
-        return entry.what == left_in_root(players, entry.field % FIELDS);
+    let (field, what) = entry;
+    if field / FIELDS == ROOTED {
+        return what == left_in_root(players, field % FIELDS);
     }
     let mut is_never = true;
     for player in players {
-        let last = player.log.last.get(entry.field as usize).copied();
-        if last == Some(entry.what) {
+        let last = player.log.last.get(field as usize).copied();
+        if last == Some(what) {
             return true;
         }
         is_never = is_never && last == Some(NEVER);
     }
-    is_never && entry.what == NOTHING
+    is_never && what == NOTHING
 }
 
 /// How many answers and fields were wrong in a round.

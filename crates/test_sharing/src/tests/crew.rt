@@ -17,7 +17,7 @@ pub const FOUND: u8 = 3;
 pub const LOOKS: u32 = 4_000_000;
 
 /// What came of what a thread did.
-#[derive(Clone, Copy, Debug, PartialEq, Eq, Drop)]
+#[derive(PartialEq, Drop)]
 pub struct Tally {
     /// How many it counted.
     pub count: u64,
@@ -50,13 +50,11 @@ impl Tally {
         }
     }
 
-    /// Both together.
-    pub fn plus(self, other: Tally) -> Tally {
-        Tally {
-            count: self.count.wrapping_add(other.count),
-            sum: self.sum.wrapping_add(other.sum),
-            wrong: self.wrong.wrapping_add(other.wrong),
-        }
+    /// Counts what another has.
+    fn add(&mut self, other: &Tally) {
+        self.count = self.count.wrapping_add(other.count);
+        self.sum = self.sum.wrapping_add(other.sum);
+        self.wrong = self.wrong.wrapping_add(other.wrong);
     }
 }
 
@@ -73,8 +71,8 @@ pub struct Worker {
 
 impl Worker {
     /// It has ended, or was refused, which counts as a wrong answer. It leaves, so that no other waits for it.
-    pub fn end(&mut self, ended: Result<(), Refused>) {
-        self.tally.expect(ended.is_ok());
+    pub fn end(&mut self, has_ended: bool) {
+        self.tally.expect(has_ended);
         self.mutator.leave();
     }
 }
@@ -145,9 +143,9 @@ pub fn gather<R: Wait>(rt: &R, workers: &mut Vec<Worker>) -> (Tally, u64) {
     let mut objects = 0u64;
     for worker in workers {
         let made = made(rt, &mut worker.mutator);
-        worker.end(made.map(|_| ()));
+        worker.end(made.is_ok());
         objects = objects.wrapping_add(made.unwrap_or(0));
-        all = all.plus(worker.tally);
+        all.add(&worker.tally);
     }
     (all, objects)
 }

@@ -17,13 +17,7 @@ fn field_of(object: u32, i: u8) -> u32 {
 }
 
 /// A field, and what it was found or made to have.
-#[derive(Clone, Copy, PartialEq, Eq, PartialOrd, Ord, Drop)]
-pub struct Entry {
-    /// The field.
-    pub field: u32,
-    /// What it has.
-    pub what: u32,
-}
+pub type Entry = (u32, u32);
 
 /// What one thread did.
 #[derive(Drop)]
@@ -67,7 +61,7 @@ impl Log {
     pub fn stored(&mut self, object: u32, i: u8, what: u32) -> Option<()> {
         let field = field_of(object, i);
         *self.last.get_mut(field as usize)? = what;
-        self.stores.push(Entry { field, what }).ok()
+        self.stores.push((field, what)).ok()
     }
 
     /// Notes a won exchange of a field of the root.
@@ -83,12 +77,12 @@ impl Log {
             return Some(());
         }
         let field = field_of(object, i);
-        self.reads.push(Entry { field, what }).ok()
+        self.reads.push((field, what)).ok()
     }
 
     /// Notes what a field has at the end.
     pub fn ended(&mut self, object: u32, i: u8, what: u32) -> Option<()> {
         let field = field_of(object, i);
-        self.ends.push(Entry { field, what }).ok()
+        self.ends.push((field, what)).ok()
     }
 }

@@ -205,7 +205,7 @@ fn play_all<R: Threads + Wait + Sync>(
             &|_, worker: &mut Worker| {
                 let m = &mut worker.mutator;
                 let ended = plays(rt, m, map, worker.thread, &mut worker.tally);
-                worker.end(ended);
+                worker.end(ended.is_ok());
             },
         );
     }

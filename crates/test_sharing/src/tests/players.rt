@@ -180,6 +180,11 @@ impl Player {
         Some(what)
     }
 
+    fn goes_on(&mut self, w: u8, v: u8, i: u8) -> Option<()> {
+        self.follow(w, v, i)?;
+        Some(())
+    }
+
     /// Hands variable v's object over in field i of the root, and takes what was there, if no other is faster.
     fn hand_over(&mut self, w: u8, v: u8, i: u8) -> Option<()> {
         let (from, what) = (self.follow(FOUND, ROOT, i)?, self.kept(v));
@@ -238,7 +243,7 @@ impl Player {
             0..=24 => self.make(rt, v),
             25..=44 => self.link(v, i, w),
             45..=52 => self.link(v, i, NIL),
-            53..=66 => self.follow(w, v, i).map(|_| ()),
+            53..=66 => self.goes_on(w, v, i),
             67..=78 => self.hand_over(w, v, i),
             79..=81 => self.hand_over(w, NIL, i),
             82..=87 => self.swap(w, v, i),

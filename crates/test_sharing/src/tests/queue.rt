@@ -28,7 +28,7 @@ pub fn make_queue<R: Wait>(
 }
 
 /// The least number of each thread that may come next: its numbers go in steps of four.
-#[derive(Clone, Copy)]
+#[derive(Drop)]
 pub struct Next {
     least: [u64; 4],
 }
@@ -120,7 +120,7 @@ fn trade_all<R: Threads + Wait + Sync>(
             &|_, worker: &mut Worker| {
                 let m = &mut worker.mutator;
                 let ended = trades(rt, m, queue, worker.thread, &mut worker.tally);
-                worker.end(ended);
+                worker.end(ended.is_ok());
             },
         );
     }

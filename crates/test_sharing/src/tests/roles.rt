@@ -81,7 +81,7 @@ fn act<R: Wait>(rt: &R, k: usize, queue: SharedQueue, worker: &mut Worker) {
     } else {
         consume(rt, m, queue, tally)
     };
-    worker.end(ended);
+    worker.end(ended.is_ok());
 }
 
 fn act_all<R: Threads + Wait + Sync>(

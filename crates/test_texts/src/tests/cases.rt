@@ -13,13 +13,12 @@ use super::batches::{said, said_of_many};
 use super::dumps::first_fault;
 use super::generated::line_of;
 use super::heaps::played;
+use super::schedules::told_of;
 use super::scripts::fault_of;
 use super::texts::fault_text;
-use super::words::asked_by;
-use super::words::numbers::asked_with;
+use super::words::{asked_by, asked_with};
 use std::alloc::Global;
 use std::process::Abort;
-use std::test::Fail;
 
 /// What is read.
 #[derive(Clone, Copy)]
@@ -41,10 +40,12 @@ pub enum Kind {
     Long,
     /// The length of the dump of one object, and its bytes that are changed.
     Dump,
+    /// A schedule, in which `; ` ends a line as a line's end does.
+    Schedule,
 }
 
-/// What that comes to.
-fn found(alloc: Global, kind: Kind, read: &str) -> Result<String, Fail> {
+/// What that comes to. None if it is no case, or there is no memory.
+fn found(alloc: Global, kind: Kind, read: &str) -> Option<String> {
     match kind {
         Kind::Words => asked_by(alloc, read),
         Kind::Number => asked_with(alloc, read),
@@ -55,16 +56,20 @@ fn found(alloc: Global, kind: Kind, read: &str) -> Result<String, Fail> {
         Kind::Batch => said(alloc, read.as_bytes()),
         Kind::Long => said_of_many(alloc, read),
         Kind::Dump => first_fault(alloc, read),
+        Kind::Schedule => told_of(alloc, read),
     }
 }
 
 /// Fails if one of the cases doesn't come to what is told of it.
-pub fn all_hold<R: Abort + AllocGlobal>(rt: &R, kind: Kind, cases: &str) -> Result<(), Fail> {
+pub fn all_hold<R: Abort + AllocGlobal>(rt: &R, kind: Kind, cases: &str) {
     for case in cases.split("$ ").skip(1) {
-        let (read, rest) = case.split_once("=> ").ok_or("case")?;
+        let (read, rest) = case.split_once("=> ").unwrap_or((case, ""));
         let told = rest.lines().next().unwrap_or("");
-        let found = found(rt.alloc(), kind, read)?;
-        assert_eq!(rt; found.as_str(), told, "{read}");
+        let found = found(rt.alloc(), kind, read);
+        let found = match &found {
+            Some(found) => found.as_str(),
+            None => "no case, or no memory",
+        };
+        assert_eq!(rt; found, told, "{read}");
     }
-    Ok(())
 }

@@ -43,42 +43,37 @@ fn front(bytes: &[u8], n: usize) -> &[u8] {
     if n < bytes.len() { &bytes[..n] } else { bytes }
 }
 
-fn shape(bytes: &[u8]) -> Option<(u32, u32, u32)> {
+/// What is read of these bytes: the shape; a root of each section, and two that aren't there; the record and one that
+/// isn't there; a reference, and one that isn't there.
+fn read_text(alloc: Global, bytes: &[u8]) -> Option<String> {
     let dump = read_dump(bytes).ok()?;
-    Some((dump.fields(), dump.sections(), dump.records()))
-}
-
-fn root(bytes: &[u8], section: u32, v: u32) -> Option<u32> {
-    read_dump(bytes).ok()?.root(section, v)
-}
-
-fn object(bytes: &[u8], k: u32) -> Option<(u32, u32, u32)> {
-    let record = read_dump(bytes).ok()?.nth(k)?;
-    Some((record.section(), record.number(), record.value()))
-}
-
-fn reference(bytes: &[u8], k: u32, i: u32) -> Option<u32> {
-    read_dump(bytes).ok()?.nth(k)?.reference(i)
+    let record = dump.nth(0)?;
+    let (fields, sections, records) = (dump.fields(), dump.sections(), dump.records());
+    let (one, none) = (dump.root(1, 0), dump.root(0, 0));
+    let (past, beyond) = (dump.root(2, 0), dump.root(1, 32));
+    let (section, number, value) = (record.section(), record.number(), record.value());
+    let (last, past_last) = (record.reference(3), record.reference(4));
+    let has_more = dump.nth(1).is_some();
+    format!(in alloc;
+        "{fields} {sections} {records}, {one:?} {none:?} {past:?} {beyond:?}, {section} {number} {value}, {last:?} {past_last:?}, {has_more}"
+    ).ok()
 }
 
 fn record(bytes: &[u8], k: u32) -> Option<&[u8]> {
     Some(read_dump(bytes).ok()?.nth(k)?.bytes())
 }
 
+const READ: &str = "4 2 1, Some(1) Some(0) None None, 1 0 5, Some(0) None, false";
+
 #[test]
 fn reads_one_object(rt: HostRuntime) {
     let row = row();
     let bytes = front(&row, 304);
-    assert_eq!(rt; shape(bytes), Some((4, 2, 1)));
-    assert_eq!(rt; root(bytes, 1, 0), Some(1));
-    assert_eq!(rt; root(bytes, 0, 0), Some(0));
-    assert_eq!(rt; root(bytes, 2, 0), None);
-    assert_eq!(rt; root(bytes, 1, 32), None);
-    assert_eq!(rt; object(bytes, 0), Some((1, 0, 5)));
-    assert_eq!(rt; object(bytes, 1), None);
-    assert_eq!(rt; reference(bytes, 0, 3), Some(0));
-    assert_eq!(rt; reference(bytes, 0, 4), None);
-    assert_eq!(rt; record(bytes, 0), Some(&row[276..304]));
+    let Some(text) = read_text(rt.alloc(), bytes) else {
+        panic!(rt; "no dump, or no memory")
+    };
+    assert_eq!(rt; text.as_str(), READ);
+    assert!(rt; record(bytes, 0) == Some(&row[276..304]));
 }
 
 #[test]
@@ -86,7 +81,7 @@ fn writes_one_object(rt: HostRuntime) -> Result<(), Fail> {
     let Ok(sink) = written(rt.alloc()) else {
         return Err(Fail::from("no memory"));
     };
-    assert_eq!(rt; sink.bytes(), front(&row(), 304));
+    assert!(rt; sink.bytes() == front(&row(), 304));
     Ok(())
 }
 
@@ -95,53 +90,51 @@ fn each_cut_is_told(rt: HostRuntime) {
     let row = row();
     for n in 0..304 {
         let needed = if n < 20 { 20 } else { 304 };
-        assert_eq!(rt;
-            read_dump(front(&row, n)).err(),
-            Some(DumpError::Cut { needed })
-        );
+        let fault = read_dump(front(&row, n)).err();
+        assert!(rt; fault == Some(DumpError::Cut { needed }), "{n}");
     }
 }
 
-fn change(bytes: &mut [u8; 305], changes: &str) -> Result<(), Fail> {
+fn change(bytes: &mut [u8; 305], changes: &str) -> Option<()> {
     for told in changes.split_whitespace() {
-        let (at, to) = told.split_once('=').ok_or("change")?;
-        *bytes.get_mut(at.parse::<usize>()?).ok_or("place")? = to.parse::<u8>()?;
+        let (at, to) = told.split_once('=')?;
+        *bytes.get_mut(at.parse::<usize>().ok()?)? = to.parse::<u8>().ok()?;
     }
-    Ok(())
+    Some(())
 }
 
 /// How many bytes there are of the dump of one object, which of them are changed, and the fault.
-#[derive(Clone, Copy)]
+#[derive(Drop)]
 struct Faulty<'a> {
     length: usize,
     changes: &'a str,
     fault: &'a str,
 }
 
-fn faulty_of(line: &str) -> Result<Faulty<'_>, Fail> {
-    let (dump, fault) = line.split_once(" => ").ok_or("line")?;
+fn faulty_of(line: &str) -> Option<Faulty<'_>> {
+    let (dump, fault) = line.split_once(" => ")?;
     let (length, changes) = dump.split_once(' ').unwrap_or((dump, ""));
-    Ok(Faulty {
-        length: length.parse::<usize>()?,
+    Some(Faulty {
+        length: length.parse::<usize>().ok()?,
         changes,
         fault,
     })
 }
 
 /// The fault of this many of these bytes.
-fn fault_of(alloc: Global, bytes: &[u8], length: usize) -> Result<String, Fail> {
-    Ok(match read_dump(front(bytes, length)) {
-        Ok(_) => format!(in alloc; "none")?,
-        Err(e) => format!(in alloc; "{e:?}")?,
-    })
+fn fault_of(alloc: Global, bytes: &[u8], length: usize) -> Option<String> {
+    match read_dump(front(bytes, length)) {
+        Ok(_) => "none".to_string(alloc).ok(),
+        Err(e) => format!(in alloc; "{e:?}").ok(),
+    }
 }
 
 /// The fault of the dump of one object with this length and these changes.
-pub fn first_fault(alloc: Global, told: &str) -> Result<String, Fail> {
+pub fn first_fault(alloc: Global, told: &str) -> Option<String> {
     let (length, changes) = told.trim().split_once(' ').unwrap_or((told.trim(), ""));
     let mut bytes = row();
     change(&mut bytes, changes)?;
-    fault_of(alloc, &bytes, length.parse::<usize>()?)
+    fault_of(alloc, &bytes, length.parse::<usize>().ok()?)
 }
 
 /// Dumps with faults. 16 fields and 33 sections are in range, and want more bytes: 20 + 128 * 2 + 76, and 20 + 128
@@ -165,8 +158,8 @@ $ 304 291=2 303=2 => BadRef { k: 0, field: 0 }
 $ 304 291=2 303=2 155=2 151=2 => BadRoot { index: 32 }";
 
 #[test]
-fn the_first_fault_is_told(rt: HostRuntime) -> Result<(), Fail> {
-    all_hold(&rt, Kind::Dump, FAULTS)
+fn the_first_fault_is_told(rt: HostRuntime) {
+    all_hold(&rt, Kind::Dump, FAULTS);
 }
 
 /// Faults in the order in which they are told.
@@ -179,7 +172,7 @@ const ORDER: &str = "19 => Cut { needed: 20 }
 304 151=2 => BadRoot { index: 32 }
 304 303=2 => BadRef { k: 0, field: 3 }";
 
-fn both(alloc: Global, one: &Faulty<'_>, other: &Faulty<'_>) -> Result<String, Fail> {
+fn both(alloc: Global, one: &Faulty<'_>, other: &Faulty<'_>) -> Option<String> {
     let mut bytes = row();
     change(&mut bytes, one.changes)?;
     change(&mut bytes, other.changes)?;
@@ -192,19 +185,20 @@ fn both(alloc: Global, one: &Faulty<'_>, other: &Faulty<'_>) -> Result<String, F
     fault_of(alloc, &bytes, length)
 }
 
+/// Whether of both faults this first one is told, whichever way round they come.
+fn is_first(alloc: Global, line: &str, other: &str) -> Option<bool> {
+    let (first, second) = (faulty_of(line)?, faulty_of(other)?);
+    let told = both(alloc, &first, &second)?;
+    let turned = both(alloc, &second, &first)?;
+    Some(told.as_str() == first.fault && turned.as_str() == first.fault)
+}
+
 #[test]
-fn of_two_faults_the_first_is_told(rt: HostRuntime) -> Result<(), Fail> {
+fn of_two_faults_the_first_is_told(rt: HostRuntime) {
     for (i, line) in ORDER.lines().enumerate() {
-        let first = faulty_of(line)?;
         for other in ORDER.lines().skip(i) {
-            let second = faulty_of(other)?;
-            let told = both(rt.alloc(), &first, &second)?;
-            let turned = both(rt.alloc(), &second, &first)?;
-            assert!(rt;
-                told.as_str() == first.fault && turned.as_str() == first.fault,
-                "{line}, {other}"
-            );
+            let is_first = is_first(rt.alloc(), line, other);
+            assert!(rt; is_first == Some(true), "{line}, {other}");
         }
     }
-    Ok(())
 }

@@ -6,7 +6,6 @@ use super::cases::{Kind, all_hold};
 use gc_script::{Commands, read};
 use plain_heap::{Line, Op, PlainHeap};
 use std::alloc::Global;
-use std::test::Fail;
 
 fn is_in_range(op: Op) -> bool
     ensures { IsTrue result → IsInRange 4 op }
@@ -21,15 +20,12 @@ fn is_in_range(op: Op) -> bool
     }
 }
 
-fn step(heap: &mut PlainHeap, cat: Option<&PlainHeap>, op: Op) -> Result<Option<Line>, Fail> {
+fn step(heap: &mut PlainHeap, cat: Option<&PlainHeap>, op: Op) -> Option<Option<Line>> {
     let has_room = heap.objects().len() < 2_000_000 && heap.dropped() < 2_000_000;
     if !has_room || heap.fields() != 4 || !is_in_range(op) {
-        return Err(Fail::from("range"));
+        return None;
     }
-    match heap.step(cat, op) {
-        Ok(line) => Ok(line),
-        Err(_) => Err(Fail::from("memory")),
-    }
+    heap.step(cat, op).ok()
 }
 
 fn play(
@@ -37,44 +33,45 @@ fn play(
     heap: &mut PlainHeap,
     cat: Option<&PlainHeap>,
     commands: Commands<'_, '_>,
-) -> Result<String, Fail> {
+) -> Option<String> {
     let mut text = String::new(alloc);
     for command in commands {
         if let Some(line) = step(heap, cat, command.op)? {
-            text.push_str(format!(in alloc; "{line:?}, ")?.as_str())?;
+            text.push_str(format!(in alloc; "{line:?}, ").ok()?.as_str())
+                .ok()?;
         }
     }
-    Ok(text)
+    Some(text)
 }
 
 /// How many objects a heap has, how many stores were dropped, what the first two variables refer to, and which
 /// objects are reached.
-fn left(alloc: Global, heap: &PlainHeap) -> Result<String, Fail> {
-    let reached = heap.reachable(alloc).ok().ok_or("memory")?;
+fn left(alloc: Global, heap: &PlainHeap) -> Option<String> {
+    let reached = heap.reachable(alloc).ok()?;
     let (objects, dropped) = (heap.objects().len(), heap.dropped());
     let (first, second) = (heap.variable(0), heap.variable(1));
-    let text = format!(in alloc;
+    format!(in alloc;
         "{objects} made, {dropped} dropped, {first:?}, {second:?}, {:?}",
         reached.as_slice()
-    )?;
-    Ok(text)
+    )
+    .ok()
 }
 
 /// What the commands of a script's first warehouse print, and what is left then.
-pub fn played(alloc: Global, source: &[u8]) -> Result<String, Fail> {
-    let script = read(alloc, source).ok().ok_or("script")?;
-    let warehouse = script.warehouses().first().ok_or("warehouse")?;
-    let mut heap = PlainHeap::new(alloc, 1, 4).ok().ok_or("memory")?;
+pub fn played(alloc: Global, source: &[u8]) -> Option<String> {
+    let script = read(alloc, source).ok()?;
+    let warehouse = script.warehouses().first()?;
+    let mut heap = PlainHeap::new(alloc, 1, 4).ok()?;
     let printed = match script.catalogue() {
         None => play(alloc, &mut heap, None, warehouse.commands())?,
         Some(section) => {
-            let mut cat = PlainHeap::new(alloc, 0, 4).ok().ok_or("memory")?;
+            let mut cat = PlainHeap::new(alloc, 0, 4).ok()?;
             play(alloc, &mut cat, None, section.commands())?;
             play(alloc, &mut heap, Some(&cat), warehouse.commands())?
         }
     };
     let left = left(alloc, &heap)?;
-    Ok(format!(in alloc; "{printed}{left}")?)
+    format!(in alloc; "{printed}{left}").ok()
 }
 
 const ONE: &str = "$ gcscript 1
@@ -84,8 +81,8 @@ say x a
 => Value(5), 1 made, 0 dropped, Own(0), Nil, [0]";
 
 #[test]
-fn one_object(rt: HostRuntime) -> Result<(), Fail> {
-    all_hold(&rt, Kind::Heap, ONE)
+fn one_object(rt: HostRuntime) {
+    all_hold(&rt, Kind::Heap, ONE);
 }
 
 /// On nil nothing is stored, what is read is nil, and no object is met. Then object 1 refers to object 2, and each
@@ -128,8 +125,8 @@ say x e
 => Walk { count: 5, total: 37 }, Walk { count: 1, total: 7 }, Walk { count: 0, total: 0 }, Value(7), Value(8), Nil, Value(8), 2 made, 0 dropped, Nil, Own(1), [0, 1]";
 
 #[test]
-fn own_objects(rt: HostRuntime) -> Result<(), Fail> {
-    all_hold(&rt, Kind::Heap, OWN)
+fn own_objects(rt: HostRuntime) {
+    all_hold(&rt, Kind::Heap, OWN);
 }
 
 /// Both stores are dropped. An own object may refer to the catalogue's.
@@ -156,8 +153,8 @@ sum x d 0 9
 => Value(40), Walk { count: 2, total: 81 }, Value(41), Nil, Walk { count: 2, total: 81 }, Walk { count: 3, total: 82 }, 1 made, 2 dropped, Cat(0), Cat(1), [0]";
 
 #[test]
-fn catalogue_objects(rt: HostRuntime) -> Result<(), Fail> {
-    all_hold(&rt, Kind::Heap, CATALOGUE)
+fn catalogue_objects(rt: HostRuntime) {
+    all_hold(&rt, Kind::Heap, CATALOGUE);
 }
 
 /// Object 2 refers to 0, which refers to 3 and to itself. Nothing that is held refers to 1.
@@ -177,6 +174,6 @@ nil d
 => 4 made, 0 dropped, Nil, Nil, [0, 2, 3]";
 
 #[test]
-fn reaches_through_fields(rt: HostRuntime) -> Result<(), Fail> {
-    all_hold(&rt, Kind::Heap, REACHED)
+fn reaches_through_fields(rt: HostRuntime) {
+    all_hold(&rt, Kind::Heap, REACHED);
 }

@@ -1,8 +1,7 @@
 //! Small sources, with answers worked out by hand.
 use super::cases::{Kind, all_hold};
-use gc_script::{Commands, convert, read};
+use gc_script::{Commands, Section, convert, read};
 use std::alloc::Global;
-use std::test::Fail;
 
 const SEASONS: &[u8] =
     b"gcscript 3\nfields 2\n# note\ncatalogue\nnew a 7\nseason\nput a 8\nwarehouse\ncat x a\nrepeat 3\nsay hello x\nset x 1 x\nend\nrepeat 0\ncollect\nend\nseason\nsum s x 1 5\n";
@@ -17,42 +16,51 @@ fn lines_of(commands: Commands<'_, '_>) -> (u32, u32) {
     (lines, bytes)
 }
 
+/// What a section says of itself, and the lines of its commands, of all or of a season.
+fn section_text(alloc: Global, section: &Section<'_>, season: u32) -> Option<String> {
+    let lines = if season == 0 {
+        lines_of(section.commands())
+    } else {
+        lines_of(section.commands_of(season))
+    };
+    let (number, made) = (section.number(), section.made());
+    let (executed, printed) = (section.executed(), section.printed());
+    let (fields, seasons) = (section.fields(), section.seasons());
+    format!(in alloc; "{number} {made} {executed} {printed} {fields} {seasons} {lines:?}").ok()
+}
+
+/// What a script says of itself, of its catalogue and of its first warehouse.
+fn script_text(alloc: Global, source: &[u8]) -> Option<String> {
+    let script = read(alloc, source).ok()?;
+    let (executed, printed) = (script.executed(), script.printed());
+    let (fields, seasons) = (script.fields(), script.seasons());
+    let catalogue = script.catalogue()?;
+    let all = section_text(alloc, catalogue, 0)?;
+    let second = section_text(alloc, catalogue, 2)?;
+    let third = section_text(alloc, catalogue, 3)?;
+    let warehouse = section_text(alloc, script.warehouses().first()?, 2)?;
+    format!(in alloc;
+        "{executed} {printed} {fields} {seasons}; {all}; {second}; {third}; {warehouse}"
+    ).ok()
+}
+
+/// The catalogue makes one object, in two commands. The warehouse executes eight.
+const TOLD: &str =
+    "10 4 2 2; 0 1 2 0 2 2 (57, 0); 0 1 2 0 2 2 (7, 0); 0 1 2 0 2 2 (0, 0); 1 0 8 4 2 2 (18, 1)";
+
 #[test]
 fn reads_sections(rt: HostRuntime) {
-    match read(rt.alloc(), SEASONS) {
-        Err(_) => assert!(rt; false),
-        Ok(script) => {
-            assert_eq!(rt; script.executed(), 10);
-            assert_eq!(rt; script.printed(), 4);
-            assert_eq!(rt; script.fields(), 2);
-            assert_eq!(rt; script.seasons(), 2);
-            match script.catalogue() {
-                None => assert!(rt; false),
-                Some(catalogue) => {
-                    assert_eq!(rt; catalogue.number(), 0);
-                    assert_eq!(rt; catalogue.made(), 1);
-                    assert_eq!(rt; lines_of(catalogue.commands()), (57, 0));
-                    assert_eq!(rt; lines_of(catalogue.commands_of(2)), (7, 0));
-                    assert_eq!(rt; lines_of(catalogue.commands_of(3)), (0, 0));
-                }
-            }
-            for warehouse in script.warehouses() {
-                assert_eq!(rt; warehouse.number(), 1);
-                assert_eq!(rt; warehouse.executed(), 8);
-                assert_eq!(rt; warehouse.printed(), 4);
-                assert_eq!(rt; warehouse.fields(), 2);
-                assert_eq!(rt; warehouse.seasons(), 2);
-                assert_eq!(rt; lines_of(warehouse.commands_of(2)), (18, 1));
-            }
-        }
-    }
+    let Some(text) = script_text(rt.alloc(), SEASONS) else {
+        panic!(rt; "no script, or no memory")
+    };
+    assert_eq!(rt; text.as_str(), TOLD);
 }
 
 /// The name of a source's fault.
-pub fn fault_of(alloc: Global, source: &[u8]) -> Result<String, Fail> {
+pub fn fault_of(alloc: Global, source: &[u8]) -> Option<String> {
     match read(alloc, source) {
-        Ok(_) => Ok(format!(in alloc; "none")?),
-        Err(e) => Ok(format!(in alloc; "{e:?}")?),
+        Ok(_) => "none".to_string(alloc).ok(),
+        Err(e) => format!(in alloc; "{e:?}").ok(),
     }
 }
 
@@ -94,17 +102,14 @@ nil x
 => none";
 
 #[test]
-fn tells_faults(rt: HostRuntime) -> Result<(), Fail> {
-    all_hold(&rt, Kind::Script, FAULTS)
+fn tells_faults(rt: HostRuntime) {
+    all_hold(&rt, Kind::Script, FAULTS);
 }
 
 #[test]
 fn converts(rt: HostRuntime) {
-    match convert(rt.alloc(), b"gcscript 1\nwarehouse\n") {
-        Err(_) => assert!(rt; false),
-        Ok(converted) => {
-            assert!(rt; converted.added);
-            assert_eq!(rt; converted.rest, b"warehouse\n".as_slice());
-        }
-    }
+    let Ok(converted) = convert(rt.alloc(), b"gcscript 1\nwarehouse\n") else {
+        panic!(rt; "fault")
+    };
+    assert!(rt; converted.added && converted.rest == b"warehouse\n".as_slice());
 }

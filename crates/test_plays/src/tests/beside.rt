@@ -1,0 +1,119 @@
+//! Threads that run side by side: a gate holds sections in their first command until other threads came so far.
+//!
+//! A play that starts no tracer, or plays its workers one after another, would not come out of such a gate before
+//! it gives up.
+use crate::tests::signal::Signal;
+use gc_play::{Gate, play};
+use gc_script::{Section, read};
+use gc_table::HeapSeat;
+use play_end::{Options, USUAL};
+use std::sync::Wait;
+use std::sync::atomic::AtomicU64;
+use std::sync::atomic::Ordering::SeqCst;
+use std::thread::Threads;
+
+/// Holds sections in their first command, until commands of others were passed, and a tracer's seat has had a turn.
+#[derive(Drop)]
+struct Holding<'a, R: Wait + Sync> {
+    rt: &'a R,
+    held: &'a [u32],
+    /// By section and number.
+    awaited: &'a [(u32, u64)],
+    passed: Signal,
+    turned: Signal,
+    own: AtomicU64,
+}
+
+impl<R: Wait + Sync> Gate for Holding<'_, R> {
+    fn pass(&self, seat: &HeapSeat, section: &Section<'_>, command: u64) {
+        let number = section.number();
+        if seat.state().active && seat.state().section == Some(number) {
+            self.own.fetch_add(1, SeqCst);
+        }
+        if self.awaited.contains(&(number, command)) {
+            self.passed.tell();
+        }
+        if command == 0 && self.held.contains(&number) {
+            self.passed.wait(self.rt);
+            self.turned.wait(self.rt);
+        }
+    }
+
+    fn turn(&self, seat: &HeapSeat) {
+        if seat.state().active && seat.state().section.is_none() {
+            self.turned.tell();
+        }
+    }
+}
+
+const TWO: &[u8] = b"gcscript 1
+warehouse
+new a 1
+new a 2
+new a 3
+warehouse
+new a 1
+new a 2
+new a 3
+";
+
+const THREE: &[u8] = b"gcscript 1
+warehouse
+new a 1
+say a a
+warehouse
+new a 2
+say a a
+warehouse
+new a 3
+say a a
+";
+
+/// A script, how many commands it has, the workers, which sections are held, for which commands, and for how many
+/// turns of the tracer.
+type Row = (
+    &'static [u8],
+    u64,
+    u32,
+    &'static [u32],
+    &'static [(u32, u64)],
+    u64,
+);
+
+const ROWS: [Row; 4] = [
+    // Section 1 waits for the last command of section 2, and the other way round.
+    (TWO, 6, 2, &[1], &[(2, 2)], 0),
+    (TWO, 6, 2, &[2], &[(1, 2)], 0),
+    // Section 1 waits for the tracer.
+    (TWO, 6, 1, &[1], &[], 1),
+    // All wait for each other and for the tracer.
+    (THREE, 6, 3, &[1, 2, 3], &[(1, 0), (2, 0), (3, 0)], 1),
+];
+
+/// Whether the script is played so, and nothing waited for was given up.
+fn meets<R: AllocGlobal + Threads + Wait + Sync>(rt: &R, row: &Row) -> Option<bool> {
+    let (script, commands, workers, held, awaited, turns) = *row;
+    if workers < 1 || 32 < workers {
+        return None;
+    }
+    let options = Options { workers, ..USUAL };
+    let script = read(rt.alloc(), script).ok()?;
+    let gate = Holding {
+        rt,
+        held,
+        awaited,
+        passed: Signal::of(awaited.len() as u64),
+        turned: Signal::of(turns),
+        own: AtomicU64::new(0),
+    };
+    let is_done = play(rt, rt.alloc(), &script, &options, &gate).is_ok();
+    let has_met = !gate.passed.was_given_up() && !gate.turned.was_given_up();
+    Some(is_done && has_met && gate.own.load(SeqCst) == commands)
+}
+
+#[test]
+fn side_by_side(rt: HostRuntime) {
+    for (i, row) in ROWS.iter().enumerate() {
+        assert!(rt; meets(&rt, row) == Some(true), "row {i}");
+    }
+}

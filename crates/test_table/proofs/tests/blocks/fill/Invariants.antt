@@ -1,5 +1,0 @@
-use Rattle.test_table.specs.Ready.{Ready}
-use Rattle.test_table.proofs.tests.blocks.fill.Given as goal
-
-abbrev pub invariant-loop-number : goal.invariant-loop-number
-invariant-loop-number l = Ready l.heap l.seat
