@@ -25,8 +25,7 @@ use Rattle.mark_core.specs.declared.kinds.Step.TheVariants.{ExchangeField, Excha
 use Rattle.mark_core.specs.declared.seat.SeatState.{SeatState}
 use Rattle.gc_table.specs.RunWorlds.{World, WorldObject, variable_of, reference_of, is_same, with_object, with_reference, with_value, with_exchanged, with_exchanged_value, stored, name_at, referred, own_section}
 use Rattle.gc_table.specs.Agreement.{Agrees, AgreesIn, AgreesWith}
-use Rattle.gc_table.proofs.Frame.{moved}
-use Rattle.gc_table.proofs.Seats.{Mutates, mutates, names, used-exists}
+use Rattle.gc_table.proofs.Frame.{moved, Mutates, mutates, names, used-exists}
 use Rattle.gc_table.proofs.Stores.{stored-agrees, Refers, refers, Rewrites, object-moves, field-rewrites, field-inside, value-rewrites, values-length}
 use Rattle.gc_table.proofs.Forgetting.{same-is}
 use Rattle.std.proofs.lemmas.Option.{same_Some}

@@ -13,7 +13,7 @@ use Rattle.mark_core.specs.Steps.{Core}
 use Rattle.mark_core.specs.declared.seat.SeatState.{SeatState}
 use Rattle.gc_table.specs.Notes.{Notes, look}
 use Rattle.gc_table.specs.Rule.{own_entry, takes_in, told_full, KnowsFull, Noted}
-use Rattle.gc_table.proofs.Noting.{place-same}
+use Rattle.gc_table.proofs.Noticing.{place-same}
 
 own_in : (o : Option ℕ) (x : SectionState) (k : ℕ) → o ≡ Some k → Contains (own_entry o x) (k, x)
 own_in None x k e = absurd (cc)

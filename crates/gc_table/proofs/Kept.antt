@@ -1,6 +1,6 @@
 -- Each event that is allowed leads to a state that agrees with the heap after it, and so does every run.
 use Rattle.mark_core.proofs.Used.UsedSeats.{IsMadeBy}
-use Rattle.mark_core.proofs.Pool.PoolBits.{same_place}
+use Rattle.mark_core.proofs.Pool.PoolPlaces.{same_place}
 use Rattle.mark_core.specs.Bits.{reference_in}
 use Rattle.std.proofs.Common.{ℕ, ◌≡◌, ◌≢◌, ◌+◌, ◌*◌, ◌<◌, List, set, length, arith, refl, sym, ap, ◌∙◌, subst, Option, None, ◌⊎◌, inl, inr, ⊎_elim, [], ◌∷◌, eqb, Some}
 use Rattle.std.specs.Prelude.{slice_index, slice_index_or, nat_lt, is_none, if◌then◌else◌}
@@ -20,8 +20,7 @@ use Rattle.mark_core.specs.declared.seat.SeatState.{SeatState}
 use Rattle.gc_table.specs.RunWorlds.{World, WorldSection, section_of, variable_of, in_section, with_variable, name_at, referred, own_section, new_section, world_by, start_world, start_section}
 use Rattle.gc_table.specs.Agreement.{SeatAgrees, AgreesIn, AgreesWith}
 use Rattle.gc_table.proofs.Reading.{section-same, section-other, sections-kept, view-kept, object-kept, read-own, read-cat, read-slot}
-use Rattle.gc_table.proofs.Frame.{holds-on, Moves, moved, had-object}
-use Rattle.gc_table.proofs.Seats.{Mutates, mutates}
+use Rattle.gc_table.proofs.Frame.{holds-on, Moves, moved, had-object, Mutates, mutates}
 use Rattle.gc_table.proofs.Exchanges.{exchange-field, exchange-value}
 use Rattle.std.proofs.lemmas.List.Elements.{All-head, All-tail}
 use Rattle.mark_core.specs.Start.{start_words}

@@ -9,11 +9,10 @@ use Rattle.mark_core.specs.Steps.{Core, AllTrue, failing_part, others_after, aft
 use Rattle.mark_core.specs.Laws.{NumbersFit}
 use Rattle.mark_core.specs.Notes.{same_place, word_at, steady, keeps_bound, resets}
 use Rattle.mark_core.proofs.Notes.NotesKept.{notes_kept, word-found, word-elsewhere}
-use Rattle.mark_core.proofs.Notes.NotesBounds.{bounds-kept}
-use Rattle.mark_core.proofs.Notes.NotesOwn.{word-here}
+use Rattle.mark_core.proofs.Notes.NotesBounds.{bounds_kept}
+use Rattle.mark_core.proofs.Writing.Ranges.{word-here, IsPlace}
 use Rattle.mark_core.proofs.Pool.PoolsKept.{shape-kept}
 use Rattle.mark_core.proofs.Blocks.BlocksStopped.{in-place}
-use Rattle.mark_core.proofs.Writing.Ranges.{IsPlace}
 use Rattle.mark_core.specs.declared.kinds.Shape.{Shape}
 use Rattle.mark_core.specs.declared.kinds.Step.{Step}
 use Rattle.mark_core.specs.declared.kinds.Step.TheVariants.{Reserve, Split, Join}
@@ -22,7 +21,7 @@ use Rattle.gc_table.specs.declared.view.View.{View}
 use Rattle.gc_table.specs.Notes.{look, noting}
 use Rattle.gc_table.specs.Rule.{IsState, Noted, Floored, Agrees}
 use Rattle.gc_table.specs.Taking.{IsOwn}
-use Rattle.gc_table.proofs.Noting.{place-same, place-apart, some-is, noted-after}
+use Rattle.gc_table.proofs.Noticing.{place-same, place-apart, some-is, noted-after}
 use Rattle.gc_table.proofs.Records.{found-here, found-else}
 use Rattle.std.specs.Prelude.{Option, Contains}
 use Rattle.std.proofs.Common.{true≢false}
@@ -257,8 +256,8 @@ module _ (x : TableState) (i : ℕ) (v : View) (step : Step) (t : Takes x i v st
         floored = λ at m h.
             let q = a.floored at m h in
             let not_own : IsFalse ((i == j) && resets step at) = ap (λ (b : Bool). b && resets step at) (ne_eqb i j (λ e. n (sym e))) in
-            let low = bounds-kept c (event i step) t.whole.core allowed j u.state a.seat at q.0 not_own m q.1 in
-            (q.0, omega (arith, low, ap (λ (sh : Shape). word_at sh left.words at) left-shape));
+            let low = bounds_kept c (event i step) t.whole.core allowed j u.state a.seat at q.0 not_own in
+            (q.0, omega (arith, q.1, low, ap (λ (sh : Shape). word_at sh left.words at) left-shape));
         fetched = λ p q there h m last.
             let far : step ≡ StoreLength p → ⊥ = λ e. n (sym (one-hand c t.whole.core i j p v.state u.state t.agrees.seat a.seat (subst (λ (sh : Shape). p < sh.packets) a.shape there) (store-asks c v.state step t.ok p e) h)) in
             ap (is_in_range u.shape q) (head-stays p far) ∙ a.fetched p q there h m last;

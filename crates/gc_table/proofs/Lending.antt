@@ -21,7 +21,7 @@ use Rattle.gc_table.specs.declared.view.Entry.{Entry}
 use Rattle.gc_table.specs.AgreementLaws.{world_after, world_of, world_run, TellsOf}
 use Rattle.gc_table.specs.RunWorlds.{World, WorldObject, WorldSection, in_section, own_section, replaced, section_of, start_section, start_world, variable_of, with_new, with_object, with_part, with_register, with_variable, world_by}
 use Rattle.gc_table.proofs.Reading.{section-other, view-kept}
-use Rattle.gc_table.proofs.Seats.{Mutates, mutates}
+use Rattle.gc_table.proofs.Frame.{Mutates, mutates}
 use Rattle.gc_table.specs.Lending.{OneObjectLent, leaves_variable, stores_once}
 use Rattle.gc_table.specs.Runs.{AreAllowed}
 use Rattle.gc_table.proofs.Freeing.{allowed}

@@ -7,18 +7,15 @@ pub mod Closing
 pub mod Joining
 pub mod Fetching
 pub mod Unmoved
-pub mod Noting
 pub mod Opening
 pub mod History
 pub mod Records
 pub mod RecordSteps
 pub mod Stands
 pub mod Told
-pub mod ReachStill
 mod Rows
 pub mod Running
 pub mod Noticing
-pub mod Seats
 pub mod Frame
 pub mod Still
 pub mod Reading

@@ -15,8 +15,8 @@ use Rattle.mark_core.specs.Laws.{IsCore}
 use Rattle.mark_core.proofs.Known.{words_left, seats_left}
 use Rattle.mark_core.proofs.Blocks.BlocksStopped.{Taken, mine as own-fact}
 use Rattle.mark_core.proofs.Caches.CachesSeat.{all-facts, CacheFacts, next-free, next-makes}
-use Rattle.mark_core.proofs.Caches.CachesMakes.{made_makes}
-use Rattle.mark_core.proofs.Pool.PoolBits.{same_place}
+use Rattle.mark_core.proofs.Caches.CachesSteps.{made_makes}
+use Rattle.mark_core.proofs.Pool.PoolPlaces.{same_place}
 use Rattle.mark_core.proofs.Writing.Places.{region-length}
 use Rattle.mark_core.proofs.References.ReferencesFields.{new-fields}
 use Rattle.mark_core.proofs.References.ReferencesRoots.{Used, UsedAfter, read-field, seat-formed}
@@ -29,8 +29,7 @@ use Rattle.mark_core.specs.declared.seat.CacheState.{CacheState}
 use Rattle.gc_table.specs.RunWorlds.{World, WorldObject, WorldSection, section_of, object_of, in_section, with_new, with_part, name_at, referred, own_section}
 use Rattle.gc_table.specs.Agreement.{HoldsObject, SeatAgrees, Agrees, AgreesIn, AgreesWith}
 use Rattle.gc_table.proofs.Reading.{get-front, get-added, section-same, section-other, sections-kept, view-kept}
-use Rattle.gc_table.proofs.Frame.{referred-on, IsLast, Stays, holds-on, Moves, moved}
-use Rattle.gc_table.proofs.Seats.{Mutates, mutates, names, got-used, root-used, free-not-used}
+use Rattle.gc_table.proofs.Frame.{referred-on, IsLast, Stays, holds-on, Moves, moved, Mutates, mutates, names, got-used, root-used, free-not-used}
 use Rattle.gc_table.proofs.Stores.{values-length}
 use Rattle.gc_table.proofs.NewParts.{MakesPart, part_moves}
 

@@ -17,8 +17,7 @@ use Rattle.mark_core.specs.declared.seat.CacheState.{CacheState}
 use Rattle.gc_table.specs.RunWorlds.{World, WorldObject, WorldSection, section_of, in_section, name_at}
 use Rattle.gc_table.specs.Agreement.{SeatAgrees, AgreesWith}
 use Rattle.gc_table.proofs.Reading.{section-same, section-other, sections-kept, view-kept, object-kept}
-use Rattle.gc_table.proofs.Frame.{IsLast, holds-on, Moves, had-object}
-use Rattle.gc_table.proofs.Seats.{Mutates, looks, making-is-free, free-not-used, free-apart}
+use Rattle.gc_table.proofs.Frame.{IsLast, holds-on, Moves, had-object, Mutates, looks, making-is-free, free-not-used, free-apart}
 
 making_is : (o : Option CacheState) (x p y part : ℕ) → makes (with_making o x p) y part ≡ true → (y ≡ x) × (part ≡ p)
 making_is None x p y part e = absurd (false≢true e)

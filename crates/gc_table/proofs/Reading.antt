@@ -20,8 +20,7 @@ use Rattle.mark_core.specs.declared.kinds.Step.TheVariants.{ReadOwn, ReadCat, Re
 use Rattle.mark_core.specs.declared.seat.SeatState.{SeatState}
 use Rattle.gc_table.specs.RunWorlds.{World, WorldObject, WorldSection, variable_of, object_of, followed, in_section, with_register, name_at, referred, own_section, new_section, no_object, section_of, replaced, with_object}
 use Rattle.gc_table.specs.Agreement.{HoldsObject, SeatAgrees, Agrees, AgreesIn, AgreesWith}
-use Rattle.gc_table.proofs.Frame.{holds-on, Moves, moved, had-object}
-use Rattle.gc_table.proofs.Seats.{Mutates, mutates}
+use Rattle.gc_table.proofs.Frame.{holds-on, Moves, moved, had-object, Mutates, mutates}
 use Rattle.std.proofs.lemmas.List.{get_or-set_same, get_or-set_other, get_or_past, length-set}
 use Rattle.std.proofs.lemmas.Option.{get_or_from_slice_get}
 

@@ -1,5 +1,5 @@
 -- The records of all seats, as the core sees them.
-use Rattle.std.proofs.Common.{ℕ, ◌≡◌, ◌+◌, ◌<◌, zero, suc, ◌≢◌, List, [], ◌∷◌, ◌++◌, set, get_or, take, drop, length, arith, refl, sym, ap, ◌∙◌, subst, inl, inr, ◌⊎◌, ⊎_elim, Bool, Some, cond}
+use Rattle.std.proofs.Common.{ℕ, ◌≡◌, ◌+◌, ◌-◌, ◌<◌, ◌≤◌, zero, suc, ◌≢◌, List, [], ◌∷◌, ◌++◌, set, get_or, take, drop, length, arith, refl, sym, ap, ◌∙◌, subst, inl, inr, ◌⊎◌, ⊎_elim, Bool, Some, cond}
 use Rattle.std.specs.Prelude.{slice_get, IsFalse}
 use mathlib.Core.Option.{some, some-injective, some-ne-none}
 use lib.ListN.{get_elem?}
@@ -100,3 +100,13 @@ module _ {A : Type 0} where
   got-is [] i x d e = absurd (some-ne-none x (sym e))
   got-is (y ∷ ys) zero x d e = sym (some-injective y x e)
   got-is (y ∷ ys) (suc i) x d e = got-is ys i x d e
+
+-- one more word of a part of all
+pub region-next : (all : List ℕ) (from i x : ℕ) → from ≤ i → get_elem? all i ≡ some x → take (i + 1 - from) (drop from all) ≡ take (i - from) (drop from all) ++ x ∷ []
+region-next all from i x h e =
+    let here : i ≡ from + (i - from) = omega arith in
+    let next : i + 1 - from ≡ i - from + 1 = omega arith in
+    let at : get_elem? (drop from all) (i - from) ≡ some x = got-behind all from (i - from) x (subst (λ (n : ℕ). get_elem? all n ≡ some x) here e) in
+    ap (λ (n : ℕ). take n (drop from all)) next ∙ take-next (drop from all) (i - from) x at
+
+pub ruleset word_reads = (region-next, got-is)

@@ -40,7 +40,7 @@ use Rattle.gc_table.specs.AgreementLaws.{world_after, world_of}
 use Rattle.gc_table.specs.RunWorlds.{World, WorldSection, in_section, name_at, referred, section_of, start_world, variable_of, with_variable, world_by}
 use Rattle.gc_table.proofs.Reading.{section-same, cat-found}
 use Rattle.gc_table.proofs.Kept.{agrees-kept, agrees-starts}
-use Rattle.gc_table.proofs.Seats.{Mutates, mutates}
+use Rattle.gc_table.proofs.Frame.{Mutates, mutates}
 use Rattle.gc_table.specs.Lending.{leaves_variable, stores_once}
 use Rattle.gc_table.specs.Rooted.{FindsSome, RootFound, fills_first, fills_variable, moves_season, season_count}
 use Rattle.gc_table.specs.Runs.{AreAllowed}

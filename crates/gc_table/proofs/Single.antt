@@ -18,7 +18,7 @@ use Rattle.gc_table.specs.AgreementLaws.{FindsValue}
 use Rattle.gc_table.specs.RunWorlds.{World, WorldObject, WorldSection, in_section, object_of, own_section, replaced, section_of, variable_of, with_exchanged, with_exchanged_value, with_new, with_object, with_part, with_reference, with_register, with_value, with_variable, stored, world_by}
 use Rattle.gc_table.proofs.Winning.{finds-value}
 use Rattle.gc_table.proofs.Reading.{section-other, section-same, view-kept}
-use Rattle.gc_table.proofs.Seats.{Mutates, mutates}
+use Rattle.gc_table.proofs.Frame.{Mutates, mutates}
 use Rattle.gc_table.specs.Single.{leaves_values, makes_object}
 
 -- what a change leaves of each section it leaves of the heap

@@ -18,7 +18,7 @@ use Rattle.mark_core.specs.Laws.{IsCore}
 use Rattle.mark_core.proofs.Known.{found, words_left, seats_left}
 use Rattle.mark_core.proofs.Blocks.BlocksStopped.{Taken, mine as own-fact}
 use Rattle.mark_core.proofs.Writing.Places.{region-length}
-use Rattle.mark_core.proofs.Pool.PoolBits.{same_place}
+use Rattle.mark_core.proofs.Pool.PoolPlaces.{same_place}
 use Rattle.mark_core.proofs.References.ReferencesRoots.{Used, UsedAfter, seat-formed}
 use Rattle.mark_core.proofs.Used.UsedSeats.{IsMadeBy}
 use Rattle.mark_core.specs.declared.kinds.Step.{Step}
@@ -27,8 +27,7 @@ use Rattle.mark_core.specs.declared.seat.SeatState.{SeatState}
 use Rattle.gc_table.specs.RunWorlds.{World, WorldObject, WorldSection, section_of, variable_of, reference_of, replaced, no_object, with_object, with_reference, with_value, stored, name_at, referred, own_section}
 use Rattle.gc_table.specs.Agreement.{HoldsObject, SeatAgrees, Agrees, AgreesIn, AgreesWith}
 use Rattle.gc_table.proofs.Reading.{sections-kept, view-kept, object-inside, object-changed, object-other}
-use Rattle.gc_table.proofs.Frame.{holds-on, Moves, moved, had-object}
-use Rattle.gc_table.proofs.Seats.{Mutates, mutates, looks, names, used-exists, not-making}
+use Rattle.gc_table.proofs.Frame.{holds-on, Moves, moved, had-object, Mutates, mutates, looks, names, used-exists, not-making}
 
 -- each variable of a mutator refers to what the heap has there
 pub env-agrees : (c : Core) (i : ℕ) (s : SeatState) (step : Step) (world : World) (v : ℕ) → Taken c i s step → AgreesWith c world → Mutates c i s → v < 32 → referred (words_of c.shape c.words).identities (slice_index s.env v) ≡ variable_of world i v

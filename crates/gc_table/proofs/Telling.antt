@@ -23,10 +23,9 @@ use Rattle.mark_core.specs.declared.seat.SeatState.{SeatState}
 use Rattle.gc_table.specs.RunWorlds.{World, WorldObject, section_of, variable_of, object_of, followed, name_in, name_at, referred, own_section, start_world}
 use Rattle.gc_table.specs.Agreement.{HoldsObject, SeatAgrees, AgreesWith}
 use Rattle.gc_table.specs.AgreementLaws.{KnowsName, MayHold, TellsIn, TellsOf, ReadsTell, world_run}
-use Rattle.gc_table.proofs.Frame.{IsLast}
+use Rattle.gc_table.proofs.Frame.{IsLast, Mutates, mutates}
 use Rattle.gc_table.proofs.Kept.{runs_agree}
 use Rattle.gc_table.proofs.Reading.{own-found, cat-found, slot-found}
-use Rattle.gc_table.proofs.Seats.{Mutates, mutates}
 use Rattle.gc_table.proofs.Stores.{env-agrees, not-nil}
 
 -- a word among others has a place

@@ -1,8 +1,6 @@
 -- What the rule tells of each section: where its objects lie, its position, its turns, and whether it found the heap full.
-pub mod PlainTold
 pub mod ApartHeaps
 pub mod ApartKept
-pub mod PositionedKept
 pub mod SeasonsKept
 pub mod TurnsKept
 pub mod SettledKept

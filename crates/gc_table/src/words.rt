@@ -29,6 +29,7 @@ pub struct Words {
     pub roots: Vec<u64>,
 }
 
+#[tactic(auto, using(crate::proofs::Records::word_reads))]
 fn region(
     alloc: Global,
     closed: &Closed<(), Global>,

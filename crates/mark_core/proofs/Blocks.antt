@@ -2,6 +2,5 @@
 pub mod BlocksWords
 pub mod BlocksStopped
 pub mod BlocksStretch
-pub mod BlocksWrites
 pub mod BlocksSteps
 pub mod BlocksFacts

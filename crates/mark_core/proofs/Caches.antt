@@ -1,7 +1,6 @@
 -- The files on blocks in which cells are made.
 pub mod CachesSeat
 pub mod CachesClaims
-pub mod CachesMakes
 pub mod CachesSteps
 pub mod CachesStores
 pub mod CachesPublish

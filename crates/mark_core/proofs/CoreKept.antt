@@ -35,7 +35,7 @@ use Rattle.mark_core.proofs.Formed.FormedKept.{formed-kept_by}
 use Rattle.mark_core.proofs.Formed.FormedSeats.{formed-starts}
 use Rattle.mark_core.proofs.Hands.HandsApart.{hands-kept_by, hands-starts, apart-kept_by, apart-starts, HandApart}
 use Rattle.mark_core.proofs.Hands.HandsRight.{HandRight}
-use Rattle.mark_core.proofs.Marks.MarksKept.{marks-kept_by}
+use Rattle.mark_core.proofs.Marks.MarksComes.{marks-kept_by}
 use Rattle.mark_core.proofs.Marks.MarksBefore.{marks-starts}
 use Rattle.mark_core.proofs.Pool.PoolStart.{start, each-seat}
 use Rattle.mark_core.proofs.Pool.PoolsKept.{packets_kept, shape-kept}

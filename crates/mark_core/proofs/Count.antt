@@ -1,4 +1,3 @@
 -- The files on the count of empty packets.
 pub mod CountWork
 pub mod CountMoves
-pub mod CountSteps

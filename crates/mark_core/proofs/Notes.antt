@@ -2,4 +2,3 @@
 pub mod NotesBeside
 pub mod NotesKept
 pub mod NotesBounds
-pub mod NotesOwn

@@ -1,6 +1,5 @@
 -- The files on the pools of packets.
 pub mod PoolSlots
-pub mod PoolBits
 pub mod PoolPlaces
 pub mod PoolMoves
 pub mod PoolLengths

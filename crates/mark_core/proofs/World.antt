@@ -1,9 +1,7 @@
 -- The files on the number of seats, the stop and the phase.
-pub mod WorldTally
 pub mod WorldMoves
 pub mod WorldNumbers
 pub mod WorldReading
-pub mod WorldSeats
 pub mod WorldLocals
 pub mod WorldPhases
 pub mod WorldPhaseKept

@@ -6,5 +6,4 @@ pub mod Ranges
 pub mod Writes
 pub mod RegionWrites
 pub mod SeatBoundsKept
-pub mod WordBoundsKept
 pub mod CellBits

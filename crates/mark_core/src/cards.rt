@@ -35,6 +35,7 @@ pub fn first_bit(card: u32) -> u32
 }
 
 /// The bits of the card's cells in the words of its block.
+#[tactic(auto, using(crate::proofs::Hands::HandsCleaning::card_rules))]
 pub fn card_bits(card: u32) -> u64
     ensures { result ≡ card_bits_of card }
 {

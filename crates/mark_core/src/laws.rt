@@ -77,6 +77,7 @@ pub fn notes_are_kept()
 {}
 
 /// While a seat helps, or knows that the world is stopped, only it can lower the counters of cards and of blocks.
+#[tactic(auto, using(crate::proofs::Notes::NotesBounds::bounds_kept))]
 pub fn bounds_are_kept()
     ensures { EventsKeepBounds }
 {}

@@ -195,6 +195,7 @@ pub fn identity_at(shape: &Shape, c: u32) -> usize
 }
 
 /// The roots: the 32 variables of each section, and then the slots of each section.
+#[tactic(auto, using(crate::proofs::Writing::Slices::parts_of_words))]
 pub fn roots_of<'a>(shape: &Shape, words: &'a [u64]) -> &'a [u64]
     requires shaped { IsShape shape.now }
     requires whole { length words.now ≡ total_words_of (region_sizes shape.now) }
@@ -204,6 +205,7 @@ pub fn roots_of<'a>(shape: &Shape, words: &'a [u64]) -> &'a [u64]
 }
 
 /// The allocation bits: a word for each block.
+#[tactic(auto, using(crate::proofs::Writing::Slices::parts_of_words))]
 pub fn allocs_of<'a>(shape: &Shape, words: &'a [u64]) -> &'a [u64]
     requires shaped { IsShape shape.now }
     requires whole { length words.now ≡ total_words_of (region_sizes shape.now) }
@@ -213,6 +215,7 @@ pub fn allocs_of<'a>(shape: &Shape, words: &'a [u64]) -> &'a [u64]
 }
 
 /// The mark bits: a word for each block.
+#[tactic(auto, using(crate::proofs::Writing::Slices::parts_of_words))]
 pub fn marks_of<'a>(shape: &Shape, words: &'a [u64]) -> &'a [u64]
     requires shaped { IsShape shape.now }
     requires whole { length words.now ≡ total_words_of (region_sizes shape.now) }
@@ -222,6 +225,7 @@ pub fn marks_of<'a>(shape: &Shape, words: &'a [u64]) -> &'a [u64]
 }
 
 /// The cards: 1 if a card is dirty, else 0.
+#[tactic(auto, using(std::proofs::lemmas::List::places))]
 pub fn cards_of<'a>(shape: &Shape, words: &'a [u64]) -> &'a [u64]
     requires shaped { IsShape shape.now }
     requires whole { length words.now ≡ total_words_of (region_sizes shape.now) }

@@ -34,6 +34,7 @@ fn is_made(seats: &[SeatState], c: u32) -> bool
     seats.iter().any(|s| hand::used_in(s.cache, Cell::make(c)))
 }
 
+#[tactic(auto, using(crate::proofs::Consequences::SomePasses::any_rules))]
 fn is_in_use(allocs: &[u64], seats: &[SeatState], c: u32) -> bool
     ensures { result ≡ in_use allocs.now (makers seats.now) c }
 {

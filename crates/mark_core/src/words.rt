@@ -21,6 +21,7 @@ pub fn read(words: &[u64], at: usize) -> u64
 }
 
 /// The section and the number of the object in cell c.
+#[tactic(auto, using(crate::proofs::Writing::Places::reads))]
 pub fn identity_of(shape: &Shape, words: &[u64], c: u32) -> u64
     requires shaped { IsShape shape.now }
     requires whole { length words.now ≡ total_words_of (region_sizes shape.now) }
@@ -34,6 +35,7 @@ pub fn identity_of(shape: &Shape, words: &[u64], c: u32) -> u64
 }
 
 /// The season, which says whose turn it is.
+#[tactic(auto, using(crate::proofs::Writing::Places::reads))]
 pub fn season_of(shape: &Shape, words: &[u64]) -> u64
     requires shaped { IsShape shape.now }
     requires whole { length words.now ≡ total_words_of (region_sizes shape.now) }

@@ -20,8 +20,7 @@ use Rattle.mark_core.proofs.Writing.CellBits.{bit-more, with_same}
 use Rattle.mark_core.specs.declared.seat.SeatState.{SeatState}
 use Rattle.gc_table.specs.Sections.{section_after}
 use Rattle.gc_table.specs.Notes.{Notes, look, if_kept, noting}
-use Rattle.gc_table.proofs.Noting.{place-same, look-map}
-use Rattle.gc_table.proofs.Noticing.{found-noted, is_load, known-step, alone-stays, alone-steady}
+use Rattle.gc_table.proofs.Noticing.{place-same, look-map, found-noted, is_load, known-step, alone-stays, alone-steady}
 use Rattle.gc_table.proofs.Running.{ran-refl, ran-after, ran-join, ran-events, run-keeps}
 use Rattle.packet_pools.specs.OnlyTraced.{is_traced, rest_of, IsNotedMarked, traces_cells, OnlyTracedBy, OnlyTraced, OnlyCleaned}
 

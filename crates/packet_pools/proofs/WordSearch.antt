@@ -19,7 +19,7 @@ use Rattle.mark_core.specs.declared.kinds.Shape.{Shape}
 use Rattle.mark_core.specs.declared.kinds.Step.TheVariants.{Look}
 use Rattle.mark_core.specs.declared.seat.SeatState.{SeatState}
 use Rattle.mark_core.proofs.Pool.PoolMoves.{held-alone}
-use Rattle.mark_core.proofs.Pool.PoolBits.{in-no-pool}
+use Rattle.mark_core.proofs.Pool.PoolPlaces.{in-no-pool}
 use Rattle.gc_table.specs.declared.view.View.{View}
 use Rattle.gc_table.specs.Fetching.{is_in_range}
 use Rattle.gc_table.specs.Taking.{after, Finds}

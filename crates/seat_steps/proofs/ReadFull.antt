@@ -21,7 +21,7 @@ use Rattle.gc_table.specs.Running.{Ran, after_all}
 use Rattle.gc_table.specs.Taking.{after}
 use Rattle.gc_table.specs.declared.view.Entry.{Entry}
 use Rattle.gc_table.specs.declared.view.View.{View}
-use Rattle.gc_table.proofs.Noting.{look-map}
+use Rattle.gc_table.proofs.Noticing.{look-map}
 use Rattle.gc_table.proofs.Running.{ran-events, ran-join}
 use Rattle.packet_pools.specs.Fields.{picked}
 use Rattle.packet_pools.proofs.Searches.{some-left, some-right}

@@ -35,7 +35,7 @@ use Rattle.gc_table.specs.Laws.{IsRunOf}
 use Rattle.gc_table.specs.Log.{all_steps}
 use Rattle.gc_table.specs.Past.{adds, entries_of, log_from, log_of, word_told}
 use Rattle.gc_table.specs.declared.seat.HeapSeat.{HeapSeat}
-use Rattle.gc_table.proofs.Seats.{mutates}
+use Rattle.gc_table.proofs.Frame.{mutates}
 use Rattle.gc_table.proofs.Lending.{Sound, later-sound}
 use Rattle.gc_table.proofs.Freeing.{allowed, stays}
 use Rattle.seat_turns.specs.Sharing.{spares_heap}

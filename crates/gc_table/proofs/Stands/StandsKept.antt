@@ -34,6 +34,8 @@ use Rattle.gc_table.proofs.Stands.StandsRoots.{store-root}
 use Rattle.gc_table.proofs.Stands.StandsStores.{store-field, store-value}
 use Rattle.mark_core.proofs.Writing.RegionWrites.{identities-kept, fields-kept}
 use Rattle.mark_core.proofs.Writing.Writes.{at_counter}
+use Rattle.mark_core.specs.Cells.{IsReachableCell}
+use Rattle.mark_core.specs.Closed.{IsReachableIn}
 
 -- Which steps change the identities, values and fields of cells.
 -- the step stores a word of an object or of a new cell
@@ -227,3 +229,15 @@ stands_kept c e s op ms alone k st g asks f =
     (λ x a t.
     subst (λ (y : SeatState). Taken c e.seat y e.step → StandsIn c.shape (words_left c y e.step) (seats_left c e.seat y e.step) (meanings_after c.shape s e.step op ms)) (same_Some s x (sym g ∙ t.got))
     (λ u. stands_at c e.seat s e.step op ms alone u st asks) t)
+
+-- A step that stores no reference leaves the paths: what was reachable is.
+-- cell y is reachable by the words that the step leaves
+abbrev pub ReachedAfter : Core → SeatState → Step → ℕ → Type 0
+ReachedAfter c s step y = IsReachableCell c.shape (words_left c s step).roots (words_left c s step).fields y
+
+pub reach-still : (c : Core) (i : ℕ) (s : SeatState) (step : Step) (y : ℕ) → Taken c i s step → stores_root step ≡ false → stores_cell step ≡ false → IsReachableIn c y → ReachedAfter c s step y
+reach-still c i s step y k r f a =
+    let w : Words = words_of c.shape c.words in
+    let P : List ℕ → Type 0 = λ roots. IsReachableCell c.shape roots w.fields y in
+    let Q : List ℕ → Type 0 = λ fields. IsReachableCell c.shape (words_left c s step).roots fields y in
+    subst Q (sym (fields-same c i s step k f)) (subst P (sym (roots-same c i s step k r)) a)

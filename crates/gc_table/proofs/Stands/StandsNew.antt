@@ -12,7 +12,7 @@ use Rattle.mark_core.specs.Steps.MutatorSteps.{with_made, with_making}
 use Rattle.mark_core.specs.Steps.{Core}
 use Rattle.mark_core.specs.Laws.{IsCore}
 use Rattle.mark_core.proofs.Blocks.BlocksStopped.{Taken, mine as own-fact}
-use Rattle.mark_core.proofs.Caches.CachesMakes.{made_makes}
+use Rattle.mark_core.proofs.Caches.CachesSteps.{made_makes}
 use Rattle.mark_core.proofs.Writing.Places.{region-length}
 use Rattle.mark_core.proofs.References.ReferencesFields.{new-fields}
 use Rattle.mark_core.proofs.References.ReferencesRoots.{Used, read-field, seat-formed, UsedAfter}
@@ -31,7 +31,7 @@ use Rattle.gc_table.proofs.Stands.StandsMaking.{no-next, all-made, NewWords, par
 use Rattle.gc_table.proofs.Stands.StandsSeat.{Mutates, names-used, got-used, root-used, free-not-used, mutates}
 use Rattle.mark_core.proofs.Known.{words_left, seats_left}
 use Rattle.mark_core.proofs.Caches.CachesSeat.{all-facts, CacheFacts, next-free, next-makes}
-use Rattle.mark_core.proofs.Pool.PoolBits.{same_place}
+use Rattle.mark_core.proofs.Pool.PoolPlaces.{same_place}
 use Rattle.plain_heap.specs.declared.operation.Op.{Op}
 use Rattle.gc_table.proofs.Stands.StandsStores.{values-length}
 

@@ -16,7 +16,7 @@ use Rattle.mark_core.proofs.Known.{found, words_left, seats_left, all-makers, in
 use Rattle.mark_core.proofs.HeldBlock.{allocs-length}
 use Rattle.mark_core.proofs.Blocks.BlocksStopped.{Taken, in-place}
 use Rattle.mark_core.proofs.Writing.Places.{region-length}
-use Rattle.mark_core.proofs.Pool.PoolBits.{same_place}
+use Rattle.mark_core.proofs.Pool.PoolPlaces.{same_place}
 use Rattle.mark_core.proofs.References.ReferencesRoots.{Used, UsedAfter}
 use Rattle.mark_core.specs.Views.{makers, blocks}
 use Rattle.mark_core.specs.declared.kinds.Step.{Step}

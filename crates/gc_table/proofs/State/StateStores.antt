@@ -34,10 +34,13 @@ use Rattle.mark_core.specs.Parts.{parts}
 use Rattle.mark_core.specs.declared.kinds.Shape.{Shape}
 use Rattle.gc_table.specs.declared.view.View.{View}
 use Rattle.gc_table.specs.TableState.{TableState, no_section, meanings_of, section_at}
-use Rattle.gc_table.specs.Rule.{IsState, Agrees}
+use Rattle.gc_table.specs.Rule.{IsState, Agrees, IsPossible}
 use Rattle.std.specs.Option.{option_map}
 use Rattle.std.proofs.lemmas.List.{length-map}
 use Rattle.gc_table.specs.declared.view.SectionState.{SectionState}
+use Rattle.std.proofs.Math.Logic.{∥∥₁_elim}
+use Rattle.std.proofs.Props.{props}
+use Rattle.gc_table.specs.Taking.{May}
 
 -- an object has one reference in a section
 pub names-ref : (w : ℕ) (a b : Ref) (name : Name) → Names w a name → Names w b name → a ≡ b
@@ -264,3 +267,8 @@ plain_of x i v step op alone k asks c = absurd (true≢false (sym c))
 pub plain-by : (x : TableState) (i : ℕ) (v : View) (step : Step) (op : Op) → IsFalse v.shape.sharing → IsState x → Agrees x i v → IsFalse v.state.spent → AllTrue (parts x.core.shape (words_of x.core.shape x.core.words) x.core.seats v.state step)
     → Asks v.state v.own.meaning (seen_by v.shape v.plan v.state) step op → IsTrue (changes_heap step) → (section_after v.shape v.plan v.state step v.own).meaning.heap ≡ heap_after v.own.meaning.heap (seen_by v.shape v.plan v.state) op
 plain-by x i v step op alone whole agrees live ok asks c = plain_of x i v step op (subst (λ (sh : Shape). IsFalse sh.sharing) agrees.shape alone) (record { whole = whole; agrees = agrees; live = live; ok = ok }) asks c
+
+-- A store of a mutator is the plain step that it was asked for, as the views by themselves tell.
+pub plain-told : (v : View) (step : Step) (op : Op) → IsFalse v.shape.sharing → ∥ IsPossible v ∥₁ → May step v → Asks v.state v.own.meaning (seen_by v.shape v.plan v.state) step op → IsTrue (changes_heap step)
+    → (section_after v.shape v.plan v.state step v.own).meaning.heap ≡ heap_after v.own.meaning.heap (seen_by v.shape v.plan v.state) op
+plain-told v step op alone h may asks e = ∥∥₁_elim h (Prim.hlevel props) (λ p. plain-by p.state p.index v step op alone p.whole p.agrees p.live (may p.state p.index p.whole p.agrees) asks e)

@@ -14,8 +14,8 @@ use Rattle.mark_core.proofs.HeldBlock.{of-view}
 use Rattle.mark_core.proofs.Blocks.BlocksStopped.{AllStill, sweeping, still-while-knows, Taken, mine, words-read}
 use Rattle.mark_core.proofs.Doing.{local-kept}
 use Rattle.mark_core.proofs.World.WorldReading.{numbers-of}
-use Rattle.mark_core.proofs.World.WorldSeats.{bare-out}
-use Rattle.mark_core.proofs.World.WorldTally.{Fits}
+use Rattle.mark_core.proofs.World.WorldNumbers.{bare-out}
+use Rattle.mark_core.proofs.World.WorldMoves.{Fits}
 use Rattle.mark_core.specs.declared.kinds.Phase.{Phase}
 use Rattle.mark_core.specs.declared.kinds.Phase.TheVariants.{Full, Idle, Marking, Drain, Sweep, Clear}
 use Rattle.mark_core.specs.declared.kinds.Step.{Step}
@@ -32,7 +32,7 @@ use Rattle.mark_core.proofs.Used.UsedKept.{alloc-on}
 use Rattle.mark_core.proofs.Writing.Writes.{phase-kept, at_part}
 use Rattle.gc_table.specs.PlainSteps.{HasSeenPhase}
 use Rattle.gc_table.specs.TableState.{TableState, no_section, section_at, with_section, state_after}
-use Rattle.gc_table.proofs.ReachStill.{ReachedAfter, reach-still}
+use Rattle.gc_table.proofs.Stands.StandsKept.{ReachedAfter, reach-still}
 use Rattle.gc_table.proofs.Stands.StandsSeat.{free-not-used}
 use Rattle.gc_table.proofs.State.StateSteps.{Goes, taken, event, may-happen, sections_left, kept-whole, each-left}
 use Rattle.mark_core.specs.Numbers.{done_count, last_count}

@@ -28,8 +28,7 @@ use Rattle.gc_table.specs.declared.view.SectionState.{SectionState}
 use Rattle.gc_table.specs.Sections.{section_after}
 use Rattle.gc_table.specs.TableState.{TableState, no_section, section_at, with_section, state_after}
 use Rattle.gc_table.specs.Told.{IsSettled}
-use Rattle.gc_table.proofs.ReachStill.{ReachedAfter, reach-still}
-use Rattle.gc_table.proofs.Stands.StandsKept.{stores_cell}
+use Rattle.gc_table.proofs.Stands.StandsKept.{ReachedAfter, reach-still, stores_cell}
 use Rattle.gc_table.proofs.State.StateSteps.{Goes, event, taken, may-happen, sections_left, kept-whole}
 
 -- the first section that a step leaves is the one that was there, or the catalogue's own after the step

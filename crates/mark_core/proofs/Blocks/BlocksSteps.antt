@@ -21,8 +21,7 @@ use Rattle.mark_core.proofs.Writing.RegionWrites.{allocs-kept, marks-kept}
 use Rattle.mark_core.proofs.Count.CountMoves.{follows}
 use Rattle.mark_core.proofs.Blocks.BlocksStopped.{Taken, within, own-record, mine, in-place, AllStill, tracing, in-time, still-stopped, stopped-time, not-still, none-in-hand, Others, alone-holds}
 use Rattle.mark_core.proofs.Blocks.BlocksWords.{SameHeap, heap-left}
-use Rattle.mark_core.proofs.Blocks.BlocksStretch.{IsBlock, AreApart, InHand, hand-set, own-apart, none-right, some-taken, end-counted, rest-apart}
-use Rattle.mark_core.proofs.Blocks.BlocksWrites.{later, reads-marks, reads-allocs, apart-marks, apart-allocs, apart-stored, stores, other-allocs, other-marks, may-store-some, takes, takes-apart, goes-on}
+use Rattle.mark_core.proofs.Blocks.BlocksStretch.{IsBlock, AreApart, InHand, hand-set, own-apart, none-right, some-taken, end-counted, rest-apart, later, reads-marks, reads-allocs, apart-marks, apart-allocs, apart-stored, stores, other-allocs, other-marks, may-store-some, takes, takes-apart, goes-on}
 use Rattle.mark_core.proofs.Basics.{none-is}
 use Rattle.mark_core.specs.declared.kinds.Phase.{Phase}
 use Rattle.mark_core.specs.declared.kinds.Phase.TheVariants.{Idle, Marking, Drain, Sweep, Clear, Full}

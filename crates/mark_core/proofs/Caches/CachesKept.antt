@@ -19,7 +19,7 @@ use Rattle.mark_core.specs.Laws.{IsCore}
 use Rattle.mark_core.proofs.Writing.Ranges.{either, IsPlace, placed}
 use Rattle.mark_core.proofs.Known.{found, words_left, Acted, seats_left, in_range, acts}
 use Rattle.mark_core.proofs.Formed.FormedLearns.{one-of, one-read}
-use Rattle.mark_core.proofs.Caches.CachesMakes.{making-zero, zero_stays, zero_there}
+use Rattle.mark_core.proofs.Caches.CachesSteps.{making-zero, zero_stays, zero_there}
 use Rattle.mark_core.proofs.Caches.CachesStores.{Storing, part-kept, made-kept}
 use Rattle.mark_core.proofs.Caches.CachesPublish.{free-kept, field-kept, push-kept, end-kept}
 use Rattle.mark_core.proofs.Caches.CachesAt.{CachesOf, caching, maker-at, claim-at, release-at, read_free-at, publish-at}

@@ -18,8 +18,7 @@ use Rattle.mark_core.proofs.Doing.{all-push}
 use Rattle.mark_core.proofs.Formed.FormedLearns.{one-of, each-push}
 use Rattle.mark_core.proofs.Caches.CachesSeat.{making-free, free-block, CacheFacts}
 use Rattle.mark_core.proofs.Caches.CachesClaims.{Owns, same-seat, free-unused, owns-same}
-use Rattle.mark_core.proofs.Caches.CachesSteps.{Names, names-less, names-fewer, names-push, names-spent, use-fewer, use-published, use-made, use-mine, use-push, bit-set, Caching, with_cache, names-of, caches-set}
-use Rattle.mark_core.proofs.Caches.CachesMakes.{unpublished-fewer, making-other, published_block, published_free, published_makes}
+use Rattle.mark_core.proofs.Caches.CachesSteps.{Names, names-less, names-fewer, names-push, names-spent, use-fewer, use-published, use-made, use-mine, use-push, bit-set, Caching, with_cache, names-of, caches-set, unpublished-fewer, making-other, published_block, published_free, published_makes}
 use Rattle.mark_core.proofs.Writing.CellBits.{bit-either, bit-first}
 use Rattle.mark_core.proofs.Used.UsedSeats.{published-none}
 use Rattle.mark_core.specs.declared.kinds.Shape.{Shape}

@@ -8,7 +8,7 @@ use Rattle.mark_core.specs.Seats.{is_the, free_in, used_in}
 use Rattle.mark_core.specs.Views.{Maker}
 use Rattle.mark_core.specs.Rules.HeapRules.{section_of_cell, number_of_cell, Caches, CachesUnpublished, MakesNil, UsedOwn}
 use Rattle.mark_core.proofs.Formed.FormedLearns.{one-of, all-but}
-use Rattle.mark_core.proofs.Caches.CachesSteps.{Given, Names, use-set, use-published, use-mine, use-made, Caching, with_cache, names-of, caches-set, cache-set}
+use Rattle.mark_core.proofs.Caches.CachesSteps.{Given, Names, use-set, use-published, use-mine, use-made, Caching, with_cache, names-of, caches-set, cache-set, making-next, making_block, made_block, made_makes}
 use Rattle.mark_core.specs.declared.kinds.Shape.{Shape}
 use Rattle.mark_core.specs.Numbers.{section_span}
 use Rattle.std.specs.List.{All}
@@ -17,7 +17,6 @@ use Rattle.mark_core.specs.Cells.{in_use, field}
 use Rattle.mark_core.specs.Steps.MutatorSteps.{with_making, with_made}
 use Rattle.mark_core.proofs.Caches.CachesSeat.{is_next, next-free, next-makes, free-block, CacheFacts}
 use Rattle.mark_core.proofs.Caches.CachesClaims.{free-unused, owns-same}
-use Rattle.mark_core.proofs.Caches.CachesMakes.{making-next, making_block, made_block, made_makes}
 use Rattle.mark_core.proofs.Writing.CellBits.{with_other, bit-first}
 use Rattle.mark_core.proofs.Used.UsedSeats.{making-used}
 use Rattle.mark_core.specs.declared.seat.CacheState.{CacheState}

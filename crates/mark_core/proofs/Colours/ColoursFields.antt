@@ -34,8 +34,7 @@ use Rattle.mark_core.specs.Cards.{card_of}
 use Rattle.std.proofs.lemmas.Option.{slice_get_within, get_or_from_slice_get}
 use Rattle.mark_core.specs.Steps.WorldSteps.{has_nothing, other_has_nothing}
 use Rattle.mark_core.specs.Parts.{parts}
-use Rattle.mark_core.proofs.Marks.MarksAny.{any-after, EndsUntested}
-use Rattle.mark_core.proofs.Consequences.SomePasses.{any-map, any-new, any-old}
+use Rattle.mark_core.proofs.Consequences.SomePasses.{any-after, EndsUntested, any-map, any-new, any-old}
 use Rattle.mark_core.proofs.Hands.HandsCleaning.{done-cleans}
 
 -- What follows from each way in which a grey cell waits, when the record of one seat is replaced.

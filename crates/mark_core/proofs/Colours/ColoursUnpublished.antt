@@ -21,7 +21,7 @@ use Rattle.mark_core.proofs.Colours.ColoursFields.{WaitsNow, WaitsAfter, seat_le
 use Rattle.mark_core.proofs.Colours.ColoursWaits.{fresh-tends, waiting-after}
 use Rattle.mark_core.proofs.Writing.CellBits.{no-bit}
 use Rattle.mark_core.proofs.Basics.{all-zero}
-use Rattle.mark_core.proofs.Blocks.BlocksWrites.{may-store-some}
+use Rattle.mark_core.proofs.Blocks.BlocksStretch.{may-store-some}
 use Rattle.mark_core.proofs.Blocks.BlocksStopped.{Taken, kept-after}
 use Rattle.mark_core.proofs.Used.UsedKept.{alloc-on}
 use Rattle.mark_core.specs.declared.kinds.Shape.{Shape}

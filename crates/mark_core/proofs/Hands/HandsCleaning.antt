@@ -41,6 +41,8 @@ card-bits_fit card =
     let top : 2 ^ (card_cells + first_bit card) ≤ 2 ^ 64 = pow-le-pow_right two few in
     omega (arith, top, shl_below (2 ^ card_cells - 1) card_cells (first_bit card) (omega arith))
 
+pub ruleset card_rules = (card-bits_fit)
+
 -- a bit of the card's cells in its block is that of a cell of the card
 pub card-bit : (card c : ℕ) → block_of_card card ≡ c / 64 → has_bit (card_bits card) (c % 64) ≡ true → card_of c ≡ card
 card-bit card c b e =

@@ -1,19 +1,20 @@
 -- The counters of a cycle don't fall while a seat helps or knows that the world is stopped, unless this seat resets them.
 use Rattle.std.proofs.Common.{ℕ, ◌≡◌, ◌+◌, ◌%◌, ◌≤◌, List, arith, refl, sym, ap, ◌∙◌, subst, Bool, true, false, ◌&&◌, ◌||◌, cond, eqb, Some, ⊎_elim}
-use Rattle.std.specs.Prelude.{slice_get, nat_le}
+use Rattle.std.specs.Prelude.{slice_get, nat_le, IsTrue, IsFalse, ◌==◌, None}
 use Rattle.std.proofs.lemmas.Bool.{cases_Bool, and_parts, or_cases, eqb-true, eqb-false, leb-true, ne_eqb, true≢false, false≢true}
 use Rattle.mark_core.specs.Layout.{Words, words_of, put_word}
 use Rattle.mark_core.specs.Places.{the_next_card, the_next_block, counter_at}
-use Rattle.mark_core.specs.Notes.{word_at, same_place, resets}
+use Rattle.mark_core.specs.Notes.{word_at, same_place, keeps_bound, resets}
 use Rattle.mark_core.specs.Effects.{written}
-use Rattle.mark_core.specs.Steps.{Core, after_event}
-use Rattle.mark_core.specs.Laws.{EventsKeepBounds}
+use Rattle.mark_core.specs.Steps.{Core, failing_part, after_event}
+use Rattle.mark_core.specs.Laws.{IsCore}
 use Rattle.mark_core.proofs.Known.{Acted, found, words_left, acts}
 use Rattle.mark_core.proofs.Writing.Writes.{next_card-kept, next_block-kept}
 use Rattle.mark_core.proofs.Blocks.BlocksStopped.{Taken, words-read}
 use Rattle.mark_core.proofs.Blocks.BlocksWords.{statistic}
 use Rattle.mark_core.proofs.Notes.NotesBeside.{Beside, sits, beside}
 use Rattle.mark_core.proofs.Notes.NotesKept.{single-word, pairs}
+use Rattle.mark_core.specs.declared.kinds.Event.{Event}
 use Rattle.mark_core.specs.declared.kinds.Step.{Step}
 use Rattle.mark_core.specs.declared.kinds.Step.TheVariants.{NextBlock, NextOfCards, Reset, AddStat, ReadStat}
 use Rattle.mark_core.specs.declared.seat.SeatState.{SeatState}
@@ -87,9 +88,10 @@ not_reset c i j s t step at k got e f =
 the_place : (at to : ℕ × ℕ) → same_place at to ≡ true → at ≡ to
 the_place at to e = let two = and_parts (eqb at.0 to.0) (eqb at.1 to.1) e in pairs at to (eqb-true at.0 to.0 two.0) (eqb-true at.1 to.1 two.1)
 
--- a bound on a counter stays
-pub bounds-kept : EventsKeepBounds
-bounds-kept c e k f j t got at keeps own n bound =
+-- so a bound on a counter stays
+pub bounds_kept : (c : Core) (e : Event) → IsCore c → failing_part c e ≡ None → (j : ℕ) (t : SeatState) → slice_get c.seats j ≡ Some t → (at : ℕ × ℕ) → IsTrue (keeps_bound t at) → IsFalse ((e.seat == j) && resets e.step at)
+    → word_at c.shape c.words at ≤ word_at c.shape (after_event c e).words at
+bounds_kept c e k f j t got at keeps own =
     let r : (s : SeatState) × Acted c e s = acts c e k f in
     let a : Acted c e r.0 = r.1 in
     let s : SeatState = r.0 in
@@ -102,12 +104,10 @@ bounds-kept c e k f j t got at keeps own n bound =
     let is : at ≡ the_next_card = the_place at the_next_card g in
     let grow = cards_grow c e.seat s e.step taken (subst (λ x. resets e.step x ≡ false) is none) in
     let same = ap (λ (w : Words). w.next_card) a.words in
-    let before : n ≤ word_at c.shape c.words (0, 3) = subst (λ x. n ≤ word_at c.shape c.words x) is bound in
-    subst (λ x. n ≤ word_at c.shape ws x) (sym is) (omega (arith, before, single-word c.shape c.words 3 (omega arith), single-word c.shape ws 3 (omega arith), grow, same)))
+    subst (λ x. word_at c.shape c.words x ≤ word_at c.shape ws x) (sym is) (omega (arith, single-word c.shape c.words 3 (omega arith), single-word c.shape ws 3 (omega arith), grow, same)))
     (λ (g : same_place at the_next_block ≡ true).
     let is : at ≡ the_next_block = the_place at the_next_block g in
     let grow = blocks_grow c e.seat s e.step taken (subst (λ x. resets e.step x ≡ false) is none) in
     let same = ap (λ (w : Words). w.next_block) a.words in
-    let before : n ≤ word_at c.shape c.words (0, 4) = subst (λ x. n ≤ word_at c.shape c.words x) is bound in
-    subst (λ x. n ≤ word_at c.shape ws x) (sym is) (omega (arith, before, single-word c.shape c.words 4 (omega arith), single-word c.shape ws 4 (omega arith), grow, same)))
+    subst (λ x. word_at c.shape c.words x ≤ word_at c.shape ws x) (sym is) (omega (arith, single-word c.shape c.words 4 (omega arith), single-word c.shape ws 4 (omega arith), grow, same)))
     (or_cases (same_place at the_next_card) (same_place at the_next_block) both.0)

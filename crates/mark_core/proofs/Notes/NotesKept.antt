@@ -13,7 +13,7 @@ use Rattle.mark_core.proofs.Known.{found, Acted, acts}
 use Rattle.mark_core.proofs.Count.CountMoves.{follows}
 use Rattle.mark_core.proofs.Writing.Writes.{at_part}
 use Rattle.mark_core.proofs.Pool.PoolSlots.{any-held}
-use Rattle.mark_core.proofs.World.WorldSeats.{tracer-in, sweeper-in, runner-in, part-from_active}
+use Rattle.mark_core.proofs.World.WorldNumbers.{tracer-in, sweeper-in, runner-in, part-from_active}
 use Rattle.mark_core.proofs.Blocks.BlocksStopped.{Taken, mine, in-place}
 use Rattle.mark_core.proofs.Blocks.BlocksWords.{statistic}
 use Rattle.mark_core.proofs.Notes.NotesBeside.{Beside, Sits, sits, beside}

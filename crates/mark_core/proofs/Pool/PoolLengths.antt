@@ -15,7 +15,7 @@ use Rattle.mark_core.specs.Steps.{AllTrue}
 use Rattle.mark_core.specs.Laws.{PacketsSound}
 use Rattle.mark_core.proofs.Count.CountMoves.{agrees-but-one, bit, neither, follows, CountMove, counts-moved}
 use Rattle.mark_core.proofs.Pool.PoolSlots.{set-other, holds-set_same, known-set_same, stored-set_same, stored-held, any-held, drop-other, holds-drop_same, same-in-hand}
-use Rattle.mark_core.proofs.Pool.PoolPlaces.{only-holder, pools-still, same-hands}
+use Rattle.mark_core.proofs.Pool.PoolPlaces.{only-holder, pools-still, same-hands, OneBit, pool-with, empty_packets-moves, in-no-pool}
 use Rattle.mark_core.proofs.Pool.PoolMoves.{pools-length, held-alone, held-length, empty-fits, empty-chosen, pools-give, Holding}
 use Rattle.mark_core.proofs.Basics.{some-positive, whole-length, not-not}
 use Rattle.mark_core.specs.declared.kinds.Shape.{Shape}
@@ -23,7 +23,6 @@ use Rattle.mark_core.specs.declared.kinds.Step.TheVariants.{Push, Pop, StoreLeng
 use Rattle.mark_core.specs.declared.seat.SeatState.{SeatState}
 use Rattle.mark_core.specs.Seats.{work_in_hand}
 use Rattle.mark_core.specs.Steps.PacketSteps.{pool_for}
-use Rattle.mark_core.proofs.Pool.PoolBits.{OneBit, pool-with, empty_packets-moves, in-no-pool}
 use Rattle.mark_core.proofs.Writing.Ranges.{word-below, in-row, pool_for-below}
 use Rattle.mark_core.specs.Shapes.{IsShape}
 

@@ -9,8 +9,7 @@ use Rattle.mark_core.specs.Rules.PacketRules.{Pools}
 use Rattle.mark_core.specs.Steps.PacketSteps.{pool_for}
 use Rattle.mark_core.proofs.Count.CountMoves.{bit}
 use Rattle.mark_core.proofs.Pool.PoolSlots.{same-in-hand, put-other, drop-other, set-other, holds-put_same, known-put_same, holds-drop_same, holds-set_same, known-set_same}
-use Rattle.mark_core.proofs.Pool.PoolBits.{OneBit, pool_count-moves, in-no-pool}
-use Rattle.mark_core.proofs.Pool.PoolPlaces.{holders-set, holder-counts, among-held, among-unheld, IsPlaced, pools-but-one, pools-still, same-hands}
+use Rattle.mark_core.proofs.Pool.PoolPlaces.{OneBit, pool_count-moves, in-no-pool, holders-set, holder-counts, among-held, among-unheld, IsPlaced, pools-but-one, pools-still, same-hands}
 use Rattle.mark_core.proofs.Writing.Ranges.{pool_for-below}
 use Rattle.mark_core.specs.declared.kinds.Shape.{Shape}
 use Rattle.mark_core.proofs.Basics.{positive}

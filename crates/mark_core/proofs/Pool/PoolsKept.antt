@@ -18,7 +18,7 @@ use Rattle.mark_core.specs.Laws.{PacketsSound, ArePacketsSound, EventsKeepPacket
 use Rattle.mark_core.proofs.Count.CountMoves.{bit, agrees-but-one}
 use Rattle.mark_core.proofs.Known.{unheld-unknown, Acted, acted, found, words_left, reaches_from}
 use Rattle.mark_core.proofs.Pool.PoolSlots.{SameInHand, none-held, stored-held, put-other, known-put_same, any-put}
-use Rattle.mark_core.proofs.Pool.PoolPlaces.{holders-push, among-push, pools-still, same-hands}
+use Rattle.mark_core.proofs.Pool.PoolPlaces.{holders-push, among-push, pools-still, same-hands, OneBit, pool-without, empty_packets-moves}
 use Rattle.mark_core.proofs.Pool.PoolLengths.{At, holding, sound-moved, mine, one-debt, work-holds, sound-give, sound-push, sound-pop, sound-store_length, sound-read_length}
 use Rattle.mark_core.specs.declared.kinds.Shape.{Shape}
 use Rattle.mark_core.specs.declared.seat.SeatState.{SeatState}
@@ -26,14 +26,13 @@ use Rattle.mark_core.specs.Cells.{in_pool, empty_packets}
 use Rattle.mark_core.specs.Parts.{parts}
 use Rattle.mark_core.specs.Effects.{place, written, seat_after}
 use Rattle.mark_core.specs.Steps.{AllTrue, Core, after_event, after_of, others_after}
-use Rattle.mark_core.proofs.Pool.PoolBits.{OneBit, pool-without, empty_packets-moves}
 use Rattle.mark_core.proofs.Pool.PoolMoves.{pools-take, pools-untaken, same-inside}
 use Rattle.mark_core.proofs.Writing.Ranges.{word-below, in-row, pool_for-below}
 use Rattle.mark_core.specs.declared.kinds.Step.TheVariants.{Take, Reserve, Give, Credit, Push, Pop, Look, ReadCount, ReadAlloc, ReadField, ReadRoot, SetMark, DirtyCard, ClearCard, ReadMarks, StoreField, Split, Join, StoreLength, ReadLength, ExchangeField, LoadSlot}
 use Rattle.mark_core.specs.Steps.PacketSteps.{pool_for}
 use Rattle.mark_core.specs.WellFormed.{IsWellFormed}
 use Rattle.mark_core.proofs.Writing.Places.{words-get, region-length}
-use Rattle.mark_core.proofs.Count.CountSteps.{sound-reserve, sound-credit, sound-work, sound-other, work-after, is_tracing}
+use Rattle.mark_core.proofs.Count.CountWork.{sound-reserve, sound-credit, sound-work, sound-other, work-after, is_tracing}
 use Rattle.mark_core.proofs.Writing.Frames.{held_of, debts_of}
 use Rattle.mark_core.specs.declared.kinds.Event.{Event}
 use Rattle.mark_core.specs.declared.kinds.Step.{Step}

@@ -18,9 +18,8 @@ use Rattle.mark_core.proofs.Known.{found, Acted, words_left, seats_left, acts}
 use Rattle.mark_core.proofs.Writing.Frames.{changes_standing, standing-kept, projection-kept}
 use Rattle.mark_core.proofs.Writing.Writes.{touches_world, touches_help, world-kept, help-kept, phase-kept}
 use Rattle.mark_core.proofs.Count.CountMoves.{bit}
-use Rattle.mark_core.proofs.World.WorldTally.{others, Fits}
-use Rattle.mark_core.proofs.World.WorldMoves.{Stands, enters, leaves, raises, drops, opens, joins, leaves-help, closes}
-use Rattle.mark_core.proofs.World.WorldNumbers.{Numbers, stands, numbers-moved, bare-from, observed, seen, numbers-push, numbers-end}
+use Rattle.mark_core.proofs.World.WorldMoves.{others, Fits, Stands, enters, leaves, raises, drops, opens, joins, leaves-help, closes}
+use Rattle.mark_core.proofs.World.WorldNumbers.{Numbers, stands, numbers-moved, bare-from, observed, seen, numbers-push, numbers-end, Local}
 use Rattle.mark_core.specs.declared.kinds.Shape.{Shape}
 use Rattle.mark_core.specs.declared.kinds.Step.{Step}
 use Rattle.mark_core.specs.declared.kinds.Step.TheVariants.{EnterStep, LeaveStep, RaiseStep, Observe, DropStep, Split, Join, OpenStep, JoinHelpStep, LeaveHelpStep, CloseStep, SeeHelp, ReadPhase, StorePhase}
@@ -32,7 +31,6 @@ use Rattle.mark_core.specs.Laws.{IsCore}
 use Rattle.mark_core.proofs.Doing.{local-kept}
 use Rattle.mark_core.proofs.Pool.PoolsKept.{shape-kept}
 use Rattle.mark_core.proofs.World.WorldReading.{StandsRight, numbers-of, right-from, at-standing, any-passes, some-passes}
-use Rattle.mark_core.proofs.World.WorldSeats.{Local}
 use Rattle.mark_core.proofs.World.WorldLocals.{local-at}
 use Rattle.mark_core.proofs.World.WorldPhases.{InPhase, in-phase, phases-from}
 use Rattle.mark_core.proofs.World.WorldPhaseKept.{Stepping, phase-stays}

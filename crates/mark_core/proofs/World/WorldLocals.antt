@@ -14,8 +14,8 @@ use Rattle.mark_core.specs.Views.{standing_of}
 use Rattle.mark_core.proofs.Count.CountMoves.{bit}
 use Rattle.mark_core.proofs.Count.CountWork.{work-reads}
 use Rattle.mark_core.proofs.Pool.PoolSlots.{any-held}
-use Rattle.mark_core.proofs.World.WorldTally.{Fits}
-use Rattle.mark_core.proofs.World.WorldSeats.{Local, inside, stays, mutates, tracer-in, sweeper-in, runner-in, holder-in, worker-in, block-in, cache-in, bare-out, part-from_active, none-takes}
+use Rattle.mark_core.proofs.World.WorldMoves.{Fits}
+use Rattle.mark_core.proofs.World.WorldNumbers.{Local, inside, stays, mutates, tracer-in, sweeper-in, runner-in, holder-in, worker-in, block-in, cache-in, bare-out, part-from_active, none-takes}
 use Rattle.mark_core.proofs.Basics.{none-is, or-second}
 use Rattle.mark_core.specs.declared.kinds.Shape.{Shape}
 use Rattle.mark_core.specs.declared.kinds.Step.{Step}

@@ -20,11 +20,9 @@ use Rattle.mark_core.proofs.Known.{found, words_left, seats_left}
 use Rattle.mark_core.proofs.Doing.{local-kept}
 use Rattle.mark_core.proofs.Writing.Writes.{touches_phase}
 use Rattle.mark_core.proofs.Count.CountMoves.{bit}
-use Rattle.mark_core.proofs.World.WorldTally.{census-set, census-now, nowhere, Fits}
-use Rattle.mark_core.proofs.World.WorldMoves.{Bare}
-use Rattle.mark_core.proofs.World.WorldNumbers.{bare-from}
+use Rattle.mark_core.proofs.World.WorldMoves.{census-set, census-now, nowhere, Fits, Bare}
+use Rattle.mark_core.proofs.World.WorldNumbers.{bare-from, Local}
 use Rattle.mark_core.proofs.World.WorldReading.{any-passes, passes-any, implied}
-use Rattle.mark_core.proofs.World.WorldSeats.{Local}
 use Rattle.mark_core.proofs.World.WorldPhases.{Sees, sees-after, hand-after, heads-after, InPhase, white-after, resting-not}
 use Rattle.mark_core.specs.declared.kinds.Shape.{Shape}
 use Rattle.mark_core.specs.declared.kinds.Step.{Step}

@@ -24,9 +24,9 @@ use Rattle.mark_core.specs.declared.kinds.Phase.TheVariants.{Sweep, Marking, Dra
 use Rattle.mark_core.specs.declared.kinds.Step.{Step}
 use Rattle.mark_core.specs.declared.kinds.Step.TheVariants.{SetMark, ReadMarks, ReadBlockMarks, ClearMarks, ReadPhase, EnterStep, LeaveStep, DropStep, JoinHelpStep, LeaveHelpStep, Take, Give, Push, Pop, StoreLength, ReadLength}
 use Rattle.mark_core.specs.declared.seat.SeatState.{SeatState}
-use Rattle.mark_core.proofs.World.WorldTally.{Fits}
+use Rattle.mark_core.proofs.World.WorldMoves.{Fits}
 use Rattle.mark_core.proofs.Writing.Writes.{touches_phase}
-use Rattle.mark_core.proofs.World.WorldSeats.{Local, bare-out}
+use Rattle.mark_core.proofs.World.WorldNumbers.{Local, bare-out}
 use Rattle.mark_core.specs.declared.kinds.Phase.{Phase}
 use Rattle.mark_core.specs.Cells.{length_among, packet_length}
 use Rattle.mark_core.proofs.Pool.PoolSlots.{any-held, none-held}

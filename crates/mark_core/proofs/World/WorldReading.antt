@@ -11,7 +11,7 @@ use Rattle.mark_core.specs.Views.{Standing, standings, standing_of, some_knows}
 use Rattle.mark_core.specs.Rules.WorldRules.{World, NoneActive, NoneAdmitted, HelpsOnly, is_in_world, is_raised, is_helping, is_opened}
 use Rattle.mark_core.specs.Strong.{IsStrongSeat}
 use Rattle.mark_core.proofs.Count.CountMoves.{bit, bit-below, bit-zero, count-cons, count-none}
-use Rattle.mark_core.proofs.World.WorldTally.{nowhere, Fits, census-fits}
+use Rattle.mark_core.proofs.World.WorldMoves.{nowhere, Fits, census-fits}
 use Rattle.mark_core.proofs.World.WorldNumbers.{Numbers}
 use Rattle.mark_core.specs.declared.kinds.Shape.{Shape}
 use Rattle.mark_core.specs.declared.seat.SeatState.{SeatState}

@@ -15,10 +15,9 @@ use Rattle.mark_core.specs.Start.{start_words, start_seats, full_pool, packet_bi
 use Rattle.mark_core.proofs.Writing.Places.{words-get}
 use Rattle.mark_core.proofs.Count.CountMoves.{count-none}
 use Rattle.mark_core.proofs.Pool.PoolStart.{in-gap, past-gap, no-head, each-seat, gap, singles, tail_words}
-use Rattle.mark_core.proofs.World.WorldTally.{nowhere, nowhere-fits, Fits}
-use Rattle.mark_core.proofs.World.WorldNumbers.{Numbers}
+use Rattle.mark_core.proofs.World.WorldMoves.{nowhere, nowhere-fits, Fits}
+use Rattle.mark_core.proofs.World.WorldNumbers.{Numbers, Local}
 use Rattle.mark_core.proofs.World.WorldReading.{right-from}
-use Rattle.mark_core.proofs.World.WorldSeats.{Local}
 use Rattle.mark_core.proofs.World.WorldPhases.{Sees, IsWhite}
 use Rattle.mark_core.proofs.World.WorldPhaseKept.{new-sees}
 use Rattle.mark_core.proofs.World.WorldKept.{WorldSound, together, new-local}

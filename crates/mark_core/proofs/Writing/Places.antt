@@ -1,6 +1,6 @@
 -- What a write of one word does to the regions.
 use Rattle.std.proofs.Common.{ℕ, ◌≡◌, ◌+◌, ◌<◌, ◌≤◌, zero, suc, List, [], ◌∷◌, drop, set, get_or, length, arith, refl, sym, ap, ◌∙◌, cond, eqb, ⊎_elim, zero-add, ◌≢◌, take, add_assoc}
-use Rattle.std.proofs.lemmas.List.{get_or-set_other, get_or-set_same, length-take-le, length-drop, get_or-take, get_or-drop, take-set-le, drop-set-lt, drop-set-add}
+use Rattle.std.proofs.lemmas.List.{get_or_past, get_or-set_other, get_or-set_same, length-take-le, length-take, length-drop, get_or-take, get_or-drop, take-set-le, drop-set-lt, drop-set-add}
 use Rattle.std.proofs.lemmas.Bool.{cases_eq, eq-eqb, ne_eqb}
 use Rattle.mark_core.specs.Layout.{words_of, address, put_word, region_base, region_words, region_sizes, total_words}
 use Rattle.mark_core.specs.declared.kinds.Shape.{Shape}
@@ -117,3 +117,12 @@ region-length (n ∷ ns) (suc r) ws h = region-length ns r (drop n ws) (rw lengt
 pub word-put : (s : Shape) (ws : List ℕ) (r i v : ℕ) → length ws ≡ total_words (region_sizes s) → i < get_or (region_sizes s) r 0 → words_of s (set ws (address s (r, i)) v) ≡ put_word (r, i) v (words_of s ws)
 word-put s ws zero i v l h = singles-put s ws i v h (omega (arith, l))
 word-put s ws (suc r) i v l h = words-put s ws r i v h (omega (arith, region-length (region_sizes s) (suc r) ws (omega (arith, l))))
+
+-- past the end of a region, and the season
+pub past-taken : (n : ℕ) (ws : List ℕ) (i : ℕ) → n ≤ i → get_or (take n ws) i 0 ≡ 0
+past-taken n ws i h = get_or_past (take n ws) i 0 (omega (arith, length-take n ws))
+
+pub season-at : (sh : Shape) (ws : List ℕ) → (words_of sh ws).season ≡ get_or ws (region_base (region_sizes sh) 13 + 1) 0
+season-at sh ws = sym (words-get (region_sizes sh) 13 ws 1 0 (omega arith))
+
+pub ruleset reads = (past-taken, season-at)

@@ -1,10 +1,10 @@
 -- The word of a step that is allowed lies in its region.
-use Rattle.std.proofs.Common.{ℕ, ◌≡◌, ◌+◌, ◌*◌, ◌-◌, ◌/◌, ◌<◌, ◌≤◌, List, get_or, arith, refl, Bool, true, false, not, cond, ◌&&◌, eqb, Some, None, Option}
+use Rattle.std.proofs.Common.{ℕ, ◌≡◌, ◌+◌, ◌*◌, ◌-◌, ◌/◌, ◌<◌, ◌≤◌, List, get_or, arith, refl, Bool, true, false, not, cond, ◌&&◌, eqb, Some, None, Option, set, length, ap, ◌∙◌}
 use Rattle.std.specs.Prelude.{unwrap_or, nat_lt, nat_le, IfSome, IsTrue}
-use Rattle.std.proofs.lemmas.Bool.{and_parts, ltb-true, ltb-false, leb-true, eqb-true}
+use Rattle.std.proofs.lemmas.Bool.{and_parts, ltb-true, ltb-false, leb-true, eqb-true, eq-eqb}
 use Rattle.std.proofs.lemmas.Nat.{mul-add-lt}
 use Rattle.mark_core.specs.Shapes.{IsShape}
-use Rattle.mark_core.specs.Layout.{Words, region_sizes, pool_words, block_count, card_count}
+use Rattle.mark_core.specs.Layout.{Words, region_sizes, pool_words, block_count, card_count, address, region_words, total_words}
 use Rattle.mark_core.specs.Places.{counter_at}
 use Rattle.mark_core.specs.Bits.{cell_of}
 use Rattle.mark_core.specs.Held.{length_in_hand}
@@ -23,6 +23,9 @@ use Rattle.mark_core.specs.declared.kinds.Step.TheVariants.{Reserve, Take, Give,
 use Rattle.mark_core.specs.declared.seat.SeatState.{SeatState}
 use Rattle.mark_core.specs.declared.seat.BlockState.{BlockState}
 use Rattle.mark_core.specs.Numbers.{done_count, first_position, last_count, named_number, free_count}
+use Rattle.std.proofs.lemmas.List.{get_or-set_same}
+use Rattle.mark_core.specs.Notes.{word_at}
+use Rattle.mark_core.proofs.Writing.Places.{region-put, region-length}
 
 -- column l of row p, if there are n rows of e columns
 pub in-row : (p n e l : ℕ) → p < n → l < e → p * e + l < n * e
@@ -176,3 +179,10 @@ section-below n i false h f = omega (arith, h)
 pub block-below : (sh : Shape) (o : Option BlockState) → IsShape sh → IfSome o (IsStretch sh) → unwrap_or (block_in_hand o) 0 < block_count sh
 block-below sh None k h = omega (arith, k.cells)
 block-below sh (Some x) k h = omega (arith, h.0, h.1)
+
+-- The word that an event writes stands at its place.
+pub word-here : (sh : Shape) (ws : List ℕ) (at : ℕ × ℕ) (v : ℕ) → length ws ≡ total_words (region_sizes sh) → IsPlace sh at → word_at sh (set ws (address sh at) v) at ≡ v
+word-here sh ws at v l h =
+    let put = region-put (region_sizes sh) at.0 at.0 ws at.1 v h in
+    let long : at.1 < length (region_words (region_sizes sh) at.0 ws) = omega (arith, h, region-length (region_sizes sh) at.0 ws (omega (arith, l))) in
+    ap (λ xs. get_or xs at.1 0) (put ∙ rw (eq-eqb at.0 at.0 refl) refl) ∙ get_or-set_same (region_words (region_sizes sh) at.0 ws) at.1 v 0 long

@@ -23,7 +23,7 @@ use Rattle.gc_table.specs.Agreement.{HoldsObject, AgreesWith}
 use Rattle.gc_table.specs.AgreementLaws.{IsWorldPath, IsCellFor, ReachedHaveCells, world_run}
 use Rattle.gc_table.proofs.Reading.{none-some}
 use Rattle.gc_table.proofs.Kept.{runs_agree}
-use Rattle.gc_table.proofs.Seats.{used-exists}
+use Rattle.gc_table.proofs.Frame.{used-exists}
 use Rattle.gc_table.proofs.run_laws.reached_have_cells.Goals as goal
 
 -- Each object that variables reach has a cell, whatever was swept.

@@ -18,7 +18,7 @@ use Rattle.gc_table.specs.RunWorlds.{World, variable_of, name_at, own_section, s
 use Rattle.gc_table.specs.Agreement.{AgreesWith}
 use Rattle.gc_table.specs.AgreementLaws.{StoresIn, UnsharedStores, world_run}
 use Rattle.gc_table.proofs.Kept.{runs_agree}
-use Rattle.gc_table.proofs.Seats.{Mutates, mutates}
+use Rattle.gc_table.proofs.Frame.{Mutates, mutates}
 use Rattle.gc_table.proofs.Stores.{Refers, refers}
 use Rattle.gc_table.proofs.run_laws.unshared_stores.Goals as goal
 

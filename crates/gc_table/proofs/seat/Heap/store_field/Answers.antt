@@ -1,7 +1,7 @@
 use Rattle.std.proofs.Common.{refl, ap, ◌∙◌}
 use Rattle.mark_core.specs.declared.kinds.Step.TheVariants.{StoreField}
 use Rattle.gc_table.specs.declared.view.View.{View}
-use Rattle.gc_table.proofs.Told.PlainTold.{plain-told}
+use Rattle.gc_table.proofs.State.StateStores.{plain-told}
 use Rattle.gc_table.proofs.seat.Heap.store_field.Goals as goal
 
 pub returns-clause-plain : goal.returns-clause-plain
