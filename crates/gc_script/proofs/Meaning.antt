@@ -214,3 +214,5 @@ pub scripts-mean : ScriptsMean
 scripts-mean bytes s h =
     let text = text_ok bytes s (nat_lt 1048576 (length bytes)) (first_foreign bytes) h in
     lines_mean bytes (map words (lines bytes)) s refl text.1
+
+pub ruleset meaning_rules = (scripts-mean)

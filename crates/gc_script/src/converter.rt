@@ -23,6 +23,7 @@ fn first_line_feed(source: &[u8]) -> Option<usize>
     source.iter().position(|b| *b == b'\n')
 }
 
+#[tactic(auto, using(crate::proofs::Clear::end_by_position))]
 /// Where the first line ends, or the source does.
 fn line_end(source: &[u8]) -> usize
     ensures end { result ≡ position_or_len (λ b. b == 10) source.now }
@@ -83,6 +84,7 @@ fn conversion<'a>(version: u32, source: &'a [u8]) -> Converted<'a>
     }
 }
 
+#[tactic(auto, using(crate::proofs::Meaning::keeps_meaning))]
 /// A law: a conversion has the fields and sections of its source, apart from line numbers.
 pub fn keeps_meaning()
     ensures { KeepsMeaning }

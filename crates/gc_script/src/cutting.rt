@@ -17,6 +17,7 @@ fn first_end(text: &[u8]) -> Option<usize>
     text.iter().position(|b| ends_piece(*b))
 }
 
+#[tactic(auto, using(crate::proofs::Clear::end_by_position))]
 fn piece_end(text: &[u8]) -> usize
     ensures end { result ≡ position_or_len ends_piece text.now }
     ensures within { result ≤ length text.now }

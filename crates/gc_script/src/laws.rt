@@ -1,6 +1,7 @@
 // Laws: each is the contract of a function that does nothing.
 ghost use Rattle.gc_script.specs.Script.{ScriptsMean};
 
+#[tactic(auto, using(crate::proofs::Meaning::meaning_rules))]
 /// The sections of a script that has no fault are what its lines mean, line by line.
 pub fn scripts_mean()
     ensures { ScriptsMean }
