@@ -2,6 +2,7 @@
 //! how large it is. A word `then` stands between two that are done one after another.
 #![tactic(auto)]
 
+mod pauses;
 mod seen;
 mod structures;
 mod trees;
@@ -9,16 +10,16 @@ mod words;
 
 use std::io;
 use std::process::ExitCode;
-use std::rt::Runtime;
+use std::rt::{Clock, Runtime};
 use std::sync::Wait;
 use std::thread::Threads;
 use structures::Structure;
 use words::{Unasked, given_words, refuse};
 
-const USAGE: &str = "usage: bench_heaps trees|queue|map [OPTIONS] [then ..]";
+const USAGE: &str = "usage: bench_heaps trees|queue|map|pauses [OPTIONS] [then ..]";
 
 /// Does the work that the words name, and answers the status: 0 if it was done.
-fn does<R: Runtime + Threads + Wait + AllocGlobal + Sync>(
+fn does<R: Runtime + Threads + Wait + Clock + AllocGlobal + Sync>(
     rt: &R,
     words: &[String],
 ) -> io::Result<u8> {
@@ -29,12 +30,13 @@ fn does<R: Runtime + Threads + Wait + AllocGlobal + Sync>(
         "trees" => trees::does(rt, options),
         "queue" => structures::does(rt, Structure::Queue, options),
         "map" => structures::does(rt, Structure::Map, options),
+        "pauses" => pauses::does(rt, options),
         _ => refuse(rt, Unasked::Wrong, USAGE),
     }
 }
 
 /// Does one work after another, until one isn't done.
-fn do_all<R: Runtime + Threads + Wait + AllocGlobal + Sync>(
+fn do_all<R: Runtime + Threads + Wait + Clock + AllocGlobal + Sync>(
     rt: &R,
     words: &[String],
 ) -> io::Result<u8> {

@@ -1,4 +1,4 @@
-//! The words of the command line: options that have numbers.
+//! The words of the command line: options that have numbers, and flags.
 ghost use Rattle.std.specs.Prelude.{◌≤◌, IfSome};
 
 use clap::error::ErrorKind;
@@ -52,8 +52,12 @@ pub fn chosen(
     }
 }
 
-/// The program with these options. Help is off.
-fn program<'a>(alloc: Global, options: &[&'a str]) -> Result<Command<'a>, AllocError> {
+/// The program with these options and flags. Help is off.
+fn program<'a>(
+    alloc: Global,
+    options: &[&'a str],
+    flags: &[&'a str],
+) -> Result<Command<'a>, AllocError> {
     let mut program = Command::new(alloc, "bench_heaps")
         .no_binary_name(true)
         .disable_help_flag(true);
@@ -61,19 +65,26 @@ fn program<'a>(alloc: Global, options: &[&'a str]) -> Result<Command<'a>, AllocE
         let option = Arg::new(alloc, *name).long(*name).action(ArgAction::Set);
         program = program.arg(option)?;
     }
+    for name in flags {
+        let flag = Arg::new(alloc, *name)
+            .long(*name)
+            .action(ArgAction::SetTrue);
+        program = program.arg(flag)?;
+    }
     Ok(program)
 }
 
-/// What words give for these options: in any order, each at most once. Takes memory for the parse.
+/// What words give for these options and flags: in any order, each at most once. Takes memory for the parse.
 pub fn matches_of<'a>(
     alloc: Global,
     words: &'a [String],
     options: &[&'a str],
+    flags: &[&'a str],
 ) -> Result<ArgMatches<'a>, Unasked> {
     if !words.iter().all(|word| word.as_str() != "--") {
         return Err(Unasked::Wrong);
     }
-    let Ok(program) = program(alloc, options) else {
+    let Ok(program) = program(alloc, options, flags) else {
         return Err(Unasked::OutOfMemory);
     };
     match program.try_get_matches_from(words) {

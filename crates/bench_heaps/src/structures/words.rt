@@ -35,7 +35,7 @@ fn asked_of(structure: Structure, matches: &ArgMatches<'_>) -> Option<Asked> {
 
 /// The run that the words ask for.
 pub fn asked_by(alloc: Global, structure: Structure, words: &[String]) -> Result<Asked, Unasked> {
-    match matches_of(alloc, words, OPTIONS.as_slice()) {
+    match matches_of(alloc, words, OPTIONS.as_slice(), [].as_slice()) {
         Ok(matches) => asked_of(structure, &matches).ok_or(Unasked::Wrong),
         Err(why) => Err(why),
     }

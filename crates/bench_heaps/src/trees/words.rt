@@ -43,7 +43,7 @@ fn asked_of(matches: &ArgMatches<'_>) -> Option<Asked>
 pub fn asked_by(alloc: Global, words: &[String]) -> Result<Asked, Unasked>
     ensures { IfOk result AreWordsInRange }
 {
-    match matches_of(alloc, words, OPTIONS.as_slice()) {
+    match matches_of(alloc, words, OPTIONS.as_slice(), [].as_slice()) {
         Ok(matches) => match asked_of(&matches) {
             Some(asked) => Ok(asked),
             None => Err(Unasked::Wrong),

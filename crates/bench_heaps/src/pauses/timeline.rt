@@ -3,12 +3,13 @@
 //! In between it runs the program, or rests. While it waits for another's stop it helps as long as that lets it,
 //! which can't be told apart here.
 
+use crate::pauses::clock::nanos_since;
 use std::alloc::Global;
 use std::rt::Clock;
 use std::time::Instant;
 
 /// What a thread did.
-#[derive(Clone, Copy, Debug, PartialEq, Eq, Drop)]
+#[derive(Clone, Copy, Drop)]
 pub enum Doing {
     /// A mutator marked beside the others, for a cache.
     Paying,
@@ -70,13 +71,7 @@ impl Timeline {
 
     /// The nanoseconds since the run began; 0 if no intervals are asked for.
     fn now<R: Clock>(&self, rt: &R) -> u64 {
-        match self.began {
-            None => 0,
-            Some(began) => match began.elapsed(rt) {
-                Ok(took) => u64::try_from(took.as_nanos()).unwrap_or(u64::MAX),
-                Err(_) => 0,
-            },
-        }
+        nanos_since(rt, self.began).unwrap_or(0)
     }
 
     /// Notes what was done since the last interval ended or a new one was begun.

@@ -1,7 +1,6 @@
 //! A worker's transactions: how many are made, and how long each took.
 
 use std::alloc::{AllocError, Global};
-use std::time::Instant;
 
 /// The transactions of a worker.
 #[derive(Drop)]
@@ -20,15 +19,11 @@ impl Ledger {
     /// So many transactions, none made. The places for their times are written, so that timing touches no fresh
     /// page.
     pub fn new(alloc: Global, transactions: u32, number: u64) -> Result<Ledger, AllocError> {
-        let mut times = Vec::new(alloc);
-        for _ in 0..transactions {
-            times.push(0u64)?;
-        }
         Ok(Ledger {
             transactions,
             made: 0,
             number,
-            times,
+            times: vec![in alloc; 0u64; transactions as usize]?,
         })
     }
 
@@ -43,15 +38,5 @@ impl Ledger {
     /// Whether transactions are to be made.
     pub fn is_open(&self) -> bool {
         self.made < self.transactions
-    }
-}
-
-/// The nanoseconds between two readings of the clock; 0 if one is missing.
-pub fn nanos_between(before: Option<Instant>, after: Option<Instant>) -> u64 {
-    match (before, after) {
-        (Some(before), Some(after)) => {
-            u64::try_from(after.saturating_duration_since(before).as_nanos()).unwrap_or(u64::MAX)
-        }
-        _ => 0,
     }
 }

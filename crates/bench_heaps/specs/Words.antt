@@ -1,6 +1,6 @@
 -- What the words may ask for.
 use Rattle.std.specs.Prelude.{ℕ, ◌≡◌, ◌≤◌, ◌%◌}
-use Rattle.bench_pauses.specs.declared.words.Asked.{Asked}
+use Rattle.bench_heaps.specs.declared.pauses.words.Asked.{Asked}
 
 -- the words are in their ranges
 pub record AreWordsInRange (a : Asked) : Type 0 where

@@ -1,9 +1,10 @@
 //! What is told of a run.
 
-use crate::crowd::Found;
-use crate::orders::Seen;
-use crate::timeline::Timeline;
-use crate::words::Asked;
+use crate::pauses::clock::Tally;
+use crate::pauses::crowd::Found;
+use crate::pauses::timeline::Timeline;
+use crate::pauses::words::Asked;
+use crate::seen::Seen;
 use std::io;
 use std::rt::Runtime;
 
@@ -12,12 +13,7 @@ struct Sums {
     orders: u64,
     objects: u64,
     seen: Seen,
-    cycles: u64,
-    marked: u64,
-    collections: u64,
-    exact: u64,
-    traced: u64,
-    rescanned: u64,
+    tally: Tally,
 }
 
 fn summed(found: &Found) -> Sums {
@@ -25,46 +21,28 @@ fn summed(found: &Found) -> Sums {
         orders: 0,
         objects: 0,
         seen: Seen::nothing(),
-        cycles: 0,
-        marked: 0,
-        collections: 0,
-        exact: 0,
-        traced: 0,
-        rescanned: 0,
+        tally: Tally::nothing(),
     };
     for worker in found.workers.iter() {
         all.orders = all.orders.wrapping_add(u64::from(worker.orders));
         all.objects = all.objects.wrapping_add(worker.nodes);
         all.seen = all.seen.and(worker.seen);
-        all.cycles = all.cycles.wrapping_add(worker.log.cycles);
-        all.marked = all.marked.wrapping_add(worker.log.marked);
-        all.collections = all.collections.wrapping_add(worker.log.collections);
-        all.exact = all.exact.wrapping_add(worker.log.exact);
-        all.traced = all.traced.wrapping_add(worker.log.traced);
-        all.rescanned = all.rescanned.wrapping_add(worker.log.rescanned);
+        all.tally = all.tally.and(worker.log.tally);
     }
     all.objects = all.objects.wrapping_add(all.orders.wrapping_mul(16));
     all
 }
 
-/// The lengths of all stops, from the shortest.
-fn lengths<R: AllocGlobal>(rt: &R, found: &Found) -> Vec<u64> {
+/// The nanoseconds of all stops, or of all transactions, from the shortest.
+fn sorted<R: AllocGlobal>(rt: &R, found: &Found, stops: bool) -> Vec<u64> {
     let mut all = Vec::new(rt.alloc());
     for worker in found.workers.iter() {
-        for took in worker.log.lengths.iter() {
-            // A length that finds no memory isn't told.
-            let _kept = all.push(*took);
-        }
-    }
-    all.as_mut_slice().sort_unstable();
-    all
-}
-
-/// The nanoseconds of all transactions, from the shortest.
-fn latencies<R: AllocGlobal>(rt: &R, found: &Found) -> Vec<u64> {
-    let mut all = Vec::new(rt.alloc());
-    for worker in found.workers.iter() {
-        for took in worker.ledger.times.iter() {
+        let times = if stops {
+            &worker.log.lengths
+        } else {
+            &worker.ledger.times
+        };
+        for took in times.iter() {
             // A time that finds no memory isn't told.
             let _kept = all.push(*took);
         }
@@ -77,24 +55,23 @@ fn ratio(number: u64, by: u64) -> u64 {
     number.checked_div(by).unwrap_or(0)
 }
 
-/// The length that so many of a hundred don't exceed, in microseconds; 0 if there is none.
-fn at_share(lengths: &[u64], share: usize) -> u64 {
-    let last = lengths.len().saturating_sub(1);
-    let at = (lengths.len().wrapping_mul(share) / 100).min(last);
-    match lengths.get(at) {
-        Some(took) => *took / 1000,
+/// The nanoseconds that so many of 10,000 times don't exceed; 0 if there is none.
+fn at_part(times: &[u64], part: usize) -> u64 {
+    let last = times.len().saturating_sub(1);
+    let at = (times.len().wrapping_mul(part) / 10_000).min(last);
+    match times.get(at) {
+        Some(took) => *took,
         None => 0,
     }
 }
 
-fn mean(lengths: &[u64]) -> u64 {
+/// Their mean.
+fn mean(times: &[u64]) -> u64 {
     let mut sum = 0u64;
-    let mut count = 0u64;
-    for took in lengths.iter() {
+    for took in times.iter() {
         sum = sum.wrapping_add(*took);
-        count = count.wrapping_add(1);
     }
-    ratio(sum, count) / 1000
+    ratio(sum, times.len() as u64)
 }
 
 fn tell_counts<R: Runtime>(rt: &R, asked: Asked, all: &Sums) -> io::Result<()> {
@@ -113,22 +90,12 @@ fn tell_times<R: Runtime>(rt: &R, asked: Asked, found: &Found, lengths: &[u64]) 
     println!(rt;
         "stops {} least {} mean {} median {} most99 {} longest {}",
         lengths.len(),
-        at_share(lengths, 0),
-        mean(lengths),
-        at_share(lengths, 50),
-        at_share(lengths, 99),
-        at_share(lengths, 100)
+        at_part(lengths, 0) / 1000,
+        mean(lengths) / 1000,
+        at_part(lengths, 5_000) / 1000,
+        at_part(lengths, 9_900) / 1000,
+        at_part(lengths, 10_000) / 1000
     )
-}
-
-/// The nanoseconds that so many of 10,000 transactions don't exceed; 0 if there is none.
-fn at_part(times: &[u64], part: usize) -> u64 {
-    let last = times.len().saturating_sub(1);
-    let at = (times.len().wrapping_mul(part) / 10_000).min(last);
-    match times.get(at) {
-        Some(took) => *took,
-        None => 0,
-    }
 }
 
 /// How long the transactions took.
@@ -144,6 +111,8 @@ fn tell_latencies<R: Runtime>(rt: &R, times: &[u64]) -> io::Result<()> {
 
 /// Who did what.
 fn tell_work<R: Runtime>(rt: &R, found: &Found, all: &Sums) -> io::Result<()> {
+    let objects = all.objects;
+    let all = all.tally;
     let beside = all.traced.wrapping_add(found.traced);
     let marked = ratio(all.marked, all.cycles);
     println!(rt; "cycles {} collections {}", all.cycles, all.collections)?;
@@ -158,7 +127,7 @@ fn tell_work<R: Runtime>(rt: &R, found: &Found, all: &Sums) -> io::Result<()> {
         "in use after a cycle {} after a collection {} floated {}",
         marked,
         ratio(all.exact, all.collections),
-        marked.saturating_sub(all.objects)
+        marked.saturating_sub(objects)
     )
 }
 
@@ -194,9 +163,8 @@ pub fn tell<R: Runtime + AllocGlobal>(rt: &R, asked: Asked, found: &Found) -> io
     if asked.counts_alone {
         return Ok(());
     }
-    let lengths = lengths(rt, found);
-    tell_times(rt, asked, found, lengths.as_slice())?;
-    tell_latencies(rt, latencies(rt, found).as_slice())?;
+    tell_times(rt, asked, found, sorted(rt, found, true).as_slice())?;
+    tell_latencies(rt, sorted(rt, found, false).as_slice())?;
     tell_work(rt, found, &all)?;
     tell_lines(rt, found)
 }

@@ -1,9 +1,12 @@
-ghost use Rattle.std.specs.Prelude.{◌≤◌, IfOk, IfSome};
-ghost use Rattle.bench_pauses.specs.Words.{AreWordsInRange};
+ghost use Rattle.std.specs.Prelude.{IfOk, IfSome};
+ghost use Rattle.bench_heaps.specs.Words.{AreWordsInRange};
 
-use clap::error::ErrorKind;
-use clap::{Arg, ArgAction, ArgMatches, Command};
-use std::alloc::{AllocError, Global};
+use crate::words::{Unasked, chosen, matches_of};
+use clap::ArgMatches;
+use std::alloc::Global;
+
+pub const USAGE: &str =
+    "usage: bench_heaps pauses [--cells n] [--live percent] [--workers k] [--tracers t] [--packets n] [--entries e] [--transactions n] [--stops] [--counts-alone] [--timeline]";
 
 /// A run that is asked for.
 #[derive(Clone, Copy, Drop)]
@@ -30,7 +33,6 @@ pub struct Asked {
     pub timeline: bool,
 }
 
-/// The options with a value.
 const OPTIONS: [&str; 7] = [
     "cells",
     "live",
@@ -41,34 +43,7 @@ const OPTIONS: [&str; 7] = [
     "transactions",
 ];
 
-/// The options without one.
 const FLAGS: [&str; 3] = ["stops", "counts-alone", "timeline"];
-
-/// The number given for an option, if in range, or the default.
-fn chosen(
-    matches: &ArgMatches<'_>,
-    name: &str,
-    least: u32,
-    greatest: u32,
-    default: u32,
-) -> Option<u32>
-    requires { (least ≤ default) × (default ≤ greatest) }
-    ensures { IfSome result (λ n. (least ≤ n) × (n ≤ greatest)) }
-{
-    let Some(text) = matches.get_str(name) else {
-        return Some(default);
-    };
-    match text.parse::<u32>() {
-        Ok(number) => {
-            if least <= number && number <= greatest {
-                Some(number)
-            } else {
-                None
-            }
-        }
-        Err(_) => None,
-    }
-}
 
 /// The run that the options ask for, if each is in its range.
 fn asked_of(matches: &ArgMatches<'_>) -> Option<Asked>
@@ -93,28 +68,15 @@ fn asked_of(matches: &ArgMatches<'_>) -> Option<Asked>
     }
 }
 
-fn program<'a>(alloc: Global) -> Result<Command<'a>, AllocError> {
-    let mut program = Command::new(alloc, "bench_pauses")
-        .no_binary_name(true)
-        .disable_help_flag(true);
-    for name in OPTIONS {
-        let option = Arg::new(alloc, name).long(name).action(ArgAction::Set);
-        program = program.arg(option)?;
-    }
-    for name in FLAGS {
-        let flag = Arg::new(alloc, name).long(name).action(ArgAction::SetTrue);
-        program = program.arg(flag)?;
-    }
-    Ok(program)
-}
-
-/// The run that the words ask for, without the program's own name, if any.
-pub fn asked_by(alloc: Global, words: &[String]) -> Result<Option<Asked>, AllocError>
-    ensures { IfOk result (λ o. IfSome o AreWordsInRange) }
+/// The run that the words ask for.
+pub fn asked_by(alloc: Global, words: &[String]) -> Result<Asked, Unasked>
+    ensures { IfOk result AreWordsInRange }
 {
-    match program(alloc)?.try_get_matches_from(words) {
-        Ok(matches) => Ok(asked_of(&matches)),
-        Err(error) if error.kind() == ErrorKind::OutOfMemory => Err(AllocError),
-        Err(_) => Ok(None),
+    match matches_of(alloc, words, OPTIONS.as_slice(), FLAGS.as_slice()) {
+        Ok(matches) => match asked_of(&matches) {
+            Some(asked) => Ok(asked),
+            None => Err(Unasked::Wrong),
+        },
+        Err(why) => Err(why),
     }
 }

@@ -1,11 +1,11 @@
 //! All threads of a run.
 
-use crate::clock::Log;
-use crate::latency::Ledger;
-use crate::marking::Marker;
-use crate::orders::Seen;
-use crate::words::Asked;
-use crate::workers::{Worker, orders_in};
+use crate::pauses::clock::{Log, nanos_since};
+use crate::pauses::ledger::Ledger;
+use crate::pauses::marking::Marker;
+use crate::pauses::words::Asked;
+use crate::pauses::workers::{Part, Worker, orders_in};
+use crate::seen::Seen;
 use managed_heap::{Sizes, World};
 use std::alloc::Global;
 use std::rt::Clock;
@@ -31,30 +31,6 @@ pub struct Found {
     pub traced: u64,
     /// The nanoseconds in which the orders were replaced.
     pub took: u64,
-    /// Each worker came to its end.
-    pub ended: bool,
-}
-
-/// What each worker does in one part of a run.
-#[derive(Clone, Copy, Drop)]
-enum Part {
-    Fill,
-    Settle,
-    Play,
-    Look,
-}
-
-fn play_one<R: Wait + Clock>(rt: &R, alloc: Global, worker: &mut Worker, part: Part) {
-    if worker.ended.is_err() {
-        return;
-    }
-    worker.ended = match part {
-        Part::Fill => worker.fill(rt, alloc),
-        Part::Settle => worker.settle(rt),
-        Part::Play => worker.play(rt, alloc),
-        Part::Look => worker.look(rt, alloc),
-    };
-    worker.mutator.leave();
 }
 
 fn play_part<R: Threads + Wait + Sync + Clock>(
@@ -69,28 +45,15 @@ fn play_part<R: Threads + Wait + Sync + Clock>(
             rt,
             workers.as_mut_slice(),
             threads,
-            &|_, worker: &mut Worker| play_one(rt, alloc, worker, part),
+            &|_, worker: &mut Worker| worker.play(rt, alloc, part),
         );
     }
 }
 
-/// The nanoseconds since then.
-fn since<R: Clock>(rt: &R, start: Option<Instant>) -> u64 {
-    match start {
-        None => 0,
-        Some(start) => match start.elapsed(rt) {
-            Ok(took) => u64::try_from(took.as_nanos()).unwrap_or(u64::MAX),
-            Err(_) => 0,
-        },
-    }
-}
-
-fn is_more(workers: &Vec<Worker>) -> bool {
-    let mut more = false;
-    for worker in workers.iter() {
-        more = more || (worker.ended.is_ok() && worker.ledger.is_open());
-    }
-    more
+fn is_more(workers: &[Worker]) -> bool {
+    workers
+        .iter()
+        .any(|worker| worker.ended.is_ok() && worker.ledger.is_open())
 }
 
 /// Rounds of transactions, each after a rest: the nanoseconds that they took.
@@ -101,13 +64,13 @@ fn play_rounds<R: Threads + Wait + Sync + Clock>(
 ) -> u64 {
     let mut took = 0u64;
     for _ in 0..ROUNDS {
-        if !is_more(workers) {
+        if !is_more(workers.as_slice()) {
             break;
         }
         sleep(rt, Duration::from_millis(REST));
         let start = Instant::now(rt).ok();
         play_part(rt, alloc, workers, Part::Play);
-        took = took.wrapping_add(since(rt, start));
+        took = took.wrapping_add(nanos_since(rt, start).unwrap_or(0));
     }
     took
 }
@@ -136,11 +99,7 @@ fn hire_one(
 ) -> Option<Worker> {
     let live = u64::from(asked.cells).wrapping_mul(u64::from(asked.live)) / 100;
     let cells = live.checked_div(u64::from(asked.workers))?;
-    let more = if k < asked.transactions.checked_rem(asked.workers)? {
-        1
-    } else {
-        0
-    };
+    let more = u32::from(k < asked.transactions.checked_rem(asked.workers)?);
     let transactions = asked.transactions.checked_div(asked.workers)?;
     let seed = 88_172_645_463_325_252u64.wrapping_add(u64::from(k));
     Some(Worker {
@@ -194,23 +153,21 @@ fn trace_all<R: Threads + Wait + Sync + Clock>(rt: &R, tracers: &mut Vec<Marker>
     }
 }
 
-/// What all came to.
-fn gather(workers: Vec<Worker>, markers: Vec<Marker>, took: u64) -> Found {
-    let mut ended = true;
+/// What all came to, if each worker came to its end.
+fn gather(workers: Vec<Worker>, markers: Vec<Marker>, took: u64) -> Option<Found> {
     for worker in workers.iter() {
-        ended = ended && worker.ended.is_ok();
+        worker.ended.ok()?;
     }
     let mut traced = 0u64;
     for marker in markers.iter() {
         traced = traced.wrapping_add(marker.tracer.traced());
     }
-    Found {
+    Some(Found {
         workers,
         markers,
         traced,
         took,
-        ended,
-    }
+    })
 }
 
 /// When the run begins, if the timeline is asked for.
@@ -243,6 +200,5 @@ pub fn run<R: Threads + Wait + Sync + Clock>(rt: &R, alloc: Global, asked: Asked
             took = play_all(rt, alloc, &mut world, &mut workers);
         },
     );
-    let found = gather(workers, tracers, took);
-    if found.ended { Some(found) } else { None }
+    gather(workers, tracers, took)
 }

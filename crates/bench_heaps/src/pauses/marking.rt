@@ -1,6 +1,6 @@
 //! A thread that marks beside the workers.
 
-use crate::timeline::{Doing, Timeline};
+use crate::pauses::timeline::{Doing, Timeline};
 use managed_heap::{Tracer, Turn};
 use std::alloc::Global;
 use std::rt::Clock;
