@@ -8,7 +8,6 @@
 
 mod clock;
 mod crowd;
-mod ledger;
 mod marking;
 mod orders;
 mod report;

@@ -1,10 +1,9 @@
 //! All threads of a run.
 
 use crate::pauses::clock::{Log, nanos_since};
-use crate::pauses::ledger::Ledger;
 use crate::pauses::marking::Marker;
 use crate::pauses::words::Asked;
-use crate::pauses::workers::{Part, Worker, orders_in};
+use crate::pauses::workers::{Ledger, Part, Worker, orders_in};
 use crate::seen::Seen;
 use managed_heap::{Sizes, World};
 use std::alloc::Global;

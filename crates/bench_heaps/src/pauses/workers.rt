@@ -1,11 +1,10 @@
 //! What a worker does: it fills its directory, replaces orders, and looks at all of them at the end.
 
 use crate::pauses::clock::{Log, nanos_between};
-use crate::pauses::ledger::Ledger;
 use crate::pauses::orders::{Hand, OBJECTS, levels_for};
 use crate::seen::Seen;
 use managed_heap::{Mutator, Refused};
-use std::alloc::Global;
+use std::alloc::{AllocError, Global};
 use std::mem;
 use std::rt::Clock;
 use std::sync::Wait;
@@ -25,6 +24,45 @@ pub enum Part {
     Play,
     /// It looks at all of its orders.
     Look,
+}
+
+/// The transactions of a worker.
+#[derive(Drop)]
+pub struct Ledger {
+    /// How many it is to make.
+    pub transactions: u32,
+    /// How many it has made.
+    pub made: u32,
+    /// Where its choice of orders goes on.
+    pub number: u64,
+    /// The nanoseconds that each took, and 0 for those that are to be made.
+    pub times: Vec<u64>,
+}
+
+impl Ledger {
+    /// So many transactions, none made. The places for their times are written, so that timing touches no fresh
+    /// page.
+    pub fn new(alloc: Global, transactions: u32, number: u64) -> Result<Ledger, AllocError> {
+        Ok(Ledger {
+            transactions,
+            made: 0,
+            number,
+            times: vec![in alloc; 0u64; transactions as usize]?,
+        })
+    }
+
+    /// Notes a transaction that took this many nanoseconds.
+    pub fn note(&mut self, took: u64) {
+        if let Some(place) = self.times.get_mut(self.made as usize) {
+            *place = took;
+        }
+        self.made = self.made.saturating_add(1);
+    }
+
+    /// Whether transactions are to be made.
+    pub fn is_open(&self) -> bool {
+        self.made < self.transactions
+    }
 }
 
 /// A mutator, what it is to do, what it found, and how it ended.

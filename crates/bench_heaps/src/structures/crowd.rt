@@ -1,10 +1,8 @@
 //! A world with a structure in the root's first field, and threads that act on it.
 
 use crate::seen::Seen;
-use crate::structures::Structure;
-use crate::structures::mix::{fill, mix};
-use crate::structures::pairs::pairs;
-use crate::structures::words::Asked;
+use crate::structures::work::{fill, mix, pairs};
+use crate::structures::{Asked, Structure};
 use example_structures::{SharedMap, SharedQueue};
 use shared_heap::{Refused, SharedMutator, SharedSizes, SharedWorld, Tracer};
 use std::alloc::Global;

@@ -1,9 +1,10 @@
-//! What a thread does with a map: of ten keys it looks eight up, puts a new number under one, and takes one out.
+//! What a thread does: with a queue it puts a number in and takes one out, by turns; with a map, of ten keys it looks
+//! eight up, puts a new number under one, and takes one out.
 
 use crate::seen::Seen;
+use crate::structures::Asked;
 use crate::structures::crowd::{FOUND, MADE};
-use crate::structures::words::Asked;
-use example_structures::SharedMap;
+use example_structures::{SharedMap, SharedQueue};
 use shared_heap::{Refused, SharedMutator};
 use std::sync::Wait;
 
@@ -71,6 +72,24 @@ pub fn mix<R: Wait>(
     for _ in 0..asked.rounds {
         drawn = drawn_after(drawn);
         seen = act(rt, m, map, drawn, key_of(drawn, asked, k), seen)?;
+    }
+    Ok(seen)
+}
+
+/// Puts the numbers below `rounds` in, and takes one out after each, which is there: no thread has taken more than
+/// it put in.
+pub fn pairs<R: Wait>(
+    rt: &R,
+    m: &mut SharedMutator,
+    queue: SharedQueue,
+    rounds: u32,
+) -> Result<Seen, Refused> {
+    let mut seen = Seen::nothing();
+    for n in 0..rounds {
+        queue.put(rt, m, MADE, n)?;
+        if let Some(number) = queue.take(rt, m, FOUND)? {
+            seen = seen.object(number);
+        }
     }
     Ok(seen)
 }
