@@ -1,5 +1,5 @@
 #!/bin/sh
-# How long crates/bench_pauses stands still, and how long its transactions take: marking beside the workers, and in stops alone, in turns; beside the same
+# How long the work `pauses` of crates/bench_heaps stands still, and how long its transactions take: marking beside the workers, and in stops alone, in turns; beside the same
 # work over Boehm's collector, in Go and in Java. From the top of the repository: chrt -f 10 sh bench/pauses.sh [RUNS [PROGRAM]] prints two tables, 5 runs if no
 # number is given. Without a program, ours is proved and built. A peer that can't be built is left out with a word, and so is one that finds no memory.
 # SIZES in the environment has CELLS/WORKERS/CYCLES, the last of which is how often a run uses up the free cells, and TRACERS how many tracers ours has.
@@ -16,8 +16,8 @@ folder=${TMPDIR:-/tmp}/pauses.$$
 mkdir "$folder"
 trap 'rm -rf "$folder"' EXIT
 
-[ -n "$program" ] || (cd crates/bench_pauses && rt run >/dev/null 2>&1)
-program=${program:-crates/bench_pauses/out/bench_pauses}
+[ -n "$program" ] || (cd crates/bench_heaps && rt run >/dev/null 2>&1)
+program=${program:-crates/bench_heaps/out/bench_heaps}
 g++ -std=c++20 -O2 -pthread -o "$folder/boehm" bench/pauses/pauses.cpp -lgc 2>/dev/null || echo 'boehm left out: bench/pauses/pauses.cpp is built where there is libgc' >&2
 { command -v go >/dev/null 2>&1 && go build -o "$folder/go" bench/pauses/pauses.go 2>/dev/null; } || echo 'go left out: bench/pauses/pauses.go is built where there is Go' >&2
 { command -v javac >/dev/null 2>&1 && javac -d "$folder/java" bench/pauses/Pauses.java 2>/dev/null; } || echo 'java left out: bench/pauses/Pauses.java is built where there is Java' >&2
@@ -48,7 +48,7 @@ sum() { awk -v column="$2" '{ sum += $column } END { print sum + 0 }' "$folder/$
 
 ours() {
     # shellcheck disable=SC2086
-    "$program" --cells "$1" --live $live --workers "$2" --tracers "$3" --transactions "$(transactions "$1")" $([ "$4" = stops ] && echo --stops) >"$folder/told"
+    "$program" pauses --cells "$1" --live $live --workers "$2" --tracers "$3" --transactions "$(transactions "$1")" $([ "$4" = stops ] && echo --stops) >"$folder/told"
     numbers <"$folder/told" >>"$folder/$4-$3.$1.$2"
 }
 

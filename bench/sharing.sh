@@ -1,6 +1,6 @@
 #!/bin/sh
 # Times a queue and a map that threads share beside the same work over Boehm's collector and in Go, compares their texts, and prints one table. From the top of the
-# repository: chrt -f 10 sh bench/sharing.sh [RUNS [PROGRAM]]. Medians of so many runs in turns, 5 if no number is given. Without the program bench_structures it is
+# repository: chrt -f 10 sh bench/sharing.sh [RUNS [PROGRAM]]. Medians of so many runs in turns, 5 if no number is given. Without the program bench_heaps it is
 # proved and built. ROUNDS in the environment, 2,000,000 if it isn't given, says how often each thread does what it does; what a run of no rounds takes is taken off.
 # Each runs in two modes, of which the one counts that is faster by the clock: ours without a tracer and with one, Boehm's collector with as many threads that mark
 # as it takes by itself and with one, Go with its limit of memory alone and with its usual pace besides. All heaps have one size: ours has 1,048,576 cells of 33 bytes
@@ -14,7 +14,7 @@ folder=${TMPDIR:-/tmp}/sharing.$$
 mkdir "$folder"
 trap 'rm -rf "$folder"' EXIT
 
-[ -n "$program" ] || { (cd crates/bench_structures && rt run >/dev/null 2>&1) && program=crates/bench_structures/out/bench_structures; }
+[ -n "$program" ] || { (cd crates/bench_heaps && rt run >/dev/null 2>&1) && program=crates/bench_heaps/out/bench_heaps; }
 g++ -std=c++20 -O2 -o "$folder/measure" bench/measure.cpp
 g++ -std=c++20 -O2 -pthread -o "$folder/boehm" bench/sharing/structures.cpp -lgc 2>/dev/null || echo 'boehm left out: bench/sharing/structures.cpp is built where there is libgc'
 { command -v go >/dev/null 2>&1 && go build -o "$folder/go" bench/sharing/structures.go 2>/dev/null; } || echo 'go left out: bench/sharing/structures.go is built where there is Go 1.19 or later'
@@ -33,7 +33,7 @@ once() {
 each() {
     for count in "$rounds" 0; do
         for mode in 0 1; do
-            once ours $mode "$1" "$2" "$count" "$program" "$1" "$2" "$count" "$3" $mode
+            once ours $mode "$1" "$2" "$count" "$program" "$1" --workers "$2" --rounds "$count" --cells "$3" --tracers $mode
             if [ -x "$folder/boehm" ]; then
                 marks=
                 [ $mode = 0 ] || marks=GC_MARKERS=1

@@ -1,7 +1,7 @@
 #!/usr/bin/env python3
-"""Draws one cycle of a run of bench_pauses as a picture: a lane for each thread, and below it the same lanes where the cycle's stop is.
+"""Draws one cycle of a run of `bench_heaps pauses` as a picture: a lane for each thread, and below it the same lanes where the cycle's stop is.
 
-    bench_pauses --timeline .. >FILE; python3 bench/timeline.py FILE [CYCLE] >docs/figures/cycle.svg
+    bench_heaps pauses --timeline .. >FILE; python3 bench/timeline.py FILE [CYCLE] >docs/figures/cycle.svg
 
 CYCLE is the number of the stop that ends it, from 1; the middle one if none is given. It needs Python's own library alone.
 """

@@ -1,7 +1,7 @@
 #!/usr/bin/env python3
-"""Runs `bench_trees` at every depth, with several workers and tracers, in heaps that are too small, and with wrong words.
+"""Runs `bench_heaps trees` at every depth, with several workers and tracers, in heaps that are too small, and with wrong words.
 
-From the top of the repository: `python3 tests/trees.py [PROGRAM]`, by default the program that `rt run` builds in `crates/bench_trees`. What is written
+From the top of the repository: `python3 tests/trees.py [PROGRAM]`, by default the program that `rt run` builds in `crates/bench_heaps`. What is written
 has to be what the formula says: a tree of depth d has 2 ^ (d + 1) - 1 nodes, and of depth d there are 2 ^ (n - d + 4) trees where the kept one has depth n.
 The status of the script is 0 if nothing was wrong.
 """
@@ -13,7 +13,7 @@ import sys
 
 BOUND = float(os.environ.get("BOUND", "120"))
 EVERY = int(os.environ.get("EVERY", "1"))
-USAGE = b"usage: bench_trees [--depth n] [--cells n] [--workers k] [--tracers t]\n"
+USAGE = b"usage: bench_heaps trees [--depth n] [--cells n] [--workers k] [--tracers t]\n"
 
 
 def nodes(depth):
@@ -55,11 +55,11 @@ def rows():
 
 
 def main():
-    program = sys.argv[1] if len(sys.argv) > 1 else "crates/bench_trees/out/bench_trees"
+    program = sys.argv[1] if len(sys.argv) > 1 else "crates/bench_heaps/out/bench_heaps"
     wrong, done = 0, 0
     for given, status, texts in itertools.islice(rows(), 0, None, EVERY):
         try:
-            ended = subprocess.run([program, *given], stdin=subprocess.DEVNULL, stdout=subprocess.PIPE, timeout=BOUND)
+            ended = subprocess.run([program, "trees", *given], stdin=subprocess.DEVNULL, stdout=subprocess.PIPE, timeout=BOUND)
             found = ended.returncode, ended.stdout
         except subprocess.TimeoutExpired:
             found = "no answer", b""

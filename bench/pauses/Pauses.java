@@ -1,4 +1,4 @@
-// The work of crates/bench_pauses in Java: workers that keep orders below a directory, and replace one with each transaction, in rounds with a rest before each.
+// The work `pauses` of crates/bench_heaps in Java: workers that keep orders below a directory, and replace one with each transaction, in rounds with a rest before each.
 // java -Xms.. -Xmx.. -Xlog:..:LOG Pauses CELLS LIVE WORKERS TRANSACTIONS WARM. So many transactions of each worker come before, so that they are compiled. It
 // tells when the others began, so that the pauses before are left out of the log.
 import java.lang.management.ManagementFactory;

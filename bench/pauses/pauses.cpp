@@ -1,4 +1,4 @@
-// The work of crates/bench_pauses over Boehm's collector: workers that keep orders below a directory, and replace one with each transaction, in rounds with
+// The work `pauses` of crates/bench_heaps over Boehm's collector: workers that keep orders below a directory, and replace one with each transaction, in rounds with
 // a rest before each. pauses CELLS LIVE WORKERS TRANSACTIONS stop|incremental PERCENT. The heap has so many of a hundred of the bytes of ours, which are 48 for each
 // cell; an object takes 48 here, too.
 #define GC_THREADS

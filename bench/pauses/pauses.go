@@ -1,4 +1,4 @@
-// The work of crates/bench_pauses in Go: workers that keep orders below a directory, and replace one with each transaction, in rounds with a rest before each.
+// The work `pauses` of crates/bench_heaps in Go: workers that keep orders below a directory, and replace one with each transaction, in rounds with a rest before each.
 // pauses CELLS LIVE WORKERS TRANSACTIONS. The heap may grow until the live set is the stated share of it, which is 48 bytes for each cell of ours. A pause here
 // is all that one cycle stopped the world.
 package main

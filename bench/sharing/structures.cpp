@@ -1,4 +1,4 @@
-// A queue and a map that threads share, over the collector of Boehm, Demers and Weiser: the work of crates/bench_structures, and the same exchanges.
+// A queue and a map that threads share, over the collector of Boehm, Demers and Weiser: the works `queue` and `map` of crates/bench_heaps, and the same exchanges.
 // boehm queue|map THREADS ROUNDS MEGABYTES. The heap has that size from the beginning. It has to grow
 // if a thread that stands still, or a word that looks like a reference, keeps an old node of the queue, and with it all that came behind.
 #define GC_THREADS

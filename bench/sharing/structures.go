@@ -1,4 +1,4 @@
-// A queue and a map that threads share, in Go: the work of crates/bench_structures, and the same exchanges. go queue|map THREADS ROUNDS MEGABYTES 0|1. The
+// A queue and a map that threads share, in Go: the works `queue` and `map` of crates/bench_heaps, and the same exchanges. go queue|map THREADS ROUNDS MEGABYTES 0|1. The
 // collector runs if the heap comes to that size, with 1 also if it has doubled, and has as many processors as there are threads.
 package main
 

@@ -1,4 +1,4 @@
-// Binary trees over the collector of Boehm, Demers and Weiser: the work of crates/bench_trees, line by line. boehm DEPTH WORKERS
+// Binary trees over the collector of Boehm, Demers and Weiser: the work `trees` of crates/bench_heaps, line by line. boehm DEPTH WORKERS
 // The heap isn't bounded, and memory is freed only by the collector, which marks in as many threads as it was built for.
 #define GC_THREADS
 #include <gc.h>

@@ -1,4 +1,4 @@
-// Binary trees in Go: the work of crates/bench_trees, line by line. go DEPTH WORKERS. Its collector has all processors, as others here have.
+// Binary trees in Go: the work `trees` of crates/bench_heaps, line by line. go DEPTH WORKERS. Its collector has all processors, as others here have.
 package main
 
 import (

@@ -9,7 +9,7 @@ mod opening;
 mod stops;
 
 use crate::cycles::opening::sizes_of;
-use crate::words::{Collections, Content, Size};
+use crate::words::{CONTENTS, Collections, Content, Size};
 use std::io;
 use std::rt::Runtime;
 use std::sync::Wait;
@@ -41,7 +41,7 @@ fn do_few<R: Runtime + AllocGlobal + Wait>(rt: &R, content: Content, size: Size)
 /// Makes a few collections of each kind.
 pub fn do_all<R: Runtime + AllocGlobal + Wait>(rt: &R) -> io::Result<()> {
     for size in [Size::Small, Size::Large] {
-        for content in [Content::Nothing, Content::Live, Content::Dead] {
+        for content in CONTENTS {
             do_few(rt, content, size)?;
         }
     }

@@ -9,7 +9,7 @@ mod sweeping;
 mod tracing;
 
 use crate::operations::opening::SIZES;
-use crate::words::OperationWork as Work;
+use crate::words::{OPERATION_WORKS, OperationWork as Work};
 use std::io;
 use std::rt::Runtime;
 use std::sync::Wait;
@@ -37,17 +37,7 @@ pub fn does<R: Runtime + AllocGlobal + Wait>(rt: &R, work: Work, rounds: u64) ->
 
 /// Does two rounds of each work.
 pub fn do_all<R: Runtime + AllocGlobal + Wait>(rt: &R) -> io::Result<()> {
-    for work in [
-        Work::Open,
-        Work::Make,
-        Work::Publish,
-        Work::Hide,
-        Work::Mesh,
-        Work::Trace,
-        Work::Look,
-        Work::Drain,
-        Work::Sweep,
-    ] {
+    for work in OPERATION_WORKS {
         does(rt, work, 2)?;
     }
     Ok(())

@@ -6,7 +6,7 @@ mod opening;
 mod stores;
 
 use crate::table::opening::SIZES;
-use crate::words::TableWork as Work;
+use crate::words::{TABLE_WORKS, TableWork as Work};
 use std::alloc::Global;
 use std::io;
 use std::rt::Runtime;
@@ -30,11 +30,12 @@ pub fn does<R: Runtime + AllocGlobal>(rt: &R, work: Work, rounds: u64) -> io::Re
 
 /// Does a few rounds of each work.
 pub fn do_all<R: Runtime + AllocGlobal>(rt: &R) -> io::Result<()> {
-    for work in [Work::Load, Work::Look, Work::Store, Work::Fetch] {
-        does(rt, work, 10_000)?;
-    }
-    for work in [Work::Make, Work::Open] {
-        does(rt, work, 1)?;
+    for work in TABLE_WORKS {
+        let rounds = match work {
+            Work::Make | Work::Open => 1,
+            _ => 10_000,
+        };
+        does(rt, work, rounds)?;
     }
     Ok(())
 }

@@ -17,6 +17,16 @@ pub enum TableWork {
     Open,
 }
 
+/// All of them.
+pub const TABLE_WORKS: [TableWork; 6] = [
+    TableWork::Load,
+    TableWork::Look,
+    TableWork::Store,
+    TableWork::Fetch,
+    TableWork::Make,
+    TableWork::Open,
+];
+
 impl TableWork {
     /// The word that asks for it.
     pub fn name(&self) -> &'static str {
@@ -54,6 +64,19 @@ pub enum OperationWork {
     Sweep,
 }
 
+/// All of them.
+pub const OPERATION_WORKS: [OperationWork; 9] = [
+    OperationWork::Open,
+    OperationWork::Make,
+    OperationWork::Publish,
+    OperationWork::Hide,
+    OperationWork::Mesh,
+    OperationWork::Trace,
+    OperationWork::Look,
+    OperationWork::Drain,
+    OperationWork::Sweep,
+];
+
 impl OperationWork {
     /// The word that asks for it.
     pub fn name(&self) -> &'static str {
@@ -81,6 +104,9 @@ pub enum Content {
     /// An object in each cell, none of which is reached.
     Dead,
 }
+
+/// All of them.
+pub const CONTENTS: [Content; 3] = [Content::Nothing, Content::Live, Content::Dead];
 
 impl Content {
     /// The word that asks for it.
@@ -119,39 +145,30 @@ pub enum Asked {
 }
 
 fn table_work(name: &str) -> Option<TableWork> {
-    match name {
-        "load" => Some(TableWork::Load),
-        "look" => Some(TableWork::Look),
-        "store" => Some(TableWork::Store),
-        "fetch" => Some(TableWork::Fetch),
-        "make" => Some(TableWork::Make),
-        "open" => Some(TableWork::Open),
-        _ => None,
+    for work in TABLE_WORKS {
+        if work.name() == name {
+            return Some(work);
+        }
     }
+    None
 }
 
 fn operation_work(name: &str) -> Option<OperationWork> {
-    match name {
-        "open" => Some(OperationWork::Open),
-        "make" => Some(OperationWork::Make),
-        "publish" => Some(OperationWork::Publish),
-        "hide" => Some(OperationWork::Hide),
-        "mesh" => Some(OperationWork::Mesh),
-        "trace" => Some(OperationWork::Trace),
-        "look" => Some(OperationWork::Look),
-        "drain" => Some(OperationWork::Drain),
-        "sweep" => Some(OperationWork::Sweep),
-        _ => None,
+    for work in OPERATION_WORKS {
+        if work.name() == name {
+            return Some(work);
+        }
     }
+    None
 }
 
 fn content_named(name: &str) -> Option<Content> {
-    match name {
-        "empty" => Some(Content::Nothing),
-        "live" => Some(Content::Live),
-        "dead" => Some(Content::Dead),
-        _ => None,
+    for content in CONTENTS {
+        if content.name() == name {
+            return Some(content);
+        }
     }
+    None
 }
 
 fn size_named(name: &str) -> Option<Size> {

@@ -1,0 +1,5 @@
+pub mod Trees
+pub mod Standing
+pub mod Counts
+pub mod Playing
+pub mod Words

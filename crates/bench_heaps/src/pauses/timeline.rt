@@ -1,0 +1,111 @@
+//! What a thread did when, if that is asked for.
+//!
+//! In between it runs the program, or rests. While it waits for another's stop it helps as long as that lets it,
+//! which can't be told apart here.
+
+use crate::pauses::clock::nanos_since;
+use std::alloc::Global;
+use std::rt::Clock;
+use std::time::Instant;
+
+/// What a thread did.
+#[derive(Clone, Copy, Drop)]
+pub enum Doing {
+    /// A mutator marked beside the others, for a cache.
+    Paying,
+    /// A mutator asked for a stop, and ended a cycle or collected in it.
+    Collecting,
+    /// It waited for the stop of another, and helped.
+    Waiting,
+    /// A tracer marked beside the mutators.
+    Tracing,
+    /// A tracer found nothing to trace: it cleaned cards, or helped the stop of another.
+    Tending,
+}
+
+impl Doing {
+    /// The word for it.
+    pub fn word(self) -> &'static str {
+        match self {
+            Doing::Paying => "paying",
+            Doing::Collecting => "collecting",
+            Doing::Waiting => "waiting",
+            Doing::Tracing => "tracing",
+            Doing::Tending => "tending",
+        }
+    }
+}
+
+/// What a thread did from one time to another, in nanoseconds since the run began.
+#[derive(Clone, Copy, Drop)]
+pub struct Interval {
+    pub doing: Doing,
+    pub from: u64,
+    pub to: u64,
+}
+
+/// The intervals of one thread.
+#[derive(Drop)]
+pub struct Timeline {
+    /// When the run began; None if no intervals are asked for, and then no clock is read.
+    pub began: Option<Instant>,
+    /// Where the next interval begins.
+    pub from: u64,
+    /// What was noted, in order.
+    pub noted: Vec<Interval>,
+}
+
+/// From how many nanoseconds on a call is noted of which nothing was told: one that gets a cache and owes nothing
+/// takes less.
+const LONG: u64 = 100_000;
+
+impl Timeline {
+    /// A line on which nothing is noted. It takes no memory.
+    pub fn new(began: Option<Instant>, alloc: Global) -> Timeline {
+        Timeline {
+            began,
+            from: 0,
+            noted: Vec::new(alloc),
+        }
+    }
+
+    /// The nanoseconds since the run began; 0 if no intervals are asked for.
+    fn now<R: Clock>(&self, rt: &R) -> u64 {
+        nanos_since(rt, self.began).unwrap_or(0)
+    }
+
+    /// Notes what was done since the last interval ended or a new one was begun.
+    fn note(&mut self, doing: Doing, to: u64) {
+        let from = self.from;
+        self.from = to;
+        // An interval that finds no memory isn't told.
+        let _kept = self.noted.push(Interval { doing, from, to });
+    }
+
+    /// An interval begins.
+    pub fn begin<R: Clock>(&mut self, rt: &R) {
+        if self.began.is_some() {
+            self.from = self.now(rt);
+        }
+    }
+
+    /// The interval ends, in which this was done.
+    pub fn end<R: Clock>(&mut self, rt: &R, doing: Doing) {
+        if self.began.is_some() {
+            let to = self.now(rt);
+            self.note(doing, to);
+        }
+    }
+
+    /// Ends the interval, and notes it if it was long.
+    pub fn end_long<R: Clock>(&mut self, rt: &R, doing: Doing) {
+        if self.began.is_none() {
+            return;
+        }
+        let to = self.now(rt);
+        if to.saturating_sub(self.from) >= LONG {
+            self.note(doing, to);
+        }
+        self.from = to;
+    }
+}

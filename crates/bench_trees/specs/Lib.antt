@@ -1,4 +1,0 @@
-pub mod Trees
-pub mod Standing
-pub mod Counts
-pub mod Playing

@@ -1,0 +1,23 @@
+use Rattle.std.proofs.Common.{◌+◌}
+use Rattle.std.specs.Prelude.{false}
+use Rattle.shared_heap.proofs.Logs.{root-quiet, same-quiet}
+use Rattle.example_heaps.proofs.Ended.{if-ok}
+use Rattle.example_heaps.proofs.Joined.{locks-first, locks-last}
+use Rattle.example_heaps.proofs.locking.act.Goals as goal
+
+pub returns : goal.returns
+returns g c =
+    let v = c.args.m.now in
+    let w = c.enter.new.self in
+    let x = c.root.new.self in
+    let y = c.visit_often.new.m in
+    let z = c.leave.new.self in
+    let n = c.args.times + c.args.times in
+    let entered = if-ok c.enter.result _ c.if-is_err.ensures.value c.enter.ensures.entered in
+    let rooted = if-ok c.root.result _ c.if-is_err-2.ensures.value c.root.ensures.done in
+    record {
+      visited =
+          locks-first v y z false false n
+          (locks-last v w y false false n (same-quiet v w entered.1.same) (locks-last w x y false false n (root-quiet _ w x 0 0 rooted.1) c.if-not-visit_often.ensures.visited))
+          (same-quiet y z c.leave.ensures.left.same);
+    }
