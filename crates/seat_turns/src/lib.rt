@@ -56,4 +56,4 @@ pub use sharing::{
 pub use slots::{clear_slots_shared, fill_shared, spill_shared};
 pub use tracer_marking::{mark_some, see_phase};
 pub use try_turns::TryTurn;
-pub use turns::{TURN, keep_some, with_free};
+pub use turns::{TURN, keep_some, retire_some, with_free};
