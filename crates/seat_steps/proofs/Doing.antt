@@ -21,6 +21,9 @@ both b t f = false≢true (sym f ∙ t)
 pub alone-of : (h : Heap) (s : Shape) → s ≡ h.shape → s.sharing ≡ false → h.shape.sharing ≡ false
 alone-of h s e f = ap (λ (s : Shape). s.sharing) (sym e) ∙ f
 
+pub shared-of : (h : Heap) (s : Shape) → s ≡ h.shape → s.sharing ≡ true → h.shape.sharing ≡ true
+shared-of h s e t = ap (λ (s : Shape). s.sharing) (sym e) ∙ t
+
 module _ (h : Heap) (x y : HeapSeat) where
   pub does-shared : (op : Op) → h.shape.sharing ≡ true → DoesShared op (view_of x) (view_of y) → Does op h x y
   does-shared op t p = record { own = λ f. absurd (both h.shape.sharing t f); shared = λ _. p }

@@ -54,8 +54,12 @@ clearing_long from (suc n) =
 pub cleared-few : (from n : ℕ) (v w : View) → TakesSteps (clearing_steps from n) v w → AtMost n v w
 cleared-few from n v w e = at-most-steps n v w (clearing_steps from n) e.steps_are (let long = clearing_long from n in omega (arith, long))
 
+-- nothing was done
+pub still-few : (k : ℕ) (v w : View) → w ≡ v → AtMost k v w
+still-few k v w same = subst (λ (x : View). AtMost k v x) (sym same) (at-most-none k v)
+
 -- who is let go of has left
 pub stopped-few : (s : Stage) (v w : View) → StopsFrom s v w → AtMost 5 v w
-stopped-few Outside v w same = subst (λ (x : View). AtMost 5 v x) (sym same) (at-most-none 5 v)
+stopped-few Outside v w same = still-few 5 v w same
 stopped-few Inside v w left = left.1
 stopped-few s v w other = absurd other

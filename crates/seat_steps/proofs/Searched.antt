@@ -42,7 +42,6 @@ use Rattle.seat_steps.specs.declared.came.Came.TheVariants as cames
 use Rattle.seat_steps.proofs.Found.{found-right, full-left, full-right}
 use Rattle.std.proofs.lemmas.Bool.{false≢true}
 use Rattle.mark_core.specs.Seats.{has_turn}
-use Rattle.gc_cycle.specs.Answering.{HasCache}
 use Rattle.cache_refills.specs.Pace.Paying.{pops_where_paid}
 use Rattle.gc_cycle.specs.Mutating.{GoesOut}
 use Rattle.gc_cycle.proofs.Stops.Admitted.{count-none}
@@ -92,11 +91,6 @@ pub fills-tries :
 fills-tries None done sh v w shape e some none paid calm few longest = (none.cause, count-none pops (events v w) (ap not calm), subst (λ (s : Shape). AtMost (search_steps s) v w) (sym shape) few)
 fills-tries (Some r) done sh v w shape e some none paid calm few longest =
     (subst (λ n. RefillsTo r n v w) e some.0, paid, subst (λ (s : Shape). AtMost (filling_steps s) v w) (sym shape) longest)
-
--- the cache that the seat's record has, as it is lent
-pub own-cache : (o : Option Cache) (v : View) → IfSome o (λ h. IsCached h v) → IfNone o (v.state.cache ≡ None) → HasCache o v
-own-cache None v some none = none
-own-cache (Some h) v some none = some
 
 -- where a piece leaves the seat
 pub stands-after :

@@ -9,7 +9,8 @@ ghost use Rattle.seat_steps.specs.declared.stepper.Stage.TheVariants as stages;
 use crate::came::Came;
 use crate::stepper::{Stage, Stepper};
 use mark_core::VARIABLES;
-use seat_turns::{exchange_shared, exchange_value_shared, lend_shared, word_of};
+use mutator_ops::{share_count, share_exchange, share_lend};
+use seat_turns::word_of;
 
 /// The variable of section 0 that refers to the root.
 const ROOT: u8 = 0;
@@ -28,7 +29,7 @@ impl Stepper {
         match self.stage {
             Stage::Outside => Came::Outside,
             Stage::Inside => {
-                lend_shared(&self.heap, &mut self.seat, w, ROOT);
+                share_lend(&self.heap, &mut self.seat, w, ROOT);
                 if word_of(&self.seat, w) == 0 {
                     return Came::Nil;
                 }
@@ -57,7 +58,7 @@ impl Stepper {
                 if word_of(&self.seat, v) == 0 {
                     return Err(Came::Nil);
                 }
-                Ok(exchange_shared(&self.heap, &mut self.seat, v, i, expected, new))
+                Ok(share_exchange(&self.heap, &mut self.seat, v, i, Some(expected), Some(new)))
             }
             _ => Err(Came::Collecting),
         }
@@ -80,7 +81,7 @@ impl Stepper {
                 if word_of(&self.seat, v) == 0 {
                     return Err(Came::Nil);
                 }
-                Ok(exchange_value_shared(&self.heap, &mut self.seat, v, expected, new))
+                Ok(share_count(&self.heap, &mut self.seat, v, expected, new))
             }
             _ => Err(Came::Collecting),
         }

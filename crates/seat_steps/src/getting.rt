@@ -17,7 +17,6 @@ ghost use Rattle.seat_steps.specs.declared.came.Came.TheVariants as cames;
 ghost use Rattle.seat_steps.specs.Arriving.{LacksCell, LeavesWorld, MakesOne, Refills};
 
 use crate::came::Came;
-use crate::leaving::gives_up;
 use crate::operations::makes;
 use crate::payments::count_paid;
 use crate::tries::{arrive, point};
@@ -25,7 +24,7 @@ use alloc_cache::{Cache, cache_of};
 use cache_refills::try_refill;
 use gc_cycle::Refill;
 use gc_table::{Heap, HeapSeat};
-use seat_turns::{keep_some, leave, with_free};
+use seat_turns::{keep_some, leave, retire_some, with_free};
 
 fn try_fill(heap: &Heap, seat: &mut HeapSeat) -> Option<Refill>
     requires halts { Halts heap.now seat.old }
@@ -100,7 +99,7 @@ fn fill(
     ensures found { IfErr result (λ came. Across (FillsBy came) seat.old seat.new) }
     ensures pays { Across (CountsTry 3 8 paid.old paid.new) seat.old seat.new }
 {
-    gives_up(heap, seat, cache);
+    retire_some(heap, seat, cache);
     match try_fill(heap, seat) {
         None => Err(lacks_cell(heap, seat)),
         Some(Refill::Full) => {

@@ -3,9 +3,9 @@ ghost use Rattle.std.specs.Prelude.{◌≡◌, IfErr, IfOk};
 ghost use Rattle.seat_steps.specs.Handing.{HasStopped, IsHandedBack, IsSteppedBy};
 ghost use Rattle.seat_steps.specs.Stepping.{fields_in, shares as is_shared};
 
-use crate::leaving::leaves_turn;
 use crate::resting::RestingSeat;
 use crate::stepper::{Stage, Stepper};
+use seat_turns::leave_turn;
 
 impl Stepper {
     /// A stepper with this seat. It is outside the world.
@@ -44,7 +44,7 @@ impl Stepper {
             }),
             Stage::Inside => {
                 let mut seat = self.seat;
-                leaves_turn(&self.heap, &mut seat);
+                leave_turn(&self.heap, &mut seat);
                 Ok(RestingSeat {
                     heap: self.heap,
                     seat,

@@ -19,7 +19,6 @@ mod came;
 mod getting;
 mod handing;
 mod knowing;
-mod leaving;
 mod operations;
 mod payments;
 mod refills;

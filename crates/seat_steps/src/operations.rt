@@ -13,10 +13,11 @@ ghost use Rattle.seat_steps.specs.Doing.{Does, FindsNone, FindsSome, MakesNow, R
 
 use alloc_cache::Cache;
 use gc_table::{Heap, HeapSeat};
-use mutator_ops::{assign, clear, follow, put, set};
+use mutator_ops::{
+    assign, clear, follow, put, set, share_copy, share_forget, share_put, share_set, share_value_of,
+};
 use seat_turns::{
-    copy_shared, forget_shared, get_shared, make_in, make_shared_in, put_shared, read_value,
-    refer_to_one, refers_to_nothing, set_shared, value_shared, word_of,
+    get_shared, make_in, make_shared_in, read_value, refer_to_one, refers_to_nothing, word_of,
 };
 
 /// Makes an object in variable v. The cache, which has a free cell, stays the seat's.
@@ -48,7 +49,7 @@ pub fn sets(heap: &Heap, seat: &mut HeapSeat, v: u8, i: u8, w: u8)
     ensures few { Across (AtMost 3) seat.old seat.new }
 {
     if heap.shape().sharing {
-        set_shared(heap, seat, v, i, w);
+        share_set(heap, seat, v, i, w);
     } else {
         set(heap, seat, v, i, w);
     }
@@ -80,7 +81,7 @@ pub fn copies(heap: &Heap, seat: &mut HeapSeat, w: u8, v: u8)
     ensures few { Across (AtMost 1) seat.old seat.new }
 {
     if heap.shape().sharing {
-        copy_shared(heap, seat, w, v);
+        share_copy(heap, seat, w, v);
     } else {
         assign(heap, seat, w, v);
     }
@@ -96,7 +97,7 @@ pub fn forgets(heap: &Heap, seat: &mut HeapSeat, v: u8)
     ensures few { Across (AtMost 1) seat.old seat.new }
 {
     if heap.shape().sharing {
-        forget_shared(heap, seat, v);
+        share_forget(heap, seat, v);
     } else {
         clear(heap, seat, v);
     }
@@ -112,7 +113,7 @@ pub fn puts(heap: &Heap, seat: &mut HeapSeat, v: u8, value: u32)
     ensures few { Across (AtMost 2) seat.old seat.new }
 {
     if heap.shape().sharing {
-        put_shared(heap, seat, v, value);
+        share_put(heap, seat, v, value);
     } else {
         put(heap, seat, v, value);
     }
@@ -127,7 +128,7 @@ fn finds_low(heap: &Heap, seat: &mut HeapSeat, v: u8) -> Option<u32>
     ensures none { IfNone result (FindsNone v heap.now seat.old seat.new) }
     ensures few { Across (AtMost 1) seat.old seat.new }
 {
-    match value_shared(heap, seat, v) {
+    match share_value_of(heap, seat, v) {
         Some(value) => Some((value % 4_294_967_296) as u32),
         None => None,
     }

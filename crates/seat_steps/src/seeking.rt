@@ -15,14 +15,13 @@ ghost use Rattle.seat_steps.specs.declared.came.Came.TheVariants as cames;
 
 use crate::came::Came;
 use crate::getting::point_with;
-use crate::leaving::gives_up;
 use crate::operations::makes;
 use crate::payments::count_paid;
 use crate::tries::{arrive, point};
 use alloc_cache::{cache_of, leave_with_seat};
 use cache_refills::{Piece, try_refill_some};
 use gc_table::{Heap, HeapSeat};
-use seat_turns::{keep_some, leave, with_free};
+use seat_turns::{keep_some, leave, retire_some, with_free};
 
 /// What a piece of the search came to.
 #[derive(Clone, Copy, Debug, PartialEq, Eq, Drop)]
@@ -131,7 +130,7 @@ pub fn refill_once(
             Ok(Sought::Free)
         }
         Err(none) => {
-            gives_up(heap, seat, none);
+            retire_some(heap, seat, none);
             seek(heap, seat, paid, from, most)
         }
     }

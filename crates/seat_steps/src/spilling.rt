@@ -10,7 +10,8 @@ ghost use Rattle.seat_steps.specs.Acting.{ActsTo, HasSlots, IsSlot};
 use crate::came::Came;
 use crate::stepper::{Stage, Stepper};
 use mark_core::VARIABLES;
-use seat_turns::{clear_slots_shared, fill_shared, spill_shared};
+use mutator_ops::{share_fill, share_spill};
+use seat_turns::clear_slots_shared;
 
 impl Stepper {
     /// Slot k becomes what variable v is, and keeps that reachable.
@@ -26,7 +27,7 @@ impl Stepper {
         match self.stage {
             Stage::Outside => Came::Outside,
             Stage::Inside => {
-                spill_shared(&self.heap, &mut self.seat, v, k);
+                share_spill(&self.heap, &mut self.seat, v, k);
                 Came::Done
             }
             _ => Came::Collecting,
@@ -46,7 +47,7 @@ impl Stepper {
         match self.stage {
             Stage::Outside => Came::Outside,
             Stage::Inside => {
-                fill_shared(&self.heap, &mut self.seat, v, k);
+                share_fill(&self.heap, &mut self.seat, v, k);
                 Came::Done
             }
             _ => Came::Collecting,

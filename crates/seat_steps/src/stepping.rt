@@ -8,11 +8,11 @@ ghost use Rattle.seat_steps.specs.declared.stepper.Stage.TheVariants as stages;
 
 use crate::came::Came;
 use crate::getting::make_once;
-use crate::leaving::leaves_turn;
 use crate::operations::{copies, finds, forgets, gets, puts, sets};
 use crate::stepper::{Stage, Stepper};
 use crate::tries::{enter_once, pass_once};
 use mark_core::VARIABLES;
+use seat_turns::leave_turn;
 
 impl Stepper {
     /// Enters the world, if no stop is under way.
@@ -46,7 +46,7 @@ impl Stepper {
         match self.stage {
             Stage::Outside => Came::Done,
             Stage::Inside => {
-                leaves_turn(&self.heap, &mut self.seat);
+                leave_turn(&self.heap, &mut self.seat);
                 self.stage = Stage::Outside;
                 Came::Done
             }

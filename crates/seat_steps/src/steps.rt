@@ -15,7 +15,6 @@ ghost use Rattle.seat_steps.specs.Steps.{StepsCollection};
 ghost use Rattle.seat_steps.specs.declared.stepper.Stage.TheVariants as stages;
 
 use crate::came::Came;
-use crate::leaving::gives_own_up;
 use crate::stepper::{Stage, Stepper};
 use crate::telling::read_marking;
 use crate::tries::arrive;
@@ -25,7 +24,7 @@ use gc_cycle::{
     start_sweep, stretches_of, sweep_step, trace_step,
 };
 use gc_table::{Heap, HeapSeat};
-use seat_turns::leave;
+use seat_turns::{leave, retire_own_cache};
 
 /// How many roots, objects, cards or blocks a step does at most, if its caller says nothing of it.
 const STEP: u32 = 4_096;
@@ -101,7 +100,7 @@ impl Stepper {
         ensures collects { (most : ℕ) → StepsCollection most result self.old self.new }
         ensures bounded { (most : ℕ) → IsBoundedStep most self.old self.new }
     {
-        gives_own_up(&self.heap, &mut self.seat);
+        retire_own_cache(&self.heap, &mut self.seat);
         if asks(&self.heap, &mut self.seat) {
             self.stage = Stage::Stopping;
             return Came::NotYet;

@@ -14,12 +14,11 @@ ghost use Rattle.seat_steps.specs.Causes.{ArrivesBy, EntersBy, GoesFreely, Looks
 ghost use Rattle.seat_steps.specs.Arriving.{Arrives, LeavesWorld, Passes, Tries};
 
 use crate::came::Came;
-use crate::leaving::gives_up;
 use alloc_cache::{Cache, cache_of};
 use cache_refills::{Pass, try_enter, try_safe_point};
 use gc_cycle::spend_none;
 use gc_table::{Heap, HeapSeat};
-use seat_turns::{TURN, is_turn, keep_some, leave};
+use seat_turns::{TURN, is_turn, keep_some, leave, retire_some};
 
 fn try_in(heap: &Heap, seat: &mut HeapSeat) -> Pass
     requires waits { IsMutatorOutside heap.now seat.old }
@@ -71,7 +70,7 @@ fn leave_with(heap: &Heap, seat: &mut HeapSeat, cache: Option<Cache>)
     ensures ran { Across Ran seat.old seat.new }
     ensures few { Across (AtMost 5) seat.old seat.new }
 {
-    gives_up(heap, seat, cache);
+    retire_some(heap, seat, cache);
     leave(heap, seat);
 }
 

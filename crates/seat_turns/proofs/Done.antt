@@ -1,5 +1,5 @@
 -- An operation leaves the mutator at its turn, and is the one of the plain heap.
-use Rattle.std.proofs.Common.{ℕ, ◌≡◌, ◌+◌, [], length, arith, ap, ◌∙◌, refl, sym, false, true, Option, None, Some, ◌-◌, ◌∷◌, ◌==◌, List, ◌++◌, map, Bool, ◌&&◌}
+use Rattle.std.proofs.Common.{ℕ, ◌≡◌, ◌+◌, [], length, arith, ap, ◌∙◌, refl, sym, false, true, Option, None, Some, ◌-◌, ◌∷◌, ◌==◌, List, ◌++◌, map, Bool, ◌&&◌, subst}
 use Rattle.mark_core.specs.Numbers.{section_variables}
 use Rattle.mark_core.specs.declared.kinds.Shape.{Shape}
 use Rattle.mark_core.specs.declared.seat.SeatState.{SeatState}
@@ -11,7 +11,8 @@ use Rattle.plain_heap.specs.declared.operation.Line.TheVariants as lines
 use Rattle.plain_heap.specs.declared.operation.Op.{Op}
 use Rattle.plain_heap.specs.declared.operation.Op.TheVariants as ops
 use Rattle.plain_heap.specs.Sections.{lends}
-use Rattle.gc_table.specs.Seats.{Sits, view_of}
+use Rattle.gc_table.specs.Seats.{Answered, Found, Sits, view_of}
+use Rattle.gc_table.specs.Taking.{won}
 use Rattle.gc_table.specs.declared.seat.Heap.{Heap}
 use Rattle.gc_table.specs.declared.seat.HeapSeat.{HeapSeat}
 use Rattle.gc_table.specs.declared.view.View.{View}
@@ -22,24 +23,28 @@ use Rattle.mutator_ops.specs.Ready.{IsReady}
 use Rattle.seat_turns.specs.Plain.{Steps, value_in, value_of_some}
 use Rattle.mutator_ops.proofs.Knowing.{variables-count}
 use Rattle.seat_turns.specs.Standing.{IsAtTurn, MayOperate, Plays, plain_of}
-use Rattle.mutator_ops.specs.Sharing.{SharesReady, next_word}
+use Rattle.mutator_ops.specs.Few.{AtMost}
+use Rattle.mutator_ops.specs.Sharing.{LendsFound, SetsVariable, SharesReady, TakesSteps as SharedSteps, next_word, putting_steps, setting_steps}
+use Rattle.mutator_ops.proofs.Few.{at-most-events, at-most-steps, putting-long, setting-long}
 use Rattle.gc_table.specs.Running.{Ran}
+use Rattle.gc_table.proofs.Running.{ran-found, ran-refl}
 use Rattle.seat_turns.proofs.Seats.{plays-made, plays-on, plays-turn, turn-plays}
 use Rattle.seat_turns.proofs.Uncatalogued.{after-none, object-none, objects_of, sees-none}
 use Rattle.std.proofs.lemmas.List.{length-map}
 use Rattle.mark_core.specs.Steps.MutatorSteps.{seat_variable as word_in}
-use Rattle.mark_core.specs.declared.kinds.Step.TheVariants.{StoreValue, DirtyCard, StoreNew, StoreRoot}
+use Rattle.mark_core.specs.declared.kinds.Step.TheVariants.{StoreValue, DirtyCard, ExchangeValue, ReadValue, StoreNew, StoreRoot}
 use Rattle.gc_table.specs.Log.{Only, events, steps_of, all_steps}
 use Rattle.gc_table.specs.declared.view.Entry.{Entry}
-use Rattle.card_clean.specs.Barrier.{barrier_steps, cell_in}
+use Rattle.card_clean.specs.Barrier.{Exchanged, barrier_steps, cell_in}
 use Rattle.mutator_ops.specs.Holding.{held_kind}
+use Rattle.seat_turns.specs.Exchanging.{ExchangesField, ExchangesValue}
 use Rattle.seat_turns.specs.Operating.{TakesSteps}
 use Rattle.seat_turns.specs.Sharing.{spares_tracers}
 use Rattle.std.specs.Prelude.{if◌then◌else◌}
 use Rattle.std.specs.List.{range_with_len}
-use Rattle.std.proofs.lemmas.Bool.{and_from, and_parts}
+use Rattle.std.proofs.lemmas.Bool.{and_from, and_parts, false≢true}
 use Rattle.mark_core.specs.Cards.{card_of}
-use Rattle.mark_core.specs.Seats.{used_in}
+use Rattle.mark_core.specs.Seats.{has_turn, used_in}
 use Rattle.mark_core.specs.declared.kinds.Step.{Step}
 use Rattle.alloc_cache.specs.Making.{making_steps, nil_fields}
 use Rattle.mutator_ops.specs.Listing.{creating_steps, following_events, saying_steps, storing_steps}
@@ -218,3 +223,45 @@ pub events-long : (v w : View) → length (events v w) ≡ length (steps_of (eve
 events-long v w = sym (length-map (events v w) (λ (x : Entry). x.step))
 
 pub ruleset operating = (events-long)
+
+-- What it says of shared objects: the mutator may do it at its turn, and is at its turn still, also told of a heap that is this one.
+pub shares-in : (a h : Heap) (x : HeapSeat) → h ≡ a → IsAtTurn a x → a.shape.sharing ≡ true → Sits h x × SharesReady (view_of x)
+shares-in a h x e t shared = subst (λ (k : Heap). Sits k x × SharesReady (view_of x)) (sym e) (turn-shares a x t shared)
+
+pub turn-in : (a h : Heap) (x y : HeapSeat) (env : List ℕ) → h ≡ a → IsAtTurn a x → Sits h y × SharesReady (view_of y) → Ran (view_of x) (view_of y) → (view_of y).state ≡ record (view_of x).state { env = env } → IsAtTurn a y
+turn-in a h x y env same t ready ran e =
+    let sits = subst (λ (k : Heap). Sits k y) same ready.0 in
+    turn-shared a x y t sits ready.1 ran (e ∙ ap (λ (s : SeatState). record (view_of x).state { env = s.env }) (sym e))
+
+pub turn-same : (a h : Heap) (x y : HeapSeat) → h ≡ a → IsAtTurn a x → Sits h y × SharesReady (view_of y) → Ran (view_of x) (view_of y) → (view_of y).state ≡ (view_of x).state → IsAtTurn a y
+turn-same a h x y same t ready ran e = turn-in a h x y (view_of x).state.env same t ready ran e
+
+pub turn-read : (a h : Heap) (x y : HeapSeat) (c n : ℕ) → h ≡ a → IsAtTurn a x → Sits h y × SharesReady (view_of y) → Found (ReadValue c) n (view_of x) (view_of y) → IsAtTurn a y
+turn-read a h x y c n same t ready f = turn-same a h x y same t ready (ran-found (view_of x) (view_of y) (ReadValue c) n refl f) (ap (λ (v : View). v.state) f.0)
+
+pub turn-still : (a h : Heap) (x y : HeapSeat) → h ≡ a → IsAtTurn a x → Sits h y × SharesReady (view_of y) → view_of y ≡ view_of x → IsAtTurn a y
+turn-still a h x y same t ready e = turn-same a h x y same t ready (subst (λ (v : View). Ran (view_of x) v) (sym e) (ran-refl (view_of x))) (ap (λ (v : View). v.state) e)
+
+-- what an exchange came to
+pub exchanges-field : (u i p q : ℕ) (b : Bool) (v w : View) → Ran v w → Exchanged u i (Some p) (Some q) b v w → w.state ≡ v.state → ExchangesField u i p q b v w
+exchanges-field u i p q b v w ran k e = record { ran = ran; exchanged = k; state = e }
+
+pub exchanges-value : (u m n : ℕ) (b : Bool) (v w : View) → Ran v w → Answered (ExchangeValue u m n) (λ k. b ≡ won (ExchangeValue u m n) k) v w → ExchangesValue u m n b v w
+exchanges-value u m n b v w ran k = record { ran = ran; found = k.0; finds = (k.1, k.2); won_by = k.3; state = ap (λ (z : View). z.state) k.1 }
+
+-- and it takes no more steps than these
+pub sets-few : (u r : ℕ) (v w : View) → SetsVariable u r v w → AtMost 1 v w
+sets-few u r v w k = at-most-events 1 v w _ k.events_are (omega arith)
+
+pub lends-few : (u c : ℕ) (v w : View) → LendsFound u c v w → AtMost 2 v w
+lends-few u c v w k = at-most-events 2 v w _ k.events_are (omega arith)
+
+pub setting-few : (u i x : ℕ) (v w : View) → SharedSteps (setting_steps v.state u i x) v w → AtMost 2 v w
+setting-few u i x v w k = at-most-steps 2 v w (setting_steps v.state u i x) k.steps_are (setting-long v.state u i x)
+
+pub putting-few : (u n : ℕ) (v w : View) → SharedSteps (putting_steps v.state u n) v w → AtMost 1 v w
+putting-few u n v w k = at-most-steps 1 v w (putting_steps v.state u n) k.steps_are (putting-long v.state u n)
+
+-- a mutator's section isn't the first one
+pub turn-other : (h : Heap) (x : HeapSeat) → IsAtTurn h x → (view_of x).state.section ≡ Some 0 → ⊥
+turn-other h x t e = false≢true (subst (λ (o : Option ℕ). has_turn o (Some 1) ≡ true) e t.works.mutator.section)

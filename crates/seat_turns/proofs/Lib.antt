@@ -1,7 +1,6 @@
 mod Clearing
 mod Coming
 pub mod Done
-mod Few
 mod Fulls
 pub mod Leaving
 mod Naming

@@ -61,6 +61,7 @@ pub fn retire_own_cache(heap: &Heap, seat: &mut HeapSeat)
     ensures leaves { Across LeavesHeap seat.old seat.new }
     ensures ran { Across Ran seat.old seat.new }
     ensures gives { Across (WithOwn GivesCache) seat.old seat.new }
+    ensures few { Across (AtMost 3) seat.old seat.new }
 {
     let cache = cache_of(seat);
     retire_some(heap, seat, cache);
@@ -73,6 +74,7 @@ pub fn leave_turn(heap: &Heap, seat: &mut HeapSeat)
     ensures same { plain_of seat.new ≡ plain_of seat.old }
     ensures leaves { Across LeavesHeap seat.old seat.new }
     ensures out { Across LeavesTurn seat.old seat.new }
+    ensures few { Across (AtMost 5) seat.old seat.new }
 {
     retire_own_cache(heap, seat);
     leave(heap, seat);

@@ -28,14 +28,11 @@
 
 mod background;
 mod dismissing;
-mod exchanging;
 mod gates;
-mod identity;
 mod operations;
 mod own_turn;
 mod refused;
 mod sharing;
-mod slots;
 mod tracer_marking;
 mod tracer_turn;
 mod try_turns;
@@ -43,17 +40,13 @@ mod turns;
 
 pub use background::{Tracer, Turn, rest};
 pub use dismissing::{tell_dismissed, try_dismiss};
-pub use exchanging::{exchange_shared, exchange_value_shared};
 pub use gates::{collect_turn, enter_turn, leave, leave_turn, pass_turn, retire_own_cache};
-pub use identity::identity_shared;
 pub use operations::{make_in, make_object, read_value, refer_to_one, refers_to_nothing};
 pub use own_turn::is_turn;
 pub use refused::{NotOpened, Refused};
 pub use sharing::{
-    copy_shared, forget_shared, get_shared, lend_shared, make_shared, make_shared_in, put_shared,
-    set_shared, value_shared, word_of,
+    clear_slots_shared, get_shared, identity_shared, make_shared, make_shared_in, word_of,
 };
-pub use slots::{clear_slots_shared, fill_shared, spill_shared};
 pub use tracer_marking::{mark_some, see_phase};
 pub use try_turns::TryTurn;
-pub use turns::{TURN, keep_some, with_free};
+pub use turns::{TURN, keep_some, retire_some, with_free};

@@ -1,17 +1,18 @@
-//! One operation in a heap whose objects are shared.
-ghost use Rattle.std.specs.Prelude.{◌≡◌, ◌<◌, ◌+◌, ◌-◌, [], ◌∷◌, IfErr, IfNone, IfOk, IfSome, IsTrue, false, slice_index};
+//! One operation in a heap whose objects are shared, where `mutator_ops` has none that fits.
+ghost use Rattle.std.specs.Prelude.{◌≡◌, ◌<◌, ◌≤◌, ◌+◌, ◌-◌, [], ◌∷◌, IfErr, IfOk, IsTrue, false, slice_index};
 ghost use Rattle.std.specs.Int.Count.{ones};
 ghost use Rattle.mark_core.specs.Numbers.{section_variables};
 ghost use Rattle.mark_core.specs.Steps.MutatorSteps.{seat_variable as word_in};
-ghost use Rattle.mark_core.specs.declared.kinds.Step.TheVariants.{ReadValue};
+ghost use Rattle.mark_core.specs.declared.kinds.Step.TheVariants.{ReadIdent, StoreSlot};
 ghost use Rattle.gc_table.specs.Seats.{Across, Found, state_of, view_of};
 ghost use Rattle.alloc_cache.specs.Caching.{IsCached};
 ghost use Rattle.mutator_ops.specs.Few.{AtMost};
-ghost use Rattle.mutator_ops.specs.Sharing.{LendsFound, SetsVariable, TakesSteps, putting_steps, setting_steps};
+ghost use Rattle.mutator_ops.specs.Sharing.{TakesSteps};
+ghost use Rattle.seat_turns.specs.Clearing.{clearing_steps};
 ghost use Rattle.seat_turns.specs.Coming.{MakesNoneAtTurn, MakesSharedAtTurn};
 ghost use Rattle.seat_turns.specs.Halting.{MadeNone};
 ghost use Rattle.seat_turns.specs.Sharing.{FollowsField, LeavesHeap, MakesShared, MakesSharedAfter};
-ghost use Rattle.seat_turns.specs.Standing.{IsAtTurn, Plays, plain_of};
+ghost use Rattle.seat_turns.specs.Standing.{IsAtTurn, Plays};
 
 use crate::gates::leave_full;
 use crate::refused::Refused;
@@ -19,35 +20,9 @@ use crate::turns::come_to;
 use alloc_cache::{Cache, cache_of, leave_with_seat};
 use cache_refills::Watch;
 use gc_table::{Heap, HeapSeat};
-use mutator_ops::{
-    share_copy, share_create, share_follow, share_forget, share_lend, share_put, share_set,
-    share_value_of,
-};
+use mark_core::Cell;
+use mutator_ops::{share_create, share_follow, share_forget};
 use std::sync::Wait;
-
-/// Reference i of variable v's object, whoever made it, becomes what variable w is, by the barrier.
-pub fn set_shared(heap: &Heap, seat: &mut HeapSeat, v: u8, i: u8, w: u8)
-    requires turn { IsAtTurn heap.now seat.old }
-    requires shared { IsTrue heap.now.shape.sharing }
-    requires range { (v < section_variables) × (i < heap.now.shape.fields) × (w < section_variables) }
-    ensures turn { IsAtTurn heap.now seat.new }
-    ensures takes { Across (TakesSteps (setting_steps (state_of seat.old) v i w)) seat.old seat.new }
-    ensures few { Across (AtMost 2) seat.old seat.new }
-{
-    share_set(heap, seat, v, i, w);
-}
-
-/// The value of variable v's object, whoever made it, becomes this one.
-pub fn put_shared(heap: &Heap, seat: &mut HeapSeat, v: u8, value: u32)
-    requires turn { IsAtTurn heap.now seat.old }
-    requires shared { IsTrue heap.now.shape.sharing }
-    requires range { v < section_variables }
-    ensures turn { IsAtTurn heap.now seat.new }
-    ensures takes { Across (TakesSteps (putting_steps (state_of seat.old) v value)) seat.old seat.new }
-    ensures few { Across (AtMost 1) seat.old seat.new }
-{
-    share_put(heap, seat, v, value);
-}
 
 /// Variable w becomes reference i of variable v's object, or nil if v is.
 pub fn get_shared(heap: &Heap, seat: &mut HeapSeat, w: u8, v: u8, i: u8)
@@ -63,55 +38,6 @@ pub fn get_shared(heap: &Heap, seat: &mut HeapSeat, w: u8, v: u8, i: u8)
     } else {
         share_follow(heap, seat, w, v, i);
     }
-}
-
-/// Variable w becomes what variable v is.
-pub fn copy_shared(heap: &Heap, seat: &mut HeapSeat, w: u8, v: u8)
-    requires turn { IsAtTurn heap.now seat.old }
-    requires shared { IsTrue heap.now.shape.sharing }
-    requires range { (w < section_variables) × (v < section_variables) }
-    ensures turn { IsAtTurn heap.now seat.new }
-    ensures sets { Across (SetsVariable w (word_in (state_of seat.old) v)) seat.old seat.new }
-    ensures few { Across (AtMost 1) seat.old seat.new }
-{
-    share_copy(heap, seat, w, v);
-}
-
-/// Variable v refers to nothing any more.
-pub fn forget_shared(heap: &Heap, seat: &mut HeapSeat, v: u8)
-    requires turn { IsAtTurn heap.now seat.old }
-    requires shared { IsTrue heap.now.shape.sharing }
-    requires range { v < section_variables }
-    ensures turn { IsAtTurn heap.now seat.new }
-    ensures sets { Across (SetsVariable v 0) seat.old seat.new }
-    ensures few { Across (AtMost 1) seat.old seat.new }
-{
-    share_forget(heap, seat, v);
-}
-
-/// Variable w becomes what variable c of section 0 is.
-pub fn lend_shared(heap: &Heap, seat: &mut HeapSeat, w: u8, c: u8)
-    requires turn { IsAtTurn heap.now seat.old }
-    requires shared { IsTrue heap.now.shape.sharing }
-    requires range { (w < section_variables) × (c < section_variables) }
-    ensures turn { IsAtTurn heap.now seat.new }
-    ensures lends { Across (LendsFound w c) seat.old seat.new }
-    ensures few { Across (AtMost 2) seat.old seat.new }
-{
-    share_lend(heap, seat, w, c);
-}
-
-/// The value of variable v's object, as one read finds it; None if v refers to nothing.
-pub fn value_shared(heap: &Heap, seat: &mut HeapSeat, v: u8) -> Option<u64>
-    requires turn { IsAtTurn heap.now seat.old }
-    requires shared { IsTrue heap.now.shape.sharing }
-    requires range { v < section_variables }
-    ensures turn { IsAtTurn heap.now seat.new }
-    ensures some { IfSome result (λ n. (0 < word_in (state_of seat.old) v) × Across (Found (ReadValue (word_in (state_of seat.old) v - 1)) n) seat.old seat.new) }
-    ensures none { IfNone result ((word_in (state_of seat.old) v ≡ 0) × (view_of seat.new ≡ view_of seat.old)) }
-    ensures few { Across (AtMost 1) seat.old seat.new }
-{
-    share_value_of(heap, seat, v)
 }
 
 /// The word of variable v: 0 if it refers to nothing, and otherwise its object's cell number plus 1.
@@ -168,5 +94,42 @@ pub fn make_shared<R: Wait, W: Watch>(
         }
         Err(Refused::Full) => Err(leave_full(heap, seat)),
         Err(other) => Err(other),
+    }
+}
+
+/// The identity of variable v's object, which isn't nil, by one read: 4,294,967,296 times its section, and its
+/// number there.
+pub fn identity_shared(heap: &Heap, seat: &mut HeapSeat, v: u8) -> u64
+    requires turn { IsAtTurn heap.now seat.old }
+    requires shared { IsTrue heap.now.shape.sharing }
+    requires range { v < section_variables }
+    requires some { 0 < word_in (state_of seat.old) v }
+    ensures turn { IsAtTurn heap.now seat.new }
+    ensures found { Across (Found (ReadIdent (word_in (state_of seat.old) v - 1)) result) seat.old seat.new }
+{
+    let word = word_of(seat, v);
+    heap.read_ident(seat, Cell::make(word - 1))
+}
+
+fn clear_slot(heap: &Heap, seat: &mut HeapSeat, k: u16)
+    requires turn { IsAtTurn heap.now seat.old }
+    requires shared { IsTrue heap.now.shape.sharing }
+    requires range { k < heap.now.shape.slots }
+    ensures turn { IsAtTurn heap.now seat.new }
+    ensures takes { Across (TakesSteps (StoreSlot k 0 ∷ [])) seat.old seat.new }
+{
+    heap.store_slot(seat, k, 0);
+}
+
+/// The slots from `from` on and below `to` become nil.
+pub fn clear_slots_shared(heap: &Heap, seat: &mut HeapSeat, from: u32, to: u32)
+    requires turn { IsAtTurn heap.now seat.old }
+    requires shared { IsTrue heap.now.shape.sharing }
+    requires range { (from ≤ to) × (to ≤ heap.now.shape.slots) }
+    ensures turn { IsAtTurn heap.now seat.new }
+    ensures takes { Across (TakesSteps (clearing_steps from (to - from))) seat.old seat.new }
+{
+    for k in from..to {
+        clear_slot(heap, seat, k as u16);
     }
 }

@@ -4,6 +4,7 @@ ghost use Rattle.std.specs.Int.Count.{ones};
 ghost use Rattle.gc_table.specs.Log.{Only};
 ghost use Rattle.gc_cycle.specs.Answering.{retires};
 ghost use Rattle.gc_table.specs.Running.{Ran};
+ghost use Rattle.mutator_ops.specs.Few.{AtMost};
 ghost use Rattle.gc_table.specs.Seats.{Across, state_of, view_of};
 ghost use Rattle.alloc_cache.specs.Caching.{IsCached};
 ghost use Rattle.gc_cycle.specs.Answering.{HasCache};
@@ -34,6 +35,7 @@ pub fn retire_some(heap: &Heap, seat: &mut HeapSeat, cache: Option<Cache>)
     ensures leaves { Across LeavesHeap seat.old seat.new }
     ensures ran { Across Ran seat.old seat.new }
     ensures gives { Across (GivesCache cache) seat.old seat.new }
+    ensures few { Across (AtMost 3) seat.old seat.new }
 {
     gc_cycle::retire_some(heap, seat, cache);
 }

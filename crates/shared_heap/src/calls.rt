@@ -13,9 +13,9 @@ ghost use Rattle.shared_heap.specs.Calls.{CantEnter, FindsValue, HasNoRoot, HasP
 use crate::mutator::{Place, SharedMutator};
 use cache_refills::Unwatched;
 use mark_core::VARIABLES;
+use mutator_ops::{share_copy, share_forget, share_lend, share_put, share_set, share_value_of};
 use seat_turns::{
-    Refused, collect_turn, copy_shared, enter_turn, forget_shared, get_shared, leave_turn,
-    lend_shared, make_shared, pass_turn, put_shared, set_shared, value_shared, word_of,
+    Refused, collect_turn, enter_turn, get_shared, leave_turn, make_shared, pass_turn, word_of,
 };
 use std::sync::Wait;
 
@@ -149,7 +149,7 @@ impl SharedMutator {
         match self.place {
             Place::Outside => Err(Refused::Outside),
             Place::Inside => {
-                lend_shared(&self.heap, &mut self.seat, w, ROOT);
+                share_lend(&self.heap, &mut self.seat, w, ROOT);
                 if word_of(&self.seat, w) == 0 {
                     return Err(Refused::Nil);
                 }
@@ -172,7 +172,7 @@ impl SharedMutator {
         match self.place {
             Place::Outside => Err(Refused::Outside),
             Place::Inside => {
-                set_shared(&self.heap, &mut self.seat, v, i, w);
+                share_set(&self.heap, &mut self.seat, v, i, w);
                 Ok(())
             }
         }
@@ -211,7 +211,7 @@ impl SharedMutator {
         match self.place {
             Place::Outside => Err(Refused::Outside),
             Place::Inside => {
-                copy_shared(&self.heap, &mut self.seat, w, v);
+                share_copy(&self.heap, &mut self.seat, w, v);
                 Ok(())
             }
         }
@@ -230,7 +230,7 @@ impl SharedMutator {
         match self.place {
             Place::Outside => Err(Refused::Outside),
             Place::Inside => {
-                forget_shared(&self.heap, &mut self.seat, v);
+                share_forget(&self.heap, &mut self.seat, v);
                 Ok(())
             }
         }
@@ -249,7 +249,7 @@ impl SharedMutator {
         match self.place {
             Place::Outside => Err(Refused::Outside),
             Place::Inside => {
-                put_shared(&self.heap, &mut self.seat, v, value);
+                share_put(&self.heap, &mut self.seat, v, value);
                 Ok(())
             }
         }
@@ -267,7 +267,7 @@ impl SharedMutator {
         }
         match self.place {
             Place::Outside => Err(Refused::Outside),
-            Place::Inside => match value_shared(&self.heap, &mut self.seat, v) {
+            Place::Inside => match share_value_of(&self.heap, &mut self.seat, v) {
                 Some(value) => Ok(value),
                 None => Err(Refused::Nil),
             },

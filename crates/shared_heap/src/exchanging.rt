@@ -9,7 +9,8 @@ ghost use Rattle.shared_heap.specs.Wanting.{CanExchange, IsVariable, WantsObject
 
 use crate::mutator::{Place, SharedMutator};
 use mark_core::VARIABLES;
-use seat_turns::{Refused, exchange_shared, exchange_value_shared, word_of};
+use mutator_ops::{share_count, share_exchange};
+use seat_turns::{Refused, word_of};
 
 impl SharedMutator {
     /// If reference i of variable v's object is variable `expected`, it becomes variable `new`. True if it was.
@@ -30,7 +31,7 @@ impl SharedMutator {
                 if word_of(&self.seat, v) == 0 {
                     return Err(Refused::Nil);
                 }
-                Ok(exchange_shared(&self.heap, &mut self.seat, v, i, expected, new))
+                Ok(share_exchange(&self.heap, &mut self.seat, v, i, Some(expected), Some(new)))
             }
         }
     }
@@ -52,7 +53,7 @@ impl SharedMutator {
                 if word_of(&self.seat, v) == 0 {
                     return Err(Refused::Nil);
                 }
-                Ok(exchange_value_shared(&self.heap, &mut self.seat, v, expected, new))
+                Ok(share_count(&self.heap, &mut self.seat, v, expected, new))
             }
         }
     }

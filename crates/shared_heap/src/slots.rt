@@ -12,7 +12,8 @@ ghost use Rattle.shared_heap.specs.Spilling.{HasSlots, IsSlot};
 
 use crate::mutator::{Place, SharedMutator};
 use mark_core::VARIABLES;
-use seat_turns::{Refused, clear_slots_shared, fill_shared, spill_shared};
+use mutator_ops::{share_fill, share_spill};
+use seat_turns::{Refused, clear_slots_shared};
 
 impl SharedMutator {
     /// Slot k becomes what variable v is, and keeps that reachable.
@@ -28,7 +29,7 @@ impl SharedMutator {
         match self.place {
             Place::Outside => Err(Refused::Outside),
             Place::Inside => {
-                spill_shared(&self.heap, &mut self.seat, v, k);
+                share_spill(&self.heap, &mut self.seat, v, k);
                 Ok(())
             }
         }
@@ -47,7 +48,7 @@ impl SharedMutator {
         match self.place {
             Place::Outside => Err(Refused::Outside),
             Place::Inside => {
-                fill_shared(&self.heap, &mut self.seat, v, k);
+                share_fill(&self.heap, &mut self.seat, v, k);
                 Ok(())
             }
         }

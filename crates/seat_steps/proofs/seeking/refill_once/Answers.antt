@@ -11,25 +11,25 @@ pub returns-in-Ok-clause-sought : goal.returns-in-Ok-clause-sought
 returns-in-Ok-clause-sought c = (had-free c.cache_of.result c.in-Ok.free (view_of c.args.seat.now) c.cache_of.ensures.some c.in-Ok.ensures.ok.0 c.in-Ok.ensures.ok.1, inl refl)
 
 pub returns-in-Err-clause-leaves : goal.returns-in-Err-clause-leaves
-returns-in-Err-clause-leaves c = leaves-join (view_of c.args.seat.now) (view_of c.gives_up.new.seat) (view_of c.seek.new.seat) c.gives_up.ensures.leaves c.seek.ensures.leaves
+returns-in-Err-clause-leaves c = leaves-join (view_of c.args.seat.now) (view_of c.retire_some.new.seat) (view_of c.seek.new.seat) c.retire_some.ensures.leaves c.seek.ensures.leaves
 
 pub returns-in-Err-clause-sought : goal.returns-in-Err-clause-sought
 returns-in-Err-clause-sought c =
     let u = view_of c.args.seat.now in
-    let v = view_of c.gives_up.new.seat in
+    let v = view_of c.retire_some.new.seat in
     let w = view_of c.seek.new.seat in
-    IfOk-weaker c.seek.result _ _ (λ s k. given-up c.args.from c.args.most u v w c.gives_up.ensures.ran c.gives_up.ensures.few s k) c.seek.ensures.sought
+    IfOk-weaker c.seek.result _ _ (λ s k. given-up c.args.from c.args.most u v w c.retire_some.ensures.ran c.retire_some.ensures.few s k) c.seek.ensures.sought
 
 pub returns-in-Err-clause-found : goal.returns-in-Err-clause-found
 returns-in-Err-clause-found c =
     let u = view_of c.args.seat.now in
-    let v = view_of c.gives_up.new.seat in
+    let v = view_of c.retire_some.new.seat in
     let w = view_of c.seek.new.seat in
-    err-weaker c.seek.result _ _ (λ came k. fails-first c.args.from c.args.most u v w c.gives_up.ensures.ran c.gives_up.ensures.few came c.seek.ensures.ran k) c.seek.ensures.found
+    err-weaker c.seek.result _ _ (λ came k. fails-first c.args.from c.args.most u v w c.retire_some.ensures.ran c.retire_some.ensures.few came c.seek.ensures.ran k) c.seek.ensures.found
 
 pub returns-in-Ok-clause-pays : goal.returns-in-Ok-clause-pays
 returns-in-Ok-clause-pays c = inl (refl, refl)
 
 pub returns-in-Err-clause-pays : goal.returns-in-Err-clause-pays
 returns-in-Err-clause-pays c =
-    inr (pieces-first 3 0 8 c.args.from c.args.most c.args.paid.now c.seek.new.paid (view_of c.args.seat.now) (view_of c.gives_up.new.seat) (view_of c.seek.new.seat) c.gives_up.ensures.ran c.gives_up.ensures.few c.seek.ensures.pays)
+    inr (pieces-first 3 0 8 c.args.from c.args.most c.args.paid.now c.seek.new.paid (view_of c.args.seat.now) (view_of c.retire_some.new.seat) (view_of c.seek.new.seat) c.retire_some.ensures.ran c.retire_some.ensures.few c.seek.ensures.pays)

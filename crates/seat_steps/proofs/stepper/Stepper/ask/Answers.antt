@@ -10,10 +10,10 @@ use Rattle.seat_steps.proofs.stepper.Stepper.ask.Goals as goal
 pub returns-then-asks : goal.returns-then-asks
 returns-then-asks c =
     let x = c.args.self.now in
-    let r = c.gives_own_up.ensures in
+    let r = c.retire_own_cache.ensures in
     let a = c.asks.ensures in
     let u = view_of x.seat in
-    let v = view_of c.gives_own_up.new.seat in
+    let v = view_of c.retire_own_cache.new.seat in
     let w = view_of c.asks.new.seat in
     record {
       collects = λ most.
@@ -26,10 +26,10 @@ returns-then-asks c =
 pub returns : goal.returns
 returns c =
     let x = c.args.self.now in
-    let r = c.gives_own_up.ensures in
+    let r = c.retire_own_cache.ensures in
     let a = c.asks.ensures in
     let u = view_of x.seat in
-    let v = view_of c.gives_own_up.new.seat in
+    let v = view_of c.retire_own_cache.new.seat in
     let w = view_of c.asks.new.seat in
     record {
       collects = λ most. (

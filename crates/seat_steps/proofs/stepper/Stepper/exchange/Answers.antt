@@ -2,7 +2,11 @@ use Rattle.std.proofs.Common.{◌∙◌, arith, refl, rules}
 use Rattle.gc_table.specs.Seats.{view_of}
 use Rattle.seat_steps.specs.contracts.stepper.Stepper.{the_type}
 use Rattle.seat_steps.proofs.Answered.{collects-now}
+use Rattle.seat_turns.proofs.Done.{exchanges-field}
 use Rattle.seat_steps.proofs.Few.{exchanged-few}
+use Rattle.std.specs.Prelude.{IsTrue}
+use Rattle.seat_turns.proofs.Done.{shares-in, turn-same}
+use Rattle.seat_steps.specs.Stepping.{shares}
 use Rattle.seat_steps.proofs.stepper.Stepper.exchange.Goals.{then-v-ge-VARIABLES-via-then-v-ge-VARIABLES, then-v-ge-VARIABLES-via-else-v-ge-VARIABLES+then-from-fields, then-v-ge-VARIABLES-via-else-v-ge-VARIABLES+else-from-fields+then-expected-ge-VARIABLES, then-v-ge-VARIABLES-via-else-v-ge-VARIABLES+else-from-fields+else-expected-ge-VARIABLES+then-new-ge-VARIABLES}
 use Rattle.seat_steps.proofs.stepper.Stepper.exchange.Goals as goal
 
@@ -17,16 +21,26 @@ returns-then-v-ge-VARIABLES-clause-refused c =
 
 pub returns-else-word_of-eq0-clause-done : goal.returns-else-word_of-eq0-clause-done
 returns-else-word_of-eq0-clause-done c =
+    let e = c.share_exchange.ensures in
+    let v = view_of c.args.self.now.seat in
+    let w = view_of c.share_exchange.new.seat in
+    let acts = exchanges-field c.args.v c.args.i c.args.expected c.args.new c.share_exchange.result v w e.ran e.exchanged e.state in
     record {
       shared = search rules;
       in_range = (omega (arith, c.if-v-ge-VARIABLES.false), search rules, omega (arith, c.if-expected-ge-VARIABLES.false), omega (arith, c.if-new-ge-VARIABLES.false));
       was = c.in-Inside.is;
       inside = c.in-Inside.is;
-      acts = c.exchange_shared.ensures.exchanges;
-      few = exchanged-few c.args.v c.args.i c.args.expected c.args.new c.exchange_shared.result (view_of c.args.self.now.seat) (view_of c.exchange_shared.new.seat) c.exchange_shared.ensures.exchanges;
+      acts = acts;
+      few = exchanged-few c.args.v c.args.i c.args.expected c.args.new c.share_exchange.result v w acts;
       world = refl;
       name_is = refl;
     }
 
 pub returns-in_default : goal.returns-in_default
 returns-in_default c = record { done = tt; refused = (collects-now c.args.self.now.stage c.in_default.not-Outside c.in_default.not-Inside, the_type.to_one _ c.args.self.now refl) }
+
+pub share_exchange-requires-clause-seat : goal.share_exchange-requires-clause-seat
+share_exchange-requires-clause-seat c = let s = c.args.self.now in let shared : IsTrue (shares s) = search rules in shares-in _ _ s.seat c.deref-else-word_of-eq0.ensures (s.inside c.in-Inside.is) shared
+
+pub invariant_of-self-else-word_of-eq0-clause-inside : goal.invariant_of-self-else-word_of-eq0-clause-inside
+invariant_of-self-else-word_of-eq0-clause-inside c = λ _. let s = c.args.self.now in let e = c.share_exchange.ensures in turn-same _ _ s.seat c.share_exchange.new.seat c.deref-else-word_of-eq0.ensures (s.inside c.in-Inside.is) e.seat e.ran e.state

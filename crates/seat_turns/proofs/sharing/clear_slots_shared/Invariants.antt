@@ -3,7 +3,7 @@ use Rattle.gc_table.specs.Seats.{Across}
 use Rattle.mutator_ops.specs.Sharing.{TakesSteps}
 use Rattle.seat_turns.specs.Clearing.{clearing_steps}
 use Rattle.seat_turns.specs.Standing.{IsAtTurn}
-use Rattle.seat_turns.proofs.slots.clear_slots_shared.Given as goal
+use Rattle.seat_turns.proofs.sharing.clear_slots_shared.Given as goal
 
 abbrev pub invariant-loop-k : goal.invariant-loop-k
 invariant-loop-k l = record {

@@ -11,7 +11,7 @@ use Rattle.gc_table.proofs.Running.{ran-stored}
 use Rattle.mutator_ops.proofs.Storing.{shares-on, state-kept, state-spilled}
 use Rattle.seat_turns.proofs.Done.{turn-shares, turn-shared}
 use Rattle.seat_turns.proofs.Clearing.{may-clear}
-use Rattle.seat_turns.proofs.slots.clear_slot.Goals as goal
+use Rattle.seat_turns.proofs.sharing.clear_slot.Goals as goal
 
 pub store_slot-requires-clause-seat : goal.store_slot-requires-clause-seat
 store_slot-requires-clause-seat c = c.requires.turn.works.sits

@@ -9,7 +9,7 @@ use Rattle.gc_table.proofs.Running.{ran-found}
 use Rattle.mutator_ops.proofs.Knowing.{knows-variable, may-read_ident}
 use Rattle.mutator_ops.proofs.Storing.{shares-on}
 use Rattle.seat_turns.proofs.Done.{turn-shares, turn-shared}
-use Rattle.seat_turns.proofs.identity.identity_shared.Goals as goal
+use Rattle.seat_turns.proofs.sharing.identity_shared.Goals as goal
 
 pub read_ident-requires-clause-seat : goal.read_ident-requires-clause-seat
 read_ident-requires-clause-seat c = c.requires.turn.works.sits

@@ -1,7 +1,7 @@
 use Rattle.std.proofs.Common.{arith}
 use Rattle.gc_table.specs.Seats.{view_of}
 use Rattle.seat_turns.proofs.Clearing.{clears-more, clears-none}
-use Rattle.seat_turns.proofs.slots.clear_slots_shared.Goals as goal
+use Rattle.seat_turns.proofs.sharing.clear_slots_shared.Goals as goal
 
 pub loop-k-init : goal.loop-k-init
 loop-k-init c = record { turn = c.requires.turn; after = omega arith; takes = clears-none c.args.from (view_of c.args.seat.now) }
