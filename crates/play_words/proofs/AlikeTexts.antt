@@ -163,13 +163,13 @@ conversions-answer o bytes text status answer made =
       answers-through o status answer text bytes both.1 both.0 both.3 both.2 (sym both.4),
     )
 
-done-alike : (o p : Options) (r : Result Script Fault) (a b : List ℕ) → o.place ≡ false → p.place ≡ false → RunAnswersTo o r 0 a → RunAnswersTo p r 0 b → a ≡ b
-done-alike o p (Err fault) a b f g x y = absurd (omega (arith, x.0))
-done-alike o p (Ok s) a b f g (inr x) y = absurd (omega (arith, x.0))
-done-alike o p (Ok s) a b f g (inl x) (inr y) = absurd (omega (arith, y.0))
-done-alike o p (Ok s) a b f g (inl x) (inl y) =
+written-alike : (o p : Options) (r : Result Script Fault) (a b : List ℕ) → o.place ≡ false → p.place ≡ false → RunAnswersTo o r 0 a → RunAnswersTo p r 0 b → a ≡ b
+written-alike o p (Err fault) a b f g x y = absurd (omega (arith, x.0))
+written-alike o p (Ok s) a b f g (inr x) y = absurd (omega (arith, x.0))
+written-alike o p (Ok s) a b f g (inl x) (inr y) = absurd (omega (arith, y.0))
+written-alike o p (Ok s) a b f g (inl x) (inl y) =
     one-text s.sections o.cells p.cells a b
     (subst (λ (place : Bool). IsReportText s.sections o.cells place a) f x.1) (subst (λ (place : Bool). IsReportText s.sections p.cells place b) g y.1)
 
 pub conversions-run-alike : ConversionsRunAlike
-conversions-run-alike o p bytes text a b f g made x y = done-alike o p (script bytes) a b f g x ((conversions-answer p bytes text 0 b made).1 y)
+conversions-run-alike o p bytes text a b f g made x y = written-alike o p (script bytes) a b f g x ((conversions-answer p bytes text 0 b made).1 y)
