@@ -40,7 +40,7 @@ pub returns-in_default : goal.returns-in_default
 returns-in_default c = record { done = tt; refused = (collects-now c.args.self.now.stage c.in_default.not-Outside c.in_default.not-Inside, the_type.to_one _ c.args.self.now refl) }
 
 pub share_exchange-requires-clause-seat : goal.share_exchange-requires-clause-seat
-share_exchange-requires-clause-seat c = let s = c.args.self.now in let shared : IsTrue (shares s) = search rules in shares-in _ _ s.seat c.deref-else-word_of-eq0.ensures (s.inside c.in-Inside.is) shared
+share_exchange-requires-clause-seat c = let s = c.args.self.now in let shared : IsTrue (shares s) = search rules in shares-in _ _ s.seat c.deref-in-Inside.ensures (s.inside c.in-Inside.is) shared
 
-pub invariant_of-self-else-word_of-eq0-clause-inside : goal.invariant_of-self-else-word_of-eq0-clause-inside
-invariant_of-self-else-word_of-eq0-clause-inside c = λ _. let s = c.args.self.now in let e = c.share_exchange.ensures in turn-same _ _ s.seat c.share_exchange.new.seat c.deref-else-word_of-eq0.ensures (s.inside c.in-Inside.is) e.seat e.ran e.state
+pub invariant_of-self-in-Inside-clause-inside : goal.invariant_of-self-in-Inside-clause-inside
+invariant_of-self-in-Inside-clause-inside c = λ _. let s = c.args.self.now in let e = c.share_exchange.ensures in turn-same _ _ s.seat c.share_exchange.new.seat c.deref-in-Inside.ensures (s.inside c.in-Inside.is) e.seat e.ran e.state
