@@ -8,8 +8,8 @@ use Rattle.shared_heap.proofs.mutator.SharedMutator.exchange_value.Goals as goal
 pub share_count-requires-clause-seat : goal.share_count-requires-clause-seat
 share_count-requires-clause-seat c = let m = c.args.self.now in shares-in _ _ m.seat c.deref.ensures (m.inside c.in-Inside.is) m.shared
 
-pub invariant_of-self-clause-inside : goal.invariant_of-self-clause-inside
-invariant_of-self-clause-inside c = λ _. let m = c.args.self.now in let e = c.share_count.ensures in turn-same _ _ m.seat c.share_count.new.seat c.deref.ensures (m.inside c.in-Inside.is) e.seat e.ran (ap (λ (z : View). z.state) e.view.1)
+pub invariant_of-self-in-Inside-clause-inside : goal.invariant_of-self-in-Inside-clause-inside
+invariant_of-self-in-Inside-clause-inside c = λ _. let m = c.args.self.now in let e = c.share_count.ensures in turn-same _ _ m.seat c.share_count.new.seat c.deref.ensures (m.inside c.in-Inside.is) e.seat e.ran (ap (λ (z : View). z.state) e.view.1)
 
 pub returns-else-word_of-eq0-clause-done : goal.returns-else-word_of-eq0-clause-done
 returns-else-word_of-eq0-clause-done c =
