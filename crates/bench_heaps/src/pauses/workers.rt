@@ -140,6 +140,19 @@ impl<'a, R: Wait + Clock> Hand<'a, R> {
         Ok(seen)
     }
 
+    /// Plays a round of transactions, whose clock goes on with this log.
+    fn churn_with(
+        &mut self,
+        orders: u32,
+        ledger: &mut Ledger,
+        log: &mut Log,
+    ) -> Result<Seen, Refused> {
+        mem::swap(&mut self.clock.log, log);
+        let seen = self.churn(orders, ledger);
+        mem::swap(&mut self.clock.log, log);
+        seen
+    }
+
     /// Looks at all orders.
     fn look_at_all(&mut self, orders: u32) -> Result<Seen, Refused> {
         let levels = levels_for(orders);
@@ -159,12 +172,9 @@ impl Worker {
     }
 
     fn churn<R: Wait + Clock>(&mut self, rt: &R, alloc: Global) -> Result<(), Refused> {
-        let log = Log::empty(alloc, self.log.line.began);
-        let log = mem::replace(&mut self.log, log);
-        let mut hand = Hand::new(rt, &mut self.mutator, log);
-        let seen = hand.churn(self.orders, &mut self.ledger)?;
+        let mut hand = Hand::new(rt, &mut self.mutator, Log::empty(alloc, None));
+        let seen = hand.churn_with(self.orders, &mut self.ledger, &mut self.log)?;
         self.seen = self.seen.and(seen);
-        self.log = hand.clock.log;
         Ok(())
     }
 
