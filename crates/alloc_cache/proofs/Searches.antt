@@ -63,7 +63,7 @@ and-more : (a b c : Bool) → (b ≡ true → c ≡ true) → (a && b) ≡ true 
 and-more true b c h e = h e
 and-more false b c h e = e
 
-seen-front : (b : ℕ) (xs ys : List Entry) → seen_taken b xs ≡ true → seen_taken b (xs ++ ys) ≡ true
+pub seen-front : (b : ℕ) (xs ys : List Entry) → seen_taken b xs ≡ true → seen_taken b (xs ++ ys) ≡ true
 seen-front b [] ys e = absurd (false≢true e)
 seen-front b (x ∷ xs) ys e =
     let f : Bool = finds_claimed b x.step x.found in
@@ -75,7 +75,7 @@ seen-front b (x ∷ xs) ys e =
     (λ (h : seen_taken b xs ≡ true). or_right (f || g && full_first (xs ++ ys)) (seen_taken b (xs ++ ys)) (seen-front b xs ys h))
     (or_cases (f || g && full_first xs) (seen_taken b xs) e)
 
-seen-back : (b : ℕ) (xs ys : List Entry) → seen_taken b ys ≡ true → seen_taken b (xs ++ ys) ≡ true
+pub seen-back : (b : ℕ) (xs ys : List Entry) → seen_taken b ys ≡ true → seen_taken b (xs ++ ys) ≡ true
 seen-back b [] ys e = e
 seen-back b (x ∷ xs) ys e = or_right (finds_claimed b x.step x.found || gets_block b x.step x.found && full_first (xs ++ ys)) (seen_taken b (xs ++ ys)) (seen-back b xs ys e)
 

@@ -11,7 +11,7 @@ use Rattle.packet_pools.specs.StepBounds.{scan_steps}
 use Rattle.card_clean.specs.StepBounds.{clean_some_steps, pass_steps, rescan_steps}
 
 -- the cells that are scanned again are counted
-sum-cells : (m n each : ℕ) → (m + n) * each ≡ m * each + n * each
+pub sum-cells : (m n each : ℕ) → (m + n) * each ≡ m * each + n * each
 sum-cells m n each = omega arith
 
 pub rescans-few : (m n : ℕ) (sh : Shape) (u v w : View) → Ran u v → Ran v w → length (events u v) ≤ rescan_steps m sh → length (events v w) ≤ rescan_steps n sh → length (events u w) ≤ rescan_steps (m + n) sh

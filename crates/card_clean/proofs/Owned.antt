@@ -25,7 +25,7 @@ use Rattle.gc_table.proofs.State.StateStores.{Views, views}
 use Rattle.card_clean.specs.Barrier.{HasOwn, IsStorable, MayStore}
 
 -- a word that agrees with an own reference isn't nil, and names a cell of the section
-owned-word : (ids : List ℕ) (p : ℕ → ℕ) (i word : ℕ) (ref : Ref) → is_own ref ≡ true → WordAgrees ids p i word ref → (0 < word) × (section_of_cell ids (word - 1) ≡ i)
+pub owned-word : (ids : List ℕ) (p : ℕ → ℕ) (i word : ℕ) (ref : Ref) → is_own ref ≡ true → WordAgrees ids p i word ref → (0 < word) × (section_of_cell ids (word - 1) ≡ i)
 owned-word ids p i word refs.Nil is a = absurd (false≢true is)
 owned-word ids p i word (refs.Cat k) is a = absurd (false≢true is)
 owned-word ids p i word (refs.Own k) is (inl z) = absurd (cc)

@@ -35,12 +35,12 @@ use Rattle.gc_cycle.specs.Moments.{total_of}
 use Rattle.gc_cycle.specs.Standing.{is_at_rest}
 use Rattle.gc_cycle.proofs.Traced.{rest-nothing}
 
-none-slot : (h : Slot) → is_some h ≡ false → h ≡ None
+pub none-slot : (h : Slot) → is_some h ≡ false → h ≡ None
 none-slot None e = refl
 none-slot (Some x) e = absurd (true≢false e)
 
 -- four slots without a packet
-four-none : (hs : Slots) → length hs ≡ 4 → holds_any hs ≡ false → hs ≡ no_packets
+pub four-none : (hs : Slots) → length hs ≡ 4 → holds_any hs ≡ false → hs ≡ no_packets
 four-none [] n e = absurd (omega (arith, n))
 four-none (a ∷ []) n e = absurd (omega (arith, n))
 four-none (a ∷ b ∷ []) n e = absurd (omega (arith, n))

@@ -82,7 +82,7 @@ no-claim : (step : Step) (n : ℕ) → tries_stopping step ≡ true → claims s
 no-claim (ClaimBlock b) n e = absurd (false≢true e)
 no-claim step n e = refl
 
-no-raise : (step : Step) (n : ℕ) → stays_calm step ≡ true → raises_flag step n ≡ false
+pub no-raise : (step : Step) (n : ℕ) → stays_calm step ≡ true → raises_flag step n ≡ false
 no-raise RaiseStep n e = absurd (false≢true e)
 no-raise step n e = refl
 

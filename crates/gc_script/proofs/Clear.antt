@@ -134,11 +134,11 @@ assigned_place names v few = by_test (nat_lt (place names v) (length names)) ref
 known_place : (names : List (List ℕ)) (v : List ℕ) → has_name v names ≡ true → length names ≤ 32 → place names v < 32
 known_place names v e few = grind (arith, nat_tests)
 
-left : (a b : Bool) → (a && b) ≡ true → a ≡ true
+pub left : (a b : Bool) → (a && b) ≡ true → a ≡ true
 left true b e = refl
 left false b e = e
 
-right : (a b : Bool) → (a && b) ≡ true → b ≡ true
+pub right : (a b : Bool) → (a && b) ≡ true → b ≡ true
 right true b e = e
 right false b e = cc
 
@@ -148,11 +148,11 @@ below fields i e = grind (arith, nat_tests)
 small : (b n : ℕ) → nat_lt b n ≡ false → n ≤ b
 small b n e = grind (arith, nat_tests)
 
-or_left : (a b : Bool) → (a || b) ≡ false → a ≡ false
+pub or_left : (a b : Bool) → (a || b) ≡ false → a ≡ false
 or_left true b e = e
 or_left false b e = refl
 
-or_right : (a b : Bool) → (a || b) ≡ false → b ≡ false
+pub or_right : (a b : Bool) → (a || b) ≡ false → b ≡ false
 or_right true b e = cc
 or_right false b e = e
 

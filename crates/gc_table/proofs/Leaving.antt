@@ -71,7 +71,7 @@ section-stays : (sh : Shape) (s : SeatState) (step : Step) (n : ℕ) → (seat_a
 section-stays sh s Reserve n = refl
 section-stays sh s step n = refl
 
-some-seat : (s t : SeatState) → Some s ≡ Some t → s ≡ t
+pub some-seat : (s t : SeatState) → Some s ≡ Some t → s ≡ t
 some-seat s t e = cc
 
 -- the seat's own section after a step, and another one

@@ -70,7 +70,7 @@ held_step (ExchangeValue v m x) n a b d turn here others h = exchange_held v m x
 held_step step n a b d turn here others h =
     held_less n b d (λ i t. ⊎_elim (λ (e : i ≡ a). ap b e ∙ (sym here ∙ (ap d (sym e) ∙ t))) (λ (f : i ≢ a). sym (others i f) ∙ t) (cases_eq i a)) h
 
-inside_join : (b : Bool) (xs ys : List Entry) → is_inside b (xs ++ ys) ≡ is_inside (is_inside b xs) ys
+pub inside_join : (b : Bool) (xs ys : List Entry) → is_inside b (xs ++ ys) ≡ is_inside (is_inside b xs) ys
 inside_join b [] ys = refl
 inside_join b (x ∷ xs) ys = inside_join (turned b x.step x.won) xs ys
 

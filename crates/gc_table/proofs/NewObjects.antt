@@ -33,7 +33,7 @@ use Rattle.gc_table.proofs.Frame.{referred-on, IsLast, Stays, holds-on, Moves, m
 use Rattle.gc_table.proofs.Stores.{values-length}
 use Rattle.gc_table.proofs.NewParts.{MakesPart, part_moves}
 
-made_last : (o : Option CacheState) (x : ℕ) → free_in o x ≡ true → last_made (with_made o x) ≡ Some x
+pub made_last : (o : Option CacheState) (x : ℕ) → free_in o x ≡ true → last_made (with_made o x) ≡ Some x
 made_last None x e = absurd (false≢true e)
 made_last (Some z) x e = refl
 
@@ -220,10 +220,10 @@ part_kinds c i s x part word world k identity = of (cases_Bool (nat_lt part c.sh
         turn false false false e (lt-leb part c.shape.fields h) (ne_eqb part c.shape.fields d) (last_part c i s x part word world k h (identity h))
 
 -- what fits the last part is the next identity
-last_fits : (field_part value_part : Bool) (a b e : Bool) → field_part ≡ false → value_part ≡ false → cond field_part a (cond value_part b e) ≡ true → e ≡ true
+pub last_fits : (field_part value_part : Bool) (a b e : Bool) → field_part ≡ false → value_part ≡ false → cond field_part a (cond value_part b e) ≡ true → e ≡ true
 last_fits field_part value_part a b e f g h = sym (ap (λ (z : Bool). cond z b e) g) ∙ (sym (ap (λ (z : Bool). cond z a (cond value_part b e)) f) ∙ h)
 
-not_below : (m n : ℕ) → n < m → nat_lt m n ≡ false
+pub not_below : (m n : ℕ) → n < m → nat_lt m n ≡ false
 not_below m n h = false_from_ne_true (nat_lt m n) (λ e. omega (arith, h, ltb-true m n e))
 
 pub store-new : (c : Core) (i : ℕ) (s : SeatState) (x part word : ℕ) (world : World) → Taken c i s (StoreNew x part word) → AgreesWith c world

@@ -19,11 +19,11 @@ use Rattle.gc_table.specs.Agreement.{SeatAgrees, AgreesWith}
 use Rattle.gc_table.proofs.Reading.{section-same, section-other, sections-kept, view-kept, object-kept}
 use Rattle.gc_table.proofs.Frame.{IsLast, holds-on, Moves, had-object, Mutates, looks, making-is-free, free-not-used, free-apart}
 
-making_is : (o : Option CacheState) (x p y part : ℕ) → makes (with_making o x p) y part ≡ true → (y ≡ x) × (part ≡ p)
+pub making_is : (o : Option CacheState) (x p y part : ℕ) → makes (with_making o x p) y part ≡ true → (y ≡ x) × (part ≡ p)
 making_is None x p y part e = absurd (false≢true e)
 making_is (Some z) x p y part e = let a = and_parts (eqb x y) (eqb p part) e in (sym (eqb-true x y a.0), sym (eqb-true p part a.1))
 
-making_last : (o : Option CacheState) (x p : ℕ) → last_made (with_making o x p) ≡ last_made o
+pub making_last : (o : Option CacheState) (x p : ℕ) → last_made (with_making o x p) ≡ last_made o
 making_last None x p = refl
 making_last (Some z) x p = refl
 

@@ -149,7 +149,7 @@ lent_on (e ∷ es) c world v sound ok a below once first counted new none =
             let f = filled_of c e r.0 world v (sound 0) r.1 at a below fills in
             (f.0, lent_more e es c world v f.0 ok.0 (inl (none, new)) (λ k. inr (none_stores es d after v later ok.1 below all k ∙ f.1)))
 
-odd_turn : (w z : ℕ) → has_turn (Some (suc w)) (Some z) ≡ true → z % 2 ≡ 1
+pub odd_turn : (w z : ℕ) → has_turn (Some (suc w)) (Some z) ≡ true → z % 2 ≡ 1
 odd_turn w z e = eqb-true (z % 2) 1 (ap (λ (b : Bool). (z % 2) == (if b then 0 else 1)) (sym (ne_eqb (suc w) 0 (λ q. omega (arith, q)))) ∙ e)
 
 -- a turn of another section than 0 is in no first season

@@ -10,7 +10,7 @@ use Rattle.seat_steps.specs.declared.stepper.Stepper.{Stepper}
 use Rattle.managed_heap_c.specs.Acting.{ExchangesTo, ExchangesValueTo, Fills, NumbersTo, PlacesTo, Spills}
 use Rattle.managed_heap_c.specs.Bytes.{IsByteOf}
 
-few : (x : Stepper) → fields_in x ≤ 16
+pub few : (x : Stepper) → fields_in x ≤ 16
 few x = (arc_value x.heap).shaped.fields.1
 
 -- a variable's number is its byte

@@ -23,11 +23,11 @@ use Rattle.gc_table.specs.Taking.{May}
 use Rattle.packet_pools.specs.OnlyTraced.{OnlyTracedBy}
 use Rattle.packet_pools.specs.Tracing.{notes_drain, traces, Traces}
 
-some-is : (o : Option ℕ) (n : ℕ) → is_the o n ≡ true → o ≡ Some n
+pub some-is : (o : Option ℕ) (n : ℕ) → is_the o n ≡ true → o ≡ Some n
 some-is None n e = absurd (true≢false (sym e))
 some-is (Some m) n e = ap Some (eqb-true m n e)
 
-or-mono : (a b c d : Bool) → (b ≡ true → c ≡ true) → (a || b || d) ≡ true → (a || c || d) ≡ true
+pub or-mono : (a b c d : Bool) → (b ≡ true → c ≡ true) → (a || b || d) ≡ true → (a || c || d) ≡ true
 or-mono true b c d h e = refl
 or-mono false true c d h e = rw (h refl) refl
 or-mono false false true d h e = refl

@@ -74,7 +74,7 @@ survivors_of ws = map (λ w. w.survivor) ws
 abbrev pub are_found : List Heap → List Witness → Bool
 are_found heaps ws = list_all (is_witness heaps) ws && (is_ordered (map name_of (survivors_of ws)) && is_closed heaps (map name_of (survivors_of ws)))
 
-both : (a b : Bool) → (a && b) ≡ true → (a ≡ true) × (b ≡ true)
+pub both : (a b : Bool) → (a && b) ≡ true → (a ≡ true) × (b ≡ true)
 both true b e = (refl, e)
 both false b e = absurd (no e)
   where

@@ -26,7 +26,7 @@ fills_spares (ExchangeValue v m n) e = absurd (false≢true e)
 fills_spares (StoreNew c part word) e = absurd (false≢true e)
 fills_spares step e = refl
 
-spared : (step : Step) → spares_part step ≡ true → spares_heap step ≡ true
+pub spared : (step : Step) → spares_part step ≡ true → spares_heap step ≡ true
 spared (StoreField v i w) e = absurd (false≢true e)
 spared (StoreValue v n) e = absurd (false≢true e)
 spared (StoreRoot v r) e = absurd (false≢true e)
@@ -36,7 +36,7 @@ spared (ExchangeValue v m n) e = absurd (false≢true e)
 spared (StoreNew c part word) e = absurd (false≢true e)
 spared step e = refl
 
-retired : (step : Step) → retires step ≡ true → spares_heap step ≡ true
+pub retired : (step : Step) → retires step ≡ true → spares_heap step ≡ true
 retired (StoreField v i w) e = absurd (false≢true e)
 retired (StoreValue v n) e = absurd (false≢true e)
 retired (StoreRoot v r) e = absurd (false≢true e)

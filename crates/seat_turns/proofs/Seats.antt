@@ -36,15 +36,15 @@ use Rattle.alloc_cache.specs.Making.{with_cell}
 none_some : (p : Phase) → None ≡ Some p → ⊥
 none_some p e = false≢true (ap (λ (o : Option Phase). is_some o) e)
 
-read_full : (step : Step) (n : ℕ) → phase_read step n ≡ Some Full → reads_phase Full step n ≡ true
+pub read_full : (step : Step) (n : ℕ) → phase_read step n ≡ Some Full → reads_phase Full step n ≡ true
 read_full ReadPhase n h = ap (λ (o : Option Phase). saw o Full) h
 read_full step n h = absurd (none_some Full h)
 
-either_full : (later here : Option Phase) (a b : Bool) → (later ≡ Some Full → b ≡ true) → (here ≡ Some Full → a ≡ true) → later_or later here ≡ Some Full → (a || b) ≡ true
+pub either_full : (later here : Option Phase) (a b : Bool) → (later ≡ Some Full → b ≡ true) → (here ≡ Some Full → a ≡ true) → later_or later here ≡ Some Full → (a || b) ≡ true
 either_full None here a b p q h = or_left a b (q h)
 either_full (Some x) here a b p q h = or_right a b (p h)
 
-last_full : (es : List Entry) → last_phase es ≡ Some Full → saw_full es ≡ true
+pub last_full : (es : List Entry) → last_phase es ≡ Some Full → saw_full es ≡ true
 last_full [] h = absurd (none_some Full h)
 last_full (e ∷ es) h = either_full (last_phase es) (phase_read e.step e.found) (reads_phase Full e.step e.found) (saw_full es) (last_full es) (read_full e.step e.found) h
 

@@ -130,7 +130,7 @@ unended : (step : Step) (n : ℕ) → stays step ≡ true → ends_cycle step n 
 unended (StorePhase to) n e = absurd (false≢true e)
 unended step n e = refl
 
-seeks-unended : (step : Step) (n : ℕ) → seeks_block step ≡ true → ends_cycle step n ≡ false
+pub seeks-unended : (step : Step) (n : ℕ) → seeks_block step ≡ true → ends_cycle step n ≡ false
 seeks-unended (StorePhase to) n e = absurd (false≢true e)
 seeks-unended step n e = refl
 

@@ -36,7 +36,7 @@ use Rattle.gc_cycle.proofs.Sequences.{count-none, followed-later, moments, momen
 use Rattle.gc_cycle.proofs.Ends.Completing.{no-end, no-move, no-tell, total-run, no-try}
 
 -- an event like g, if one is after one like f
-some-of-followed : (f g : Sort) (es : List Entry) → followed_by f g es ≡ true → some_event g es ≡ true
+pub some-of-followed : (f g : Sort) (es : List Entry) → followed_by f g es ≡ true → some_event g es ≡ true
 some-of-followed f g [] h = absurd (false≢true h)
 some-of-followed f g (e ∷ es) h =
     or_right (g e.step e.found) (some_event g es)

@@ -72,7 +72,7 @@ pub finish-calm : (v w : View) → Only finishes v w → never raises_flag (even
 finish-calm v w o = ap not (none-of-steps finishes raises_flag no-raise (events v w) o)
 
 -- the section and the position stay
-keeps : (step : Step) → finishes step ≡ true → keeps_section step ≡ true
+pub keeps : (step : Step) → finishes step ≡ true → keeps_section step ≡ true
 keeps (StorePhase to) e = refl
 keeps ReadPhase e = refl
 keeps RaiseStep e = refl

@@ -101,7 +101,7 @@ bare-parts s e =
     let b = and_parts (not s.counted) (not s.raised) a.0 in
     (not-true _ b.0, not-true _ b.1, not-true _ a.1)
 
-by-events : (P : Step → Bool) (v w : View) (es : List Entry) → events v w ≡ es → all_steps P es ≡ true → Only P v w
+pub by-events : (P : Step → Bool) (v w : View) (es : List Entry) → events v w ≡ es → all_steps P es ≡ true → Only P v w
 by-events P v w es e h = ap (all_steps P) e ∙ h
 
 -- a step at a gate

@@ -46,11 +46,11 @@ events-join u v w g h =
     events-of u w (g.0 ++ h.0) (grows-join u v w g h).1
     ∙ sym (ap (λ l. l ++ events v w) (events-of u v g.0 g.1) ∙ ap (λ l. g.0 ++ l) (events-of v w h.0 h.1))
 
-all-join : (P : Step → Bool) (xs ys : List Entry) → all_steps P xs ≡ true → all_steps P ys ≡ true → all_steps P (xs ++ ys) ≡ true
+pub all-join : (P : Step → Bool) (xs ys : List Entry) → all_steps P xs ≡ true → all_steps P ys ≡ true → all_steps P (xs ++ ys) ≡ true
 all-join P [] ys a b = b
 all-join P (x ∷ xs) ys a b = let p = and_parts (P x.step) (all_steps P xs) a in and_from (P x.step) (all_steps P (xs ++ ys)) p.0 (all-join P xs ys p.1 b)
 
-all-more : (P Q : Step → Bool) → ((step : Step) → P step ≡ true → Q step ≡ true) → (xs : List Entry) → all_steps P xs ≡ true → all_steps Q xs ≡ true
+pub all-more : (P Q : Step → Bool) → ((step : Step) → P step ≡ true → Q step ≡ true) → (xs : List Entry) → all_steps P xs ≡ true → all_steps Q xs ≡ true
 all-more P Q h [] a = refl
 all-more P Q h (x ∷ xs) a = let p = and_parts (P x.step) (all_steps P xs) a in and_from (Q x.step) (all_steps Q xs) (h x.step p.0) (all-more P Q h xs p.1)
 
