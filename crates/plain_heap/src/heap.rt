@@ -1,4 +1,4 @@
-//! The heap as its callers see it, and one step of it.
+//! The heap of a section, and one step of it.
 ghost use Rattle.std.specs.Prelude.{◌≡◌, ◌<◌, ◌≤◌, length, IfOk, IsErr, IsOkAnd, OnErr, OnOk};
 ghost use Rattle.std.specs.Option.{option_copied};
 ghost use Rattle.plain_heap.specs.PlainHeap.{empty_heap, heap_variables, variable};
@@ -15,8 +15,8 @@ mod mark;
 mod reachable;
 mod store;
 
-/// The heap of one section: every object that it ever made, 32 variables, and a count of dropped stores. An
-/// object's number is its place in the order in which they were made, from 0 on, for good.
+/// The heap of one section: every object that it ever made, 32 variables, and a count of dropped stores. An object's
+/// number is its place in the order in which they were made, from 0 on.
 #[derive(Drop)]
 pub struct PlainHeap {
     section: u32,
@@ -46,10 +46,8 @@ impl Model for PlainHeap {
 }
 
 impl PlainHeap {
-    /// An empty heap: no objects, 32 nil variables, nothing dropped.
-    ///
-    /// `section` is 0 for the catalogue, otherwise the warehouse's number. Operations may name `fields` fields of
-    /// an object, 1 to 16. It takes no memory yet, so it is never refused.
+    /// An empty heap, for operations that name `fields` fields of an object, 1 to 16. `section` is 0 for the catalogue,
+    /// otherwise the warehouse's number. It takes no memory yet, so it is never refused.
     pub fn new(alloc: Global, section: u32, fields: u32) -> Result<PlainHeap, OutOfMemory>
         requires least { 1 ≤ fields }
         requires most { fields ≤ 16 }
@@ -66,9 +64,8 @@ impl PlainHeap {
 
     /// Does one operation, and answers what it prints: a line for `Say` and `Sum`, otherwise `None`.
     ///
-    /// `cat` is the catalogue's heap, and `None` for the catalogue itself. Numbers are in range as [`Op`] says; the
-    /// heap has room for another object and another dropped store. Only `New` is ever refused, if memory runs out,
-    /// and the heap is unchanged.
+    /// `cat` is the catalogue's heap, and `None` for the catalogue itself. Numbers are in range as [`Op`] says. Only
+    /// `New` is ever refused, if memory runs out, and the heap is unchanged.
     pub fn step(&mut self, cat: Option<&PlainHeap>, op: Op) -> Result<Option<Line>, OutOfMemory>
         requires range { IsInRange self.old.fields op }
         requires room { length self.old.objects < 2000000 }
@@ -96,7 +93,7 @@ impl PlainHeap {
         Ok(None)
     }
 
-    /// The heap's section: 0 for the catalogue, otherwise the warehouse's number.
+    /// The section: 0 for the catalogue, otherwise the warehouse's number.
     pub fn section(&self) -> u32
         ensures { result ≡ self.now.section }
     {

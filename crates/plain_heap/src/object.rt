@@ -19,6 +19,6 @@ pub struct Object {
     /// The value that `put` stores and `say` prints.
     pub value: u32,
 
-    /// The fields by their numbers. A heap of fewer than 16 leaves the rest nil.
+    /// The fields by their numbers; a heap of fewer than 16 leaves the rest nil.
     pub refs: [Ref; 16],
 }

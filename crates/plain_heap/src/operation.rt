@@ -2,11 +2,12 @@
 
 /// One executed command of a section, without its label.
 ///
-/// Variables `v`, `w` and `c` are below 32, a field `i` below the heap's number of fields. If `v` or `w` is both
-/// read and assigned, the reading comes first.
+/// Variables `v`, `w` and `c` are below 32, a field `i` below the heap's number of fields. If `v` or `w` is both read
+/// and assigned, the reading comes first. A store does nothing if `v` is nil, and a warehouse's in an object of the
+/// catalogue is dropped. Only a warehouse does `Cat`, `Say`, `Sum` and `Collect`.
 #[derive(Clone, Copy, Debug, PartialEq, Eq)]
 pub enum Op {
-    /// Makes an object with value `n` and nil fields, which gets the section's next number; `v` refers to it.
+    /// Makes an object with value `n` and nil fields, to which `v` refers; it gets the section's next number.
     New { v: u8, n: u32 },
 
     /// `v` becomes what `w` is.
@@ -15,28 +16,26 @@ pub enum Op {
     /// `v` becomes nil.
     Nil { v: u8 },
 
-    /// Field `i` of the object of `v` becomes what `w` is. Nothing happens if `v` is nil; a store in the
-    /// catalogue's object is dropped.
+    /// Field `i` of the object of `v` becomes what `w` is.
     Set { v: u8, i: u8, w: u8 },
 
     /// `v` becomes field `i` of the object of `w`, or nil if `w` is nil.
     Get { v: u8, w: u8, i: u8 },
 
-    /// `v` becomes what variable `c` of the catalogue is. Only a warehouse does this.
+    /// `v` becomes what variable `c` of the catalogue is.
     Cat { v: u8, c: u8 },
 
-    /// The value of the object of `v` becomes `n`. Nothing happens if `v` is nil; a store in the catalogue's object
-    /// is dropped.
+    /// The value of the object of `v` becomes `n`.
     Put { v: u8, n: u32 },
 
-    /// Prints the value of the object of `v`. Only a warehouse does this.
+    /// Prints the value of the object of `v`.
     Say { v: u8 },
 
-    /// Walks from `v` along field `i` over at most `limit` objects, up to 65,536, each visit counted. Prints how
-    /// many visits there were, and the sum of the values met. Only a warehouse does this.
+    /// Walks from `v` along field `i` over at most `limit` objects, up to 65,536, each visit counted. Prints how many
+    /// visits there were, and the sum of the values met.
     Sum { v: u8, i: u8, limit: u32 },
 
-    /// Asks for a collection, of which a heap that forgets nothing sees nothing. Only a warehouse does this.
+    /// Asks for a collection, of which a heap that forgets nothing sees nothing.
     Collect,
 }
 

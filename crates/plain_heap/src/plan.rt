@@ -2,8 +2,8 @@
 ghost use Rattle.std.specs.Prelude.{List};
 ghost use Rattle.plain_heap.specs.declared.operation.Op.{Op};
 
-/// Knows what the catalogue will do. A plan has no calls: only contracts see it. It fixes what a warehouse finds in
-/// the catalogue, though the two run side by side.
+/// Knows what the catalogue will do. Only contracts see it. It fixes what a warehouse finds in the catalogue, though
+/// the two run side by side.
 pub trait Plan {
     /// The operations of the catalogue, part by part; a missing part is empty.
     ghost plan: { Self → List (List Op) };

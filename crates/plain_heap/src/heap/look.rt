@@ -9,7 +9,6 @@ use super::PlainHeap;
 use crate::object::{Object, Ref};
 use crate::operation::Line;
 
-/// A reference of the catalogue, as a warehouse sees it.
 fn lent(reference: Ref) -> Ref
     ensures { result ≡ lent reference }
 {
@@ -54,7 +53,6 @@ impl PlainHeap {
         }
     }
 
-    /// Field `i` of the object that the reference names, as this heap sees it.
     pub(super) fn follow(&self, cat: Option<&PlainHeap>, reference: Ref, i: u8) -> Ref
         requires { i < 16 }
         ensures { result ≡ followed self.now (option_copied cat.entry) reference i }
@@ -77,7 +75,6 @@ impl PlainHeap {
         }
     }
 
-    /// The value of the object that a reference names, or 0 if it names none.
     fn value(&self, cat: Option<&PlainHeap>, reference: Ref) -> u32
         ensures { result ≡ value_of (object_of self.now (option_copied cat.entry) reference) }
     {
@@ -87,7 +84,6 @@ impl PlainHeap {
         }
     }
 
-    /// A walk from variable `v` along field `i` over at most `limit` objects, each visit counted.
     pub(super) fn walk(&self, cat: Option<&PlainHeap>, v: u8, i: u8, limit: u32) -> Line
         requires v { v < heap_variables }
         requires i { i < 16 }

@@ -20,7 +20,6 @@ pub(super) fn no_marks(alloc: Global, count: usize) -> Result<Vec<bool>, OutOfMe
     Ok(marks)
 }
 
-/// Marks the own object that a reference names, which then waits if it had no mark.
 fn mark(reference: Ref, marks: &mut Vec<bool>, waiting: &mut Vec<u32>) -> Result<(), OutOfMemory>
     ensures { OnOk result (Marks (λ n. reference ≡ refs.Own n) marks.old.items
         marks.new.items waiting.old.items waiting.new.items) }

@@ -29,7 +29,6 @@ impl PlainHeap {
         }
     }
 
-    /// Sets marks on exactly the reachable objects, from none.
     fn marks_on(&self, alloc: Global, none: Vec<bool>) -> Result<Vec<bool>, OutOfMemory>
         requires { none.items ≡ replicate (length self.now.objects) false }
         ensures { IfOk result (λ marks. Reaches self.now marks.items []) }
