@@ -88,7 +88,6 @@ fn of_colour(bases: &Bases, s: &SeatState, step: &Step) -> usize
     }
 }
 
-/// The cell that variable v names.
 fn own_cell(s: &SeatState, v: u8) -> u32
     ensures { result ≡ cell_of (variable_of s.now v) }
 {

@@ -9,7 +9,7 @@ use crate::kinds::Shape;
 use crate::layout::{self, NAMED, NEXT_CARD};
 use crate::numbers::{FIRST_POSITION, LAST, NAMED_SECTION, VARIABLES};
 
-/// Where the regions of a heap's words begin. Its calls answer addresses.
+/// Where the regions of a heap's words begin.
 #[derive(Drop)]
 pub struct Bases {
     pub(crate) shape: Shape,

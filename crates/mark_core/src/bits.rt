@@ -22,7 +22,6 @@ pub fn has_bit(word: u64, i: u32) -> bool
     (word >> i) & 1 == 1
 }
 
-/// The word with bit i set.
 pub fn with_bit(word: u64, i: u32) -> u64
     requires { i < 64 }
     ensures { result ≡ with_bit_of word i }
@@ -30,7 +29,6 @@ pub fn with_bit(word: u64, i: u32) -> u64
     word | (1 << i)
 }
 
-/// The word with bit i clear.
 pub fn without_bit(word: u64, i: u32) -> u64
     requires { i < 64 }
     ensures { result ≡ without_bit_of word i }
@@ -45,7 +43,6 @@ pub fn cell_of(word: u64) -> Cell
     Cell::make((word.saturating_sub(1) % FLAG) as u32)
 }
 
-/// The cell that the word names; None for nil.
 pub fn cell_named(word: u64) -> Option<Cell>
     ensures { result ≡ cell_named_of word }
 {

@@ -20,7 +20,6 @@ pub fn card_of(c: Cell) -> u32
     c.number() / CARD_CELLS
 }
 
-/// The block in which a card lies.
 pub fn block_of_card(card: u32) -> u32
     ensures { result ≡ block_of card }
 {
@@ -34,7 +33,6 @@ pub fn first_bit(card: u32) -> u32
     CARD_CELLS * (card % BLOCK_CARDS)
 }
 
-/// The bits of the card's cells in the words of its block.
 #[tactic(auto, using(crate::proofs::Hands::HandsCleaning::card_rules))]
 pub fn card_bits(card: u32) -> u64
     ensures { result ≡ card_bits_of card }

@@ -14,7 +14,6 @@ use crate::seat::SeatState;
 use crate::steps::{colour, help, making, mutator, packets, phase, season, sweep, world};
 use crate::words::{identity_of, read, season_of};
 
-/// The least part of the step's condition that fails, for the seat with record `s`.
 pub fn failing_part(
     shape: &Shape,
     words: &[u64],

@@ -1,4 +1,4 @@
-//! The least part of a condition that fails.
+//! The least part of a condition that fails, counted from 1.
 ghost use Rattle.std.specs.Prelude.{◌≡◌, ◌<◌, ◌+◌, length};
 ghost use Rattle.mark_core.specs.Steps.{first_false as first_false_of};
 
@@ -16,7 +16,6 @@ fn first_false_from(parts: &[bool], from: u8) -> Option<u8>
     }
 }
 
-/// The number of the first part that is false, counted from 1.
 pub fn first_false(parts: &[bool]) -> Option<u8>
     requires { length parts.now < 255 }
     ensures { result ≡ first_false_of 1 parts.now }

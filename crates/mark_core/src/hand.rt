@@ -7,7 +7,6 @@ use crate::cell::Cell;
 use crate::seat::{BlockState, CacheState, Cleaning, SeatState};
 use crate::{bits, slots};
 
-/// Whether the option holds this cell.
 pub fn is_the_cell(held: Option<Cell>, c: Cell) -> bool
     ensures { result ≡ is_the_cell_number held c }
 {
@@ -17,7 +16,6 @@ pub fn is_the_cell(held: Option<Cell>, c: Cell) -> bool
     }
 }
 
-/// Whether the scan has a field left.
 pub fn scan_left(fields: u32, scan: Option<(Cell, u8)>) -> bool
     ensures { result ≡ scan_left_of fields scan }
 {
@@ -36,7 +34,6 @@ fn cleaning_left(cleaning: Option<Cleaning>) -> bool
     }
 }
 
-/// Cell c of block b, in a set of the block's cells.
 fn in_set(b: u32, set: u64, c: Cell) -> bool
     ensures { result ≡ in_set_of b set c }
 {
@@ -54,7 +51,6 @@ pub fn may_scan(cleaning: Option<Cleaning>, c: Cell) -> bool
     }
 }
 
-/// Whether the cell is popped, and was seen unpublished.
 pub fn is_unpublished(popped: Option<(Cell, bool)>, c: Cell) -> bool
     ensures { result ≡ is_unpublished_of popped c }
 {
@@ -64,7 +60,6 @@ pub fn is_unpublished(popped: Option<(Cell, bool)>, c: Cell) -> bool
     }
 }
 
-/// Whether field i is the next to be read of the cell in scan.
 pub fn scans(scan: Option<(Cell, u8)>, c: Cell, i: u8) -> bool
     ensures { result ≡ scans_of scan c i }
 {
@@ -74,7 +69,6 @@ pub fn scans(scan: Option<(Cell, u8)>, c: Cell, i: u8) -> bool
     }
 }
 
-/// Whether the cell is free in the cache.
 pub fn free_in(cache: Option<CacheState>, c: Cell) -> bool
     ensures { result ≡ free_in_of cache c }
 {
@@ -84,7 +78,6 @@ pub fn free_in(cache: Option<CacheState>, c: Cell) -> bool
     }
 }
 
-/// Whether the cell is made and not yet published.
 pub fn used_in(cache: Option<CacheState>, c: Cell) -> bool
     ensures { result ≡ used_in_of cache c }
 {
@@ -94,7 +87,6 @@ pub fn used_in(cache: Option<CacheState>, c: Cell) -> bool
     }
 }
 
-/// Whether the cache has a cell that is made and not yet published.
 pub fn has_used(cache: Option<CacheState>) -> bool
     ensures { result ≡ has_used_of cache }
 {
@@ -104,7 +96,6 @@ pub fn has_used(cache: Option<CacheState>) -> bool
     }
 }
 
-/// Whether there is a cache whose free cells weren't read.
 pub fn is_unread(cache: Option<CacheState>) -> bool
     ensures { result ≡ is_unread_of cache }
 {
@@ -114,7 +105,6 @@ pub fn is_unread(cache: Option<CacheState>) -> bool
     }
 }
 
-/// Whether the cell being made is c, and this part is its next.
 pub fn makes(cache: Option<CacheState>, c: Cell, part: u8) -> bool
     ensures { result ≡ makes_of cache c part }
 {
@@ -134,7 +124,6 @@ pub fn may_store(block: Option<BlockState>) -> bool
     }
 }
 
-/// Whether the allocation bits of the block in hand were stored.
 pub fn is_swept(block: Option<BlockState>) -> bool
     ensures { result ≡ is_swept_of block }
 {
@@ -145,8 +134,8 @@ pub fn is_swept(block: Option<BlockState>) -> bool
 }
 
 impl SeatState {
-    /// Whether a grey cell, or something that may lead to one, is in the seat's record only; `fields` is how many
-    /// fields an object has. Then it must not give back its last packet, nor leave.
+    /// Whether a grey cell, or something that may lead to one, is in the seat's record only; an object has `fields`
+    /// fields. Then the seat must not give back its last packet, nor leave.
     pub fn work_in_hand(&self, fields: u32) -> bool
         ensures { result ≡ work_in_hand_of fields self.now }
     {
@@ -157,8 +146,7 @@ impl SeatState {
             || cleaning_left(self.cleaning)
     }
 
-    /// Whether the seat has neither a packet, nor a reservation of an empty one, nor a credit for one that it gave
-    /// back.
+    /// Whether the seat has no packet, no reservation of an empty one, and no credit for one that it gave back.
     pub fn empty_handed(&self) -> bool
         ensures { result ≡ empty_handed_of self.now }
     {

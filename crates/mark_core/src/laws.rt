@@ -1,4 +1,4 @@
-// Laws: each is a theorem on every state and event, the contract of a function that does nothing.
+// Laws: the contract of each function, which does nothing, is a theorem on every state and event.
 ghost use Rattle.mark_core.specs.Laws.{StartIsCore, EventsKeepCore, RunsAreSound, StartMeetsPackets, EventsKeepPackets, CountShowsQuiet, ClosedMarksAll, FullIsReachable, ReachableStay, StartIsSwept, EventsKeepSwept, EventsKeepNotes, EventsKeepBounds};
 
 /// The state in which nothing has happened is sound, for all shapes and any number of seats.
@@ -12,8 +12,8 @@ pub fn events_keep_core()
     ensures { EventsKeepCore }
 {}
 
-/// Every run is sound: for every legal shape, 1 to [`crate::SEATS`] seats and every list of events whose numbers
-/// fit words, so is the state that [`crate::CoreState::run`] leaves, and each on the way.
+/// Each run is sound, and so is each state on its way: for every legal shape, 1 to [`crate::SEATS`] seats and every
+/// list of events whose numbers fit words.
 #[tactic(auto, using(crate::proofs::CoreKept::runs_sound))]
 pub fn runs_are_sound()
     ensures { RunsAreSound }
@@ -24,16 +24,15 @@ pub fn packets_start()
     ensures { StartMeetsPackets }
 {}
 
-/// Each allowed event keeps the rules of packets: a packet is in one pool or in one hand, a pool holds packets of
-/// its lengths, the count of empty packets is exact once reservations and credits are added, and no seat has work
-/// in hand without a packet.
+/// Each allowed event keeps the rules of packets: a packet is in one pool or one hand, a pool holds packets of its
+/// lengths, the count of empty packets is exact once reservations and credits are added, and no seat has work in hand
+/// without a packet.
 #[tactic(auto, using(crate::proofs::Pool::PoolsKept::packets_kept))]
 pub fn packets_are_kept()
     ensures { EventsKeepPackets }
 {}
 
-/// If the count says that all packets are empty, no packet has an entry and no seat has work in hand: one word
-/// tells that tracing is done.
+/// If the count says that all packets are empty, no packet has an entry and no seat has work in hand.
 #[tactic(auto, using(crate::proofs::Consequences::QuietReading::quiet))]
 pub fn count_shows_quiet()
     ensures { CountShowsQuiet }
@@ -63,8 +62,7 @@ pub fn swept_starts()
     ensures { StartIsSwept }
 {}
 
-/// In Sweep and Clear, a block that was handed out and is in no seat's hand has no mark. So the cycle can end once
-/// every block was put down.
+/// In Sweep and Clear, a block that was handed out and is in no seat's hand has no mark.
 #[tactic(auto, using(crate::proofs::Swept::SweptKept::swept_kept_by))]
 pub fn swept_is_kept()
     ensures { EventsKeepSwept }

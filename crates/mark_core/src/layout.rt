@@ -1,4 +1,4 @@
-//! Where each region of words begins in the list of all words.
+//! Where each region of words begins in the list of all words, and what stands there.
 ghost use Rattle.std.specs.Prelude.{◌≡◌, ◌<◌, ◌+◌, ◌*◌, ◌-◌, ◌≤◌, ◌^◌, length, take, drop};
 ghost use Rattle.mark_core.specs.Layout.{pool_words as pool_words_of, block_count as block_count_of, card_count as card_count_of, region_sizes, region_base, total_words as total_words_of, address, words_of};
 ghost use Rattle.mark_core.specs.Places.{identity_at as identity_place};
@@ -10,10 +10,9 @@ use crate::cards::{BLOCK_CELLS, CARD_CELLS};
 use crate::kinds::Shape;
 use crate::numbers::{POOLS, VARIABLES, WORD_BITS};
 
-/// How many single words there are. They come first.
 pub const SINGLE_WORDS: usize = 11;
 
-/// How many seats run, and above that number the stop flag. Entering raises the number by 1, leaving lowers it.
+/// How many seats run, and above that number the stop flag.
 pub const WORLD: usize = 0;
 
 /// The phase of the cycle, by its number.
@@ -23,16 +22,14 @@ pub const PHASE: usize = 1;
 /// pool. `Reserve` lowers it by 1, `Credit` raises it by 1.
 pub const EMPTY: usize = 2;
 
-/// The counter of the card pass (`CARD_COUNTER`). That of the sweep, the named section and the statistics follow.
+/// The counter of the card pass. That of the sweep, the named section and the statistics follow.
 pub const NEXT_CARD: usize = 3;
 
-/// The counter of the sweep (`BLOCK_COUNTER`).
 pub const NEXT_BLOCK: usize = 4;
 
 /// The section that found the heap full. It stores this just before.
 pub const NAMED: usize = 5;
 
-/// How many blocks of 64 cells there are.
 pub fn block_count(shape: &Shape) -> u32
     ensures { result ≡ block_count_of shape.now }
 {
@@ -47,50 +44,44 @@ pub fn stretch_end(shape: &Shape, b: u32) -> u32
     end.min(u64::from(block_count(shape))) as u32
 }
 
-/// How many blocks a sweeper takes at a time, unless it is told otherwise: a 16th of all, at least one and at most
-/// 128.
+/// How many blocks a sweeper usually takes at a time: a 16th of all, at least one and at most 128.
 pub fn usual_stretch(cells: u32) -> u32
     ensures { result ≡ usual_stretch_of cells }
 {
     (cells / (BLOCK_CELLS * 16)).min(128).max(1)
 }
 
-/// How many cards there are, numbered from 0 on.
 pub fn card_count(shape: &Shape) -> u32
     ensures { result ≡ card_count_of shape.now }
 {
     shape.cells / CARD_CELLS
 }
 
-/// How many words hold one bit for each packet.
 pub fn pool_words(shape: &Shape) -> usize
     ensures { result ≡ pool_words_of shape.now }
 {
     (shape.packets as usize + 63) / WORD_BITS as usize
 }
 
-/// Where the positions begin.
 pub fn positions(shape: &Shape) -> usize
     ensures { result ≡ region_base (region_sizes shape.now) 1 }
 {
     SINGLE_WORDS
 }
 
-/// Where the roots begin: [`VARIABLES`](crate::VARIABLES) for each section, and the slots behind.
+/// The variables of all sections, and behind them the slots.
 pub fn roots(shape: &Shape) -> usize
     ensures { result ≡ region_base (region_sizes shape.now) 2 }
 {
     positions(shape) + shape.sections as usize
 }
 
-/// Where the slots begin, for each section as many as the shape says.
 pub fn slots(shape: &Shape) -> usize
     ensures { result ≡ region_base (region_sizes shape.now) 2 + shape.now.sections * section_variables }
 {
     roots(shape) + shape.sections as usize * VARIABLES as usize
 }
 
-/// Where the owners begin.
 pub fn owners(shape: &Shape) -> usize
     requires { IsShape shape.now }
     ensures { result ≡ region_base (region_sizes shape.now) 3 }
@@ -98,7 +89,6 @@ pub fn owners(shape: &Shape) -> usize
     slots(shape) + shape.sections as usize * shape.slots as usize
 }
 
-/// Where the allocation bits begin.
 pub fn allocs(shape: &Shape) -> usize
     requires { IsShape shape.now }
     ensures { result ≡ region_base (region_sizes shape.now) 4 }
@@ -106,7 +96,6 @@ pub fn allocs(shape: &Shape) -> usize
     owners(shape) + block_count(shape) as usize
 }
 
-/// Where the mark bits begin.
 pub fn marks(shape: &Shape) -> usize
     requires { IsShape shape.now }
     ensures { result ≡ region_base (region_sizes shape.now) 5 }
@@ -114,7 +103,6 @@ pub fn marks(shape: &Shape) -> usize
     allocs(shape) + block_count(shape) as usize
 }
 
-/// Where the cards begin.
 pub fn cards(shape: &Shape) -> usize
     requires { IsShape shape.now }
     ensures { result ≡ region_base (region_sizes shape.now) 6 }
@@ -122,7 +110,6 @@ pub fn cards(shape: &Shape) -> usize
     marks(shape) + block_count(shape) as usize
 }
 
-/// Where the heads of packets begin.
 pub fn heads(shape: &Shape) -> usize
     requires { IsShape shape.now }
     ensures { result ≡ region_base (region_sizes shape.now) 7 }
@@ -130,7 +117,6 @@ pub fn heads(shape: &Shape) -> usize
     cards(shape) + card_count(shape) as usize
 }
 
-/// Where the entries begin, packet by packet.
 pub fn entries(shape: &Shape) -> usize
     requires { IsShape shape.now }
     ensures { result ≡ region_base (region_sizes shape.now) 8 }
@@ -138,7 +124,6 @@ pub fn entries(shape: &Shape) -> usize
     heads(shape) + shape.packets as usize
 }
 
-/// Where the identities begin.
 pub fn identities(shape: &Shape) -> usize
     requires { IsShape shape.now }
     ensures { result ≡ region_base (region_sizes shape.now) 9 }
@@ -146,7 +131,6 @@ pub fn identities(shape: &Shape) -> usize
     entries(shape) + shape.packets as usize * shape.entries as usize
 }
 
-/// Where the values begin.
 pub fn values(shape: &Shape) -> usize
     requires { IsShape shape.now }
     ensures { result ≡ region_base (region_sizes shape.now) 10 }
@@ -154,7 +138,6 @@ pub fn values(shape: &Shape) -> usize
     identities(shape) + shape.cells as usize
 }
 
-/// Where the fields begin, cell by cell.
 pub fn fields(shape: &Shape) -> usize
     requires { IsShape shape.now }
     ensures { result ≡ region_base (region_sizes shape.now) 11 }
@@ -162,7 +145,6 @@ pub fn fields(shape: &Shape) -> usize
     values(shape) + shape.cells as usize
 }
 
-/// Where the pools begin, one behind the other.
 pub fn pools(shape: &Shape) -> usize
     requires { IsShape shape.now }
     ensures { result ≡ region_base (region_sizes shape.now) 12 }
@@ -170,7 +152,7 @@ pub fn pools(shape: &Shape) -> usize
     fields(shape) + shape.cells as usize * shape.fields as usize
 }
 
-/// Where the word of help stands; the season follows.
+/// The season follows the word of help.
 pub fn help(shape: &Shape) -> usize
     requires { IsShape shape.now }
     ensures { result ≡ region_base (region_sizes shape.now) 13 }
@@ -186,7 +168,6 @@ pub fn total_words(shape: &Shape) -> usize
     help(shape) + 2
 }
 
-/// The address of the identity of cell c.
 pub fn identity_at(shape: &Shape, c: u32) -> usize
     requires { IsShape shape.now }
     ensures { result ≡ address shape.now (identity_place c) }
@@ -194,7 +175,6 @@ pub fn identity_at(shape: &Shape, c: u32) -> usize
     identities(shape) + c as usize
 }
 
-/// The roots: the 32 variables of each section, and then the slots of each section.
 #[tactic(auto, using(crate::proofs::Writing::Slices::parts_of_words))]
 pub fn roots_of<'a>(shape: &Shape, words: &'a [u64]) -> &'a [u64]
     requires shaped { IsShape shape.now }
@@ -204,7 +184,6 @@ pub fn roots_of<'a>(shape: &Shape, words: &'a [u64]) -> &'a [u64]
     &words[roots(shape)..owners(shape)]
 }
 
-/// The allocation bits: a word for each block.
 #[tactic(auto, using(crate::proofs::Writing::Slices::parts_of_words))]
 pub fn allocs_of<'a>(shape: &Shape, words: &'a [u64]) -> &'a [u64]
     requires shaped { IsShape shape.now }
@@ -214,7 +193,6 @@ pub fn allocs_of<'a>(shape: &Shape, words: &'a [u64]) -> &'a [u64]
     &words[allocs(shape)..marks(shape)]
 }
 
-/// The mark bits: a word for each block.
 #[tactic(auto, using(crate::proofs::Writing::Slices::parts_of_words))]
 pub fn marks_of<'a>(shape: &Shape, words: &'a [u64]) -> &'a [u64]
     requires shaped { IsShape shape.now }
@@ -224,7 +202,6 @@ pub fn marks_of<'a>(shape: &Shape, words: &'a [u64]) -> &'a [u64]
     &words[marks(shape)..cards(shape)]
 }
 
-/// The cards: 1 if a card is dirty, else 0.
 #[tactic(auto, using(std::proofs::lemmas::List::places))]
 pub fn cards_of<'a>(shape: &Shape, words: &'a [u64]) -> &'a [u64]
     requires shaped { IsShape shape.now }

@@ -1,7 +1,6 @@
 //! Numbers of pools, counters and statistics, and those that all heaps have in common.
 
-/// The pool of empty packets. A word of its own counts them, lowered by `Reserve` before one is taken and raised by
-/// `Credit` after one was given back.
+/// The pool of empty packets, which a word of its own counts.
 pub const EMPTY_POOL: u8 = 0;
 
 /// The pool of packets that are less than half full.
@@ -16,12 +15,12 @@ pub const DEFERRED_POOL: u8 = 3;
 /// How many pools there are.
 pub const POOLS: u8 = 4;
 
-/// The next card of the pass. `NextOfCards` raises it by 1, past the last card too. `Reset` sets it to 0 as a drain
+/// The next card of the pass. `NextOfCards` raises it by 1, past the last card too; `Reset` sets it to 0 as a drain
 /// begins and as a cycle ends.
 pub const CARD_COUNTER: u8 = 0;
 
 /// The next block of the sweep, or of clearing. `NextBlock` raises it by the shape's `stretch`, past the last block
-/// too. `Reset` sets it to 0 before blocks are handed out.
+/// too; `Reset` sets it to 0 before blocks are handed out.
 pub const BLOCK_COUNTER: u8 = 1;
 
 /// How many cells were marked in the last cycle, set as it ended (`Reset`, then `AddStat`). The first statistic.
@@ -30,36 +29,33 @@ pub const LAST: u8 = 2;
 /// How many objects were scanned again in the last cycle's stop, set as `LAST` is.
 pub const RESCANNED: u8 = 3;
 
-/// How many objects mutators and tracers traced in this cycle; 0 again as it ends.
+/// How many objects were traced in this cycle; 0 again as it ends.
 pub const TRACED: u8 = 4;
 
-/// How many cells are free, all at first. A mutator lowers it by the free cells of a block that it claims, and
-/// raises it by those that it gives back; as a cycle ends it is set to what was counted. The last number that
-/// `Reset` takes.
+/// How many cells are free, all at first. A mutator lowers it by the free cells of a block that it claims, and raises
+/// it by those that it gives back; as a cycle ends it is set to what was counted. The last that `Reset` takes.
 pub const FREE: u8 = 5;
 
-/// How many parts the sections have played: each raises it by 1 at the end of its part. It never falls. The last
-/// statistic.
+/// How many parts the sections have played: each raises it by 1 at its end. It never falls. The last statistic.
 pub const DONE: u8 = 6;
 
 /// The section that found the heap full (`StoreNamed`). Only `ReadStat` takes this number.
 pub const NAMED_SECTION: u8 = 7;
 
-/// How many commands section 0 has done; that of another section has this number plus its own (`StorePosition`).
-/// Only `ReadStat` takes it.
+/// How many commands section 0 has done (`StorePosition`); for another section add its number. Only `ReadStat` takes
+/// it.
 pub const FIRST_POSITION: u8 = 8;
 
-/// How many variables a section has. They are its roots.
+/// How many variables a section has.
 pub const VARIABLES: u8 = 32;
 
 /// How many seats there can be: 33 sections and 8 tracers.
 pub const SEATS: u32 = 41;
 
-/// How many bits a word has; a word of a pool stands for so many packets.
+/// How many bits a word has.
 pub const WORD_BITS: u32 = 64;
 
-/// What the word of empty packets holds beside their count, so that it stays above 0 if each seat has lowered it by
-/// 1.
+/// What the word of empty packets holds beside their count: it stays above 0 if each seat has lowered it by 1.
 pub const EMPTY_OFFSET: u64 = 64;
 
 /// An identity is its section times this, plus the object's number in the section.

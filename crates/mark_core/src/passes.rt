@@ -5,7 +5,6 @@ ghost use Rattle.mark_core.specs.Kinds.{kind_of as kind_of_step};
 
 use crate::kinds::Step;
 
-/// A pass over the kinds of step.
 #[derive(Clone, Copy)]
 pub enum Pass {
     Packets,
@@ -18,7 +17,6 @@ pub enum Pass {
     Help,
 }
 
-/// The group of kinds to which the step belongs.
 #[inline(always)]
 pub fn pass_of(step: &Step) -> Pass
     ensures { result ≡ pass_of_step step.now }
@@ -106,7 +104,6 @@ pub fn pass_of(step: &Step) -> Pass
     }
 }
 
-/// The number of the step's kind.
 pub fn kind_of(step: &Step) -> u8
     ensures { result ≡ kind_of_step step.now }
 {

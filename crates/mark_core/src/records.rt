@@ -10,7 +10,6 @@ use crate::seat::SeatState;
 use crate::start::{spent_seat, start_seat};
 use std::slice;
 
-/// The record of the seat with this number, if there is one.
 pub fn seat_at(seats: &[SeatState], i: u32) -> Option<&SeatState>
     ensures { option_copied result ≡ slice_get seats.now i }
 {
@@ -54,7 +53,6 @@ fn end_seat(shape: &Shape, seats: &mut Vec<SeatState>, other: u32)
     put_seat(seats, other as usize, s);
 }
 
-/// A split adds a seat, and a join ends the record of another.
 pub fn change_others(shape: &Shape, seats: &mut Vec<SeatState>, step: &Step)
     requires room { most_seats ≤ vec_capacity seats.old }
     requires few { step.now ≡ Step.Split → vec_len seats.old < most_seats }

@@ -7,7 +7,6 @@ use crate::seat::SeatState;
 /// A packet, its length, if known, and whether its head holds it; or nothing.
 pub type Slot = Option<(u32, Option<u32>, bool)>;
 
-/// The four slots of a seat.
 pub type Slots = [Slot; 4];
 
 fn is_of(slot: Slot, p: u32) -> bool
@@ -19,7 +18,6 @@ fn is_of(slot: Slot, p: u32) -> bool
     }
 }
 
-/// What is known of the length of packet p, if this slot holds it.
 fn length_in(slot: &Slot, p: u32) -> Option<Option<u32>>
     ensures { (rest : Option ℕ) → length_in_slot slot.now p rest ≡ unwrap_or result rest }
 {
@@ -38,7 +36,6 @@ fn is_stored_in(slot: Slot, p: u32) -> bool
     }
 }
 
-/// The length of packet p, if it is held and its length is known.
 pub fn known_length(held: &Slots, p: u32) -> Option<u32>
     ensures { result ≡ known_length_of held.now p }
 {
@@ -58,28 +55,26 @@ pub fn known_length(held: &Slots, p: u32) -> Option<u32>
     None
 }
 
-/// The length of packet p, or 0 if it isn't known.
+/// The length is 0 if it isn't known.
 pub fn length_in_hand(held: &Slots, p: u32) -> u32
     ensures { result ≡ length_in_hand_of held.now p }
 {
     known_length(held, p).unwrap_or(0)
 }
 
-/// Whether packet p is known to have an entry.
 pub fn has_entry(held: &Slots, p: u32) -> bool
     ensures { result ≡ has_entry_of held.now p }
 {
     !(length_in_hand(held, p) == 0)
 }
 
-/// Whether a packet is held.
 pub fn holds_any(held: Slots) -> bool
     ensures { result ≡ holds_any_packet held }
 {
     held[0].is_some() || held[1].is_some() || held[2].is_some() || held[3].is_some()
 }
 
-/// Puts the packet into the first free slot, with no length known.
+/// The packet goes into the first free slot, with no length known.
 pub fn put_packet(held: &mut Slots, p: u32)
     ensures { held.new ≡ put_of held.old p }
 {
@@ -95,7 +90,6 @@ pub fn put_packet(held: &mut Slots, p: u32)
     }
 }
 
-/// Frees the slot, if it held packet p.
 fn empty_slot(slot: &mut Slot, p: u32)
     ensures { slot.new ≡ slot_without p slot.old }
 {
@@ -104,7 +98,6 @@ fn empty_slot(slot: &mut Slot, p: u32)
     }
 }
 
-/// Packet p is no longer held.
 pub fn drop_packet(held: &mut Slots, p: u32)
     ensures { held.new ≡ dropped_from held.old p }
 {
@@ -124,7 +117,6 @@ fn set_slot(slot: &mut Slot, p: u32, length: u32, stored: bool)
     }
 }
 
-/// Sets what is known of the packet: this length, and whether its head holds it.
 #[inline(always)]
 pub fn set_length(held: &mut Slots, p: u32, length: u32, stored: bool)
     ensures { held.new ≡ set_length_of held.old p length stored }
@@ -135,7 +127,6 @@ pub fn set_length(held: &mut Slots, p: u32, length: u32, stored: bool)
     set_slot(&mut held[3], p, length, stored);
 }
 
-/// Whether a packet other than p is held.
 pub fn holds_another(held: Slots, p: u32) -> bool
     ensures { result ≡ holds_another_packet held p }
 {

@@ -34,14 +34,12 @@ pub fn phase_of(word: u64) -> Phase
     }
 }
 
-/// Whether the word says this phase.
 pub fn is_phase(word: u64, phase: Phase) -> bool
     ensures { result ≡ is_phase_of word phase }
 {
     word == phase_number(phase)
 }
 
-/// Whether the phase seen is this one.
 pub fn saw(seen: Option<Phase>, phase: Phase) -> bool
     ensures { result ≡ saw_phase seen phase }
 {
@@ -51,7 +49,6 @@ pub fn saw(seen: Option<Phase>, phase: Phase) -> bool
     }
 }
 
-/// Whether the option holds this number.
 pub fn is_the(held: Option<u32>, number: u32) -> bool
     ensures { result ≡ is_the_number held number }
 {
@@ -61,7 +58,6 @@ pub fn is_the(held: Option<u32>, number: u32) -> bool
     }
 }
 
-/// Whether the seat may trace: as a mutator, alone in its stop, or as a helper.
 pub fn may_trace(phase: u64, s: &SeatState) -> bool
     ensures { result ≡ may_trace_in phase s.now }
 {
@@ -70,21 +66,19 @@ pub fn may_trace(phase: u64, s: &SeatState) -> bool
         || s.admitted && saw(s.phase_seen, Phase::Drain)
 }
 
-/// Whether the seat may sweep: it stopped the world, or helps.
 pub fn may_sweep(phase: u64, s: &SeatState) -> bool
     ensures { result ≡ may_sweep_in phase s.now }
 {
     s.knows && is_phase(phase, Phase::Sweep) || s.admitted && saw(s.phase_seen, Phase::Sweep)
 }
 
-/// Whether the seat stopped the world to clear all marks.
 pub fn may_clear(phase: u64, s: &SeatState) -> bool
     ensures { result ≡ may_clear_in phase s.now }
 {
     s.knows && is_phase(phase, Phase::Clear)
 }
 
-/// Whether the season is the section's turn: even for the catalogue, odd for a warehouse.
+/// Even seasons are the catalogue's turns, odd ones the warehouses'.
 fn has_turn(section: Option<u32>, season: Option<u64>) -> bool
     ensures { result ≡ has_turn_of section season }
 {
@@ -95,30 +89,28 @@ fn has_turn(section: Option<u32>, season: Option<u64>) -> bool
 }
 
 impl SeatState {
-    /// Whether the seat runs, or stopped the world, or helps. Only such a seat reads allocation bits, dirties cards
-    /// and adds to statistics.
+    /// Whether the seat runs, or stopped the world, or helps.
     pub fn takes_part(&self) -> bool
         ensures { result ≡ takes_part_of self.now }
     {
         self.active || self.knows || self.admitted
     }
 
-    /// Whether the seat is outside: not in the world's number, without a stop of its own, and not among the
-    /// helpers. Only such a seat enters, raises the stop flag or joins the helpers.
+    /// Whether the seat is outside: not in the world's number, without a stop of its own, and not among the helpers.
     pub fn is_bare(&self) -> bool
         ensures { result ≡ is_bare_seat self.now }
     {
         !self.counted && !self.raised && !self.helping
     }
 
-    /// Whether the seat is a mutator: active in its section's turn, in which it may read, store and make objects.
+    /// Whether the seat is a mutator: active in its section's turn.
     pub fn may_mutate(&self) -> bool
         ensures { result ≡ may_mutate_of self.now }
     {
         self.active && has_turn(self.section, self.season_seen)
     }
 
-    /// Whether the seat is active and has read that marking is under way, so that it may trace while mutators run.
+    /// Whether the seat is active and has read that marking is under way.
     pub fn is_marking(&self) -> bool
         ensures { result ≡ (self.now.active && saw_phase self.now.phase_seen Marking) }
     {

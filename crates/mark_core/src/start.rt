@@ -52,7 +52,6 @@ pub fn start_seat(shape: &Shape, number: u32) -> SeatState
     }
 }
 
-/// The record of a seat that was joined into another.
 pub fn spent_seat(shape: &Shape, number: u32) -> SeatState
     ensures { result ≡ spent_seat_of shape.now number }
 {
@@ -68,7 +67,6 @@ fn new_seats(alloc: Global, shape: &Shape, count: u32) -> Result<Vec<SeatState>,
     (0..count).map(|k| start_seat(shape, k)).collect(alloc)
 }
 
-/// So many seats that have done nothing. It is refused only if memory runs out.
 pub fn start_seats(alloc: Global, shape: &Shape, count: u32) -> Result<Vec<SeatState>, AllocError>
     ensures seats { IfOk result (λ v. v.items ≡ start_seats_of shape.now count) }
     ensures room { IfOk result (λ v. most_seats ≤ vec_capacity v) }

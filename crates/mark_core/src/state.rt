@@ -18,7 +18,7 @@ use plain_heap::OutOfMemory;
 use std::alloc::Global;
 use std::marker::Model;
 
-/// The sizes of a heap, its words, and a record for each seat. It came from [`CoreState::start`] by allowed events.
+/// The sizes of a heap, its words, and a record for each seat, as allowed events made them from [`CoreState::start`].
 /// There is room for [`SEATS`](crate::SEATS) seats, so only `start` takes memory.
 #[derive(Drop)]
 pub struct CoreState {
@@ -44,8 +44,7 @@ impl Model for CoreState {
 
 impl CoreState {
     /// The state in which `seats` seats, 1 to [`SEATS`](crate::SEATS), have done nothing. Seat w has section w, and
-    /// seats past the sections have none. The shape must be within its limits. It is refused only if memory runs
-    /// out.
+    /// seats past the sections have none. It is refused only if memory runs out.
     pub fn start(alloc: Global, shape: Shape, seats: u32) -> Result<CoreState, OutOfMemory>
         requires shaped { IsShape shape }
         requires some { 1 ≤ seats }
@@ -101,8 +100,8 @@ impl CoreState {
         change_others(&self.shape, &mut self.seats, &event.step);
     }
 
-    /// Takes one step of one seat. An event is refused exactly if a part of its step's condition fails, with the
-    /// step's kind and the least such part, and the state then stays as it was.
+    /// Takes one step of one seat. An event is refused exactly if a part of its step's condition fails, with the step's
+    /// kind and the least such part; the state then stays as it was.
     pub fn apply(&mut self, event: Event) -> Result<(), NotAllowed>
         ensures allowed { OnOk result (failing_part self.old event ≡ None) }
         ensures after { self.new ≡ (if is_ok result then after_event self.old event else self.old) }
@@ -123,8 +122,7 @@ impl CoreState {
         }
     }
 
-    /// Takes the events in order, up to the first that is refused, and answers its index and what it broke. The
-    /// state is that after the events before it.
+    /// Takes the events in order, up to the first that is refused, and answers its index and what it broke.
     pub fn run(&mut self, events: &[Event]) -> Result<(), (usize, Rule)>
         ensures state { self.new ≡ run_of events.now self.old }
         ensures all { OnOk result (first_refused 0 events.now self.old ≡ None) }
@@ -155,7 +153,7 @@ impl CoreState {
         seat_at(self.seats.as_slice(), seat)
     }
 
-    /// The word at this index, in the order of the crate's overview; None past the last word.
+    /// The word at this index, in the order of `docs/STEPS.md`; None past the last word.
     pub fn word(&self, index: u32) -> Option<u64>
         ensures { result ≡ slice_get self.now.words index }
     {

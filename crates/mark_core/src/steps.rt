@@ -1,7 +1,7 @@
 //! The steps: for each kind its condition and its effect.
 //!
-//! A function `check_..` answers the least part of its kind's condition that fails; its comment says what would go
-//! wrong without the condition. The effect changes the seat's record, and answers what the word becomes.
+//! A function `check_..` answers the least part of its kind's condition that fails; a comment says what would go wrong
+//! without the condition. The effect changes the seat's record, and answers what the word becomes.
 pub mod cleaning;
 pub mod colour;
 pub mod help;

@@ -27,7 +27,6 @@ fn cell_bit(words: &[u64], c: u32) -> bool
     bits::has_bit(read(words, (c / BLOCK_CELLS) as usize), c % BLOCK_CELLS)
 }
 
-/// A seat made the cell and hasn't published it.
 fn is_made(seats: &[SeatState], c: u32) -> bool
     ensures { result ≡ list_any (λ s. used_in s.cache c) seats.now }
 {
@@ -94,9 +93,8 @@ fn used_cells(shape: &Shape, words: &[u64], seats: &[SeatState]) -> u32
 }
 
 impl CoreState {
-    /// Whether marking is done, as some seat that has stopped the world in Drain may tell: every packet is in the
-    /// empty pool, it has no work in hand, no card is dirty, and no root names a white cell. Every reachable cell
-    /// is then marked ([`crate::closed_marks_all`]).
+    /// Whether marking is done, as a seat that has stopped the world in Drain may tell: every packet is in the empty
+    /// pool, the seat has no work in hand, no card is dirty, and no root names a white cell.
     pub fn is_closed(&self) -> bool
         ensures { result ≡ is_closed_of self.now }
     {

@@ -6,7 +6,6 @@ ghost use Rattle.mark_core.specs.Shapes.{IsShape};
 use crate::kinds::Shape;
 use crate::layout;
 
-/// The word at this address; None past the last one.
 pub fn word_at(words: &[u64], at: usize) -> Option<u64>
     ensures { result ≡ slice_get words.now at }
 {
@@ -20,7 +19,6 @@ pub fn read(words: &[u64], at: usize) -> u64
     words.get(at).copied().unwrap_or(0)
 }
 
-/// The section and the number of the object in cell c.
 #[tactic(auto, using(crate::proofs::Writing::Places::reads))]
 pub fn identity_of(shape: &Shape, words: &[u64], c: u32) -> u64
     requires shaped { IsShape shape.now }
@@ -34,7 +32,6 @@ pub fn identity_of(shape: &Shape, words: &[u64], c: u32) -> u64
     }
 }
 
-/// The season, which says whose turn it is.
 #[tactic(auto, using(crate::proofs::Writing::Places::reads))]
 pub fn season_of(shape: &Shape, words: &[u64]) -> u64
     requires shaped { IsShape shape.now }

@@ -29,7 +29,6 @@ pub fn cleaning_after(cleaning: &mut Option<Cleaning>, b: u32, word: u64)
     }
 }
 
-/// Drops the cell from those that are left.
 pub fn without_cell(cleaning: &mut Option<Cleaning>, c: Cell)
     ensures { cleaning.new ≡ without_cell_of cleaning.old c }
 {
@@ -41,7 +40,6 @@ pub fn without_cell(cleaning: &mut Option<Cleaning>, c: Cell)
     }
 }
 
-/// The card was dirtied, so the cleaning owes that no more.
 #[inline(always)]
 pub fn redirty_off(cleaning: &mut Option<Cleaning>, card: u32)
     ensures { cleaning.new ≡ redirty_off_of cleaning.old card }

@@ -16,7 +16,6 @@ use crate::standing::{is_the, may_trace, phase_of};
 use crate::steps::cleaning;
 use crate::{bits, hand, slots};
 
-/// Scans a popped cell of block b, if its allocation bit is set in this word.
 fn scan_popped(popped: &mut Option<(Cell, bool)>, scan: &mut Option<(Cell, u8)>, b: u32, word: u64)
     ensures popped { popped.new ≡ popped_after_of popped.old b word }
     ensures scan { scan.new ≡ scan_after_of popped.old scan.old b word }
@@ -43,15 +42,13 @@ fn with_alloc_word(block: &mut Option<BlockState>, b: u32, word: u64)
     }
 }
 
-/// Kind 9: a cell that a seat outside saw published could be freed before the seat's next step.
+/// Otherwise a cell that was seen published could be freed before the seat's next step.
 pub fn check_read_alloc(shape: &Shape, s: &SeatState, b: u32) -> Option<u8>
     ensures { result ≡ first_false_of 1 (read_alloc_parts shape.now s.now b) }
 {
     first_false(&[b < block_count(shape) && s.takes_part()])
 }
 
-/// Kind 9: a popped cell of the block is in scan if its bit is set, else known to be unpublished; of a cleaning
-/// only the published cells are left.
 pub fn read_alloc(s: &mut SeatState, b: u32, old: u64) -> u64
     ensures word { result ≡ (read_alloc_effect s.old b).written old }
     ensures seat { s.new ≡ (read_alloc_effect s.old b).seat old }
@@ -62,7 +59,7 @@ pub fn read_alloc(s: &mut SeatState, b: u32, old: u64) -> u64
     old
 }
 
-/// Kind 10: a field passed over could hide a white cell, and a cell that isn't published is still being written.
+/// Otherwise a field passed over could hide a white cell, and one could be read of a cell that is still being written.
 pub fn check_read_field(shape: &Shape, s: &SeatState, c: Cell, i: u8) -> Option<u8>
     ensures { result ≡ first_false_of 1 (read_field_parts shape.now s.now c i) }
 {
@@ -85,7 +82,6 @@ fn load(value: &mut Option<Cell>, word: u64)
     }
 }
 
-/// Kind 10: what the field names is the value in hand.
 pub fn read_field(s: &mut SeatState, c: Cell, i: u8, old: u64) -> u64
     requires { i < 255 }
     ensures word { result ≡ old }
@@ -97,7 +93,7 @@ pub fn read_field(s: &mut SeatState, c: Cell, i: u8, old: u64) -> u64
     old
 }
 
-/// Kind 10: what a root names is work, which shows in the count only if a packet is held.
+/// What a root names is work, which shows in the count only if a packet is held.
 pub fn check_read_root(shape: &Shape, phase: u64, s: &SeatState, section: u32, v: u8) -> Option<u8>
     ensures { result ≡ first_false_of 1 (read_root_parts shape.now phase s.now section v) }
 {
@@ -110,7 +106,6 @@ pub fn check_read_root(shape: &Shape, phase: u64, s: &SeatState, section: u32, v
     ])
 }
 
-/// Kind 10: as for a variable.
 pub fn check_load_slot(shape: &Shape, phase: u64, s: &SeatState, section: u32, k: u16) -> Option<u8>
     ensures { result ≡ first_false_of 1 (load_slot_parts shape.now phase s.now section k) }
 {
@@ -123,7 +118,6 @@ pub fn check_load_slot(shape: &Shape, phase: u64, s: &SeatState, section: u32, k
     ])
 }
 
-/// Kind 10: what the root names is the value in hand.
 pub fn read_root(s: &mut SeatState, old: u64) -> u64
     ensures word { result ≡ old }
     ensures seat { s.new ≡ record s.old { value = cell_named old } }
@@ -132,7 +126,7 @@ pub fn read_root(s: &mut SeatState, old: u64) -> u64
     old
 }
 
-/// Kind 11: outside Marking and Drain a marked cell isn't scanned, and one to which nothing refers would be kept.
+/// Outside Marking and Drain a marked cell isn't scanned, and one to which nothing refers would be kept.
 pub fn check_set_mark(shape: &Shape, phase: u64, s: &SeatState, c: Cell) -> Option<u8>
     ensures { result ≡ first_false_of 1 (set_mark_parts shape.now phase s.now c) }
 {
@@ -142,7 +136,6 @@ pub fn check_set_mark(shape: &Shape, phase: u64, s: &SeatState, c: Cell) -> Opti
     ])
 }
 
-/// Kind 11: the cell is fresh if its bit was clear.
 pub fn set_mark(s: &mut SeatState, c: Cell, old: u64) -> u64
     ensures word { result ≡ (set_mark_effect s.old c).written old }
     ensures seat { s.new ≡ (set_mark_effect s.old c).seat old }
@@ -176,14 +169,13 @@ fn popped_off(popped: &mut Option<(Cell, bool)>, card: u32)
     }
 }
 
-/// Kind 12: a seat outside could dirty a card that was seen clean in a stop.
+/// Otherwise a card that was seen clean in a stop could be dirtied.
 pub fn check_dirty_card(shape: &Shape, s: &SeatState, card: u32) -> Option<u8>
     ensures { result ≡ first_false_of 1 (dirty_card_parts shape.now s.now card) }
 {
     first_false(&[card < card_count(shape) && s.takes_part()])
 }
 
-/// Kind 12: the dirty card answers for all that the seat owes it.
 #[inline(always)]
 pub fn dirty_card(s: &mut SeatState, card: u32) -> u64
     ensures word { result ≡ 1 }
@@ -198,7 +190,7 @@ pub fn dirty_card(s: &mut SeatState, card: u32) -> u64
     1
 }
 
-/// Kind 13: the cells of a cleared card are work, which shows in the count only if a packet is held.
+/// The cells of a cleared card are work, as what a root names.
 pub fn check_clear_card(shape: &Shape, phase: u64, s: &SeatState, card: u32) -> Option<u8>
     ensures { result ≡ first_false_of 1 (clear_card_parts shape.now phase s.now card) }
 {
@@ -208,7 +200,6 @@ pub fn check_clear_card(shape: &Shape, phase: u64, s: &SeatState, card: u32) -> 
     ])
 }
 
-/// Kind 13: if the card was dirty the seat cleans it.
 pub fn clear_card(s: &mut SeatState, card: u32, old: u64) -> u64
     ensures word { result ≡ (clear_card_effect s.old card).written old }
     ensures seat { s.new ≡ (clear_card_effect s.old card).seat old }
@@ -225,14 +216,13 @@ pub fn clear_card(s: &mut SeatState, card: u32, old: u64) -> u64
     0
 }
 
-/// Kind 14: marks that a seat outside saw could be cleared before the seat's next step.
+/// Otherwise marks that were seen could be cleared before the seat's next step.
 pub fn check_read_marks(shape: &Shape, s: &SeatState, b: u32) -> Option<u8>
     ensures { result ≡ first_false_of 1 (read_marks_parts shape.now s.now b) }
 {
     first_false(&[b < block_count(shape) && s.takes_part()])
 }
 
-/// Kind 14: if the seat cleans a card of this block, its marked cells are left to scan.
 pub fn read_marks(s: &mut SeatState, b: u32, old: u64) -> u64
     ensures word { result ≡ (read_marks_effect s.old b).written old }
     ensures seat { s.new ≡ (read_marks_effect s.old b).seat old }
@@ -241,14 +231,12 @@ pub fn read_marks(s: &mut SeatState, b: u32, old: u64) -> u64
     old
 }
 
-/// Kind 15: there has to be such a card.
 pub fn check_read_card(shape: &Shape, card: u32) -> Option<u8>
     ensures { result ≡ first_false_of 1 (read_card_parts shape.now card) }
 {
     first_false(&[card < card_count(shape)])
 }
 
-/// Kind 16: a seat that takes part keeps the phase as read.
 pub fn read_phase(s: &mut SeatState, old: u64) -> u64
     ensures word { result ≡ (read_phase_effect s.old).written old }
     ensures seat { s.new ≡ (read_phase_effect s.old).seat old }

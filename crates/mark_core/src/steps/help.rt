@@ -9,7 +9,6 @@ use crate::seat::SeatState;
 use crate::standing::is_phase;
 use crate::{bits, hand};
 
-/// Kind 43: one seat opens help, once, and only Drain and Sweep have work to share.
 pub fn check_open(phase: u64, s: &SeatState) -> Option<u8>
     ensures { result ≡ first_false_of 1 (open_parts phase s.now) }
 {
@@ -19,7 +18,6 @@ pub fn check_open(phase: u64, s: &SeatState) -> Option<u8>
     ])
 }
 
-/// Kind 43: help is open, and the seat isn't alone.
 pub fn open_help(s: &mut SeatState, old: u64) -> u64
     ensures word { result ≡ (open_effect s.old).written old }
     ensures seat { s.new ≡ (open_effect s.old).seat old }
@@ -29,14 +27,12 @@ pub fn open_help(s: &mut SeatState, old: u64) -> u64
     old | bits::FLAG
 }
 
-/// Kind 44: a seat in the world, in its own stop or among the helpers would be in two places.
 pub fn check_join_help(s: &SeatState) -> Option<u8>
     ensures { result ≡ first_false_of 1 (join_help_parts s.now) }
 {
     first_false(&[s.is_bare()])
 }
 
-/// Kind 44: admitted if help was open.
 pub fn join_help(s: &mut SeatState, old: u64) -> u64
     ensures word { result ≡ (join_help_effect s.old).written old }
     ensures seat { s.new ≡ (join_help_effect s.old).seat old }
@@ -46,7 +42,7 @@ pub fn join_help(s: &mut SeatState, old: u64) -> u64
     old.wrapping_add(1)
 }
 
-/// Kind 45: what a helper kept in hand would be hidden from the seat that waits until none is left.
+/// Otherwise what a helper kept in hand would be hidden from the seat that waits until none is left.
 pub fn check_leave_help(shape: &Shape, s: &SeatState) -> Option<u8>
     ensures { result ≡ first_false_of 1 (leave_help_parts shape.now s.now) }
 {
@@ -57,7 +53,6 @@ pub fn check_leave_help(shape: &Shape, s: &SeatState) -> Option<u8>
     ])
 }
 
-/// Kind 45: the seat forgets the phase.
 pub fn leave_help(s: &mut SeatState, old: u64) -> u64
     ensures word { result ≡ (leave_help_effect s.old).written old }
     ensures seat { s.new ≡ (leave_help_effect s.old).seat old }
@@ -68,14 +63,12 @@ pub fn leave_help(s: &mut SeatState, old: u64) -> u64
     old.wrapping_sub(1)
 }
 
-/// Kind 46: the flag is that of the seat which opened help.
 pub fn check_close(s: &SeatState) -> Option<u8>
     ensures { result ≡ first_false_of 1 (close_parts s.now) }
 {
     first_false(&[s.opened])
 }
 
-/// Kind 46: help is closed. Helpers may still be there.
 pub fn close_help(s: &mut SeatState, old: u64) -> u64
     ensures word { result ≡ (close_effect s.old).written old }
     ensures seat { s.new ≡ (close_effect s.old).seat old }
@@ -84,7 +77,6 @@ pub fn close_help(s: &mut SeatState, old: u64) -> u64
     old.wrapping_sub(bits::FLAG)
 }
 
-/// Kind 47: the seat that stopped the world learns that no helper is left.
 pub fn see_help(s: &mut SeatState, old: u64) -> u64
     ensures word { result ≡ (see_help_effect s.old).written old }
     ensures seat { s.new ≡ (see_help_effect s.old).seat old }

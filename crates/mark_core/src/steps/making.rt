@@ -14,7 +14,7 @@ use crate::seat::{CacheState, SeatState};
 use crate::standing::is_phase;
 use crate::{bits, hand};
 
-/// Kind 20: a sweep stores the allocation word whole, so cells that are made meanwhile would be lost.
+/// A sweep stores the allocation word whole, so cells that are made meanwhile would be lost.
 pub fn check_claim_block(shape: &Shape, phase: u64, s: &SeatState, b: u32) -> Option<u8>
     ensures { result ≡ first_false_of 1 (claim_block_parts shape.now phase s.now b) }
 {
@@ -25,7 +25,6 @@ pub fn check_claim_block(shape: &Shape, phase: u64, s: &SeatState, b: u32) -> Op
     ])
 }
 
-/// Kind 20: if nobody had the block it is the seat's cache.
 pub fn claim_block(s: &mut SeatState, b: u32, old: u64) -> u64
     ensures word { result ≡ (claim_block_effect s.old b).written old }
     ensures seat { s.new ≡ (claim_block_effect s.old b).seat old }
@@ -45,7 +44,6 @@ pub fn claim_block(s: &mut SeatState, b: u32, old: u64) -> u64
     }
 }
 
-/// The block of the cache, if there is one.
 pub fn cached_block(s: &SeatState) -> u32
     ensures { result ≡ cached_block_of s.now }
 {
@@ -55,7 +53,7 @@ pub fn cached_block(s: &SeatState) -> u32
     }
 }
 
-/// Kind 21: a cell that is made and not published would be in use and nobody's.
+/// Otherwise a cell that is made and not published would be in use and nobody's.
 pub fn check_release_block(s: &SeatState) -> Option<u8>
     ensures { result ≡ first_false_of 1 (release_block_parts s.now) }
 {
@@ -65,7 +63,6 @@ pub fn check_release_block(s: &SeatState) -> Option<u8>
     ])
 }
 
-/// Kind 21: the seat has no cache, and the block has no owner.
 pub fn release_block(s: &mut SeatState) -> u64
     ensures word { result ≡ 0 }
     ensures seat { s.new ≡ record s.old { cache = None } }
@@ -83,14 +80,12 @@ fn with_free(cache: &mut Option<CacheState>, word: u64)
     }
 }
 
-/// Kind 22: read a second time, the cells that the seat made would seem free.
 pub fn check_read_free(s: &SeatState) -> Option<u8>
     ensures { result ≡ first_false_of 1 (read_free_parts s.now) }
 {
     first_false(&[hand::is_unread(s.cache)])
 }
 
-/// Kind 22: the free cells of the cache are known.
 pub fn read_free(s: &mut SeatState, old: u64) -> u64
     ensures word { result ≡ (read_free_effect s.old).written old }
     ensures seat { s.new ≡ (read_free_effect s.old).seat old }
@@ -99,7 +94,6 @@ pub fn read_free(s: &mut SeatState, old: u64) -> u64
     old
 }
 
-/// The first word goes into a free cell, each further one into the cell being made.
 fn is_next_part(s: &SeatState, c: Cell, part: u8) -> bool
     ensures { result ≡ is_next_part_of s.now c part }
 {
@@ -110,14 +104,12 @@ fn is_next_part(s: &SeatState, c: Cell, part: u8) -> bool
     }
 }
 
-/// The identity of the seat's next cell, if the seat has a section.
 fn identity_of(section: u32, number: u32) -> u64
     ensures { result ≡ section * section_span + number }
 {
     u64::from(section) * SECTION_SPAN + u64::from(number)
 }
 
-/// Nil fields, then the value, then the identity.
 fn fits_part(shape: &Shape, s: &SeatState, part: u8, word: u64) -> bool
     ensures { result ≡ fits_part_of shape.now s.now part word }
 {
@@ -153,8 +145,7 @@ fn with_made(cache: &mut Option<CacheState>, c: Cell)
     }
 }
 
-/// Kind 23: if parts were stored out of order an old reference would be left in a cell, and a number given twice
-/// would name two objects.
+/// Parts stored out of order would leave an old reference in a cell.
 pub fn check_store_new(shape: &Shape, s: &SeatState, c: Cell, part: u8, word: u64) -> Option<u8>
     requires { shape.now.fields < 256 }
     ensures { result ≡ first_false_of 1 (store_new_parts shape.now s.now c part word) }
@@ -166,7 +157,6 @@ pub fn check_store_new(shape: &Shape, s: &SeatState, c: Cell, part: u8, word: u6
     ])
 }
 
-/// Kind 23: after the last part the cell is made.
 #[inline(always)]
 pub fn store_new(shape: &Shape, s: &mut SeatState, c: Cell, part: u8, word: u64) -> u64
     requires part_counts { part < 255 }
@@ -202,14 +192,13 @@ fn without_used(cache: &mut Option<CacheState>)
     }
 }
 
-/// Kind 24: a published cell may be scanned at once, so none may be half made.
+/// A published cell may be scanned at once, so none may be half made.
 pub fn check_publish_cells(s: &SeatState) -> Option<u8>
     ensures { result ≡ first_false_of 1 (publish_cells_parts s.now) }
 {
     first_false(&[s.cache.is_some(), s.owes.is_none() && !s.has_making()])
 }
 
-/// Kind 24: a store in these cells owes its card from now on.
 pub fn publish_cells(s: &mut SeatState, old: u64) -> u64
     ensures word { result ≡ (publish_cells_effect s.old).written old }
     ensures seat { s.new ≡ (publish_cells_effect s.old).seat old }

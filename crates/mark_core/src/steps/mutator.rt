@@ -24,7 +24,6 @@ fn has_variable(s: &SeatState, reference: u64) -> bool
     s.env.iter().any(|x| u64::from(*x) == reference)
 }
 
-/// The seat's variables or its register name the cell.
 fn knows_cell(s: &SeatState, c: Cell) -> bool
     ensures { result ≡ knows_cell_of s.now c }
 {
@@ -32,14 +31,13 @@ fn knows_cell(s: &SeatState, c: Cell) -> bool
     u64::from(s.got) == reference || has_variable(s, reference)
 }
 
-/// Kind 17: a cell that neither the variables nor the register name could be freed.
+/// Otherwise the cell could be freed, and made anew.
 pub fn check_read_object(shape: &Shape, s: &SeatState, c: Cell) -> Option<u8>
     ensures { result ≡ first_false_of 1 (read_object_parts shape.now s.now c) }
 {
     first_false(&[c.number() < shape.cells && s.may_mutate(), knows_cell(s, c)])
 }
 
-/// Kind 17: a cell that neither the variables nor the register name could be freed, and made anew.
 pub fn check_read_own(shape: &Shape, s: &SeatState, c: Cell, i: u8) -> Option<u8>
     ensures { result ≡ first_false_of 1 (read_own_parts shape.now s.now c i) }
 {
@@ -49,7 +47,6 @@ pub fn check_read_own(shape: &Shape, s: &SeatState, c: Cell, i: u8) -> Option<u8
     ])
 }
 
-/// Kind 17: what was read goes into the register.
 pub fn read_reference(s: &mut SeatState, old: u64) -> u64
     ensures word { result ≡ old }
     ensures seat { s.new ≡ record s.old { got = reference_in old } }
@@ -58,14 +55,13 @@ pub fn read_reference(s: &mut SeatState, old: u64) -> u64
     old
 }
 
-/// Kind 17: in the catalogue's own turn its variables change, so what was read could be freed.
+/// In the catalogue's own turn its variables change, so what was read could be freed.
 pub fn check_read_cat(s: &SeatState, v: u8) -> Option<u8>
     ensures { result ≡ first_false_of 1 (read_cat_parts s.now v) }
 {
     first_false(&[v < VARIABLES && s.may_mutate(), !is_the(s.section, 0)])
 }
 
-/// What variable v of the seat refers to.
 pub fn variable(s: &SeatState, v: u8) -> u32
     ensures { result ≡ variable_of s.now v }
 {
@@ -79,7 +75,7 @@ pub fn variable_cell(s: &SeatState, v: u8) -> u32
     variable(s, v).saturating_sub(1)
 }
 
-/// The seat may store in variable v's object, whose cell has this identity.
+/// `identity` is that of variable v's cell.
 fn may_change(shape: &Shape, s: &SeatState, v: u8, identity: u64) -> bool
     ensures { (ids : List ℕ) → slice_index ids (variable_of s.now v - 1) ≡ identity → result ≡ may_change_of shape.now ids s.now v }
 {
@@ -105,8 +101,7 @@ pub fn variable_or_nil(s: &SeatState, w: Option<u8>) -> u32
     }
 }
 
-/// Kind 18: if objects aren't shared, two seats would store in another section's; and a card still owed would be
-/// forgotten.
+/// Otherwise a seat would store in another section's object that isn't shared, or a card still owed be forgotten.
 pub fn check_store_field(
     shape: &Shape,
     identity: u64,
@@ -124,7 +119,7 @@ pub fn check_store_field(
     ])
 }
 
-/// Kind 18: nobody scans a cell before it is published, so one of the seat's own cache owes no card.
+/// Nobody scans a cell before it is published, so one of the seat's own cache owes no card.
 pub fn store_field(s: &mut SeatState, v: u8, w: Option<u8>) -> u64
     ensures word { result ≡ variable_or_nil_of s.old w }
     ensures seat { let c = cell_of (variable_of s.old v) in s.new ≡ record s.old { owes = if used_in s.old.cache c then s.old.owes else Some (card_of_cell c) } }
@@ -136,8 +131,6 @@ pub fn store_field(s: &mut SeatState, v: u8, w: Option<u8>) -> u64
     u64::from(variable_or_nil(s, w))
 }
 
-/// Kind 18: if objects aren't shared, two seats would store in another section's; and a store whose card is owed
-/// ends first.
 pub fn check_store_value(shape: &Shape, identity: u64, s: &SeatState, v: u8) -> Option<u8>
     ensures { (ids : List ℕ) → slice_index ids (variable_of s.now v - 1) ≡ identity → result ≡ first_false_of 1 (store_value_parts shape.now ids s.now v) }
 {
@@ -148,7 +141,7 @@ pub fn check_store_value(shape: &Shape, identity: u64, s: &SeatState, v: u8) -> 
     ])
 }
 
-/// Kind 50: if objects aren't shared nobody else changes the field; and a card still owed would be forgotten.
+/// If objects aren't shared nobody else changes the field; and a card still owed would be forgotten.
 pub fn check_exchange_field(
     shape: &Shape,
     s: &SeatState,
@@ -169,7 +162,6 @@ pub fn check_exchange_field(
     ])
 }
 
-/// Kind 50: if the field was the expected reference this is a store; otherwise the seat has done nothing.
 pub fn exchange_field(
     s: &mut SeatState,
     v: u8,
@@ -187,7 +179,6 @@ pub fn exchange_field(
     }
 }
 
-/// Kind 51: as an exchange of a field.
 pub fn check_exchange_value(shape: &Shape, s: &SeatState, v: u8, new: u32) -> Option<u8>
     ensures { result ≡ first_false_of 1 (exchange_value_parts shape.now s.now v new) }
 {
@@ -198,7 +189,6 @@ pub fn check_exchange_value(shape: &Shape, s: &SeatState, v: u8, new: u32) -> Op
     ])
 }
 
-/// Kind 51: the new value, if the present one was expected.
 pub fn exchange_value(expected: u32, new: u32, old: u64) -> u64
     ensures { result ≡ if old == expected then new else old }
 {
@@ -209,7 +199,6 @@ pub fn exchange_value(expected: u32, new: u32, old: u64) -> u64
     }
 }
 
-/// The reference names the used cell made last.
 fn names_last(cache: Option<CacheState>, r: u64) -> bool
     ensures { result ≡ names_last_of cache r }
 {
@@ -222,14 +211,13 @@ fn names_last(cache: Option<CacheState>, r: u64) -> bool
     }
 }
 
-/// Nil, or a reference that the seat has.
 fn has_reference(s: &SeatState, r: u64) -> bool
     ensures { result ≡ has_reference_of s.now r }
 {
     r == 0 || r == u64::from(s.got) || has_variable(s, r) || names_last(s.cache, r)
 }
 
-/// Kind 19: a root that names a free cell would dangle; a store or a new cell that was begun ends first.
+/// Otherwise the root could dangle. A store or a new cell that was begun ends first.
 pub fn check_store_root(s: &SeatState, v: u8, r: u64) -> Option<u8>
     ensures { result ≡ first_false_of 1 (store_root_parts s.now v r) }
 {
@@ -247,7 +235,6 @@ fn set_variable(env: &mut [u32; 32], v: u8, reference: u32)
     env[v as usize] = reference;
 }
 
-/// Kind 19: the seat's copy of the variable is the same, and its register is nil.
 pub fn store_root(s: &mut SeatState, v: u8, r: u64) -> u64
     requires { v < section_variables }
     ensures word { result ≡ r }
@@ -258,7 +245,6 @@ pub fn store_root(s: &mut SeatState, v: u8, r: u64) -> u64
     r
 }
 
-/// Kind 52: as a store in a variable.
 pub fn check_store_slot(shape: &Shape, s: &SeatState, k: u16, r: u64) -> Option<u8>
     ensures { result ≡ first_false_of 1 (store_slot_parts shape.now s.now k r) }
 {
@@ -269,7 +255,6 @@ pub fn check_store_slot(shape: &Shape, s: &SeatState, k: u16, r: u64) -> Option<
     ])
 }
 
-/// Kind 52: the register is nil.
 pub fn store_slot(s: &mut SeatState, r: u64) -> u64
     ensures word { result ≡ r }
     ensures seat { s.new ≡ record s.old { got = 0 } }
@@ -278,7 +263,7 @@ pub fn store_slot(s: &mut SeatState, r: u64) -> u64
     r
 }
 
-/// Kind 53: outside its turn a seat has no register that would keep what was read.
+/// Outside its turn a seat has no register that would keep what was read.
 pub fn check_read_slot(shape: &Shape, s: &SeatState, k: u16) -> Option<u8>
     ensures { result ≡ first_false_of 1 (read_slot_parts shape.now s.now k) }
 {

@@ -16,14 +16,13 @@ use crate::seat::SeatState;
 use crate::standing::may_trace;
 use crate::{bits, hand, slots};
 
-/// Kind 1: packets leave their pools only while cells are marked, and the record has one reservation at most.
+/// The record has one reservation at most.
 pub fn check_reserve(phase: u64, s: &SeatState) -> Option<u8>
     ensures { result ≡ first_false_of 1 (reserve_parts phase s.now) }
 {
     first_false(&[may_trace(phase, s), !s.reserved && !s.credit])
 }
 
-/// Kind 1: the reservation is out before the packet is.
 pub fn reserve(s: &mut SeatState, old: u64) -> u64
     ensures word { result ≡ (reserve_effect s.old).written old }
     ensures seat { s.new ≡ (reserve_effect s.old).seat old }
@@ -32,7 +31,7 @@ pub fn reserve(s: &mut SeatState, old: u64) -> u64
     old.wrapping_sub(1)
 }
 
-/// Kind 2: without a reservation the count would say that tracing is done while a seat has work.
+/// Without a reservation the count would say that tracing is done while a seat has work.
 pub fn check_take(shape: &Shape, phase: u64, s: &SeatState, q: u8, p: u32) -> Option<u8>
     ensures { result ≡ first_false_of 1 (take_parts shape.now phase s.now q p) }
 {
@@ -44,7 +43,6 @@ pub fn check_take(shape: &Shape, phase: u64, s: &SeatState, q: u8, p: u32) -> Op
     ])
 }
 
-/// Kind 2: if the bit was set the packet is in hand, with its length unknown; an empty one spends the reservation.
 pub fn take(s: &mut SeatState, q: u8, p: u32, old: u64) -> u64
     ensures word { result ≡ without_bit old (p % word_bits) }
     ensures seat { let found = has_bit old (p % word_bits) in s.new ≡ record s.old { held = if found then put_packet s.old.held p else s.old.held; reserved = s.old.reserved && not ((q == empty_pool_number) && found) } }
@@ -57,7 +55,6 @@ pub fn take(s: &mut SeatState, q: u8, p: u32, old: u64) -> u64
     bits::without_bit(old, p % WORD_BITS)
 }
 
-/// The pool to which a packet of this length goes back.
 pub fn pool_for(shape: &Shape, length: u32, deferred: bool) -> usize
     ensures value { result ≡ pool_for_of shape.now length deferred }
     ensures few { result < pools_in_all }
@@ -73,8 +70,7 @@ pub fn pool_for(shape: &Shape, length: u32, deferred: bool) -> usize
     }
 }
 
-/// Kind 3: without a packet in hand work wouldn't show in the count; with an old head, or in the pool of another
-/// length, the packet would be misread.
+/// With an old head, or in the pool of another length, the packet would be misread.
 pub fn check_give(shape: &Shape, s: &SeatState, p: u32, deferred: bool) -> Option<u8>
     ensures { result ≡ first_false_of 1 (give_parts shape.now s.now p deferred) }
 {
@@ -87,7 +83,6 @@ pub fn check_give(shape: &Shape, s: &SeatState, p: u32, deferred: bool) -> Optio
     ])
 }
 
-/// Kind 3: an empty packet leaves a credit.
 pub fn give(s: &mut SeatState, p: u32, old: u64) -> u64
     ensures word { result ≡ with_bit old (p % word_bits) }
     ensures seat { s.new ≡ record s.old { held = drop_packet s.old.held p; credit = not (has_entry s.old.held p) } }
@@ -98,14 +93,13 @@ pub fn give(s: &mut SeatState, p: u32, old: u64) -> u64
     bits::with_bit(old, p % WORD_BITS)
 }
 
-/// Kind 4: a count that rises for no packet would say too early that all are empty.
+/// A count that rises for no packet would say too early that all are empty.
 pub fn check_credit(s: &SeatState) -> Option<u8>
     ensures { result ≡ first_false_of 1 (credit_parts s.now) }
 {
     first_false(&[s.credit || s.reserved])
 }
 
-/// Kind 4: nothing is reserved or credited any more.
 pub fn credit(s: &mut SeatState, old: u64) -> u64
     ensures word { result ≡ (credit_effect s.old).written old }
     ensures seat { s.new ≡ (credit_effect s.old).seat old }
@@ -115,8 +109,6 @@ pub fn credit(s: &mut SeatState, old: u64) -> u64
     old.wrapping_add(1)
 }
 
-/// Kind 5: entries name only marked cells, so only one that the seat marked, or popped and may not scan yet, goes
-/// in.
 pub fn check_push(shape: &Shape, s: &SeatState, p: u32, c: Cell) -> Option<u8>
     ensures { result ≡ first_false_of 1 (push_parts shape.now s.now p c) }
 {
@@ -142,7 +134,6 @@ pub fn push_at(s: &mut SeatState, p: u32, length: u32, c: Cell)
     }
 }
 
-/// Kind 5: the head doesn't say the new length yet.
 pub fn push(s: &mut SeatState, p: u32, c: Cell) -> u64
     requires { length_in_hand s.old.held p < 4294967295 }
     ensures word { result ≡ c + 1 }
@@ -153,7 +144,6 @@ pub fn push(s: &mut SeatState, p: u32, c: Cell) -> u64
     u64::from(c.number()) + 1
 }
 
-/// Kind 6: the record has one place for each sort of work.
 pub fn check_pop(shape: &Shape, phase: u64, s: &SeatState, p: u32) -> Option<u8>
     ensures { result ≡ first_false_of 1 (pop_parts shape.now phase s.now p) }
 {
@@ -175,7 +165,6 @@ pub fn pop_at(s: &mut SeatState, p: u32, length: u32, c: Cell)
     s.popped = Some((c, false));
 }
 
-/// Kind 6: the head doesn't say the new length yet.
 pub fn pop(s: &mut SeatState, p: u32, old: u64) -> u64
     ensures word { result ≡ old }
     ensures seat { s.new ≡ record s.old { held = set_length s.old.held p (length_in_hand s.old.held p - 1) false; popped = Some (cell_of old, false) } }
@@ -185,7 +174,6 @@ pub fn pop(s: &mut SeatState, p: u32, old: u64) -> u64
     old
 }
 
-/// Kind 7: there has to be such a word.
 pub fn check_look(shape: &Shape, q: u8, g: u32) -> Option<u8>
     requires { shape.now.packets < 65536 }
     ensures { result ≡ first_false_of 1 (look_parts shape.now q g) }
@@ -193,14 +181,13 @@ pub fn check_look(shape: &Shape, q: u8, g: u32) -> Option<u8>
     first_false(&[q < POOLS && (g as usize) < pool_words(shape)])
 }
 
-/// Kind 41: only its holder writes the head, and an unknown length would be stored as 0.
+/// Otherwise an unknown length would be stored as 0.
 pub fn check_store_length(shape: &Shape, s: &SeatState, p: u32) -> Option<u8>
     ensures { result ≡ first_false_of 1 (store_length_parts shape.now s.now p) }
 {
     first_false(&[p < shape.packets && s.holds(p), s.has_length(p)])
 }
 
-/// Kind 41: the head holds the length.
 pub fn store_length(s: &mut SeatState, p: u32) -> u64
     ensures word { result ≡ length_in_hand s.old.held p }
     ensures seat { s.new ≡ record s.old { held = set_length s.old.held p (length_in_hand s.old.held p) true } }
@@ -210,14 +197,13 @@ pub fn store_length(s: &mut SeatState, p: u32) -> u64
     u64::from(length)
 }
 
-/// Kind 42: once the length is known, the head may lie behind pushes and pops.
+/// Once the length is known, the head may lie behind pushes and pops.
 pub fn check_read_length(shape: &Shape, s: &SeatState, p: u32) -> Option<u8>
     ensures { result ≡ first_false_of 1 (read_length_parts shape.now s.now p) }
 {
     first_false(&[p < shape.packets && s.holds(p), !s.has_length(p)])
 }
 
-/// Kind 42: the length is known, and is that of the head.
 pub fn read_length(s: &mut SeatState, p: u32, old: u64) -> u64
     ensures word { result ≡ (read_length_effect s.old p).written old }
     ensures seat { s.new ≡ (read_length_effect s.old p).seat old }

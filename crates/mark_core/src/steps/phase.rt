@@ -16,14 +16,13 @@ use crate::standing::is_phase;
 use crate::words::read;
 use crate::{bits, hand, layout};
 
-/// Whether all words are this one.
 pub fn all_are(words: &[u64], word: u64) -> bool
     ensures { result ≡ list_all (λ x. x == word) words.now }
 {
     words.iter().all(|x| *x == word)
 }
 
-/// The mark bit of the cell that this reference, not nil, names.
+/// Nil counts as marked.
 fn is_marked(marks: &[u64], reference: u64) -> bool
     ensures { result ≡ nil_or (cell_bit_of marks.now) reference }
 {
@@ -35,14 +34,13 @@ fn is_marked(marks: &[u64], reference: u64) -> bool
     bits::has_bit(read(marks, (c / block) as usize), (c % block) as u32)
 }
 
-/// Whether each root is nil, or refers to a marked cell.
 pub fn roots_marked(roots: &[u64], marks: &[u64]) -> bool
     ensures { result ≡ roots_marked_of roots.now marks.now }
 {
     roots.iter().all(|x| is_marked(marks, *x))
 }
 
-/// Whether all packets are in the empty pool, and the seat has no work in hand.
+/// All packets are in the empty pool, and the seat has no work in hand.
 pub fn is_quiet(shape: &Shape, words: &[u64], s: &SeatState) -> bool
     ensures { result ≡ is_quiet_of shape.now (words_of shape.now words.now) s.now }
 {
@@ -61,7 +59,7 @@ fn blocks_done(shape: &Shape, words: &[u64], s: &SeatState) -> bool
         && all_are(layout::marks_of(shape, words), 0)
 }
 
-/// The moves between the phases; the one to Marking is a try.
+/// The move to Marking is a try.
 fn is_move(from: u64, to: Phase) -> bool
     ensures { result ≡ is_move_of from to }
 {
@@ -111,7 +109,7 @@ fn may_move(shape: &Shape, words: &[u64], s: &SeatState, to: Phase) -> bool
     }
 }
 
-/// Kind 30: a sweep before all was marked would free reachable cells, and helpers act by the phase that they read.
+/// A sweep before all was marked would free reachable cells, and helpers act by the phase that they read.
 pub fn check_store_phase(shape: &Shape, words: &[u64], s: &SeatState, to: Phase) -> Option<u8>
     requires shaped { IsShape shape.now }
     requires whole { length words.now ≡ total_words_of (region_sizes shape.now) }
@@ -124,7 +122,7 @@ pub fn check_store_phase(shape: &Shape, words: &[u64], s: &SeatState, to: Phase)
     ])
 }
 
-/// The phase after a move. One to Marking leaves any phase but Idle.
+/// A move to Marking leaves any phase but Idle.
 fn phase_after(old: u64, to: Phase) -> u64
     ensures { result ≡ phase_after_of old to }
 {
@@ -147,7 +145,6 @@ fn begins_exact(old: u64, to: Phase) -> bool
     }
 }
 
-/// Kind 30: a drain from Idle or Clear is exact.
 pub fn store_phase(s: &mut SeatState, to: Phase, old: u64) -> u64
     ensures word { result ≡ (store_phase_effect s.old to).written old }
     ensures seat { s.new ≡ (store_phase_effect s.old to).seat old }

@@ -9,14 +9,13 @@ use crate::kinds::Phase;
 use crate::seat::SeatState;
 use crate::standing::is_phase;
 
-/// Kind 48: the season could move on under a seat that doesn't run.
+/// Otherwise the season could move on under the seat.
 pub fn check_read_season(s: &SeatState) -> Option<u8>
     ensures { result ≡ first_false_of 1 (read_season_parts s.now) }
 {
     first_false(&[s.active])
 }
 
-/// Kind 48: the seat keeps the season as read.
 pub fn read_season(s: &mut SeatState, old: u64) -> u64
     ensures word { result ≡ (read_season_effect s.old).written old }
     ensures seat { s.new ≡ (read_season_effect s.old).seat old }
@@ -25,14 +24,13 @@ pub fn read_season(s: &mut SeatState, old: u64) -> u64
     old
 }
 
-/// Kind 49: a seat that runs would be in a turn that has ended, and there are at most 64 seasons of two turns.
+/// Otherwise a seat that runs would be in a turn that has ended.
 pub fn check_next_season(phase: u64, season: u64, s: &SeatState) -> Option<u8>
     ensures { result ≡ first_false_of 1 (next_season_parts phase season s.now) }
 {
     first_false(&[s.knows, is_phase(phase, Phase::Idle), season < 128])
 }
 
-/// Kind 49: it is the next turn.
 pub fn next_season(old: u64) -> u64
     ensures { result ≡ wrapped_sum old 1 }
 {

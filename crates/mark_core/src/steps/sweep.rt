@@ -13,7 +13,7 @@ use crate::numbers::{BLOCK_COUNTER, CARD_COUNTER, DONE, FIRST_POSITION, FREE, LA
 use crate::seat::{BlockState, SeatState};
 use crate::standing::{is_phase, may_clear, may_sweep, may_trace};
 
-/// Kind 33: a block in hand would be left unswept, and a counter raised unread would run away.
+/// Otherwise a block in hand would be left unswept, or a counter raised unread would run away.
 pub fn check_next_block(phase: u64, s: &SeatState) -> Option<u8>
     ensures { result ≡ first_false_of 1 (next_block_parts phase s.now) }
 {
@@ -24,7 +24,6 @@ pub fn check_next_block(phase: u64, s: &SeatState) -> Option<u8>
     ])
 }
 
-/// Kind 33: the blocks are in hand, if there are any. The counter has to be read before it is raised again.
 pub fn next_block(shape: &Shape, s: &mut SeatState, old: u64) -> u64
     ensures word { result ≡ (next_block_effect shape.now s.old).written old }
     ensures seat { s.new ≡ (next_block_effect shape.now s.old).seat old }
@@ -49,14 +48,13 @@ fn untouched(block: u32, until: u32) -> BlockState
     }
 }
 
-/// Kind 33: a counter raised unread would run away.
+/// Otherwise a counter raised unread would run away.
 pub fn check_next_of_cards(phase: u64, s: &SeatState) -> Option<u8>
     ensures { result ≡ first_false_of 1 (next_of_cards_parts phase s.now) }
 {
     first_false(&[may_trace(phase, s), s.below_card])
 }
 
-/// Kind 33: the counter has to be read before it is raised again.
 pub fn next_of_cards(s: &mut SeatState, old: u64) -> u64
     ensures word { result ≡ (next_of_cards_effect s.old).written old }
     ensures seat { s.new ≡ (next_of_cards_effect s.old).seat old }
@@ -65,7 +63,6 @@ pub fn next_of_cards(s: &mut SeatState, old: u64) -> u64
     old.wrapping_add(1)
 }
 
-/// The block in hand, if there is one.
 pub fn own_block(s: &SeatState) -> u32
     ensures { result ≡ own_block_of s.now }
 {
@@ -83,14 +80,13 @@ fn with_mark_word(block: &mut Option<BlockState>, word: u64)
     }
 }
 
-/// Kind 34: outside Sweep the marks don't say what stays.
+/// Outside Sweep the marks don't say what stays.
 pub fn check_read_block_marks(phase: u64, s: &SeatState) -> Option<u8>
     ensures { result ≡ first_false_of 1 (read_block_marks_parts phase s.now) }
 {
     first_false(&[s.block.is_some() && is_phase(phase, Phase::Sweep)])
 }
 
-/// Kind 34: the block in hand keeps the word.
 pub fn read_block_marks(s: &mut SeatState, old: u64) -> u64
     ensures word { result ≡ (read_block_marks_effect s.old).written old }
     ensures seat { s.new ≡ (read_block_marks_effect s.old).seat old }
@@ -116,14 +112,13 @@ fn with_stored(block: &mut Option<BlockState>)
     }
 }
 
-/// Kind 35: if a word of the block wasn't read, marked cells would be freed.
+/// If a word of the block wasn't read, marked cells would be freed.
 pub fn check_store_alloc(phase: u64, s: &SeatState) -> Option<u8>
     ensures { result ≡ first_false_of 1 (store_alloc_parts phase s.now) }
 {
     first_false(&[may_sweep(phase, s), hand::may_store(s.block)])
 }
 
-/// Kind 35: the allocated cells that are marked stay.
 pub fn store_alloc(s: &mut SeatState) -> u64
     ensures word { result ≡ survivors_of s.old.block }
     ensures seat { s.new ≡ record s.old { block = with_stored_of s.old.block } }
@@ -133,7 +128,7 @@ pub fn store_alloc(s: &mut SeatState) -> u64
     word
 }
 
-/// Kind 36: until the block is swept its marks say what stays.
+/// Until the block is swept its marks say what stays.
 pub fn check_clear_marks(phase: u64, s: &SeatState) -> Option<u8>
     ensures { result ≡ first_false_of 1 (clear_marks_parts phase s.now) }
 {
@@ -160,7 +155,6 @@ fn next_in_stretch(block: Option<BlockState>) -> Option<BlockState>
     }
 }
 
-/// Kind 36: the next block of the stretch is in hand, if there is one.
 pub fn clear_marks(s: &mut SeatState) -> u64
     ensures word { result ≡ 0 }
     ensures seat { s.new ≡ record s.old { block = next_in_stretch_of s.old.block } }
@@ -169,28 +163,26 @@ pub fn clear_marks(s: &mut SeatState) -> u64
     0
 }
 
-/// Kind 37: in Marking and Drain a dirty card stands for cells that wait to be scanned.
+/// In Marking and Drain a dirty card stands for cells that wait to be scanned.
 pub fn check_wipe_card(shape: &Shape, phase: u64, s: &SeatState, card: u32) -> Option<u8>
     ensures { result ≡ first_false_of 1 (wipe_card_parts shape.now phase s.now card) }
 {
     first_false(&[card < card_count(shape) && (may_sweep(phase, s) || may_clear(phase, s))])
 }
 
-/// Kind 38: only its section stores a position, and not while another seat has stopped the world.
 pub fn check_store_position(s: &SeatState) -> Option<u8>
     ensures { result ≡ first_false_of 1 (store_position_parts s.now) }
 {
     first_false(&[s.section.is_some(), s.active || s.knows])
 }
 
-/// Kind 38: only the seat that is about to find the heap full names itself.
 pub fn check_store_named(phase: u64, s: &SeatState) -> Option<u8>
     ensures { result ≡ first_false_of 1 (store_named_parts phase s.now) }
 {
     first_false(&[s.knows && s.section.is_some() && is_phase(phase, Phase::Idle)])
 }
 
-/// Kind 38: a counter would fall under a seat that draws from it.
+/// Otherwise a counter would fall under a seat that draws from it.
 pub fn check_reset(phase: u64, s: &SeatState, which: u8) -> Option<u8>
     ensures { result ≡ first_false_of 1 (reset_parts phase s.now which) }
 {
@@ -198,7 +190,7 @@ pub fn check_reset(phase: u64, s: &SeatState, which: u8) -> Option<u8>
     first_false(&[which <= FREE && s.alone && in_time])
 }
 
-/// Kind 39: a statistic would change under the seat that has stopped the world; DONE counts parts one at a time.
+/// Otherwise a statistic would change under the seat that has stopped the world.
 pub fn check_add_stat(s: &SeatState, which: u8, by: u32, down: bool) -> Option<u8>
     ensures { result ≡ first_false_of 1 (add_stat_parts s.now which by down) }
 {
@@ -208,7 +200,6 @@ pub fn check_add_stat(s: &SeatState, which: u8, by: u32, down: bool) -> Option<u
     ])
 }
 
-/// Kind 39: the statistic rises or falls by so much.
 pub fn add_stat(by: u32, down: bool, old: u64) -> u64
     ensures { result ≡ (if down then wrapped_difference old by else wrapped_sum old by) }
 {
@@ -219,7 +210,6 @@ pub fn add_stat(by: u32, down: bool, old: u64) -> u64
     }
 }
 
-/// Kind 40: there has to be such a word.
 pub fn check_read_stat(shape: &Shape, which: u8) -> Option<u8>
     requires { first_position + shape.now.sections < 4294967296 }
     ensures { result ≡ first_false_of 1 (read_stat_parts shape.now which) }
@@ -227,7 +217,6 @@ pub fn check_read_stat(shape: &Shape, which: u8) -> Option<u8>
     first_false(&[u32::from(which) < u32::from(FIRST_POSITION) + shape.sections])
 }
 
-/// The seat learns whether the counter is below its end.
 pub fn read_stat(shape: &Shape, s: &mut SeatState, which: u8, old: u64) -> u64
     ensures word { result ≡ (read_stat_effect shape.now s.old which).written old }
     ensures seat { s.new ≡ (read_stat_effect shape.now s.old which).seat old }

@@ -12,14 +12,12 @@ use crate::seat::SeatState;
 use crate::standing::is_phase;
 use crate::{bits, hand};
 
-/// Kind 25: a seat in the world, in its own stop or among the helpers would be in two places.
 pub fn check_enter(s: &SeatState) -> Option<u8>
     ensures { result ≡ first_false_of 1 (enter_parts s.now) }
 {
     first_false(&[s.is_bare()])
 }
 
-/// Kind 25: active if no flag was up.
 pub fn enter(s: &mut SeatState, old: u64) -> u64
     ensures word { result ≡ (enter_effect s.old).written old }
     ensures seat { s.new ≡ (enter_effect s.old).seat old }
@@ -30,7 +28,7 @@ pub fn enter(s: &mut SeatState, old: u64) -> u64
     old.wrapping_add(1)
 }
 
-/// Kind 26: what a seat kept in hand would be hidden from the stop that waits until it has left.
+/// Otherwise what a seat kept in hand would be hidden from the stop that waits until it has left.
 pub fn check_leave(shape: &Shape, s: &SeatState) -> Option<u8>
     ensures { result ≡ first_false_of 1 (leave_parts shape.now s.now) }
 {
@@ -42,7 +40,6 @@ pub fn check_leave(shape: &Shape, s: &SeatState) -> Option<u8>
     ])
 }
 
-/// Kind 26: the seat forgets the phase and the season.
 pub fn leave(s: &mut SeatState, old: u64) -> u64
     ensures word { result ≡ (leave_effect s.old).written old }
     ensures seat { s.new ≡ (leave_effect s.old).seat old }
@@ -54,14 +51,13 @@ pub fn leave(s: &mut SeatState, old: u64) -> u64
     old.wrapping_sub(1)
 }
 
-/// Kind 27: a seat that is counted would wait for itself.
+/// Otherwise a seat that is counted would wait for itself.
 pub fn check_raise(s: &SeatState) -> Option<u8>
     ensures { result ≡ first_false_of 1 (raise_parts s.now) }
 {
     first_false(&[s.is_bare()])
 }
 
-/// Kind 27: the flag is the seat's own if it was down.
 pub fn raise(s: &mut SeatState, old: u64) -> u64
     ensures word { result ≡ (raise_effect s.old).written old }
     ensures seat { s.new ≡ (raise_effect s.old).seat old }
@@ -70,14 +66,12 @@ pub fn raise(s: &mut SeatState, old: u64) -> u64
     old | bits::FLAG
 }
 
-/// The flag is set and no seat is counted.
 fn is_stopped(word: u64) -> bool
     ensures { result ≡ is_stopped_word word }
 {
     word == bits::FLAG
 }
 
-/// Kind 28: the seat whose flag it is, if no seat is counted, knows that the world is stopped, and is alone.
 pub fn observe(s: &mut SeatState, old: u64) -> u64
     ensures word { result ≡ (observe_effect s.old).written old }
     ensures seat { s.new ≡ (observe_effect s.old).seat old }
@@ -88,7 +82,7 @@ pub fn observe(s: &mut SeatState, old: u64) -> u64
     old
 }
 
-/// Kind 29: mutators would run beside a helper, or in a phase that rests on a stop.
+/// Otherwise mutators would run beside a helper, or in a phase that rests on a stop.
 pub fn check_drop(shape: &Shape, phase: u64, s: &SeatState) -> Option<u8>
     ensures { result ≡ first_false_of 1 (drop_parts shape.now phase s.now) }
 {
@@ -100,8 +94,7 @@ pub fn check_drop(shape: &Shape, phase: u64, s: &SeatState) -> Option<u8>
     ])
 }
 
-/// Kind 29: the seat is active in the same step, so that no other stop comes between. It forgets the phase and the
-/// season.
+/// The seat is active in the same step, so that no other stop comes between.
 pub fn drop_flag(s: &mut SeatState, old: u64) -> u64
     ensures word { result ≡ (drop_effect s.old).written old }
     ensures seat { s.new ≡ (drop_effect s.old).seat old }
@@ -162,8 +155,7 @@ fn is_new(shape: &Shape, s: &SeatState) -> bool
         && !s.below_block
 }
 
-/// Kind 31: there is room for [`SEATS`](crate::SEATS) records, and all seats are made before the first does
-/// anything.
+/// All seats are made before the first does anything.
 pub fn check_split(shape: &Shape, seats: &[SeatState], s: &SeatState) -> Option<u8>
     ensures { result ≡ first_false_of 1 (split_parts shape.now seats.now s.now) }
 {
@@ -188,7 +180,7 @@ fn other_has_nothing(shape: &Shape, seats: &[SeatState], other: u32) -> bool
     }
 }
 
-/// Kind 32: what the other seat had in hand would be lost with its record.
+/// Otherwise what the other seat had in hand would be lost with its record.
 pub fn check_join(shape: &Shape, seats: &[SeatState], s: &SeatState, other: u32) -> Option<u8>
     ensures { result ≡ first_false_of 1 (join_parts shape.now seats.now s.now other) }
 {
