@@ -17,7 +17,6 @@ use mark_core::{Bases, SeatState, Shape, start_seat, start_words};
 use plain_heap::{OutOfMemory, Plan};
 use std::alloc::{AllocError, Global};
 
-/// The first seat makes another.
 pub struct Opens;
 
 impl Split<View> for Opens {
@@ -26,7 +25,6 @@ impl Split<View> for Opens {
     ghost right = { opened_by };
 }
 
-/// A seat takes in another.
 pub struct TakesIn;
 
 impl Join<View> for TakesIn {
@@ -96,9 +94,8 @@ impl Heap {
         Ok((heap, all))
     }
 
-    /// A heap in which nothing has happened, with all its seats in the order of their numbers. Seat w has section
-    /// w, and seats past the sections have none. Only contracts see the plan. It is refused only if memory runs
-    /// out.
+    /// A heap in which nothing has happened, with all its seats in the order of their numbers. Seat w has section w,
+    /// and seats past the sections have none. It is refused only if memory runs out.
     pub fn create<P: Plan>(
         alloc: Global,
         shape: Shape,

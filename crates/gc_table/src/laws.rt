@@ -6,7 +6,7 @@ pub fn rule_starts()
     ensures { StartMeetsRule }
 {}
 
-/// Each allowed event whose step meets what is asked besides leads to a state that meets the rule.
+/// Each allowed event keeps the rule, if its step meets what is asked besides.
 pub fn rule_is_kept()
     ensures { EventsKeepRule }
 {}
@@ -16,21 +16,20 @@ pub fn stands_starts()
     ensures { StartStands }
 {}
 
-/// Each allowed event whose step meets what is asked besides leads to a state that stands for the plain heaps after
-/// the step: a store changes its section's plain heap by one plain step, any other step changes none.
+/// Each such event keeps that the words stand for the plain heaps: a store changes its section's plain heap by one plain
+/// step, any other step changes none.
 #[tactic(auto, using(crate::proofs::Stands::StandsKept::stands_kept))]
 pub fn stands_is_kept()
     ensures { EventsKeepStands }
 {}
 
-/// The plain step of a store may stand in a script: its variables, field and value are in range.
+/// The plain step of a store is in range, as in a script.
 #[tactic(auto, using(crate::proofs::Stands::StandsSeat::steps_in_range))]
 pub fn plain_steps_are_in_range()
     ensures { PlainStepsAreInRange }
 {}
 
-/// A step of a section's seat changes what this section's words mean and no other's, so a seat can tell it by
-/// itself.
+/// A step of a section's seat changes what this section's words mean and no other's.
 #[tactic(auto, using(crate::proofs::Stands::StandsStores::one_changes))]
 pub fn one_meaning_changes()
     ensures { OneMeaningChanges }
@@ -42,12 +41,12 @@ pub fn one_cell_is_next()
     ensures { OneCellIsNext }
 {}
 
-/// Each reachable object has a cell with its words, and this cell is reachable.
+/// Each reachable object has a reachable cell with its words.
 pub fn reachable_objects_have_cells()
     ensures { ReachableObjectsHaveCells }
 {}
 
-/// A reachable cell has the words of an object that is reachable; it is never one whose object is still to come.
+/// A reachable cell has the words of a reachable object, never of one that is still to come.
 pub fn reachable_cells_have_objects()
     ensures { ReachableCellsHaveObjects }
 {}

@@ -1,49 +1,37 @@
 //! The core on one table of atomic words, which threads share.
 //!
-//! `mark_core` says which seat may do what to which word when. Here threads hold the seats, and each step of the
-//! core is one call ([`Heap::take`], [`Heap::read_field`] and so on): one atomic operation on one word, which waits
-//! for nobody and takes no memory, with the change of the seat's record. Nothing else changes a word.
+//! `mark_core` says which seat may do what to which word when. Here threads hold the seats, and each step of the core
+//! is one call ([`Heap::take`], [`Heap::read_field`] and so on): one atomic operation on one word, which waits for
+//! nobody and takes no memory, with the change of the seat's record. Nothing else changes a word.
 //!
 //! # Views
 //!
-//! A thread can't know what others do meanwhile. What a seat knows is its view (`view`), which only contracts see:
-//!
-//! - its record, as [`HeapSeat::state`] shows it;
-//! - its log: each step that it took, with the word that it found there;
-//! - notes: words that stay as the seat found or left them. While a seat is alone in a stopped world no other acts
-//!   on any word but those that count seats, so all that it reads is noted. The phase stays while a helper is
-//!   admitted, the season while a seat is active. `mark_core`'s `Notes` says which record keeps which word;
-//! - floors: counters that don't fall below what the seat found or left there;
-//! - its own section ([`view::SectionState`]), and the plan: what the catalogue's seat will do, part by part;
-//! - the sections and the logs of the seats that were joined into this one.
+//! A thread can't know what others do meanwhile. What a seat knows is its [`view::View`], which only contracts see. Its
+//! notes are words that stay as the seat found or left them: all that it reads while it is alone in a stopped world,
+//! but the words that count seats; the phase while a helper is admitted, the season while a seat is active.
+//! `mark_core`'s `Notes` says which record keeps which word.
 //!
 //! # The rule
 //!
 //! Between any two steps, whatever threads do, the rule holds (`specs/Rule.antt`):
 //!
 //! - The words and records meet the rule of the core, and no block that was swept has a mark.
-//! - The words stand for the plain heaps, if objects aren't shared (`specs/StandsFor.antt`). One cell of a section
-//!   may be excepted: the one made last, until a variable gets it.
-//! - What is told of the sections is true (`specs/Told.antt`): where objects lie, the stored positions, the
-//!   catalogue's plan, and when the heap is full or settled.
-//! - Each view agrees with words and records.
-//! - The events of all seats, in one order, lead from the start to these words and records (`specs/Past.antt`). The
-//!   log of each seat is its part of them, each entry with the word that its step found there, or that a store
-//!   stored. So no word changes but by a step in a log, and no log has a word that wasn't there. The start is a
-//!   single seat; it makes the others (`Split`), and takes them in at the end (`Join`).
+//! - The words stand for the plain heaps, if objects aren't shared (`specs/StandsFor.antt`). One cell of a section may
+//!   be excepted: the one made last, until a variable gets it.
+//! - What is told of the sections is true (`specs/Told.antt`), and each view agrees with words and records.
+//! - The events of all seats, in one order, lead from the start to these words and records, and the log of each seat is
+//!   its part of them (`specs/Past.antt`). So no word changes but by a step in a log, and no log has a word that wasn't
+//!   there. The start is a single seat; it makes the others (`Split`), and takes them in at the end (`Join`).
 //!
 //! # Steps
 //!
-//! A seat may take a step if its condition holds in every state that meets the rule and agrees with its view (`May`
-//! in `specs/Taking.antt`). More is asked of a few steps (`Asked`): a mutator's stores are one plain step each,
-//! only the catalogue's seat moves the season on, and a section is named before the heap is full. The call gives
-//! back the view after the step (`after`). No call takes a runtime, and nothing can wait without one: a lock could
-//! not even be written.
+//! A seat may take a step if its condition (`docs/STEPS.md`) holds in every state that meets the rule and agrees with
+//! its view (`May` in `specs/Taking.antt`). More is asked of a few steps (`Asked`). The call gives back the view after
+//! the step (`after`). No call takes a runtime, and nothing can wait without one: a lock could not even be written.
 //!
-//! A call of the crates above did what it added to its seat's log (`Ran` in `specs/Running.antt`). `Only` says of
-//! which sort the steps were; what they left as it was follows (`proofs/Running.antt`, `proofs/Noticing.antt`).
-//! `Known` and `AtLeast` are notes and floors that stay while others step; `Alone` says that the seat has stopped
-//! the world and nobody else is in it.
+//! A call of the crates above did what it added to its seat's log (`Ran` in `specs/Running.antt`). `Only` says of which
+//! sort the steps were; what they left as it was follows (`proofs/Running.antt`, `proofs/Noticing.antt`). `Known` and
+//! `AtLeast` are notes and floors; `Alone` says that the seat has stopped the world and nobody else is in it.
 #![tactic(auto)]
 
 pub mod ends;

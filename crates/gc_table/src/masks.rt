@@ -2,7 +2,6 @@
 ghost use Rattle.std.specs.Prelude.{◌≡◌, ◌<◌, ◌^◌};
 ghost use Rattle.mark_core.specs.Bits.{complement};
 
-/// Only bit i.
 pub fn bit(i: u32) -> u64
     requires { i < 64 }
     ensures { result ≡ 2 ^ i }
@@ -10,7 +9,6 @@ pub fn bit(i: u32) -> u64
     1 << i
 }
 
-/// All bits but bit i.
 pub fn all_but(i: u32) -> u64
     requires { i < 64 }
     ensures { result ≡ complement (2 ^ i) }

@@ -38,7 +38,7 @@ impl Heap {
         self.take_step(seat, Operation::Load, Step::ReadIdent { c })
     }
 
-    /// Variable v of the catalogue, 0 to 31, for a warehouse in its turn. The register gets it.
+    /// Variable v of the catalogue, 0 to 31, for a warehouse. The register gets it.
     pub fn read_cat(&self, seat: &mut HeapSeat, v: u8) -> u64
         requires seat { Sits self.now seat.old }
         requires may { May (Step.ReadCat v) (view_of seat.old) }
@@ -48,8 +48,8 @@ impl Heap {
         self.take_step(seat, Operation::Load, Step::ReadCat { v })
     }
 
-    /// Stores variable w, or nil, in field i of variable v's object, which is of the seat's section. The seat then
-    /// owes the object's card, unless it made the object and hasn't published it.
+    /// Stores variable w, or nil, in field i of variable v's object. The seat then owes the object's card, unless it
+    /// made the object and hasn't published it.
     pub fn store_field(&self, seat: &mut HeapSeat, v: u8, i: u8, w: Option<u8>)
         requires seat { Sits self.now seat.old }
         requires may { May (Step.StoreField v i w) (view_of seat.old) }
@@ -61,8 +61,7 @@ impl Heap {
         self.store_step(seat, Step::StoreField { v, i, w });
     }
 
-    /// Stores a value in variable v's object, which is of the seat's section. A value refers to nothing, so no card
-    /// is owed.
+    /// Stores a value in variable v's object. No card is owed, since a value refers to nothing.
     pub fn store_value(&self, seat: &mut HeapSeat, v: u8, n: u32)
         requires seat { Sits self.now seat.old }
         requires may { May (Step.StoreValue v n) (view_of seat.old) }
@@ -75,8 +74,8 @@ impl Heap {
     }
 
     /// Stores variable `new`, or nil, in field i of variable v's object, if that is what variable `expected` is, or
-    /// nil. Answers the word that it found; if that is the word of `expected` the exchange is won, and the card is
-    /// owed as after a store. Objects must be shared.
+    /// nil. Answers the word that it found; if it is that of `expected` the exchange is won, and the card owed as after a
+    /// store. Objects must be shared.
     pub fn exchange_field(
         &self,
         seat: &mut HeapSeat,
@@ -102,8 +101,7 @@ impl Heap {
         self.take_step(seat, Operation::Exchange { old, new: word }, step)
     }
 
-    /// Stores a new value in variable v's object, if the value is the expected one: true if it was. Objects must be
-    /// shared.
+    /// Stores a value in variable v's object, if its value is the expected one: true if it was. Objects must be shared.
     pub fn exchange_value(&self, seat: &mut HeapSeat, v: u8, expected: u32, new: u32) -> bool
         requires seat { Sits self.now seat.old }
         requires may { May (Step.ExchangeValue v expected new) (view_of seat.old) }
@@ -123,8 +121,8 @@ impl Heap {
         found == u64::from(expected)
     }
 
-    /// Stores a reference in variable v: nil, or that of a variable, of the register, or of the cell made last. No
-    /// card may be owed.
+    /// Stores a reference in variable v: nil, or that of a variable, of the register, or of the cell made last. No card
+    /// may be owed.
     pub fn store_root(&self, seat: &mut HeapSeat, v: u8, r: u64)
         requires seat { Sits self.now seat.old }
         requires may { May (Step.StoreRoot v r) (view_of seat.old) }
@@ -136,8 +134,7 @@ impl Heap {
         self.store_step(seat, Step::StoreRoot { v, r });
     }
 
-    /// Stores a reference in slot k of the seat's section, as in a variable; the seat keeps no copy. Objects must
-    /// be shared.
+    /// Stores a reference in slot k of the seat's section, as in a variable. Objects must be shared.
     pub fn store_slot(&self, seat: &mut HeapSeat, k: u16, r: u64)
         requires seat { Sits self.now seat.old }
         requires may { May (Step.StoreSlot k r) (view_of seat.old) }
@@ -158,7 +155,7 @@ impl Heap {
         self.take_step(seat, Operation::Load, Step::ReadSlot { k })
     }
 
-    /// Claims block b to make cells in, for a seat without a cache: true if nobody had it.
+    /// Claims block b to make cells in: true if nobody had it.
     pub fn claim_block(&self, seat: &mut HeapSeat, b: u32) -> bool
         requires seat { Sits self.now seat.old }
         requires may { May (Step.ClaimBlock b) (view_of seat.old) }
@@ -176,7 +173,7 @@ impl Heap {
         found == 0
     }
 
-    /// Gives the block up. Each cell that the seat made in it is published.
+    /// Gives the block up, once each cell that the seat made in it is published.
     pub fn release_block(&self, seat: &mut HeapSeat)
         requires seat { Sits self.now seat.old }
         requires may { May Step.ReleaseBlock (view_of seat.old) }
@@ -207,8 +204,7 @@ impl Heap {
         self.store_step(seat, Step::StoreNew { c, part, word });
     }
 
-    /// Publishes the cells that the seat made by one step: from then on they may be scanned, and a store in them
-    /// owes their card.
+    /// Publishes the cells that the seat made: they may be scanned, and a store in them owes their card.
     pub fn publish_cells(&self, seat: &mut HeapSeat) -> u64
         requires seat { Sits self.now seat.old }
         requires may { May Step.PublishCells (view_of seat.old) }

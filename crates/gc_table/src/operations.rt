@@ -1,8 +1,8 @@
-//! The operations of the table, each as one step: the rule is told which. The step is a value that nothing reads as the
-//! program runs: it is handed down for the rule only (see `PicksStep`).
+//! The operations of the table, each as one step. The step is handed down for the rule only; nothing reads it as the
+//! program runs (see `PicksStep`).
 //!
-//! Both calls ask the same, that their seat may take the step at this word (`MayTake`), and promise the same, that
-//! it has taken it (`HasTaken`).
+//! Both calls ask that their seat may take the step at this word (`MayTake`), and promise that it has taken it
+//! (`HasTaken`).
 ghost use Rattle.std.specs.Prelude.{◌≡◌, IsFalse, IsTrue};
 ghost use Rattle.gc_table.specs.Entries.{is_store};
 ghost use Rattle.gc_table.specs.Operations.{HasTaken, left_by, MayTake, Writes};
@@ -17,30 +17,22 @@ use mark_core::Step;
 /// What an operation that tells the word it finds makes of this word.
 #[derive(Clone, Copy)]
 pub enum Operation {
-    /// It leaves the word.
     Load,
-    /// It stores this word.
     Swap(u64),
-    /// It adds this.
     Add(u64),
-    /// It takes this away.
     Sub(u64),
     /// It keeps these bits, and clears all others.
     Keep(u64),
-    /// It sets these bits.
     Set(u64),
-    /// It stores another word if it finds the one that it expects.
+    /// It stores `new` if it finds `old`.
     Exchange {
-        /// The word that it expects.
         old: u64,
-        /// The word from then on.
         new: u64,
     },
 }
 
 impl Heap {
-    /// An operation that tells the word that it finds. Each caller names the operation, so none is chosen as the
-    /// program runs.
+    /// Each caller names the operation, so none is chosen as the program runs.
     #[inline(always)]
     pub(crate) fn take_told<T: PicksStep>(
         &self,
@@ -70,7 +62,7 @@ impl Heap {
         }
     }
 
-    /// Stores a word, whatever is there. It isn't told what it overwrites, so the step has to be blind to that.
+    /// A store isn't told what it overwrites, so the step has to be blind to that.
     pub(crate) fn store_told<T: PicksStep>(
         &self,
         token: &mut Seat<(), View>,

@@ -71,7 +71,7 @@ impl Heap {
         self.store_step(seat, Step::Push { p, cell });
     }
 
-    /// [`Heap::push`], for a caller that knows the packet's length.
+    /// [`Heap::push`], if the packet's length is known.
     #[inline(always)]
     pub fn push_at(&self, seat: &mut HeapSeat, p: u32, length: u32, cell: Cell)
         requires seat { Sits self.now seat.old }
@@ -96,7 +96,7 @@ impl Heap {
         cell_of(self.take_step(seat, Operation::Load, Step::Pop { p }))
     }
 
-    /// [`Heap::pop`], for a caller that knows the packet's length.
+    /// [`Heap::pop`], if the packet's length is known.
     #[inline(always)]
     pub fn pop_at(&self, seat: &mut HeapSeat, p: u32, length: u32) -> Cell
         requires seat { Sits self.now seat.old }
@@ -146,7 +146,7 @@ impl Heap {
         self.store_step(seat, Step::StoreLength { p });
     }
 
-    /// The length of packet p, as the word of its head has it.
+    /// The length of packet p, as its head has it.
     pub fn read_length(&self, seat: &mut HeapSeat, p: u32) -> u64
         requires seat { Sits self.now seat.old }
         requires may { May (Step.ReadLength p) (view_of seat.old) }

@@ -9,7 +9,7 @@ use std::marker::{Model, PhantomData};
 /// The operations of a catalogue, part by part. It has no bytes.
 pub struct PlanTag {
     marker: PhantomData<()>,
-    /// The operations of each part of the catalogue, in order.
+    /// These operations, in order.
     pub ghost parts: { List (List Op) },
 }
 
@@ -17,7 +17,6 @@ impl Model for PlanTag {
     ghost also_owns = { λ _. ftrue };
 }
 
-/// How a tag is read off a value.
 pub trait ReadsPlan<X> {
     ghost use Rattle.std.specs.Prelude.{List};
     ghost use Rattle.plain_heap.specs.declared.operation.Op.{Op};
@@ -26,7 +25,6 @@ pub trait ReadsPlan<X> {
 }
 
 impl PlanTag {
-    /// The tag that is read off this value.
     pub fn of<X, M: ReadsPlan<X>>(x: &X) -> PlanTag
         ensures { result.parts ≡ M.parts x.now }
     {
@@ -45,7 +43,6 @@ impl<P: Plan> ReadsPlan<P> for Own<P> {
     ghost parts = { λ p. P.plan p };
 }
 
-/// The plan's operations.
 pub fn tag_of<P: Plan>(plan: &P) -> PlanTag
     ensures { result.parts ≡ P.plan plan.now }
 {

@@ -1,5 +1,5 @@
-//! A thread that has nothing to trace sleeps until a cycle marks. Sleeping and waking are no steps of the core, and
-//! no contract rests on them.
+//! A thread that has nothing to trace sleeps until a cycle marks. No contract rests on that, since it is no step of the
+//! core.
 use crate::seat::Heap;
 use mark_core::PHASE;
 use std::sync::Wait;
@@ -18,7 +18,7 @@ impl Heap {
         }
     }
 
-    /// Wakes every thread that rests. Called by whoever moves the phase to Marking, or ends what tracers wait for.
+    /// Wakes every thread that rests. It is called as the phase moves to Marking, or as what tracers wait for ends.
     pub fn wake_resting(&self) {
         self.table.shared.wake_all(PHASE);
     }

@@ -10,16 +10,13 @@ use atomic_table::{Play, TableRule};
 use mark_core::Shape;
 use std::marker::{Brand, PhantomData};
 
-/// What the rule is told when the table is made.
 #[derive(Drop)]
 pub struct Key {
-    /// The sizes of the heap.
     pub shape: Shape,
-    /// The operations of the catalogue, part by part.
     pub plan: PlanTag,
 }
 
-/// What holds of the table between any two operations: `Holds` in `specs/Rule.antt`.
+/// What holds of the table between any two operations.
 pub struct Rule;
 
 impl TableRule<(), View, Key> for Rule {
@@ -28,7 +25,7 @@ impl TableRule<(), View, Key> for Rule {
     ghost first = { λ k. newcomer k.shape k.plan.parts 0 };
 }
 
-/// Which step an operation of the table is: this type tells the rule, since the program needs no such value.
+/// Tells the rule which step an operation of the table is; the program needs no such value.
 ///
 /// Each call of an operation is made at [`Brand`], whose step is picked anew there. It is the value that is handed to
 /// the operation as `_step`: `ghosts-take_told a = record { step = a._step }`, in
@@ -46,7 +43,7 @@ impl PicksStep for Brand {
     ghost step = { ReadCount };
 }
 
-/// A word that was read, and perhaps written: the seat is as after the step, and the word is as it was noted.
+/// The word is as it was noted.
 pub struct AtFound<T> {
     of: PhantomData<T>,
 }
@@ -55,7 +52,7 @@ impl<T: PicksStep> Play<(), View> for AtFound<T> {
     ghost then = { λ st m found n. (n ≡ (after T.step found m.0, [])) × IsPossible n.0 × Finds T.step found m.0 };
 }
 
-/// A word that was written and not read.
+/// The word was written and not read.
 pub struct AtStored<T> {
     of: PhantomData<T>,
 }

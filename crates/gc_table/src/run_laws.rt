@@ -14,23 +14,20 @@ pub fn none_freed()
     ensures { NoneFreed }
 {}
 
-/// What threads did with the seats of a closed heap is one run of the core, and no event of it frees a cell that is
-/// reachable just before it.
+/// In a closed heap no event of its threads freed a cell that was reachable just before it.
 #[tactic(auto, using(crate::proofs::Freeing::threads_free_none))]
 pub fn threads_free_none()
     ensures { ThreadsFreeNone }
 {}
 
-/// What threads did with the seats of a closed heap is one run of the core, which keeps each thread's order. After
-/// each step the words agree with one plain heap that forgets nothing, and a step found what this heap had just
-/// before.
+/// What threads did with a closed heap is one run of the core, which keeps each thread's order. After each step the
+/// words agree with one plain heap that forgets nothing, and a step found what this heap had just before.
 #[tactic(auto, using(crate::proofs::Lending::threads_share_one_heap))]
 pub fn threads_share_one_heap()
     ensures { ThreadsShareOneHeap }
 {}
 
-/// What a step finds in an open heap: a run of the core, of which the seat's log is a part, led to words that agree
-/// with one plain heap that forgets nothing, and the step found what this heap had.
+/// A step in an open heap found what one plain heap had, after a run with the seat's log as a part.
 pub fn steps_find()
     ensures { StepsFind }
 {}
@@ -41,33 +38,31 @@ pub fn one_object_lent()
     ensures { OneObjectLent }
 {}
 
-/// If section 0's seat stores an object in a variable before it moves the season on, and nothing there afterwards,
-/// no seat that reads it finds nil.
+/// If section 0's seat stores an object in a variable before it moves the season on, and nothing there afterwards, no
+/// seat that reads it finds nil.
 pub fn root_found()
     ensures { RootFound }
 {}
 
-/// The value of an object in which nobody stores but by exchanges of a number for the next has grown by the number
-/// of exchanges won.
+/// A value that only exchanges for the next number change has grown by the number won.
 #[tactic(auto, using(crate::proofs::Counting::raises_counted))]
 pub fn raises_counted()
     ensures { RaisesCounted }
 {}
 
-/// An exchange of a value was won, as its thread's log has it, exactly if the plain heap had the expected value
-/// just before.
+/// By its thread's log an exchange of a value was won exactly if the plain heap had the expected value just before.
 pub fn wins_told()
     ensures { WinsTold }
 {}
 
-/// If threads share one object and only exchange its value for the next number, that value ends as the number of
-/// exchanges that their logs say were won.
+/// If threads share one object and only exchange its value for the next number, it ends as the number of exchanges that
+/// their logs say were won.
 pub fn counter_told()
     ensures { CounterTold }
 {}
 
-/// If threads share one object as a lock (who is outside only exchanges its value 0 for 1, who came in only 1 for
-/// 0), no two are inside at any moment.
+/// If threads share one object as a lock (who is outside only exchanges its value 0 for 1, who came in only 1 for 0),
+/// no two are inside at any moment.
 pub fn lock_held()
     ensures { LockHeld }
 {}
@@ -77,30 +72,29 @@ pub fn start_agrees()
     ensures { StartAgrees }
 {}
 
-/// Each allowed event leads from a state that agrees with a heap to one that agrees with the heap after the event.
+/// Each allowed event keeps the agreement with the heap, which changes by the event.
 pub fn events_agree()
     ensures { EventsAgree }
 {}
 
-/// Every run leads to a state that agrees with the heap that its events make.
+/// Every run keeps the agreement with the heap that its events make.
 #[tactic(auto, using(crate::proofs::Kept::runs_agree))]
 pub fn runs_agree()
     ensures { RunsAgree }
 {}
 
-/// What a mutator reads of an object is what the heap has there at that moment, whoever stored it. The object is
-/// one to which its register or one of its variables refers.
+/// A mutator reads what the heap has at that moment in an object to which its register or a variable refers, whoever
+/// stored it.
 pub fn reads_tell()
     ensures { ReadsTell }
 {}
 
-/// After every run each object that roots reach has a cell in use with its words, and this cell is reachable:
-/// nothing was swept that is missed.
+/// After every run each object that roots reach has a reachable cell in use with its words.
 pub fn reached_have_cells()
     ensures { ReachedHaveCells }
 {}
 
-/// No step forgets an object. Only a store in it, or an exchange that finds what it expects, changes one.
+/// No step forgets an object, and only a store in it, or an exchange that finds what it expects, changes one.
 #[tactic(auto, using(crate::proofs::Forgetting::none_forgotten))]
 pub fn none_forgotten()
     ensures { NoneForgotten }
@@ -118,14 +112,13 @@ pub fn won_once()
     ensures { WonOnce }
 {}
 
-/// Once a seat has won an exchange of a reference, every other in this field finds what this one stored, until
-/// somebody stores in the object.
+/// Once a seat has won an exchange of a reference, every other in this field finds what this one stored, until somebody
+/// stores in the object.
 pub fn field_won_once()
     ensures { FieldWonOnce }
 {}
 
-/// After every run two references to cells in use are one word exactly if they refer to one object: so a seat can
-/// compare them.
+/// After every run two references to cells in use are one word exactly if they refer to one object.
 #[tactic(auto, using(crate::proofs::Exchanges::same_words))]
 pub fn same_words()
     ensures { SameWords }

@@ -26,11 +26,9 @@ pub struct Heap {
 /// A participant: its record, and the right to take steps.
 #[derive(Drop)]
 pub struct HeapSeat {
-    /// Its record in the core.
     pub(crate) state: SeatState,
-    /// Its part in the table, with its view.
     pub(crate) token: Seat<(), View>,
-    /// Where its last search for a block ended; no contract speaks of it.
+    /// Where its last search for a block ended.
     pub(crate) hint: u32,
     ghost agrees: { state ≡ token.me.0.state },
     ghost bare: { token.me.1 ≡ [] },

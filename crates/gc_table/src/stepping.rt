@@ -22,7 +22,6 @@ impl Heap {
         address_by(&self.bases, s, step)
     }
 
-    /// A step that tells the word that it finds, and makes of it what the operation does.
     #[inline(always)]
     pub(crate) fn take_step(&self, seat: &mut HeapSeat, operation: Operation, step: Step) -> u64
         requires seat { Sits self.now seat.old }
@@ -40,7 +39,7 @@ impl Heap {
         found
     }
 
-    /// A step that stores its word, whatever is there, and tells what it stored.
+    /// Stores a word, whatever is there, and tells what it stored.
     #[inline(always)]
     pub(crate) fn store_step(&self, seat: &mut HeapSeat, step: Step) -> u64
         requires seat { Sits self.now seat.old }

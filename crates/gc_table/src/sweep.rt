@@ -9,8 +9,8 @@ use crate::seat::{Heap, HeapSeat};
 use mark_core::Step;
 
 impl Heap {
-    /// Draws the next stretch of blocks by the number of its first; it is in hand, unless the counter was at its
-    /// end. The seat sweeps or clears, has no block in hand, and has read the counter below its end.
+    /// Draws the next stretch of blocks by the number of its first; it is in hand, unless the counter was at its end.
+    /// The counter has to be read first, below its end.
     pub fn next_block(&self, seat: &mut HeapSeat) -> u64
         requires seat { Sits self.now seat.old }
         requires may { May Step.NextBlock (view_of seat.old) }
@@ -24,8 +24,7 @@ impl Heap {
         )
     }
 
-    /// Draws the next card of the pass; the counter may be at its end already. The seat is a tracer that has read
-    /// the counter below its end.
+    /// Draws the next card of the pass; the counter may be at its end already. It has to be read first, below its end.
     pub fn next_of_cards(&self, seat: &mut HeapSeat) -> u64
         requires seat { Sits self.now seat.old }
         requires may { May Step.NextOfCards (view_of seat.old) }
@@ -35,7 +34,7 @@ impl Heap {
         self.take_step(seat, Operation::Add(1), Step::NextOfCards)
     }
 
-    /// The mark bits of the block in hand, in Sweep.
+    /// The mark bits of the block in hand.
     pub fn read_block_marks(&self, seat: &mut HeapSeat) -> u64
         requires seat { Sits self.now seat.old }
         requires may { May Step.ReadBlockMarks (view_of seat.old) }
@@ -45,8 +44,7 @@ impl Heap {
         self.take_step(seat, Operation::Load, Step::ReadBlockMarks)
     }
 
-    /// Frees the white cells of the block in hand, and answers the bits of those that stay. Both words of the block
-    /// were read, and it isn't swept yet.
+    /// Frees the white cells of the block in hand, and answers the bits of those that stay.
     pub fn store_alloc(&self, seat: &mut HeapSeat) -> u64
         requires seat { Sits self.now seat.old }
         requires may { May Step.StoreAlloc (view_of seat.old) }
@@ -57,8 +55,7 @@ impl Heap {
         self.store_step(seat, Step::StoreAlloc)
     }
 
-    /// Clears the marks of the block in hand, and goes on to the next one of its stretch, if there is one. In Sweep
-    /// the block was swept before.
+    /// Clears the marks of the block in hand, and goes on to the next of its stretch, if there is one.
     pub fn clear_marks(&self, seat: &mut HeapSeat)
         requires seat { Sits self.now seat.old }
         requires may { May Step.ClearMarks (view_of seat.old) }
@@ -68,7 +65,7 @@ impl Heap {
         self.store_step(seat, Step::ClearMarks);
     }
 
-    /// Cleans a card in Sweep or Clear, where no card stands for cells to scan.
+    /// Cleans a card in Sweep or Clear.
     pub fn wipe_card(&self, seat: &mut HeapSeat, card: u32)
         requires seat { Sits self.now seat.old }
         requires may { May (Step.WipeCard card) (view_of seat.old) }
@@ -78,7 +75,7 @@ impl Heap {
         self.store_step(seat, Step::WipeCard { card });
     }
 
-    /// Stores how many commands the section has done, for a seat that runs or has stopped the world.
+    /// Stores how many commands the section has done.
     pub fn store_position(&self, seat: &mut HeapSeat, done: u32)
         requires seat { Sits self.now seat.old }
         requires may { May (Step.StorePosition done) (view_of seat.old) }
@@ -88,7 +85,7 @@ impl Heap {
         self.store_step(seat, Step::StorePosition { done });
     }
 
-    /// Names the seat's section, before it finds the heap full. The seat has stopped the world, in Idle.
+    /// Names the seat's section, before it finds the heap full.
     pub fn store_named(&self, seat: &mut HeapSeat)
         requires seat { Sits self.now seat.old }
         requires may { May Step.StoreNamed (view_of seat.old) }
@@ -98,7 +95,7 @@ impl Heap {
         self.store_step(seat, Step::StoreNamed);
     }
 
-    /// Sets a counter or statistic, `CARD_COUNTER` to `FREE`, to 0, for a seat that is alone in Idle or Drain.
+    /// Sets a counter or statistic, `CARD_COUNTER` to `FREE`, to 0.
     pub fn reset(&self, seat: &mut HeapSeat, which: u8)
         requires seat { Sits self.now seat.old }
         requires may { May (Step.Reset which) (view_of seat.old) }

@@ -20,8 +20,7 @@ impl Heap {
         self.take_step(seat, Operation::Load, Step::ReadAlloc { b })
     }
 
-    /// The next field of the cell in scan, or the first one of a cell left in cleaning. The cell that it names is
-    /// in hand.
+    /// The next field of the cell in scan, or the first of a cell left in cleaning. What it names is in hand.
     pub fn read_field(&self, seat: &mut HeapSeat, c: Cell, i: u8) -> u64
         requires seat { Sits self.now seat.old }
         requires may { May (Step.ReadField c i) (view_of seat.old) }
@@ -31,7 +30,7 @@ impl Heap {
         self.take_step(seat, Operation::Load, Step::ReadField { c, i })
     }
 
-    /// Variable v of a section, 0 to 31, for a tracer that holds a packet. The cell that it names is in hand.
+    /// Variable v of a section, 0 to 31. What it names is in hand.
     pub fn read_root(&self, seat: &mut HeapSeat, section: u32, v: u8) -> u64
         requires seat { Sits self.now seat.old }
         requires may { May (Step.ReadRoot section v) (view_of seat.old) }
@@ -41,7 +40,7 @@ impl Heap {
         self.take_step(seat, Operation::Load, Step::ReadRoot { section, v })
     }
 
-    /// Slot k of a section, as [`Heap::read_root`] reads a variable.
+    /// Slot k of a section, likewise.
     pub fn load_slot(&self, seat: &mut HeapSeat, section: u32, k: u16) -> u64
         requires seat { Sits self.now seat.old }
         requires may { May (Step.LoadSlot section k) (view_of seat.old) }
@@ -66,7 +65,7 @@ impl Heap {
         !has_bit(found, c.number() % BLOCK_CELLS)
     }
 
-    /// Dirties a card, which answers for all that the seat owes it and has in hand of it.
+    /// Dirties a card, which answers for what the seat owes it and has in hand of it.
     pub fn dirty_card(&self, seat: &mut HeapSeat, card: u32)
         requires seat { Sits self.now seat.old }
         requires may { May (Step.DirtyCard card) (view_of seat.old) }
@@ -76,8 +75,7 @@ impl Heap {
         self.store_step(seat, Step::DirtyCard { card });
     }
 
-    /// Clears a card: true if it was dirty, and then its marked cells are to be scanned. The seat is a tracer that
-    /// holds a packet.
+    /// Clears a card: true if it was dirty, and its marked cells are to be scanned.
     pub fn clear_card(&self, seat: &mut HeapSeat, card: u32) -> bool
         requires seat { Sits self.now seat.old }
         requires may { May (Step.ClearCard card) (view_of seat.old) }
@@ -109,7 +107,7 @@ impl Heap {
         found == 1
     }
 
-    /// The phase of the cycle, which a seat that takes part keeps as read.
+    /// The phase of the cycle.
     pub fn read_phase(&self, seat: &mut HeapSeat) -> Phase
         requires seat { Sits self.now seat.old }
         requires may { May Step.ReadPhase (view_of seat.old) }

@@ -69,8 +69,8 @@ pub struct View {
     pub state: SeatState,
     /// All steps that it took, in order.
     pub log: LinkedList<Entry>,
-    /// Words that stay as the seat found or left them, by region and index. The first pair for a word counts; None
-    /// there means that the note has ended.
+    /// Words that stay as the seat found or left them, by region and index. A word's first pair counts; with None the
+    /// note has ended.
     pub known: LinkedList<((u32, u32), Option<u64>)>,
     /// Counters that don't fall below what the seat found or left, in the same form.
     pub floors: LinkedList<((u32, u32), Option<u64>)>,
@@ -80,8 +80,8 @@ pub struct View {
     pub plan: LinkedList<LinkedList<Op>>,
     /// What the seat's section has come to, if it has one.
     pub own: SectionState,
-    /// What the sections of the seats that were joined into this one have come to, by their seats' numbers.
+    /// The same of the seats that were joined into this one, by their numbers.
     pub joined: LinkedList<(u32, SectionState)>,
-    /// The logs of those seats, by their numbers.
+    /// Their logs, likewise.
     pub logs: LinkedList<(u32, LinkedList<Entry>)>,
 }

@@ -17,7 +17,7 @@ pub struct Words {
     pub values: Vec<u64>,
     /// Field i of cell c, at c times the fields of a cell plus i: 0 for nil, else a cell's number plus 1.
     pub fields: Vec<u64>,
-    /// By block of 64 cells: a bit for each cell that is allocated.
+    /// By block of 64 cells: a bit for each allocated cell.
     pub alloc: Vec<u64>,
     /// By section: how many commands it had done.
     pub positions: Vec<u64>,

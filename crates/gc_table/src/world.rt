@@ -8,8 +8,7 @@ use crate::seat::{Heap, HeapSeat};
 use mark_core::{FLAG, Phase, Step, has_flag, phase_number};
 
 impl Heap {
-    /// Enters the world, from outside: true if the seat is active. Otherwise a stop is under way, and it has to
-    /// leave again.
+    /// Enters the world: true if the seat is active. Otherwise a stop is under way, and it has to leave again.
     pub fn enter_step(&self, seat: &mut HeapSeat) -> bool
         requires seat { Sits self.now seat.old }
         requires may { May Step.EnterStep (view_of seat.old) }
@@ -30,8 +29,7 @@ impl Heap {
         self.take_step(seat, Operation::Sub(1), Step::LeaveStep);
     }
 
-    /// Raises the stop flag, from outside the world: true if it is now the seat's own, false if another seat's was
-    /// up.
+    /// Raises the stop flag: true if it is now the seat's own, false if another's was up.
     pub fn raise_step(&self, seat: &mut HeapSeat) -> bool
         requires seat { Sits self.now seat.old }
         requires may { May Step.RaiseStep (view_of seat.old) }
@@ -52,8 +50,7 @@ impl Heap {
         self.take_step(seat, Operation::Load, Step::Observe)
     }
 
-    /// Resumes the world, in Idle or Full. The flag is cleared and the seat runs in one step, so that no other stop
-    /// comes between. The seat is alone, with nothing in hand.
+    /// Resumes the world. The flag falls and the seat runs in one step, so that no other stop comes between.
     pub fn drop_step(&self, seat: &mut HeapSeat)
         requires seat { Sits self.now seat.old }
         requires may { May Step.DropStep (view_of seat.old) }
@@ -63,8 +60,8 @@ impl Heap {
         self.take_step(seat, Operation::Sub(FLAG - 1), Step::DropStep);
     }
 
-    /// Opens the stopped world to helpers, in Drain or Sweep. The seat isn't alone until it has closed help and
-    /// seen that no helper is left.
+    /// Opens the stopped world to helpers. The seat isn't alone until it has closed help and seen that no helper is
+    /// left.
     pub fn open_step(&self, seat: &mut HeapSeat)
         requires seat { Sits self.now seat.old }
         requires may { May Step.OpenStep (view_of seat.old) }
@@ -74,7 +71,7 @@ impl Heap {
         self.take_step(seat, Operation::Set(FLAG), Step::OpenStep);
     }
 
-    /// Joins the helpers, from outside the world: true if help is open. Otherwise the seat has to leave them again.
+    /// Joins the helpers: true if help is open. Otherwise the seat has to leave them again.
     pub fn join_help_step(&self, seat: &mut HeapSeat) -> bool
         requires seat { Sits self.now seat.old }
         requires may { May Step.JoinHelpStep (view_of seat.old) }
@@ -95,7 +92,7 @@ impl Heap {
         self.take_step(seat, Operation::Sub(1), Step::LeaveHelpStep);
     }
 
-    /// Closes help to further helpers. Those that were admitted may go on.
+    /// Closes help. Helpers that were admitted may go on.
     pub fn close_step(&self, seat: &mut HeapSeat)
         requires seat { Sits self.now seat.old }
         requires may { May Step.CloseStep (view_of seat.old) }
@@ -115,8 +112,7 @@ impl Heap {
         self.take_step(seat, Operation::Load, Step::SeeHelp)
     }
 
-    /// The season, even in the catalogue's turn and odd in the warehouses', for a seat that runs: it holds until
-    /// the seat leaves.
+    /// The season, even in the catalogue's turn and odd in the warehouses'. It holds until the seat leaves.
     pub fn read_season(&self, seat: &mut HeapSeat) -> u64
         requires seat { Sits self.now seat.old }
         requires may { May Step.ReadSeason (view_of seat.old) }
@@ -126,7 +122,7 @@ impl Heap {
         self.take_step(seat, Operation::Load, Step::ReadSeason)
     }
 
-    /// Turns the season, at most 128 times. The seat has stopped the world, in Idle.
+    /// Turns the season, at most 128 times.
     pub fn next_season(&self, seat: &mut HeapSeat)
         requires seat { Sits self.now seat.old }
         requires may { May Step.NextSeason (view_of seat.old) }
@@ -137,8 +133,7 @@ impl Heap {
         self.take_step(seat, Operation::Add(1), Step::NextSeason);
     }
 
-    /// Moves the phase. The move to Marking is a mutator's try: false if the phase wasn't Idle. Any other is of the
-    /// seat that stopped the world.
+    /// Moves the phase. The move to Marking is a mutator's try: false if the phase wasn't Idle.
     pub fn store_phase(&self, seat: &mut HeapSeat, to: Phase) -> bool
         requires seat { Sits self.now seat.old }
         requires may { May (Step.StorePhase to) (view_of seat.old) }
