@@ -41,6 +41,7 @@ use Rattle.gc_table.proofs.History.Past.{led-on, log-still}
 use Rattle.gc_table.proofs.Records.{record-live, records-length, records-set, found-here, found-else}
 use Rattle.gc_table.proofs.State.StateSteps.{Goes, event, may-happen, sections-left}
 use Rattle.gc_table.proofs.State.StateKept.{whole-kept}
+use Rattle.gc_table.proofs.Leaving.{some-seat as some_seat}
 
 unset : (b : Bool) → not b ≡ true → b ≡ false
 unset true e = absurd (true≢false (sym e))
@@ -76,9 +77,6 @@ one_in a b (suc k, l, e) = absurd (omega (arith, l))
 entry_is : (o : Option ℕ) (x y : SectionState) (w : ℕ) → Contains (own_entry o x) (w, y) → (o ≡ Some w) × (x ≡ y)
 entry_is None x y w h = absurd (none-in (w, y) h)
 entry_is (Some k) x y w h = let e : (k, x) ≡ (w, y) = one_in (k, x) (w, y) h in (ap (λ (p : ℕ × SectionState). Some p.0) e, ap (λ (p : ℕ × SectionState). p.1) e)
-
-some_seat : (s t : SeatState) → Some s ≡ Some t → s ≡ t
-some_seat s t e = cc
 
 -- a seat takes in another, while both are outside
 pub joins : (sh : Shape) (plan : List (List Op)) (id : ℕ) (v : View) (other : ℕ) (w : View) → IsFalse v.state.spent → IsTrue (is_bare v.state) → IsFalse w.state.spent → IsTrue (is_bare w.state) → w.state.number ≢ 0 → Joins (Holds sh plan) id v other w (takes_in v w) nobody

@@ -46,7 +46,7 @@ names p r x e n = goes-to p r x (omega (arith, e)) n
 pub got-used : (c : Core) (i : ℕ) (s : SeatState) (step : Step) (x : ℕ) → Taken c i s step → s.got ≡ suc x → Used c x ≡ true
 got-used c i s step x k e = names (Used c) s.got x e (own-fact c i s step (NamesInUse (words_of c.shape c.words).allocs (makers c.seats)) k k.core.sound.references.seats_in_use).1
 
-last_in : (sh : Shape) (o : Option CacheState) (x : ℕ) → IfSome o (IsCache sh) → last_made o ≡ Some x → used_in o x ≡ true
+pub last_in : (sh : Shape) (o : Option CacheState) (x : ℕ) → IfSome o (IsCache sh) → last_made o ≡ Some x → used_in o x ≡ true
 last_in sh None x k e = absurd (true≢false (ap is_none e))
 last_in sh (Some y) x k e = subst (λ (o : Option ℕ). IfSome o (λ d. IsTrue (used_in (Some y) d))) e k.last
 
@@ -107,7 +107,7 @@ pub record Mutates (c : Core) (i : ℕ) (s : SeatState) : Type 0 where
   pub own : own_section s ≡ i
   pub inside : i < c.shape.sections
 
-inside_by : (b : Bool) (i w : ℕ) (o : Option ℕ) → o ≡ cond b (Some i) None → o ≡ Some w → b ≡ true
+pub inside_by : (b : Bool) (i w : ℕ) (o : Option ℕ) → o ≡ cond b (Some i) None → o ≡ Some w → b ≡ true
 inside_by true i w o e f = refl
 inside_by false i w o e f = absurd (true≢false (ap is_none (sym e ∙ f)))
 

@@ -27,6 +27,7 @@ use Rattle.gc_table.proofs.Frame.{IsLast, Mutates, mutates}
 use Rattle.gc_table.proofs.Kept.{runs_agree}
 use Rattle.gc_table.proofs.Reading.{own-found, cat-found, slot-found}
 use Rattle.gc_table.proofs.Stores.{env-agrees, not-nil}
+use Rattle.gc_table.proofs.Stands.StandsRoots.{last-is as is-the}
 
 -- a word among others has a place
 pub word-found : (xs : List ℕ) (word : ℕ) → list_any (λ (x : ℕ). eqb x word) xs ≡ true → (p : ℕ) × (p < length xs) × (get_or xs p 0 ≡ word)
@@ -54,10 +55,6 @@ known-name c i s step world x k a mu e =
     let h : r.0 < 32 = omega (arith, r.1, (seat-formed c i s step k).env) in
     inr (r.0, h, variable_names c i s step world r.0 x k a mu h (omega (arith, r.2))))
     (or_cases (eqb s.got (x + 1)) (list_any (λ (y : ℕ). eqb y (x + 1)) s.env) e)
-
-is-the : (o : Option ℕ) (x : ℕ) → is_the o x ≡ true → o ≡ Some x
-is-the None x e = absurd (false≢true e)
-is-the (Some y) x e = ap (λ z. Some z) (eqb-true y x e)
 
 -- the cell made last has the section's last object
 last_name : (c : Core) (i : ℕ) (s : SeatState) (step : Step) (world : World) (x : ℕ) → Taken c i s step → AgreesWith c world → Mutates c i s → last_made s.cache ≡ Some x

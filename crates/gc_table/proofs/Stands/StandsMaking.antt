@@ -1,9 +1,9 @@
 -- 23: a field or the value of a new cell is stored.
-use Rattle.std.proofs.Common.{ℕ, ◌≡◌, ◌≢◌, ◌+◌, ◌*◌, ◌<◌, ◌≤◌, List, set, length, arith, refl, sym, ap, ◌∙◌, subst, true, eqb, Option, Some, None, inl, ⊎_elim}
+use Rattle.std.proofs.Common.{ℕ, ◌≡◌, ◌≢◌, ◌+◌, ◌*◌, ◌<◌, ◌≤◌, List, set, length, arith, refl, sym, ap, ◌∙◌, subst, true, Option, Some, None, inl, ⊎_elim}
 use Rattle.std.specs.Prelude.{IsFalse, IfSome, slice_index}
-use Rattle.std.proofs.lemmas.Bool.{true≢false, false≢true, and_parts, eqb-true, eq-eqb}
+use Rattle.std.proofs.lemmas.Bool.{true≢false, false≢true, eq-eqb}
 use Rattle.mark_core.specs.Layout.{Words, words_of}
-use Rattle.mark_core.specs.Seats.{is_the, free_in, has_making, makes, scans, last_made}
+use Rattle.mark_core.specs.Seats.{is_the, free_in, has_making, makes, scans}
 use Rattle.mark_core.specs.Views.{makers, maker_of}
 use Rattle.mark_core.specs.Cells.{field}
 use Rattle.mark_core.specs.Rules.HeapRules.{section_of_cell, NumbersBelow}
@@ -24,6 +24,7 @@ use Rattle.gc_table.specs.PlainSteps.{meaning_of}
 use Rattle.gc_table.proofs.Stands.StandsAgree.{Stays, agrees-on}
 use Rattle.gc_table.proofs.Stands.StandsFrame.{cell-on, Moves, had-meaning, counts-grow}
 use Rattle.gc_table.proofs.Stands.StandsSeat.{Mutates, looks, making-is-free, free-not-used, free-apart}
+use Rattle.gc_table.proofs.NewParts.{making_is, making_last}
 use Rattle.mark_core.specs.Numbers.{value_bound, section_span}
 
 scanning : (o : Option (ℕ × ℕ)) (c part : ℕ) → scans o c part ≡ true → (y : ℕ × ℕ) × (o ≡ Some y)
@@ -50,14 +51,6 @@ no-next c i s step ms y k a room h u e o =
     let below : NumbersBelow c.shape w.allocs w.identities (makers c.seats) (maker_of s) = one-of (NumbersBelow c.shape w.allocs w.identities (makers c.seats)) (makers c.seats) i (maker_of s) (maker-at c.seats i s k.got) k.core.sound.caches.numbers_below in
     let mine : is_the s.section (section_of_cell w.identities y) ≡ true = subst (λ (z : Option ℕ). is_the z (section_of_cell w.identities y) ≡ true) (sym a.section) (eq-eqb i (section_of_cell w.identities y) (sym e)) in
     omega (arith, below k.live y h u mine, o.number, room)
-
-making_is : (o : Option CacheState) (x p y part : ℕ) → makes (with_making o x p) y part ≡ true → (y ≡ x) × (part ≡ p)
-making_is None x p y part e = absurd (false≢true e)
-making_is (Some z) x p y part e = let a = and_parts (eqb x y) (eqb p part) e in (sym (eqb-true x y a.0), sym (eqb-true p part a.1))
-
-making_last : (o : Option CacheState) (x p : ℕ) → last_made (with_making o x p) ≡ last_made o
-making_last None x p = refl
-making_last (Some z) x p = refl
 
 -- the words of other cells stay, and the new cell has its value once it is stored
 pub record NewWords (c : Core) (x part : ℕ) (values fields : List ℕ) (value : ℕ) : Type 0 where

@@ -5,7 +5,7 @@ use Rattle.std.proofs.lemmas.Bool.{true≢false, false≢true, and_parts, eqb-tr
 use Rattle.std.proofs.lemmas.List.{get_or-set_same, get_or-set_other}
 use Rattle.mark_core.specs.Layout.{Words, words_of, region_sizes, put_word}
 use Rattle.mark_core.specs.Bits.{flag}
-use Rattle.mark_core.specs.Seats.{free_in, has_making, makes, last_made, may_mutate}
+use Rattle.mark_core.specs.Seats.{free_in, has_making, makes, may_mutate}
 use Rattle.mark_core.specs.Cells.{field}
 use Rattle.mark_core.specs.Rules.HeapRules.{section_of_cell, number_of_cell}
 use Rattle.mark_core.specs.Steps.MutatorSteps.{with_made, with_making}
@@ -34,14 +34,11 @@ use Rattle.mark_core.proofs.Caches.CachesSeat.{all-facts, CacheFacts, next-free,
 use Rattle.mark_core.proofs.Pool.PoolPlaces.{same_place}
 use Rattle.plain_heap.specs.declared.operation.Op.{Op}
 use Rattle.gc_table.proofs.Stands.StandsStores.{values-length}
+use Rattle.gc_table.proofs.NewObjects.{made_last, last_fits, not_below}
 
 -- 23: the identity of a new cell is stored, which is used from then on.
 ids_length : (c : Core) → IsCore c → length (words_of c.shape c.words).identities ≡ c.shape.cells
 ids_length c k = region-length (region_sizes c.shape) 9 c.words (omega (arith, k.formed.words))
-
-made_last : (o : Option CacheState) (x : ℕ) → free_in o x ≡ true → last_made (with_made o x) ≡ Some x
-made_last None x e = absurd (false≢true e)
-made_last (Some z) x e = refl
 
 made_none : (o : Option CacheState) (x : ℕ) → has_making (with_made o x) ≡ false
 made_none None x = refl
@@ -198,19 +195,12 @@ part_kinds c i s x part word ms k identity = of (cases_Bool (nat_lt part c.shape
         let h : c.shape.fields < part = omega (arith, ltb-false part c.shape.fields e, d) in
         turn false false false e (lt-leb part c.shape.fields h) (ne_eqb part c.shape.fields d) (last_part c i s x part word ms k h (identity h))
 
--- what fits the last part is the next identity
-last_fits : (field_part value_part : Bool) (a b e : Bool) → field_part ≡ false → value_part ≡ false → cond field_part a (cond value_part b e) ≡ true → e ≡ true
-last_fits field_part value_part a b e f g h = sym (ap (λ (z : Bool). cond z b e) g) ∙ (sym (ap (λ (z : Bool). cond z a (cond value_part b e)) f) ∙ h)
-
 -- what fits the part of the value is a value
 value_fits : (field_part value_part : Bool) (a b e : Bool) → field_part ≡ false → value_part ≡ true → cond field_part a (cond value_part b e) ≡ true → b ≡ true
 value_fits field_part value_part a b e f g h = sym (ap (λ (z : Bool). cond z b e) g) ∙ (sym (ap (λ (z : Bool). cond z a (cond value_part b e)) f) ∙ h)
 
 not_below_same : (m n : ℕ) → m ≡ n → nat_lt m n ≡ false
 not_below_same m n h = false_from_ne_true (nat_lt m n) (λ e. omega (arith, h, ltb-true m n e))
-
-not_below : (m n : ℕ) → n < m → nat_lt m n ≡ false
-not_below m n h = false_from_ne_true (nat_lt m n) (λ e. omega (arith, h, ltb-true m n e))
 
 pub store-new : (c : Core) (i : ℕ) (s : SeatState) (x part word : ℕ) (op : Op) (ms : List Meaning) → Taken c i s (StoreNew x part word) → StandsFor c ms → AsksIn s ms (StoreNew x part word) op
     → StandsIn c.shape (words_left c s (StoreNew x part word)) (seats_left c i s (StoreNew x part word)) (changed ms (own_section s) (with_part c.shape part word))

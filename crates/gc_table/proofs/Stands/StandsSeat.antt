@@ -1,8 +1,8 @@
 -- What is known of the cells that a seat names and makes, and of a mutator's section.
-use Rattle.std.proofs.Common.{ℕ, ◌≡◌, ◌+◌, ◌-◌, ◌*◌, ◌%◌, ◌<◌, ◌≤◌, suc, List, [], ◌∷◌, get_or, length, arith, refl, sym, ap, ◌∙◌, subst, Bool, true, false, ◌||◌, cond, eqb, Option, Some, None, ◌⊎◌, inl, inr, ⊎_elim, ◌&&◌}
-use Rattle.std.specs.Prelude.{IsTrue, IsFalse, IfSome, slice_get, slice_index, nat_lt, is_none, unwrap_or, if◌then◌else◌}
+use Rattle.std.proofs.Common.{ℕ, ◌≡◌, ◌+◌, ◌-◌, ◌*◌, ◌%◌, ◌<◌, ◌≤◌, suc, List, [], ◌∷◌, get_or, length, arith, refl, sym, ap, ◌∙◌, subst, Bool, true, false, ◌||◌, eqb, Option, Some, None, ◌⊎◌, inl, inr, ⊎_elim, ◌&&◌}
+use Rattle.std.specs.Prelude.{IsFalse, IfSome, slice_get, slice_index, nat_lt, unwrap_or, if◌then◌else◌}
 use Rattle.std.specs.List.{list_any}
-use Rattle.std.proofs.lemmas.Bool.{true≢false, false≢true, or_cases, or_left, eqb-true, ltb-true, cases_Bool, and_parts}
+use Rattle.std.proofs.lemmas.Bool.{false≢true, or_cases, or_left, eqb-true, ltb-true, cases_Bool, and_parts}
 use Rattle.std.proofs.lemmas.List.{get_or_past}
 use Rattle.std.proofs.lemmas.Option.{slice_get-get_or, same_Some}
 use Rattle.mark_core.specs.Layout.{words_of}
@@ -34,6 +34,7 @@ use Rattle.plain_heap.specs.declared.operation.Op.{Op}
 use Rattle.plain_heap.specs.declared.operation.Op.TheVariants as ops
 use Rattle.plain_heap.specs.PlainStep.{IsInRange}
 use Rattle.gc_table.specs.Laws.{PlainStepsAreInRange}
+use Rattle.gc_table.proofs.Frame.{last_in, inside_by}
 use Rattle.mark_core.specs.Numbers.{value_bound}
 
 -- any seat that isn't spent may look at a count
@@ -47,10 +48,6 @@ names-used p r some e = ⊎_elim (λ (z : eqb r 0 ≡ true). absurd (omega (arit
 -- the cell in the register is in use
 pub got-used : (c : Core) (i : ℕ) (s : SeatState) (step : Step) → Taken c i s step → 0 < s.got → Used c (s.got - 1) ≡ true
 got-used c i s step k some = names-used (Used c) s.got some (own-fact c i s step (NamesInUse (words_of c.shape c.words).allocs (makers c.seats)) k k.core.sound.references.seats_in_use).1
-
-last_in : (sh : Shape) (o : Option CacheState) (x : ℕ) → IfSome o (IsCache sh) → last_made o ≡ Some x → used_in o x ≡ true
-last_in sh None x k e = absurd (true≢false (ap is_none e))
-last_in sh (Some y) x k e = subst (λ (o : Option ℕ). IfSome o (λ d. IsTrue (used_in (Some y) d))) e k.last
 
 -- the cell made last is in use
 pub last-used : (c : Core) (i : ℕ) (s : SeatState) (step : Step) (x : ℕ) → Taken c i s step → last_made s.cache ≡ Some x → Used c x ≡ true
@@ -106,10 +103,6 @@ pub record Mutates (c : Core) (i : ℕ) (s : SeatState) (ms : List Meaning) : Ty
   pub own : own_section s ≡ i
   pub inside : i < c.shape.sections
   pub there : slice_get ms i ≡ Some (meaning_of ms i)
-
-inside_by : (b : Bool) (i w : ℕ) (o : Option ℕ) → o ≡ cond b (Some i) None → o ≡ Some w → b ≡ true
-inside_by true i w o e f = refl
-inside_by false i w o e f = absurd (true≢false (ap is_none (sym e ∙ f)))
 
 pub mutates-in : (c : Core) (i : ℕ) (s : SeatState) (step : Step) (ms : List Meaning) → Taken c i s step → length ms ≡ c.shape.sections → may_mutate s ≡ true → Mutates c i s ms
 mutates-in c i s step ms k long e =

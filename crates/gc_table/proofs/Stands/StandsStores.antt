@@ -4,9 +4,9 @@ use Rattle.std.specs.Prelude.{IsFalse, IsTrue, slice_index_or, nat_lt, slice_get
 use Rattle.std.proofs.lemmas.Bool.{and_parts, ltb-true, cases_eq, cases_Bool}
 use Rattle.std.proofs.lemmas.List.{get_or-set_same, get_or-set_other, length-set, set-get_or}
 use Rattle.mark_core.specs.Layout.{Words, words_of, region_sizes}
-use Rattle.mark_core.specs.Bits.{cell_of, cell_bit}
+use Rattle.mark_core.specs.Bits.{cell_of}
 use Rattle.mark_core.specs.Seats.{may_mutate, is_phase}
-use Rattle.mark_core.specs.Cells.{field, is_swept_block, IsCellPath}
+use Rattle.mark_core.specs.Cells.{field, IsCellPath}
 use Rattle.mark_core.specs.Rules.HeapRules.{number_of_cell}
 use Rattle.mark_core.specs.Steps.MutatorSteps.{in_variables, variable_or_nil, seat_variable as word_in}
 use Rattle.mark_core.specs.Effects.{seat_after}
@@ -18,7 +18,7 @@ use Rattle.mark_core.proofs.Blocks.BlocksStopped.{Taken, in-place}
 use Rattle.mark_core.proofs.Writing.Places.{region-length}
 use Rattle.mark_core.proofs.Pool.PoolPlaces.{same_place}
 use Rattle.mark_core.proofs.References.ReferencesRoots.{Used, UsedAfter}
-use Rattle.mark_core.specs.Views.{makers, blocks}
+use Rattle.mark_core.specs.Views.{makers}
 use Rattle.mark_core.specs.declared.kinds.Step.{Step}
 use Rattle.mark_core.specs.declared.kinds.Step.TheVariants.{StoreField, StoreValue, ReadOwn, ReadCat, StoreRoot, StoreNew, ReadSlot}
 use Rattle.mark_core.specs.declared.seat.SeatState.{SeatState}
@@ -40,8 +40,9 @@ use Rattle.std.proofs.lemmas.Option.{get_or_from_slice_get}
 use Rattle.mark_core.specs.declared.kinds.Shape.{Shape}
 use Rattle.gc_table.specs.Laws.{OneMeaningChanges, OneCellIsNext}
 use Rattle.mark_core.specs.Closed.{IsReachableIn}
-use Rattle.mark_core.proofs.Consequences.Closing.{goes-to, Kept, kept-below, path-kept}
+use Rattle.mark_core.proofs.Consequences.Closing.{goes-to, path-kept}
 use Rattle.mark_core.specs.declared.kinds.Phase.TheVariants.{Sweep}
+use Rattle.mark_core.proofs.References.ReferencesKept.{kept-used as kept_used}
 
 -- a cell in use exists
 pub used-exists : (c : Core) → IsCore c → (x : ℕ) → Used c x ≡ true → x < c.shape.cells
@@ -179,16 +180,6 @@ pub one_next : OneCellIsNext
 one_next c m x y k u v e a b = k.sound.caches.distinct x (used-exists c k x u) y (used-exists c k y v) u v (omega (arith, e, a.number, b.number))
 
 -- Every reachable cell is in use, and what it names is in use.
-either_used : (b u m : Bool) → (m ≡ true → u ≡ true) → cond b u m ≡ true → u ≡ true
-either_used true u m f e = e
-either_used false u m f e = f e
-
--- a cell that the sweep keeps is in use
-kept_used : (c : Core) (x : ℕ) → IsCore c → Kept c x ≡ true → Used c x ≡ true
-kept_used c x k e =
-    let w : Words = words_of c.shape c.words in
-    either_used (is_swept_block w.next_block (blocks c.seats) (x / 64)) (Used c x) (cell_bit w.marks x) (k.sound.marks.marked_in_use x (kept-below c x k e)) e
-
 path_used : (c : Core) → IsCore c → is_phase (words_of c.shape c.words).phase Sweep ≡ false → (x : ℕ) (ds : List ℕ) → IsCellPath c.shape (words_of c.shape c.words).roots (words_of c.shape c.words).fields (x ∷ ds) → Used c x ≡ true
 path_used c k e x [] p = goes-to (Used c) (slice_index (words_of c.shape c.words).roots p.0) x p.2 (k.sound.references.roots_in_use p.0 0 p.1)
 path_used c k e x (d ∷ ds) p =

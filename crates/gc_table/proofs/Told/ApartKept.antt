@@ -1,7 +1,7 @@
 -- Each step that a seat may take keeps objects apart: none was made in the cell of an older one that was reachable.
 use Rattle.std.proofs.Common.{ℕ, ◌≡◌, ◌+◌, ◌%◌, ◌<◌, ◌≤◌, zero, suc, List, [], ◌∷◌, arith, refl, sym, ap, ◌∙◌, subst, Bool, true, false, ◌&&◌, eqb, Option, Some, None, ◌++◌, length, ◌⊎◌, inl, inr, ⊎_elim}
 use Rattle.std.specs.Prelude.{IsFalse, IsTrue, IfSome, nat_lt, nat_le, slice_get, unwrap_or, drop, if◌then◌else◌, Contains}
-use Rattle.std.proofs.lemmas.Bool.{true≢false, and_parts, eqb-true, ne_eqb}
+use Rattle.std.proofs.lemmas.Bool.{true≢false, and_parts, eqb-true}
 use Rattle.std.proofs.lemmas.Option.{same_Some, slice_get_within, slice_get-map, get_or_from_slice_get}
 use Rattle.std.specs.Option.{option_map}
 use Rattle.mark_core.specs.Layout.{words_of}
@@ -27,6 +27,7 @@ use Rattle.gc_table.proofs.Stands.StandsReached.{heap-there, objects_have_cells}
 use Rattle.gc_table.proofs.Stands.StandsSeat.{making-is-free, free-not-used}
 use Rattle.gc_table.proofs.Stands.StandsStores.{used-exists}
 use Rattle.gc_table.proofs.State.StateSteps.{Goes, taken, event, kept-whole, each-left}
+use Rattle.gc_table.proofs.Rooted.{odd_turn}
 use Rattle.mark_core.proofs.Formed.FormedLearns.{push-cases}
 use Rattle.mark_core.specs.declared.kinds.Shape.{Shape}
 use Rattle.plain_heap.specs.declared.operation.Op.{Op}
@@ -67,10 +68,6 @@ first_there (x ∷ xs) w y h = refl
 -- the place of an object that the seat makes
 abbrev pub made_place : SeatState → ℕ → SectionState → Place
 made_place s c y = record { cell = c; season = season_of s; heap = y.meaning.heap }
-
--- a warehouse's turns have odd seasons
-odd_turn : (w z : ℕ) → has_turn (Some (suc w)) (Some z) ≡ true → z % 2 ≡ 1
-odd_turn w z e = eqb-true (z % 2) (if eqb (suc w) 0 then 0 else 1) e ∙ ap (λ (b : Bool). if b then 0 else 1) (ne_eqb (suc w) 0 (λ f. omega (arith, f)))
 
 -- in the warehouses' turn the plan says what the catalogue is
 beside_warehouse : (x : TableState) (i : ℕ) (s : SeatState) (step : Step) (w c : ℕ) (y : SectionState) → Goes x i s step → may_mutate s ≡ true → s.section ≡ Some (suc w) → slice_get x.sections (suc w) ≡ Some y

@@ -29,11 +29,12 @@ use Rattle.mark_core.proofs.Used.UsedSeats.{IsMadeBy}
 use Rattle.mark_core.specs.declared.kinds.Step.{Step}
 use Rattle.mark_core.specs.declared.kinds.Step.TheVariants.{StoreNew, StoreField, StoreValue, Split, Join, ExchangeField, ExchangeValue}
 use Rattle.gc_table.specs.PlainSteps.{with_part}
-use Rattle.gc_table.specs.Sections.{season_of, section_after}
+use Rattle.gc_table.specs.Sections.{section_after}
 use Rattle.gc_table.proofs.Stands.StandsSeat.{Mutates, mutates-in, free-below, free-not-used}
 use Rattle.gc_table.proofs.State.StateStores.{meanings-length}
 use Rattle.mark_core.specs.Effects.{seat_after}
 use Rattle.gc_table.proofs.Stands.StandsKept.{identities-same}
+use Rattle.gc_table.proofs.Told.ApartKept.{made_place as new_place}
 
 -- 23: each word of a new cell, by its number: the last one adds a place, and the others add none.
 -- Where objects lie once the last word of a new cell makes it the place of the next object of its section.
@@ -121,10 +122,6 @@ placed-more sh ids used used' seats xs i c word s t f p a k = record {
         let section : section_of_cell ids' c ≡ i = omega (arith, now, a.identity, a.few) in
         let number : number_of_cell ids' c ≡ length y.places = omega (arith, now, a.identity, a.few, full i y there refl) in
         (f y, ap (λ j. slice_get xs' j) section ∙ get-set_same xs i y (f y) there, (p y, ap (λ j. slice_get (f y).places j) number ∙ (ap (λ (ps : List Place). slice_get ps (length y.places)) (a.places y) ∙ get_pushed y.places (p y)), a.at y))
-
--- the place of an object that is made next
-abbrev new_place : SeatState → ℕ → SectionState → Place
-new_place s c y = record { cell = c; season = season_of s; heap = y.meaning.heap }
 
 -- the section after the word, if it is the last
 abbrev new_section : Shape → SeatState → ℕ → ℕ → ℕ → Bool → SectionState → SectionState

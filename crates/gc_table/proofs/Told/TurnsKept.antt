@@ -1,5 +1,5 @@
 -- Each plain step and each object was in a turn of its section, and the last plain step left the plain heap as it is.
-use Rattle.std.proofs.Common.{ℕ, ◌≡◌, ◌+◌, ◌<◌, ◌≤◌, suc, List, [], ◌∷◌, ◌++◌, arith, refl, sym, ap, ◌∙◌, subst, Bool, true, false, ◌&&◌, cond, eqb, Option, Some}
+use Rattle.std.proofs.Common.{ℕ, ◌≡◌, ◌+◌, ◌<◌, ◌≤◌, List, [], ◌∷◌, ◌++◌, arith, refl, sym, ap, ◌∙◌, subst, Bool, true, false, ◌&&◌, cond, eqb, Option, Some}
 use Rattle.std.specs.Prelude.{IsTrue, nat_lt, nat_le, unwrap_or, slice_get}
 use Rattle.std.proofs.lemmas.Bool.{true≢false, and_parts, lt-ltb}
 use Rattle.std.proofs.lemmas.Option.{same_Some}
@@ -25,6 +25,7 @@ use Rattle.gc_table.specs.TableState.{TableState, state_after}
 use Rattle.gc_table.specs.Told.{EachSection, heap_before, Turns}
 use Rattle.gc_table.proofs.State.StateSteps.{Goes, event, taken, sections_left, kept-whole, each-left}
 use Rattle.gc_table.proofs.Told.SeasonsKept.{season_in, moves_season, season-same, season-next, in-turn, storer-mutates}
+use Rattle.gc_table.proofs.Told.ApartHeaps.{before-next as heap_next}
 
 -- what happened by the season, in a turn of the section
 abbrev Past : ℕ → ℕ → ℕ → Type 0
@@ -35,14 +36,6 @@ record InTurns (sh : Shape) (season w : ℕ) (y : SectionState) : Type 0 where
   pub turns_past : (n : ℕ) (t : PlainStep) → slice_get y.history n ≡ Some t → Past season w t.season
   pub places_past : (n : ℕ) (p : Place) → slice_get y.places n ≡ Some p → Past season w p.season
   pub last : y.meaning.heap ≡ heap_before (season + 1) (empty_heap sh.fields w) y.history
-
--- a turn that comes before the season leaves its heap
-heap_next : (season : ℕ) (heap : Heap) (ts : List PlainStep) → ((n : ℕ) (t : PlainStep) → slice_get ts n ≡ Some t → t.season < season) → heap_before season heap ts ≡ heap_before (season + 1) heap ts
-heap_next season heap [] past = refl
-heap_next season heap (t ∷ ts) past =
-    let h : t.season < season = past 0 t refl in
-    let now : nat_lt t.season season ≡ nat_lt t.season (season + 1) = lt-ltb t.season season h ∙ sym (lt-ltb t.season (season + 1) (omega (arith, h))) in
-    ap (λ (b : Bool). heap_before season (cond b t.heap heap) ts) now ∙ heap_next season (cond (nat_lt t.season (season + 1)) t.heap heap) ts (λ n u e. past (suc n) u e)
 
 -- the last turn leaves its heap
 heap_last : (season : ℕ) (heap : Heap) (ts : List PlainStep) (t : PlainStep) → t.season < season → heap_before season heap (ts ++ t ∷ []) ≡ t.heap
