@@ -19,7 +19,7 @@ pub const WORLD: usize = 0;
 pub const PHASE: usize = 1;
 
 /// The count of empty packets, plus [`EMPTY_OFFSET`](crate::EMPTY_OFFSET): never above the packets of the empty
-/// pool. `Reserve` lowers it by 1, `Credit` raises it by 1.
+/// pool.
 pub const EMPTY: usize = 2;
 
 /// The counter of the card pass. That of the sweep, the named section and the statistics follow.

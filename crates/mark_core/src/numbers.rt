@@ -1,4 +1,5 @@
-//! Numbers of pools, counters and statistics, and those that all heaps have in common.
+//! Numbers of pools, counters and statistics, and those that all heaps have in common. `docs/CYCLE.md` says when a
+//! counter or a statistic rises and falls.
 
 /// The pool of empty packets, which a word of its own counts.
 pub const EMPTY_POOL: u8 = 0;
@@ -15,28 +16,25 @@ pub const DEFERRED_POOL: u8 = 3;
 /// How many pools there are.
 pub const POOLS: u8 = 4;
 
-/// The next card of the pass. `NextOfCards` raises it by 1, past the last card too; `Reset` sets it to 0 as a drain
-/// begins and as a cycle ends.
+/// The next card of the pass; it runs on past the last.
 pub const CARD_COUNTER: u8 = 0;
 
-/// The next block of the sweep, or of clearing. `NextBlock` raises it by the shape's `stretch`, past the last block
-/// too; `Reset` sets it to 0 before blocks are handed out.
+/// The next block of the sweep, or of clearing; it runs on past the last.
 pub const BLOCK_COUNTER: u8 = 1;
 
-/// How many cells were marked in the last cycle, set as it ended (`Reset`, then `AddStat`). The first statistic.
+/// How many cells were marked in the last cycle. The first statistic.
 pub const LAST: u8 = 2;
 
-/// How many objects were scanned again in the last cycle's stop, set as `LAST` is.
+/// How many objects were scanned again in the last cycle's stop.
 pub const RESCANNED: u8 = 3;
 
-/// How many objects were traced in this cycle; 0 again as it ends.
+/// How many objects were traced in this cycle.
 pub const TRACED: u8 = 4;
 
-/// How many cells are free, all at first. A mutator lowers it by the free cells of a block that it claims, and raises
-/// it by those that it gives back; as a cycle ends it is set to what was counted. The last that `Reset` takes.
+/// How many cells are free, all at first. The last that `Reset` takes.
 pub const FREE: u8 = 5;
 
-/// How many parts the sections have played: each raises it by 1 at its end. It never falls. The last statistic.
+/// How many parts the sections have played. The last statistic.
 pub const DONE: u8 = 6;
 
 /// The section that found the heap full (`StoreNamed`). Only `ReadStat` takes this number.
