@@ -26,8 +26,8 @@
 //! # Steps
 //!
 //! A seat may take a step if its condition (`docs/STEPS.md`) holds in every state that meets the rule and agrees with
-//! its view (`May` in `specs/Taking.antt`). More is asked of a few steps (`Asked`). The call gives back the view after
-//! the step (`after`). No call takes a runtime, and nothing can wait without one: a lock could not even be written.
+//! its view (`May` in `specs/Taking.antt`). More is asked of a few steps (`Asked`). No call takes a runtime, and nothing
+//! can wait without one: a lock could not even be written.
 //!
 //! A call of the crates above did what it added to its seat's log (`Ran` in `specs/Running.antt`). `Only` says of which
 //! sort the steps were; what they left as it was follows (`proofs/Running.antt`, `proofs/Noticing.antt`). `Known` and

@@ -48,8 +48,8 @@ impl Heap {
         self.take_step(seat, Operation::Load, Step::ReadCat { v })
     }
 
-    /// Stores variable w, or nil, in field i of variable v's object. The seat then owes the object's card, unless it
-    /// made the object and hasn't published it.
+    /// Stores variable w, or nil, in field i of variable v's object. The seat owes the object's card, unless it made the
+    /// object and hasn't published it.
     pub fn store_field(&self, seat: &mut HeapSeat, v: u8, i: u8, w: Option<u8>)
         requires seat { Sits self.now seat.old }
         requires may { May (Step.StoreField v i w) (view_of seat.old) }

@@ -21,7 +21,7 @@ pub fn threads_free_none()
 {}
 
 /// What threads did with a closed heap is one run of the core, which keeps each thread's order. After each step the
-/// words agree with one plain heap that forgets nothing, and a step found what this heap had just before.
+/// words agree with one plain heap, and each step found what this heap had just before.
 #[tactic(auto, using(crate::proofs::Lending::threads_share_one_heap))]
 pub fn threads_share_one_heap()
     ensures { ThreadsShareOneHeap }
@@ -32,8 +32,7 @@ pub fn steps_find()
     ensures { StepsFind }
 {}
 
-/// If section 0's seat stores at most once in a variable, all who read it find the same object, or nil before that
-/// store.
+/// If section 0's seat stores at most once in a variable, all who read it find the same object, or nil before.
 pub fn one_object_lent()
     ensures { OneObjectLent }
 {}
@@ -83,8 +82,7 @@ pub fn runs_agree()
     ensures { RunsAgree }
 {}
 
-/// A mutator reads what the heap has at that moment in an object to which its register or a variable refers, whoever
-/// stored it.
+/// What a mutator reads of an object that it knows is what the heap has at that moment, whoever stored it.
 pub fn reads_tell()
     ensures { ReadsTell }
 {}

@@ -49,7 +49,7 @@ pub struct SectionState {
     pub meaning: Meaning,
     /// Where its objects were made, in the order of their numbers.
     pub places: LinkedList<Place>,
-    /// All its plain steps, in order.
+    /// Its plain steps, in order.
     pub history: LinkedList<PlainStep>,
     /// How many commands were done, as stored last.
     pub position: u64,
@@ -67,7 +67,7 @@ pub struct View {
     pub shape: Shape,
     /// The seat's record.
     pub state: SeatState,
-    /// All steps that it took, in order.
+    /// The steps that it took, in order.
     pub log: LinkedList<Entry>,
     /// Words that stay as the seat found or left them, by region and index. A word's first pair counts; with None the
     /// note has ended.

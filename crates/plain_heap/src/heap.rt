@@ -15,8 +15,8 @@ mod mark;
 mod reachable;
 mod store;
 
-/// The heap of one section: every object that it ever made, 32 variables, and a count of dropped stores. An object's
-/// number is its place in the order in which they were made, from 0 on.
+/// The heap of one section: every object that it ever made, numbered from 0 on, 32 variables, and a count of dropped
+/// stores.
 #[derive(Drop)]
 pub struct PlainHeap {
     section: u32,
