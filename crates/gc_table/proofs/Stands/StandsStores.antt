@@ -1,5 +1,5 @@
 -- 18: a field or the value of an object is stored.
-use Rattle.std.proofs.Common.{ℕ, ◌≡◌, ◌≢◌, ◌+◌, ◌-◌, ◌*◌, ◌<◌, List, set, get_or, length, arith, refl, sym, ap, ◌∙◌, subst, true, ◌&&◌, Option, Some, None, inl, ⊎_elim, ◌/◌, [], ◌∷◌, Bool, false, cond}
+use Rattle.std.proofs.Common.{ℕ, ◌≡◌, ◌≢◌, ◌+◌, ◌-◌, ◌*◌, ◌<◌, List, set, get_or, length, arith, refl, sym, ap, ◌∙◌, subst, true, ◌&&◌, Option, Some, None, inl, ⊎_elim, [], ◌∷◌, false}
 use Rattle.std.specs.Prelude.{IsFalse, IsTrue, slice_index_or, nat_lt, slice_get, unwrap_or, slice_index}
 use Rattle.std.proofs.lemmas.Bool.{and_parts, ltb-true, cases_eq, cases_Bool}
 use Rattle.std.proofs.lemmas.List.{get_or-set_same, get_or-set_other, length-set, set-get_or}

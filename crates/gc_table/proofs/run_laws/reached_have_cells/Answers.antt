@@ -1,22 +1,18 @@
 use Rattle.mark_core.proofs.Writing.Ranges.{in-row}
-use Rattle.std.proofs.Common.{ℕ, ◌≡◌, ◌+◌, ◌*◌, ◌/◌, ◌<◌, zero, suc, List, [], ◌∷◌, length, arith, refl, sym, ap, ◌∙◌, true, false, Some, ⊎_elim, ◌-◌, ◌≤◌}
+use Rattle.std.proofs.Common.{ℕ, ◌≡◌, ◌+◌, ◌*◌, ◌<◌, zero, suc, List, [], ◌∷◌, length, arith, refl, sym, ap, ◌∙◌, true, Some, ⊎_elim, ◌-◌, ◌≤◌}
 use Rattle.std.specs.Prelude.{slice_index}
 use Rattle.std.proofs.lemmas.Bool.{cases_lt}
 use Rattle.std.proofs.lemmas.Option.{same_Some}
 use Rattle.plain_heap.specs.Paths.{Name}
 use Rattle.mark_core.specs.Layout.{Words, words_of, root_count}
-use Rattle.mark_core.specs.Seats.{is_phase}
-use Rattle.mark_core.specs.Cells.{field, IsCellPath}
+use Rattle.mark_core.specs.Cells.{field}
 use Rattle.mark_core.specs.Closed.{IsReachableIn}
 use Rattle.mark_core.specs.Steps.{Core, run_of, start_core}
 use Rattle.mark_core.specs.Laws.{IsCore}
-use Rattle.mark_core.proofs.Consequences.Closing.{goes-to}
 use Rattle.mark_core.proofs.References.ReferencesRoots.{Used}
 use Rattle.mark_core.proofs.HeldBlock.{roots-length}
 use Rattle.mark_core.proofs.CoreKept.{runs_sound}
 use Rattle.mark_core.proofs.Exacts.ExactsDrain.{reach-root, reach-field}
-use Rattle.mark_core.specs.declared.kinds.Phase.TheVariants.{Sweep}
-use Rattle.mark_core.proofs.References.ReferencesKept.{kept-used as kept_used}
 use Rattle.gc_table.specs.RunWorlds.{World, WorldObject, object_of, reference_of, name_at, referred, start_world, variable_of}
 use Rattle.gc_table.specs.Agreement.{HoldsObject, AgreesWith}
 use Rattle.gc_table.specs.AgreementLaws.{IsWorldPath, IsCellFor, ReachedHaveCells, world_run}
@@ -25,12 +21,6 @@ use Rattle.gc_table.proofs.Kept.{runs_agree}
 use Rattle.gc_table.proofs.Frame.{used-exists}
 use Rattle.gc_table.proofs.run_laws.reached_have_cells.Goals as goal
 use Rattle.gc_table.proofs.Stands.StandsStores.{reachable-used}
-
-path_used : (c : Core) → IsCore c → is_phase (words_of c.shape c.words).phase Sweep ≡ false → (x : ℕ) (ds : List ℕ) → IsCellPath c.shape (words_of c.shape c.words).roots (words_of c.shape c.words).fields (x ∷ ds) → Used c x ≡ true
-path_used c k e x [] p = goes-to (Used c) (slice_index (words_of c.shape c.words).roots p.0) x p.2 (k.sound.references.roots_in_use p.0 0 p.1)
-path_used c k e x (d ∷ ds) p =
-    let u : Used c d ≡ true = path_used c k e d ds p.1 in
-    goes-to (Used c) (field c.shape (words_of c.shape c.words).fields d p.0.0) x p.0.2 (k.sound.references.fields_in_use e d (used-exists c k d u) u p.0.0 p.0.1)
 
 -- a word that refers to an object names a cell with its name
 word_names : (ids : List ℕ) (word : ℕ) (name : Name) → referred ids word ≡ Some name → (x : ℕ) × (word ≡ suc x) × (name_at ids x ≡ name)
