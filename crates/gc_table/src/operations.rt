@@ -25,10 +25,7 @@ pub enum Operation {
     Keep(u64),
     Set(u64),
     /// It stores `new` if it finds `old`.
-    Exchange {
-        old: u64,
-        new: u64,
-    },
+    Exchange { old: u64, new: u64 },
 }
 
 impl Heap {
