@@ -32,10 +32,11 @@ use Rattle.gc_cycle.specs.Moments.{Moment, after_moment, at_some_moment, begins,
 use Rattle.gc_cycle.specs.Roots.{roots_scanned}
 use Rattle.gc_cycle.specs.Sorts.{draws, draws_or_clears, pops, reads_pace, reads_root}
 use Rattle.gc_cycle.specs.Standing.{Mutates}
-use Rattle.gc_cycle.proofs.Stops.Admitted.{count-none, count-run, never-join}
+use Rattle.gc_cycle.proofs.Stops.Admitted.{count-none, count-run}
 use Rattle.gc_cycle.proofs.Searched.{both-widen, room-longer, room-widens, work-longer, work-widens}
 use Rattle.gc_cycle.proofs.Sequences.{this-moment}
 use Rattle.gc_cycle.proofs.Turns.{later-moment, earlier-moment, roots-left, has-traced}
+use Rattle.gc_cycle.proofs.Ends.Finishes.{never-both as never-join}
 
 pub quiet-longer : (f : Sort) (test : Moment → List Entry → Bool) (ys : List Entry) → never f ys ≡ true → ((m : Moment) (es : List Entry) → test m es ≡ true → test m (es ++ ys) ≡ true) → (m : Moment) (es : List Entry) → (never f es && test m es) ≡ true → (never f (es ++ ys) && test m (es ++ ys)) ≡ true
 quiet-longer f test ys n g m es h = let p = and_parts (never f es) (test m es) h in and_from _ _ (never-join f es ys p.0 n) (g m es p.1)
