@@ -18,7 +18,7 @@ ghost use Rattle.cache_refills.specs.Stops.{stops_in_visit, stops_with_cause};
 use crate::refilling::{nothing_paid, refill_in_stop};
 use crate::watching::Watch;
 use alloc_cache::{Cache, claim};
-use gc_cycle::{Refill, Safe, go_on};
+use gc_cycle::{Refill, goes_on, spend_none};
 use gc_table::{Heap, HeapSeat};
 use std::sync::Wait;
 
@@ -85,9 +85,13 @@ fn keep_cache(heap: &Heap, seat: &mut HeapSeat, cache: Cache, done: u32) -> Refi
     ensures known { Across (SparesRefill result) seat.old seat.new }
     ensures fills { (u : View) → HasSearched cache done u (view_of seat.old) → FillsTo result done u (view_of seat.new) }
 {
-    match go_on(heap, seat, Some(cache), done) {
-        Safe::Full => Refill::Full,
-        Safe::Going(Some(kept)) => Refill::Cache(kept, nothing_paid()),
-        Safe::Going(None) => unreachable!(),
+    let mut cache = Some(cache);
+    if !goes_on(heap, seat, &mut cache, done) {
+        spend_none(cache);
+        return Refill::Full;
+    }
+    match cache {
+        Some(kept) => Refill::Cache(kept, nothing_paid()),
+        None => unreachable!(),
     }
 }

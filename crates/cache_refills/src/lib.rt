@@ -25,7 +25,6 @@
 mod claiming;
 mod early;
 mod in_stops;
-mod others;
 mod pace;
 mod paying;
 mod pieces;

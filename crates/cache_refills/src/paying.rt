@@ -33,7 +33,6 @@ ghost use Rattle.card_clean.specs.StepBounds.{clean_one_steps};
 ghost use Rattle.cache_refills.specs.Pace.StepBounds.{early_steps, look_steps, payment_steps, quota_steps};
 
 use crate::early::{early_end, pass_early};
-use crate::others::{scan_other, section_at};
 use crate::pace::{is_late, read_statistic};
 use crate::quota::quota_of;
 use gc_cycle::{Paid, clean, next_card, recycle_deferred, scan_roots, trace};
@@ -140,11 +139,18 @@ fn mark_and_trace(heap: &Heap, seat: &mut HeapSeat, owed: Owed) -> Paid
         },
         RootScan::Done { marked: _ } => {
             let other = section_at(owed.turn, heap.shape().sections);
-            scan_other(heap, seat, other);
+            scan_roots(heap, seat, other);
             pass_early(heap, seat, owed.from, owed.end);
             pay_quota(heap, seat, owed.quota, owed.looks)
         }
     }
+}
+
+fn section_at(turn: u32, sections: u32) -> u32
+    requires { 0 < sections }
+    ensures { result ≡ turn % sections }
+{
+    turn % sections
 }
 
 fn stopped_at(quota: u32) -> Stopped
@@ -215,21 +221,10 @@ fn look_at_next(heap: &Heap, seat: &mut HeapSeat, before: Paid) -> Option<Paid>
     ensures few { IfSome result (λ paid. (before.done ≤ paid.done) × (length (did seat.old seat.new) ≤ 3 + clean_one_steps card_cells heap.now.shape + trace_steps (paid.done - before.done) heap.now.shape)) × IfNone result (length (did seat.old seat.new) ≤ 3 + output_steps heap.now.shape) }
 {
     let card = next_card(heap, seat)?;
-    if is_dirty(heap, seat, card) {
+    if heap.read_card(seat, card) {
         return clean_and_trace(heap, seat, card, before);
     }
     Some(before)
-}
-
-fn is_dirty(heap: &Heap, seat: &mut HeapSeat, card: u32) -> bool
-    requires seat { Sits heap.now seat.old × Mutates (view_of seat.old) }
-    requires card { card < card_count heap.now.shape }
-    ensures seat { Sits heap.now seat.new }
-    ensures none { Across (TracesNone 0) seat.old seat.new }
-    ensures once { count_of looks_at_card (did seat.old seat.new) ≤ 1 }
-    ensures few { length (did seat.old seat.new) ≤ 1 }
-{
-    heap.read_card(seat, card)
 }
 
 /// Cleans a card and traces on. None if there is no packet.

@@ -23,7 +23,7 @@ ghost use Rattle.cache_refills.specs.Pace.StepBounds.{payment_steps};
 use crate::refilling::pay_for;
 use crate::trying::begins_or_ends;
 use alloc_cache::{Cache, Search, claim_some};
-use gc_cycle::{Paid, Refill, ends_full};
+use gc_cycle::{Paid, Refill, stores_if_full};
 use gc_table::{Heap, HeapSeat};
 
 /// What a piece of a refill came to.
@@ -95,7 +95,7 @@ pub fn try_refill_some(heap: &Heap, seat: &mut HeapSeat, done: u32, from: u32, m
     ensures numbers { Across (RoundNumbers (refill_of result)) seat.old seat.new }
     ensures longest { length (did seat.old seat.new) ≤ 3 * most + 6 + payment_steps 1024 card_looks heap.now.shape }
 {
-    if ends_full(heap, seat, done) {
+    if stores_if_full(heap, seat, done) {
         return Piece::Full;
     }
     if begins_or_ends(heap, seat) {

@@ -31,7 +31,7 @@ use crate::pace::kick_off;
 use crate::paying::pay;
 use crate::watching::{Unwatched, Watch};
 use alloc_cache::{Cache, claim, retire};
-use gc_cycle::{Paid, Refill, Safe, ends_full, go_on, stop};
+use gc_cycle::{Paid, Refill, goes_on, spend_none, stop, stores_if_full};
 use gc_table::{Heap, HeapSeat};
 use mark_core::{CARD_CELLS, CARD_COUNTER, Phase};
 use packet_pools::all_empty;
@@ -110,7 +110,7 @@ fn refill_once<R: Wait, W: Watch>(
     ensures due { IsTrue (begins_where_due (did seat.old seat.new)) }
     ensures some { IfSome result (λ r. (u : View) → Ran u (view_of seat.old) → TellsFull u (view_of seat.old) → StoredAt done u (view_of seat.old) → RefillsTo r done u (view_of seat.new)) }
 {
-    if ends_full(heap, seat, done) {
+    if stores_if_full(heap, seat, done) {
         return Some(Refill::Full);
     }
     if sees_to_cycle(heap, seat) {
@@ -254,12 +254,15 @@ pub(crate) fn refill_in_stop<R: Wait, W: Watch>(
     if !stop(rt, heap, seat, done) {
         return None;
     }
-    let cache = claim_in_stop(rt, heap, seat, watch);
+    let mut cache = claim_in_stop(rt, heap, seat, watch);
     resume(heap, seat);
     watch.resumes();
-    match go_on(heap, seat, cache, done) {
-        Safe::Full => Some(Refill::Full),
-        Safe::Going(Some(cache)) => Some(Refill::Cache(cache, nothing_paid())),
-        Safe::Going(None) => None,
+    if !goes_on(heap, seat, &mut cache, done) {
+        spend_none(cache);
+        return Some(Refill::Full);
+    }
+    match cache {
+        Some(kept) => Some(Refill::Cache(kept, nothing_paid())),
+        None => None,
     }
 }

@@ -31,7 +31,7 @@ ghost use Rattle.cache_refills.specs.Trying.{CallsForCollection, EntersTo, Finds
 use crate::pace::begin_due;
 use crate::refilling::{has_seen_marking, marking_is_done, pay_for};
 use alloc_cache::{Cache, claim};
-use gc_cycle::{Refill, ends_full, finds_full, go_out, goes_on, retire_some};
+use gc_cycle::{Refill, go_out, goes_on, reads_full, retire_some, stores_if_full};
 use gc_table::{Heap, HeapSeat};
 use stop_world::{enter, poll};
 
@@ -92,7 +92,7 @@ pub fn try_enter(heap: &Heap, seat: &mut HeapSeat) -> Pass
     if !enter(heap, seat) {
         return Pass::Out;
     }
-    if finds_full(heap, seat) {
+    if reads_full(heap, seat) {
         return Pass::Full;
     }
     Pass::Going
@@ -143,7 +143,7 @@ pub fn try_refill(heap: &Heap, seat: &mut HeapSeat, done: u32) -> Option<Refill>
     ensures few { IfNone result (length (did seat.old seat.new) ≤ 3 * block_count heap.now.shape + 5) }
     ensures longest { length (did seat.old seat.new) ≤ 3 * block_count heap.now.shape + 6 + payment_steps 1024 card_looks heap.now.shape }
 {
-    if ends_full(heap, seat, done) {
+    if stores_if_full(heap, seat, done) {
         return Some(Refill::Full);
     }
     if begins_or_ends(heap, seat) {

@@ -69,14 +69,14 @@ fn collect_once<R: Wait>(rt: &R, heap: &Heap, seat: &mut HeapSeat, done: u32) ->
     ensures unbegun { IsTrue (never tries_marking (did seat.old seat.new)) }
     ensures known { IfSome result (λ safe. KnowsAnswer safe (view_of seat.new)) }
 {
-    if ends_full(heap, seat, done) {
+    if stores_if_full(heap, seat, done) {
         return Some(Safe::Full);
     }
     if !stop(rt, heap, seat, done) {
         return None;
     }
     collect_in_stop(rt, heap, seat);
-    if ends_full(heap, seat, done) {
+    if stores_if_full(heap, seat, done) {
         return Some(Safe::Full);
     }
     Some(Safe::Going(None))
@@ -100,7 +100,7 @@ fn collect_in_stop<R: Wait>(rt: &R, heap: &Heap, seat: &mut HeapSeat)
 }
 
 /// Whether the seat read the phase as Full last.
-pub fn has_seen_full(seat: &HeapSeat) -> bool
+pub(crate) fn has_seen_full(seat: &HeapSeat) -> bool
     ensures seen { OnTrue result ((state_of seat.now).phase_seen ≡ Some Full) }
     ensures other { OnFalse result ((state_of seat.now).phase_seen ≢ Some Full) }
 {
@@ -189,24 +189,6 @@ fn give_way<R: Wait>(rt: &R, heap: &Heap, seat: &mut HeapSeat, cache: &mut Optio
 }
 
 /// Whether a mutator goes on, with its cache. If the heap is full it gives the cache up and stores its position.
-pub fn go_on(heap: &Heap, seat: &mut HeapSeat, cache: Option<Cache>, done: u32) -> Safe
-    requires seat { Sits heap.now seat.old × Mutates (view_of seat.old) }
-    requires cache { HasCache cache (view_of seat.old) }
-    ensures seat { Sits heap.now seat.new × Mutates (view_of seat.new) }
-    ensures ran { Across Ran seat.old seat.new }
-    ensures only { Across (Only answers) seat.old seat.new }
-    ensures numbers { Across (GivesUp cache (cache_of result)) seat.old seat.new }
-    ensures answer { Across (AnswersTo result cache done) seat.old seat.new }
-{
-    let mut cache = cache;
-    if goes_on(heap, seat, &mut cache, done) {
-        return Safe::Going(cache);
-    }
-    spend_none(cache);
-    Safe::Full
-}
-
-/// [`go_on`] with the cache lent. A mutator that doesn't go on has none.
 #[inline(always)]
 pub fn goes_on(heap: &Heap, seat: &mut HeapSeat, cache: &mut Option<Cache>, done: u32) -> bool
     requires seat { Sits heap.now seat.old × Mutates (view_of seat.old) }
@@ -219,7 +201,7 @@ pub fn goes_on(heap: &Heap, seat: &mut HeapSeat, cache: &mut Option<Cache>, done
     ensures full { OnFalse result (Across (AnswersTo safes.Full cache.old done) seat.old seat.new × (cache.new ≡ None)) }
     ensures few { length (did seat.old seat.new) ≤ 5 }
 {
-    if !finds_full(heap, seat) {
+    if !reads_full(heap, seat) {
         return true;
     }
     retire_some(heap, seat, cache.take());
@@ -238,7 +220,7 @@ pub fn spend_none(cache: Option<Cache>)
 }
 
 /// Whether the heap is full; if so the mutator, which has no cache, stores its position.
-pub fn ends_full(heap: &Heap, seat: &mut HeapSeat, done: u32) -> bool
+pub fn stores_if_full(heap: &Heap, seat: &mut HeapSeat, done: u32) -> bool
     requires seat { Sits heap.now seat.old × Mutates (view_of seat.old) }
     requires cache { (state_of seat.old).cache ≡ None }
     ensures seat { Sits heap.now seat.new × Mutates (view_of seat.new) }
@@ -249,7 +231,7 @@ pub fn ends_full(heap: &Heap, seat: &mut HeapSeat, done: u32) -> bool
     ensures going { OnFalse result (Across (KeepsOn None None) seat.old seat.new) }
     ensures few { length (did seat.old seat.new) ≤ 2 }
 {
-    if !finds_full(heap, seat) {
+    if !reads_full(heap, seat) {
         return false;
     }
     heap.store_position(seat, done);
@@ -258,7 +240,7 @@ pub fn ends_full(heap: &Heap, seat: &mut HeapSeat, done: u32) -> bool
 
 /// Whether the heap is full, as a mutator reads it.
 #[inline(always)]
-pub fn finds_full(heap: &Heap, seat: &mut HeapSeat) -> bool
+pub fn reads_full(heap: &Heap, seat: &mut HeapSeat) -> bool
     requires seat { Sits heap.now seat.old × Mutates (view_of seat.old) }
     ensures seat { Sits heap.now seat.new × Mutates (view_of seat.new) }
     ensures read { Across (Took ReadPhase) seat.old seat.new }

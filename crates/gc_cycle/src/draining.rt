@@ -32,7 +32,7 @@ use stop_world::{close_help, open_help};
 const ROUND: u32 = u32::MAX;
 
 /// Begins the drain. The pass over all cards begins again.
-pub fn begin_drain(heap: &Heap, seat: &mut HeapSeat)
+pub(crate) fn begin_drain(heap: &Heap, seat: &mut HeapSeat)
     requires seat { Sits heap.now seat.old }
     requires alone { IsAloneIn Idle (view_of seat.old) ⊎ IsAloneIn Marking (view_of seat.old) }
     ensures seat { Sits heap.now seat.new }
@@ -154,7 +154,7 @@ pub(crate) fn drain_alone<R: Wait>(rt: &R, heap: &Heap, seat: &mut HeapSeat) -> 
 }
 
 /// Ends the drain.
-pub fn begin_sweep(heap: &Heap, seat: &mut HeapSeat)
+pub(crate) fn begin_sweep(heap: &Heap, seat: &mut HeapSeat)
     requires seat { Sits heap.now seat.old }
     requires drained { DrainedAlone (view_of seat.old) }
     ensures seat { Sits heap.now seat.new }

@@ -48,7 +48,7 @@ pub fn scan_roots(heap: &Heap, seat: &mut HeapSeat, section: u32) -> RootScan
 
 /// Marks what the roots from `from` on and before `end` refer to, and is true; or finds no packet, and brings back
 /// what was deferred, which is all that can keep packets from a seat that is alone.
-pub fn sees_to_some(heap: &Heap, seat: &mut HeapSeat, from: u32, end: u32) -> bool
+pub(crate) fn sees_to_some(heap: &Heap, seat: &mut HeapSeat, from: u32, end: u32) -> bool
     requires seat { Sits heap.now seat.old }
     requires alone { IsAloneIn Drain (view_of seat.old) × (look the_next_block (view_of seat.old).known ≡ Some 0) }
     requires roots { (from ≤ end) × (end ≤ root_count heap.now.shape) }

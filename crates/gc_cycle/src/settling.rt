@@ -18,7 +18,7 @@ use gc_table::{Heap, HeapSeat};
 use mark_core::{BLOCK_CELLS, CARD_COUNTER, FREE, LAST, RESCANNED, TRACED};
 
 /// How many allocation bits are set in the blocks before `end`, of which `counted` were counted before `from`.
-pub fn count_between(heap: &Heap, seat: &mut HeapSeat, from: u32, end: u32, counted: u32) -> u32
+pub(crate) fn count_between(heap: &Heap, seat: &mut HeapSeat, from: u32, end: u32, counted: u32) -> u32
     requires seat { Sits heap.now seat.old }
     requires alone { IsAloneIn Idle (view_of seat.old) }
     requires blocks { (from ≤ end) × (end ≤ block_count heap.now.shape) }
@@ -67,7 +67,7 @@ fn set_statistic(heap: &Heap, seat: &mut HeapSeat, which: u8, number: u32)
 }
 
 /// Sets the numbers that pace the next cycle.
-pub fn set_numbers(
+pub(crate) fn set_numbers(
     heap: &Heap,
     seat: &mut HeapSeat,
     marked: u32,

@@ -71,7 +71,7 @@ pub(crate) fn lacks_work(heap: &Heap, seat: &mut HeapSeat) -> bool
 }
 
 /// Whether the count of empty packets says all: then nothing is left to trace.
-pub fn sees_all_empty(heap: &Heap, seat: &mut HeapSeat) -> bool
+pub(crate) fn sees_all_empty(heap: &Heap, seat: &mut HeapSeat) -> bool
     requires seat { Sits heap.now seat.old }
     requires rest { IsTrue (is_at_rest heap.now.shape (state_of seat.old)) }
     ensures seat { Sits heap.now seat.new }
