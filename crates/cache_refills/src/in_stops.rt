@@ -22,10 +22,8 @@ use gc_cycle::{Refill, goes_on, spend_none};
 use gc_table::{Heap, HeapSeat};
 use std::sync::Wait;
 
-/// [`refill`](crate::refill) without beginning a cycle or paying: if no block has a free cell it stops the world,
-/// and all marking is done there. It is there to be compared with a collector that marks beside the mutators.
-///
-/// If another mutator has begun a cycle, the stop ends it.
+/// [`refill`](crate::refill) without beginning a cycle or paying: all marking is done in stops. It is there to be
+/// compared with a collector that marks beside the mutators. If another mutator has begun a cycle, the stop ends it.
 pub fn refill_in_stops<R: Wait, W: Watch>(
     rt: &R,
     heap: &Heap,
@@ -49,7 +47,7 @@ pub fn refill_in_stops<R: Wait, W: Watch>(
     unreachable!()
 }
 
-/// One round; None if another seat's stop came first.
+/// None: another seat's stop came first.
 fn fill_once<R: Wait, W: Watch>(
     rt: &R,
     heap: &Heap,
@@ -74,7 +72,6 @@ fn fill_once<R: Wait, W: Watch>(
     }
 }
 
-/// A cache that was claimed. If the heap is full by then, it is given up.
 fn keep_cache(heap: &Heap, seat: &mut HeapSeat, cache: Cache, done: u32) -> Refill
     requires seat { Sits heap.now seat.old × Mutates (view_of seat.old) }
     requires cache { IsCached cache (view_of seat.old) }

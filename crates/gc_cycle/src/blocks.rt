@@ -1,4 +1,4 @@
-//! Blocks are swept: a call of `sweeper`, told in the words of this crate.
+//! Blocks are swept, through `sweeper`.
 ghost use Rattle.std.specs.Prelude.{◌≡◌, ◌<◌, ◌≤◌, ◌+◌, ◌&&◌, ◌⊎◌, None, IsTrue, IsFalse, IfSome, IfNone, ◌*◌, length};
 ghost use Rattle.mark_core.specs.Layout.{block_count};
 ghost use Rattle.mark_core.specs.Places.{the_phase};

@@ -31,8 +31,8 @@ use mark_core::Phase;
 use std::sync::Wait;
 use stop_world::{poll, resume};
 
-/// A precise collection by this mutator, which has no cache and has done `done` commands. If another seat's stop
-/// comes first it tries again. Full: it read that the heap is full.
+/// A precise collection by a mutator without a cache, that has done `done` commands. If another seat's stop comes
+/// first it tries again. Full: it read that the heap is full.
 pub fn collect<R: Wait>(rt: &R, heap: &Heap, seat: &mut HeapSeat, done: u32) -> Safe
     requires seat { Sits heap.now seat.old × Mutates (view_of seat.old) }
     requires cache { (state_of seat.old).cache ≡ None }
@@ -55,7 +55,7 @@ pub fn collect<R: Wait>(rt: &R, heap: &Heap, seat: &mut HeapSeat, done: u32) -> 
     unreachable!()
 }
 
-/// One try; None if another seat's stop came first.
+/// None: another seat's stop came first.
 fn collect_once<R: Wait>(rt: &R, heap: &Heap, seat: &mut HeapSeat, done: u32) -> Option<Safe>
     requires seat { Sits heap.now seat.old × Mutates (view_of seat.old) }
     requires cache { (state_of seat.old).cache ≡ None }
@@ -82,7 +82,6 @@ fn collect_once<R: Wait>(rt: &R, heap: &Heap, seat: &mut HeapSeat, done: u32) ->
     Some(Safe::Going(None))
 }
 
-/// Collects in a stop of its own, unless the heap is full, and ends the stop.
 fn collect_in_stop<R: Wait>(rt: &R, heap: &Heap, seat: &mut HeapSeat)
     requires seat { Sits heap.now seat.old }
     requires stopped { HoldsWorld (view_of seat.old) }
@@ -99,7 +98,6 @@ fn collect_in_stop<R: Wait>(rt: &R, heap: &Heap, seat: &mut HeapSeat)
     resume(heap, seat);
 }
 
-/// Whether the seat read the phase as Full last.
 pub(crate) fn has_seen_full(seat: &HeapSeat) -> bool
     ensures seen { OnTrue result ((state_of seat.now).phase_seen ≡ Some Full) }
     ensures other { OnFalse result ((state_of seat.now).phase_seen ≢ Some Full) }
@@ -110,8 +108,8 @@ pub(crate) fn has_seen_full(seat: &HeapSeat) -> bool
     }
 }
 
-/// A safe point of a mutator that has done `done` commands. If a stop is under way it gives up its cache, leaves
-/// until the stop has ended, and helps meanwhile. Full: it read that the heap is full.
+/// A safe point of a mutator that has done `done` commands. If a stop is under way it gives its cache up, leaves
+/// until the stop has ended, and helps. Full: it read that the heap is full.
 pub fn safe_point<R: Wait>(
     rt: &R,
     heap: &Heap,
@@ -142,8 +140,7 @@ pub fn safe_point<R: Wait>(
     Safe::Full
 }
 
-/// [`safe_point`] with the cache lent, which moves only if a stop is under way or the heap is full: for a player
-/// that comes to one at each command. True if the mutator goes on; otherwise it has no cache.
+/// [`safe_point`] with the cache lent. False: the heap is full, and the mutator has no cache.
 #[inline(always)]
 pub fn pass_safe_point<R: Wait>(
     rt: &R,
@@ -171,7 +168,6 @@ pub fn pass_safe_point<R: Wait>(
     goes_on(heap, seat, cache, done)
 }
 
-/// Gives way to a stop, if one is under way.
 #[inline(always)]
 fn give_way<R: Wait>(rt: &R, heap: &Heap, seat: &mut HeapSeat, cache: &mut Option<Cache>, done: u32)
     requires seat { Sits heap.now seat.old × Mutates (view_of seat.old) }
@@ -209,7 +205,7 @@ pub fn goes_on(heap: &Heap, seat: &mut HeapSeat, cache: &mut Option<Cache>, done
     false
 }
 
-/// There is no cache to give up.
+/// Takes a cache that isn't there: a [`Cache`] can't be dropped.
 pub fn spend_none(cache: Option<Cache>)
     requires { cache ≡ None }
 {
@@ -219,7 +215,7 @@ pub fn spend_none(cache: Option<Cache>)
     }
 }
 
-/// Whether the heap is full; if so the mutator, which has no cache, stores its position.
+/// Whether the heap is full. If so the mutator, which has no cache, stores its position.
 pub fn stores_if_full(heap: &Heap, seat: &mut HeapSeat, done: u32) -> bool
     requires seat { Sits heap.now seat.old × Mutates (view_of seat.old) }
     requires cache { (state_of seat.old).cache ≡ None }
@@ -253,8 +249,7 @@ pub fn reads_full(heap: &Heap, seat: &mut HeapSeat) -> bool
     }
 }
 
-/// Gives a cache up, if there is one. That takes two steps, and one more if objects in it aren't published yet. Of
-/// the seat's record only the cache changes.
+/// Gives a cache up, if there is one: in two steps, and one more if objects in it aren't published yet.
 #[cold]
 #[inline(never)]
 pub fn retire_some(heap: &Heap, seat: &mut HeapSeat, cache: Option<Cache>)
