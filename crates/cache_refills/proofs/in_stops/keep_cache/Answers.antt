@@ -12,6 +12,9 @@ use Rattle.gc_cycle.proofs.Refills.Collected.{calm-spares}
 use Rattle.cache_refills.proofs.Stops.InStops.{keeps-fills}
 use Rattle.cache_refills.proofs.in_stops.keep_cache.Goals as goal
 
+pub spend_none-requires : goal.spend_none-requires
+spend_none-requires c = c.if-not-goes_on.ensures.full.1
+
 pub returns-then-not-goes_on-clause-numbers : goal.returns-then-not-goes_on-clause-numbers
 returns-then-not-goes_on-clause-numbers c =
     (subst (λ kept. GivesUp (Some c.args.cache) kept (view_of c.args.seat.now) (view_of c.goes_on.new.seat)) c.if-not-goes_on.ensures.full.1 c.goes_on.ensures.numbers).changed

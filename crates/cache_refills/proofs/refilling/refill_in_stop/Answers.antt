@@ -17,6 +17,9 @@ returns-then-not-stop-clause-round g c = round-theirs c.args.done (view_of c.arg
 pub resume-requires-clause-done : goal.resume-requires-clause-done
 resume-requires-clause-done g c = done-resuming (view_of c.claim_in_stop-cache.new.seat) c.claim_in_stop-cache.ensures.claims.resume
 
+pub spend_none-requires : goal.spend_none-requires
+spend_none-requires g c = c.if-not-goes_on.ensures.full.1
+
 pub returns-then-not-goes_on-clause-round : goal.returns-then-not-goes_on-clause-round
 returns-then-not-goes_on-clause-round g c =
     let u : View = view_of c.args.seat.now in
