@@ -18,7 +18,13 @@ use gc_table::{Heap, HeapSeat};
 use mark_core::{BLOCK_CELLS, CARD_COUNTER, FREE, LAST, RESCANNED, TRACED};
 
 /// How many allocation bits are set before block `end`, of which `counted` were counted before `from`.
-pub(crate) fn count_between(heap: &Heap, seat: &mut HeapSeat, from: u32, end: u32, counted: u32) -> u32
+pub(crate) fn count_between(
+    heap: &Heap,
+    seat: &mut HeapSeat,
+    from: u32,
+    end: u32,
+    counted: u32,
+) -> u32
     requires seat { Sits heap.now seat.old }
     requires alone { IsAloneIn Idle (view_of seat.old) }
     requires blocks { (from ≤ end) × (end ≤ block_count heap.now.shape) }
