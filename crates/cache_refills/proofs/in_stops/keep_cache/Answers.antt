@@ -25,19 +25,19 @@ returns-then-not-goes_on-clause-known c = c.if-not-goes_on.ensures.full.0.1
 pub returns-then-not-goes_on-clause-fills : goal.returns-then-not-goes_on-clause-fills
 returns-then-not-goes_on-clause-fills c = λ u k. full-later c.args.done u (view_of c.args.seat.now) (view_of c.goes_on.new.seat) k.ran c.goes_on.ensures.ran c.if-not-goes_on.ensures.full.0.0
 
-pub returns-in-Some-clause-numbers : goal.returns-in-Some-clause-numbers
-returns-in-Some-clause-numbers c =
+pub returns-clause-numbers : goal.returns-clause-numbers
+returns-clause-numbers c =
     let k = rw c.in-Some.is at c.if-not-goes_on.ensures.going in
     let n = rw c.in-Some.is at c.goes_on.ensures.numbers in
     (ap (λ o. unwrap_or o c.args.cache) k.same, inl n.changed)
 
-pub returns-in-Some-clause-known : goal.returns-in-Some-clause-known
-returns-in-Some-clause-known c =
+pub returns-clause-known : goal.returns-clause-known
+returns-clause-known c =
     let v : View = view_of c.args.seat.now in
     let w : View = view_of c.goes_on.new.seat in
     only-more stays_calm spares_part calm-spares v w (only-more answers stays_calm answers-calm v w c.goes_on.ensures.only)
 
-pub returns-in-Some-clause-fills : goal.returns-in-Some-clause-fills
-returns-in-Some-clause-fills c =
+pub returns-clause-fills : goal.returns-clause-fills
+returns-clause-fills c =
     let k = rw c.in-Some.is at c.if-not-goes_on.ensures.going in
     λ u h. keeps-fills c.args.cache c.in-Some.kept c.args.done u (view_of c.args.seat.now) (view_of c.goes_on.new.seat) h k

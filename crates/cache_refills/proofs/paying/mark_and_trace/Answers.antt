@@ -47,8 +47,8 @@ section_at-other-requires c =
     let some = some-section c.args.heap.now.shape v c.requires.seat.0.1 (section-below v c.args.seat.now.possible c.requires.seat.1.section) in
     omega (arith, some, sections)
 
-pub scan_roots-in-Done-requires-clause-section : goal.scan_roots-in-Done-requires-clause-section
-scan_roots-in-Done-requires-clause-section c =
+pub scan_roots-requires-in-Done-clause-section : goal.scan_roots-requires-in-Done-clause-section
+scan_roots-requires-in-Done-clause-section c =
     let v : View = view_of c.args.seat.now in
     let some = some-section c.args.heap.now.shape v c.requires.seat.0.1 (section-below v c.args.seat.now.possible c.requires.seat.1.section) in
     subst (λ n. n < c.args.heap.now.shape.sections) (sym (c.section_at-other.ensures ∙ ap (λ (s : Shape). c.args.owed.turn % s.sections) c.shape.ensures)) (mod-lt c.args.owed.turn some)
