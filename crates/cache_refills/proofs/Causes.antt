@@ -16,7 +16,7 @@ pub use Rattle.packet_pools.proofs.Counting.{after-earlier, after-join, after-no
 pub use Rattle.gc_cycle.proofs.Since.{since-more}
 use Rattle.packet_pools.proofs.Searches.{all-more, some-left, some-right}
 use Rattle.alloc_cache.specs.Claiming.{NoBlock, seeks_block, seen_taken}
-use Rattle.alloc_cache.proofs.Searches.{seen-front as taken-more, seen-back as taken-later}
+use Rattle.alloc_cache.proofs.Searches.{seen-front as taken-more}
 use Rattle.gc_cycle.specs.Cycles.{collects, fills_with_cause, may_fill, sees_all_full}
 use Rattle.gc_cycle.specs.Events.{each_after, front, since_last, Sort}
 use Rattle.gc_cycle.specs.Sorts.{begins_exactly, ends_cycle, moves_to, names, raises_flag, reads_phase, sees_all_empty, sees_last_card}

@@ -25,7 +25,6 @@ use Rattle.gc_cycle.specs.Events.{Sort, followed_by, never, since_last}
 use Rattle.gc_cycle.specs.Finishing.{Completes, finishes, IsMove, IsPart, stays, stays_in}
 use Rattle.card_clean.specs.Leaving.{rescans, rescanned_in}
 use Rattle.sweeper.specs.Freeing.{frees, freed_in}
-use Rattle.sweeper.proofs.SweptBlocks.{freed-join as freed-run}
 use Rattle.gc_cycle.specs.Moments.{at_some_moment, begins, total_of}
 use Rattle.gc_cycle.specs.Sorts.{ends_cycle, moves_to, opens_help, tells_full, tries_marking}
 use Rattle.gc_cycle.proofs.Parts.{move-finishes, part-finishes, part-stays}

@@ -1,9 +1,8 @@
 -- The steps of a seat that is alone, and counts and sets the numbers for the next cycle.
 use Rattle.std.proofs.Common.{ℕ, ◌≡◌, ◌≤◌, ◌+◌, ◌-◌, List, [], ◌∷◌, ◌++◌, suc, zero, arith, refl, sym, ap, ◌∙◌, subst, Bool, true, false, not, ◌&&◌, ◌||◌, Some, None, Option, is_some, eq-eqb, eqb-true, inl, inr, ⊎_elim}
-use Rattle.std.specs.Prelude.{◌==◌, bit_and, is_none, unwrap_or}
+use Rattle.std.specs.Prelude.{◌==◌, is_none, unwrap_or}
 use Rattle.std.specs.Int.Count.{ones}
 use Rattle.std.proofs.lemmas.Bool.{and_from, and_parts, cases_eq, false≢true, le-leb, ne_eqb, not-true, or_from, or_left, or_parts, or_right, true≢false}
-use Rattle.std.proofs.lemmas.Nat.{and_le_l}
 use Rattle.mark_core.specs.Bits.{wrapped_sum}
 use Rattle.mark_core.specs.Steps.ColourSteps.{cleaning_after, popped_after, scan_after, with_alloc_word}
 use Rattle.mark_core.specs.Effects.{seat_after}

@@ -16,7 +16,6 @@ use Rattle.gc_table.specs.declared.view.View.{View}
 use Rattle.gc_table.proofs.Running.{run-keeps}
 use Rattle.sweeper.specs.Freeing.{block_floor}
 use Rattle.sweeper.specs.Sweepers.{is_sweeping}
-use Rattle.sweeper.proofs.Sweepers.{sweeping-stays as sweeps-quiet}
 use Rattle.tracer.proofs.Hand.{alloc-left}
 use Rattle.mark_core.specs.Steps.WorldSteps.{has_nothing}
 use Rattle.mark_core.specs.declared.kinds.Phase.TheVariants.{Sweep}
