@@ -15,12 +15,13 @@ use Rattle.packet_pools.specs.Seeking.{some_event}
 pub use Rattle.packet_pools.proofs.Counting.{after-earlier, after-join, after-none}
 pub use Rattle.gc_cycle.proofs.Since.{since-more}
 use Rattle.packet_pools.proofs.Searches.{all-more, some-left, some-right}
-use Rattle.alloc_cache.specs.Claiming.{finds_claimed, full_first, gets_block, NoBlock, seeks_block, seen_taken}
+use Rattle.alloc_cache.specs.Claiming.{NoBlock, seeks_block, seen_taken}
+use Rattle.alloc_cache.proofs.Searches.{seen-front as taken-more}
 use Rattle.gc_cycle.specs.Cycles.{collects, fills_with_cause, may_fill, sees_all_full}
-use Rattle.gc_cycle.specs.Events.{each_after, followed_by, front, since_last, Sort}
+use Rattle.gc_cycle.specs.Events.{each_after, front, since_last, Sort}
 use Rattle.gc_cycle.specs.Sorts.{begins_exactly, ends_cycle, moves_to, names, raises_flag, reads_phase, sees_all_empty, sees_last_card}
 use Rattle.cache_refills.specs.Stops.{claim_failed, marking_done, may_stop, no_block, stops_with_cause}
-use Rattle.gc_cycle.proofs.Ends.Finishes.{since-later}
+use Rattle.gc_cycle.proofs.Ends.Finishes.{since-later, some-of-followed as followed-some}
 use Rattle.gc_cycle.proofs.Searched.{front-more}
 use Rattle.gc_cycle.proofs.Sequences.{followed-later, some-none}
 
@@ -31,29 +32,6 @@ after-always test f more earlier (e ∷ es) t =
     and_from (not (f e.step e.found) || test earlier) _ (or_right (not (f e.step e.found)) (test earlier) t) (after-always test f more (earlier ++ e ∷ []) es (more earlier (e ∷ []) t))
 
 -- causes to stop
-
-pub taken-more : (b : ℕ) (xs ys : List Entry) → seen_taken b xs ≡ true → seen_taken b (xs ++ ys) ≡ true
-taken-more b [] ys h = absurd (false≢true h)
-taken-more b (x ∷ xs) ys h =
-    let f = finds_claimed b x.step x.found in
-    let g = gets_block b x.step x.found in
-    ⊎_elim
-    (λ (k : (f || g && full_first xs) ≡ true).
-    or_left (f || g && full_first (xs ++ ys)) (seen_taken b (xs ++ ys))
-    (⊎_elim
-    (λ (l : f ≡ true). or_left f (g && full_first (xs ++ ys)) l)
-    (λ (l : (g && full_first xs) ≡ true). let p = and_parts g (full_first xs) l in or_right f (g && full_first (xs ++ ys)) (and_from g (full_first (xs ++ ys)) p.0 (first xs p.1)))
-    (or_cases f (g && full_first xs) k)))
-    (λ (k : seen_taken b xs ≡ true). or_right (f || g && full_first (xs ++ ys)) (seen_taken b (xs ++ ys)) (taken-more b xs ys k))
-    (or_cases (f || g && full_first xs) (seen_taken b xs) h)
-  where
-    first : (es : List Entry) → full_first es ≡ true → full_first (es ++ ys) ≡ true
-    first [] k = absurd (false≢true k)
-    first (e ∷ es) k = k
-
-pub taken-later : (b : ℕ) (xs ys : List Entry) → seen_taken b ys ≡ true → seen_taken b (xs ++ ys) ≡ true
-taken-later b [] ys h = h
-taken-later b (x ∷ xs) ys h = or_right (finds_claimed b x.step x.found || gets_block b x.step x.found && full_first (xs ++ ys)) (seen_taken b (xs ++ ys)) (taken-later b xs ys h)
 
 blocks-more : (sh : Shape) (xs ys : List Entry) → no_block sh xs ≡ true → no_block sh (xs ++ ys) ≡ true
 blocks-more sh xs ys h = all-more (λ b. seen_taken b xs) (λ b. seen_taken b (xs ++ ys)) (λ b k. taken-more b xs ys k) (range_with_len 0 (block_count sh)) h
@@ -145,14 +123,6 @@ pub done-stops : (sh : Shape) (e : Entry) (es : List Entry) → reads_phase Mark
 done-stops sh e es r a b = or_right (claim_failed sh (e ∷ es)) (marking_done sh (e ∷ es)) (done-here sh e es r a b)
 
 -- causes to say that the heap is full
-
-pub followed-some : (f g : Sort) (es : List Entry) → followed_by f g es ≡ true → some_event g es ≡ true
-followed-some f g [] h = absurd (false≢true h)
-followed-some f g (e ∷ es) h =
-    ⊎_elim
-    (λ (k : (f e.step e.found && some_event g es) ≡ true). or_right (g e.step e.found) (some_event g es) (and_parts (f e.step e.found) (some_event g es) k).1)
-    (λ (k : followed_by f g es ≡ true). or_right (g e.step e.found) (some_event g es) (followed-some f g es k))
-    (or_cases (f e.step e.found && some_event g es) (followed_by f g es) h)
 
 pub fill-later : (sh : Shape) (xs ys : List Entry) → may_fill sh ys ≡ true → may_fill sh (xs ++ ys) ≡ true
 fill-later sh xs ys h =

@@ -11,6 +11,7 @@ use Rattle.packet_pools.specs.StepBounds.{output_steps, scan_steps}
 use Rattle.packet_pools.proofs.Few.{another}
 use Rattle.tracer.specs.StepBounds.{object_steps, trace_steps, turn_steps}
 use Rattle.card_clean.specs.StepBounds.{clean_one_steps}
+use Rattle.card_clean.proofs.Few.{sum-cells as sum-objects}
 use Rattle.gc_cycle.specs.declared.counts.Paid.{Paid}
 use Rattle.gc_cycle.specs.declared.counts.Refill.{Refill}
 use Rattle.gc_cycle.proofs.Few.{few-join}
@@ -21,10 +22,6 @@ use Rattle.cache_refills.specs.Pace.StepBounds.{look_steps, payment_steps, quota
 -- a card has this many cells at most
 pub cells-fewer : (m n : ℕ) (sh : Shape) (k : ℕ) → m ≤ n → k ≤ clean_one_steps m sh → k ≤ clean_one_steps n sh
 cells-fewer m n sh k l few = let most = mul-le-mul_right {m = m} {n = n} (scan_steps sh.fields sh) l in omega (arith, few, most)
-
--- objects that are traced by two calls
-sum-objects : (m n each : ℕ) → (m + n) * each ≡ m * each + n * each
-sum-objects m n each = omega arith
 
 pub more-traced : (m n : ℕ) (sh : Shape) → m ≤ n → trace_steps m sh + trace_steps (n - m) sh ≡ trace_steps n sh + trace_steps 0 sh
 more-traced m n sh l =

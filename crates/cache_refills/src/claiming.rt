@@ -24,7 +24,7 @@ use gc_table::{Heap, HeapSeat};
 use mark_core::{BLOCK_CELLS, Phase};
 use std::sync::Wait;
 
-/// Ends the cycle that is marking, or collects precisely, and claims a block; None if the heap is full.
+/// None: the heap is full.
 pub(crate) fn claim_in_stop<R: Wait, W: Watch>(
     rt: &R,
     heap: &Heap,
@@ -79,7 +79,6 @@ fn claim_or_collect<R: Wait, W: Watch>(
     claim_or_fill(heap, seat)
 }
 
-/// A cache after a precise collection. If no cell is free, it says that the heap is full.
 fn claim_or_fill(heap: &Heap, seat: &mut HeapSeat) -> Option<Cache>
     requires seat { Sits heap.now seat.old }
     requires alone { IsAloneIn Idle (view_of seat.old) × RestsAlone (view_of seat.old) }

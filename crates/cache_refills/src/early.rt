@@ -1,9 +1,9 @@
 //! The cards that payments pass early in a cycle.
 //!
-//! A mutator stores into the objects that it made last, so their cards are dirty when a cycle begins. Cleaned
-//! early, they give the tracers work, and what isn't stored into again is not left to the stop. So each payment
-//! passes sixteen cards for each cell of its cache; those for a 256th of a heap's cells pass all cards once. Which
-//! cards are next follows from the number of free cells, which the claim of the cache lowered just before.
+//! A mutator stores into the objects that it made last, so their cards are dirty when a cycle begins. Cleaned early,
+//! they give the tracers work, and those that aren't dirtied again aren't left to the stop. The payments for a 256th
+//! of a heap's cells pass all cards once: which are next follows from the number of free cells, which each claim
+//! lowers.
 ghost use Rattle.std.specs.Prelude.{◌≡◌, ◌≤◌, ◌+◌, length, Some};
 ghost use Rattle.mark_core.specs.declared.kinds.Phase.TheVariants.{Marking};
 ghost use Rattle.gc_table.specs.Seats.{Across, did, Sits, state_of, view_of};
@@ -17,8 +17,8 @@ use gc_cycle::clean_between;
 use gc_table::{Heap, HeapSeat};
 use mark_core::CARD_CELLS;
 
-/// The end of the cards that a payment passes: sixteen for each cell claimed since the cycle began, which it did
-/// when the free cells were an eighth of the last cycle's work. None if the cycle is far on.
+/// The end of the cards that a payment passes: sixteen for each cell claimed since the cycle began, when the free
+/// cells were an eighth of the last cycle's work. It is 0 if the cycle is far on.
 pub(crate) fn early_end(late: bool, last: u32, rescanned: u32, free: u32) -> u32
     requires last { last ≤ most_told }
     requires rescanned { rescanned ≤ most_told }
@@ -30,7 +30,7 @@ pub(crate) fn early_end(late: bool, last: u32, rescanned: u32, free: u32) -> u32
     16 * ((last + rescanned) / 8).saturating_sub(free)
 }
 
-/// Cleans those of these cards that are dirty, or looks at none if no packet can be taken.
+/// Looks at no card if no packet can be taken.
 pub(crate) fn pass_early(heap: &Heap, seat: &mut HeapSeat, from: u32, end: u32)
     requires seat { Sits heap.now seat.old × Mutates (view_of seat.old) }
     requires marking { (state_of seat.old).phase_seen ≡ Some Marking }

@@ -18,14 +18,12 @@ ghost use Rattle.cache_refills.specs.Stops.{stops_in_visit, stops_with_cause};
 use crate::refilling::{nothing_paid, refill_in_stop};
 use crate::watching::Watch;
 use alloc_cache::{Cache, claim};
-use gc_cycle::{Refill, Safe, go_on};
+use gc_cycle::{Refill, goes_on, spend_none};
 use gc_table::{Heap, HeapSeat};
 use std::sync::Wait;
 
-/// [`refill`](crate::refill) without beginning a cycle or paying: if no block has a free cell it stops the world,
-/// and all marking is done there. It is there to be compared with a collector that marks beside the mutators.
-///
-/// If another mutator has begun a cycle, the stop ends it.
+/// [`refill`](crate::refill) without beginning a cycle or paying: all marking is done in stops. It is there to be
+/// compared with a collector that marks beside the mutators. If another mutator has begun a cycle, the stop ends it.
 pub fn refill_in_stops<R: Wait, W: Watch>(
     rt: &R,
     heap: &Heap,
@@ -49,7 +47,7 @@ pub fn refill_in_stops<R: Wait, W: Watch>(
     unreachable!()
 }
 
-/// One round; None if another seat's stop came first.
+/// None: another seat's stop came first.
 fn fill_once<R: Wait, W: Watch>(
     rt: &R,
     heap: &Heap,
@@ -74,7 +72,6 @@ fn fill_once<R: Wait, W: Watch>(
     }
 }
 
-/// A cache that was claimed. If the heap is full by then, it is given up.
 fn keep_cache(heap: &Heap, seat: &mut HeapSeat, cache: Cache, done: u32) -> Refill
     requires seat { Sits heap.now seat.old × Mutates (view_of seat.old) }
     requires cache { IsCached cache (view_of seat.old) }
@@ -85,9 +82,13 @@ fn keep_cache(heap: &Heap, seat: &mut HeapSeat, cache: Cache, done: u32) -> Refi
     ensures known { Across (SparesRefill result) seat.old seat.new }
     ensures fills { (u : View) → HasSearched cache done u (view_of seat.old) → FillsTo result done u (view_of seat.new) }
 {
-    match go_on(heap, seat, Some(cache), done) {
-        Safe::Full => Refill::Full,
-        Safe::Going(Some(kept)) => Refill::Cache(kept, nothing_paid()),
-        Safe::Going(None) => unreachable!(),
+    let mut cache = Some(cache);
+    if !goes_on(heap, seat, &mut cache, done) {
+        spend_none(cache);
+        return Refill::Full;
+    }
+    match cache {
+        Some(kept) => Refill::Cache(kept, nothing_paid()),
+        None => unreachable!(),
     }
 }

@@ -11,13 +11,12 @@ ghost use Rattle.cache_refills.specs.Pace.Payment.{reads_number};
 use gc_table::{Heap, HeapSeat};
 use mark_core::{FREE, LAST, Phase, RESCANNED, TRACED};
 
-/// The most that a statistic tells: the cells of the largest heap.
+/// The cells of the largest heap.
 const MOST_TOLD: u64 = 16_777_216;
 
 /// A word from here on fell below 0.
 const BELOW_ZERO: u64 = 1 << 63;
 
-/// The number in the word of a statistic, which is bounded; 0 if the word fell below 0.
 fn statistic(word: u64) -> u32
     ensures value { result ≡ statistic_of word }
     ensures bound { result ≤ most_told }
@@ -28,7 +27,7 @@ fn statistic(word: u64) -> u32
     word.min(MOST_TOLD) as u32
 }
 
-/// One of the statistics from `LAST` to `FREE`.
+/// A statistic from `LAST` to `FREE`, bounded; 0 if its word fell below 0.
 pub(crate) fn read_statistic(heap: &Heap, seat: &mut HeapSeat, which: u8) -> u32
     requires seat { Sits heap.now seat.old }
     requires which { (last_count ≤ which) × (which ≤ free_count) }
@@ -41,16 +40,15 @@ pub(crate) fn read_statistic(heap: &Heap, seat: &mut HeapSeat, which: u8) -> u32
     statistic(heap.read_stat(seat, which))
 }
 
-/// Whether a cycle is far on by these numbers: seven eighths of what the last one traced are traced, or hardly a
-/// cell is free.
+/// Seven eighths of what the last cycle traced are traced, or hardly a cell is free.
 pub(crate) fn is_late(last: u32, traced: u32, free: u32) -> bool
     ensures { result ≡ late last traced free }
 {
     7 * u64::from(last) <= 8 * u64::from(traced) || 64 * u64::from(free) <= u64::from(last)
 }
 
-/// Whether the cycle under way is far on, so that the late pass is worth it: a card cleaned earlier is dirtied
-/// again, and then the stop cleans it.
+/// Whether the cycle under way is far on. Only then the late pass is worth it: a card cleaned earlier is dirtied
+/// again, and the stop cleans it.
 pub fn is_far_on(heap: &Heap, seat: &mut HeapSeat) -> bool
     requires seat { Sits heap.now seat.old }
     ensures seat { Sits heap.now seat.new }
@@ -66,7 +64,7 @@ pub fn is_far_on(heap: &Heap, seat: &mut HeapSeat) -> bool
     is_late(last, traced, free)
 }
 
-/// Begins a cycle if one is due, and wakes nobody, as a thread of a C program can't.
+/// It wakes nobody, as a thread of a C program can't.
 pub(crate) fn begin_due(heap: &Heap, seat: &mut HeapSeat) -> bool
     requires seat { Sits heap.now seat.old }
     requires active { IsTrue (state_of seat.old).active }

@@ -1,14 +1,13 @@
 //! What a mutator pays for its cache while a cycle is marking.
 //!
-//! It marks the roots of its own section and of one more (`others`), and traces a quota of objects, which is larger
-//! the fewer cells are free. So marking keeps pace with allocation: Barabash and others, *A parallel, incremental,
-//! mostly concurrent garbage collector for servers*, 2005. Early in a cycle it passes the next cards before it
-//! traces (`early`). If it finds no packet to trace from, and the cycle is far on, it cleans cards, which fills
-//! packets again; at last it brings back what was deferred. A card that is dirtied again is left to late payments
-//! and the stop.
+//! Its quota of objects is larger the fewer cells are free, so marking keeps pace with allocation: Barabash and
+//! others, *A parallel, incremental, mostly concurrent garbage collector for servers*, 2005.
 //!
-//! A payment is short whatever the heap's size: its steps are linear in the packets, the fields, the objects traced
-//! and the cards looked at, 1,024 at most ([`CARD_LOOKS`]).
+//! A mutator outside the world pays nothing. So that its roots aren't left to the stop, each payment scans those of
+//! one more section, another at nearly each claim. What that section's mutator stores later it scans itself.
+//!
+//! If a payment finds nothing to trace, and the cycle is far on, it cleans cards, which fills packets again. A card
+//! that is dirtied again is left to late payments and the stop.
 ghost use Rattle.std.specs.Prelude.{ℕ, ◌≡◌, ◌<◌, ◌≤◌, ◌+◌, Some, IfSome, IfNone, IsTrue, ◌-◌, ◌*◌, ◌%◌, length};
 ghost use Rattle.mark_core.specs.Cards.{block_cells, card_cells};
 ghost use Rattle.mark_core.specs.Layout.{card_count};
@@ -33,7 +32,6 @@ ghost use Rattle.card_clean.specs.StepBounds.{clean_one_steps};
 ghost use Rattle.cache_refills.specs.Pace.StepBounds.{early_steps, look_steps, payment_steps, quota_steps};
 
 use crate::early::{early_end, pass_early};
-use crate::others::{scan_other, section_at};
 use crate::pace::{is_late, read_statistic};
 use crate::quota::quota_of;
 use gc_cycle::{Paid, clean, next_card, recycle_deferred, scan_roots, trace};
@@ -41,31 +39,27 @@ use gc_table::{Heap, HeapSeat};
 use mark_core::{BLOCK_CELLS, FREE, LAST, RESCANNED, TRACED};
 use tracer::{RootScan, Stopped};
 
-/// How many cards a payment looks at, at most. A look takes three steps, so all looks take about as long as a whole
-/// quota, since most cards are clean late in a cycle. They pass over 16,384 cells, and the cache has 64; so the
-/// payments for a 256th of a heap's cells pass over all cards.
+/// How many cards a payment looks at, at most. A look takes three steps, since late in a cycle most cards are clean;
+/// so this takes about as long as a quota.
 const CARD_LOOKS: u32 = 1_024;
 
-/// What a payment is to do.
 #[derive(Clone, Copy)]
 struct Owed {
-    /// How many objects it traces.
     quota: u32,
-    /// How many cards it looks at, at most, with nothing to trace.
+    /// How many cards it looks at, at most.
     looks: u32,
-    /// The first card that it passes before it traces.
+    /// The cards that it passes before it traces: from this one to `end`.
     from: u32,
     end: u32,
     /// Whose roots it scans too: a section's number, modulo how many there are.
     turn: u32,
 }
 
-/// What the mutator pays for a cache of `cells` free cells, at most 64, if it has read last that a cycle is
-/// marking, by the numbers read now. It tells the others once how many objects it traced.
+/// Pays for a cache of `cells` free cells, at most 64, by the numbers read now.
 ///
-/// `stopped` is Quota exactly if it traced its quota. NoWork means that, after its roots were read, no packet to
-/// read from was found while nothing was left in hand, NoPacket that none with room was found. If no packet could
-/// be taken at all, nothing was marked.
+/// `stopped` is Quota exactly if it traced its quota. NoWork: once its roots were read, no packet to read from was
+/// found with nothing left in hand. NoPacket: none with room was found. If no packet could be taken at all, nothing
+/// was marked.
 pub(crate) fn pay(heap: &Heap, seat: &mut HeapSeat, cells: u32) -> Paid
     requires seat { Sits heap.now seat.old × Mutates (view_of seat.old) }
     requires marking { (state_of seat.old).phase_seen ≡ Some Marking }
@@ -120,7 +114,6 @@ fn owed_now(heap: &Heap, seat: &mut HeapSeat, cells: u32) -> Owed
     }
 }
 
-/// Marks and traces what is owed, or does nothing if no packet can be taken.
 fn mark_and_trace(heap: &Heap, seat: &mut HeapSeat, owed: Owed) -> Paid
     requires seat { Sits heap.now seat.old × Mutates (view_of seat.old) }
     requires marking { (state_of seat.old).phase_seen ≡ Some Marking }
@@ -140,11 +133,18 @@ fn mark_and_trace(heap: &Heap, seat: &mut HeapSeat, owed: Owed) -> Paid
         },
         RootScan::Done { marked: _ } => {
             let other = section_at(owed.turn, heap.shape().sections);
-            scan_other(heap, seat, other);
+            scan_roots(heap, seat, other);
             pass_early(heap, seat, owed.from, owed.end);
             pay_quota(heap, seat, owed.quota, owed.looks)
         }
     }
+}
+
+fn section_at(turn: u32, sections: u32) -> u32
+    requires { 0 < sections }
+    ensures { result ≡ turn % sections }
+{
+    turn % sections
 }
 
 fn stopped_at(quota: u32) -> Stopped
@@ -157,7 +157,6 @@ fn stopped_at(quota: u32) -> Stopped
     }
 }
 
-/// Traces a quota, and brings back what was deferred if no packet is left.
 fn pay_quota(heap: &Heap, seat: &mut HeapSeat, quota: u32, looks: u32) -> Paid
     requires seat { Sits heap.now seat.old × Mutates (view_of seat.old) }
     requires marking { (state_of seat.old).phase_seen ≡ Some Marking }
@@ -173,8 +172,7 @@ fn pay_quota(heap: &Heap, seat: &mut HeapSeat, quota: u32, looks: u32) -> Paid
     paid
 }
 
-/// Traces a quota. While there is nothing to trace it cleans the dirty ones of the next cards of the pass, `looks`
-/// at most.
+/// While there is nothing to trace it cleans the dirty ones of the next `looks` cards of the pass.
 fn trace_and_clean(heap: &Heap, seat: &mut HeapSeat, quota: u32, looks: u32) -> Paid
     requires seat { Sits heap.now seat.old × Mutates (view_of seat.old) }
     requires marking { (state_of seat.old).phase_seen ≡ Some Marking }
@@ -201,8 +199,7 @@ fn trace_and_clean(heap: &Heap, seat: &mut HeapSeat, quota: u32, looks: u32) -> 
     paid
 }
 
-/// Looks at the next card of the pass; if it is dirty, cleans it and traces on. None if no card is left, or no
-/// packet.
+/// None: no card is left, or no packet.
 fn look_at_next(heap: &Heap, seat: &mut HeapSeat, before: Paid) -> Option<Paid>
     requires seat { Sits heap.now seat.old × Mutates (view_of seat.old) }
     requires marking { (state_of seat.old).phase_seen ≡ Some Marking }
@@ -215,24 +212,12 @@ fn look_at_next(heap: &Heap, seat: &mut HeapSeat, before: Paid) -> Option<Paid>
     ensures few { IfSome result (λ paid. (before.done ≤ paid.done) × (length (did seat.old seat.new) ≤ 3 + clean_one_steps card_cells heap.now.shape + trace_steps (paid.done - before.done) heap.now.shape)) × IfNone result (length (did seat.old seat.new) ≤ 3 + output_steps heap.now.shape) }
 {
     let card = next_card(heap, seat)?;
-    if is_dirty(heap, seat, card) {
+    if heap.read_card(seat, card) {
         return clean_and_trace(heap, seat, card, before);
     }
     Some(before)
 }
 
-fn is_dirty(heap: &Heap, seat: &mut HeapSeat, card: u32) -> bool
-    requires seat { Sits heap.now seat.old × Mutates (view_of seat.old) }
-    requires card { card < card_count heap.now.shape }
-    ensures seat { Sits heap.now seat.new }
-    ensures none { Across (TracesNone 0) seat.old seat.new }
-    ensures once { count_of looks_at_card (did seat.old seat.new) ≤ 1 }
-    ensures few { length (did seat.old seat.new) ≤ 1 }
-{
-    heap.read_card(seat, card)
-}
-
-/// Cleans a card and traces on. None if there is no packet.
 fn clean_and_trace(heap: &Heap, seat: &mut HeapSeat, card: u32, before: Paid) -> Option<Paid>
     requires seat { Sits heap.now seat.old × Mutates (view_of seat.old) }
     requires marking { (state_of seat.old).phase_seen ≡ Some Marking }

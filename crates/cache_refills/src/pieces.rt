@@ -1,8 +1,8 @@
-//! A refill in pieces, for a mutator that must not take long: each piece looks at a few blocks only, and pays for
-//! one cache at most.
+//! A refill in pieces, for a mutator that must not take long. A piece looks at a few blocks only, and pays for one
+//! cache at most.
 //!
-//! Each piece says which blocks it saw without a free cell, and `SeenBelow` puts together those since block 0. Once
-//! that is each block, a collection is called for (`may_collect`).
+//! `SeenBelow` says which blocks the pieces since block 0 saw without a free cell. Once that is each block, a
+//! collection is called for (`may_collect`).
 ghost use Rattle.std.specs.Prelude.{◌≡◌, ◌≤◌, None, Some, IfNone, IfSome, IsTrue, ◌+◌, ◌*◌, length};
 ghost use Rattle.mark_core.specs.Layout.{block_count};
 ghost use Rattle.gc_table.specs.Log.{events};
@@ -23,16 +23,16 @@ ghost use Rattle.cache_refills.specs.Pace.StepBounds.{payment_steps};
 use crate::refilling::pay_for;
 use crate::trying::begins_or_ends;
 use alloc_cache::{Cache, Search, claim_some};
-use gc_cycle::{Paid, Refill, ends_full};
+use gc_cycle::{Paid, Refill, stores_if_full};
 use gc_table::{Heap, HeapSeat};
 
 /// What a piece of a refill came to.
 pub enum Piece {
     /// A cache, and what was paid for it.
     Cache(Cache, Paid),
-    /// None of the blocks that it looked at had a free cell. The search goes on from this one.
+    /// No block that it looked at had a free cell. The search goes on from this one.
     Next(u32),
-    /// None up to the last block had a free cell. If the search began at block 0, a collection is called for.
+    /// No block up to the last had a free cell. If the search began at block 0, a collection is called for.
     Ended,
     /// Marking is done: a collection is called for.
     MarkingDone,
@@ -72,13 +72,11 @@ fn search_some(heap: &Heap, seat: &mut HeapSeat, done: u32, from: u32, most: u32
     }
 }
 
-/// A piece of [`try_refill`](crate::try_refill): it looks at `most` blocks at most, from block `from` on, with
-/// three steps for each and ten more. For a cache it also pays while a cycle is marking; `longest` bounds all its
-/// steps.
+/// A piece of [`try_refill`](crate::try_refill): it looks at up to `most` blocks, from block `from` on, with three
+/// steps for each and ten more. With a cache it also pays; `longest` bounds all its steps.
 ///
-/// Next says from which block the next piece goes on, Ended that there are no more. A search begins at block 0, and
-/// anew if the mutator came in again or got a cache: then `calls` says of its last piece that a collection is
-/// called for.
+/// A search begins at block 0, and anew if the mutator came in again or got a cache: then `calls` says of its last
+/// piece that a collection is called for.
 pub fn try_refill_some(heap: &Heap, seat: &mut HeapSeat, done: u32, from: u32, most: u32) -> Piece
     requires seat { Sits heap.now seat.old × Mutates (view_of seat.old) }
     requires cache { (state_of seat.old).cache ≡ None }
@@ -95,7 +93,7 @@ pub fn try_refill_some(heap: &Heap, seat: &mut HeapSeat, done: u32, from: u32, m
     ensures numbers { Across (RoundNumbers (refill_of result)) seat.old seat.new }
     ensures longest { length (did seat.old seat.new) ≤ 3 * most + 6 + payment_steps 1024 card_looks heap.now.shape }
 {
-    if ends_full(heap, seat, done) {
+    if stores_if_full(heap, seat, done) {
         return Piece::Full;
     }
     if begins_or_ends(heap, seat) {

@@ -1,15 +1,14 @@
-//! The pace of a collection.
+//! How many objects are owed for a cache.
 
 ghost use Rattle.std.specs.Prelude.{◌≡◌, ◌≤◌};
 ghost use Rattle.mark_core.specs.Cards.{block_cells};
 ghost use Rattle.cache_refills.specs.Pace.Pacing.{most_told};
 ghost use Rattle.cache_refills.specs.Pace.Quota.{quota};
 
-/// How many objects a mutator traces for a cache of `cells` free cells, at most 64: the cache's share of what is
-/// left to trace. That is `last` cells marked and `rescanned` objects scanned again in the last cycle, less
-/// `traced` in this one, but at least a sixteenth of `last`, since new objects are left when the old ones are done.
-/// It is shared among the `free` free cells and rounded up, to at most sixteen objects for each cell of the cache.
-/// So marking keeps pace with allocation, as in Ossia and others, 2002, and Barabash and others, 2005.
+/// How many objects a mutator traces for a cache of `cells` free cells, at most 64: the cache's share, by the `free`
+/// free cells, of what is left to trace, rounded up, and at most sixteen objects a cell. Left are the `last` cells
+/// marked and the `rescanned` objects scanned again in the last cycle, less `traced` in this one, but at least a
+/// sixteenth of `last`, since new objects are left when the old ones are done.
 pub fn quota_of(cells: u32, last: u32, rescanned: u32, traced: u32, free: u32) -> u32
     requires cells { cells ≤ block_cells }
     requires last { last ≤ most_told }

@@ -1,4 +1,4 @@
-//! A cache for a mutator, and its tracing increment.
+//! A cache for a mutator, in rounds.
 ghost use Rattle.std.specs.Prelude.{◌≡◌, ◌≤◌, [], length, None, Some, IfSome, IsTrue, ◌+◌};
 ghost use Rattle.std.specs.Bool.{OnFalse, OnTrue};
 ghost use Rattle.mark_core.specs.Places.{the_phase};
@@ -31,7 +31,7 @@ use crate::pace::kick_off;
 use crate::paying::pay;
 use crate::watching::{Unwatched, Watch};
 use alloc_cache::{Cache, claim, retire};
-use gc_cycle::{Paid, Refill, Safe, ends_full, go_on, stop};
+use gc_cycle::{Paid, Refill, goes_on, spend_none, stop, stores_if_full};
 use gc_table::{Heap, HeapSeat};
 use mark_core::{CARD_CELLS, CARD_COUNTER, Phase};
 use packet_pools::all_empty;
@@ -53,8 +53,7 @@ pub(crate) fn nothing_paid() -> Paid
 /// ([`quota_of`](crate::quota_of)).
 ///
 /// The world is stopped only if no block has a free cell, or marking is done, and once more only if a collection
-/// left a cell free. Full comes only if the phase says so; this call says it only after a precise collection in its
-/// own stop that left no cell free.
+/// left a cell free. Full: the phase said so, or a precise collection in the call's own stop left no cell free.
 pub fn refill<R: Wait>(rt: &R, heap: &Heap, seat: &mut HeapSeat, done: u32) -> Refill
     requires seat { Sits heap.now seat.old × Mutates (view_of seat.old) }
     requires cache { (state_of seat.old).cache ≡ None }
@@ -91,7 +90,7 @@ pub fn refill_watched<R: Wait, W: Watch>(
     unreachable!()
 }
 
-/// One round; None if another seat's stop came first.
+/// None: another seat's stop came first.
 fn refill_once<R: Wait, W: Watch>(
     rt: &R,
     heap: &Heap,
@@ -110,7 +109,7 @@ fn refill_once<R: Wait, W: Watch>(
     ensures due { IsTrue (begins_where_due (did seat.old seat.new)) }
     ensures some { IfSome result (λ r. (u : View) → Ran u (view_of seat.old) → TellsFull u (view_of seat.old) → StoredAt done u (view_of seat.old) → RefillsTo r done u (view_of seat.new)) }
 {
-    if ends_full(heap, seat, done) {
+    if stores_if_full(heap, seat, done) {
         return Some(Refill::Full);
     }
     if sees_to_cycle(heap, seat) {
@@ -119,10 +118,7 @@ fn refill_once<R: Wait, W: Watch>(
     claim_or_stop(rt, heap, seat, done, watch)
 }
 
-/// Begins a cycle, if the phase was read as Idle and one is due, and wakes the tracers that rest. The answer:
-/// whether marking is done.
-///
-/// `begins_or_ends` in `trying` wakes none, and says why it is another.
+/// Begins a cycle, if the phase was read as Idle and one is due. The answer: whether marking is done.
 fn sees_to_cycle(heap: &Heap, seat: &mut HeapSeat) -> bool
     requires seat { Sits heap.now seat.old × Mutates (view_of seat.old) }
     requires marking { (state_of seat.old).phase_seen ≡ Some Marking → Known (view_of seat.old) the_phase (phase_number Marking) }
@@ -151,7 +147,6 @@ pub(crate) fn has_seen_marking(seat: &HeapSeat) -> bool
     }
 }
 
-/// Claims a block and pays for the cache, or stops the world if none can be claimed.
 fn claim_or_stop<R: Wait, W: Watch>(
     rt: &R,
     heap: &Heap,
@@ -186,8 +181,7 @@ fn tell_paid<W: Watch>(refill: &Refill, watch: &mut W) {
     }
 }
 
-/// Whether marking is done, except for what mutators still do: the pass over the cards has ended and all packets
-/// are empty.
+/// Whether marking is done, but for what mutators still do.
 pub(crate) fn marking_is_done(heap: &Heap, seat: &mut HeapSeat) -> bool
     requires seat { Sits heap.now seat.old × Mutates (view_of seat.old) }
     ensures seat { Sits heap.now seat.new × Mutates (view_of seat.new) }
@@ -204,7 +198,6 @@ pub(crate) fn marking_is_done(heap: &Heap, seat: &mut HeapSeat) -> bool
     all_empty(heap, seat)
 }
 
-/// Pays for a cache, or gives it up if the heap is full.
 pub(crate) fn pay_for(heap: &Heap, seat: &mut HeapSeat, cache: Cache, done: u32) -> Refill
     requires seat { Sits heap.now seat.old × Mutates (view_of seat.old) }
     requires cache { IsCached cache (view_of seat.old) }
@@ -232,7 +225,7 @@ pub(crate) fn pay_for(heap: &Heap, seat: &mut HeapSeat, cache: Cache, done: u32)
     }
 }
 
-/// A round in a stop of its own. If another seat's flag is up it waits, and has no answer.
+/// If another seat's flag is up it waits, and has no answer.
 pub(crate) fn refill_in_stop<R: Wait, W: Watch>(
     rt: &R,
     heap: &Heap,
@@ -254,12 +247,15 @@ pub(crate) fn refill_in_stop<R: Wait, W: Watch>(
     if !stop(rt, heap, seat, done) {
         return None;
     }
-    let cache = claim_in_stop(rt, heap, seat, watch);
+    let mut cache = claim_in_stop(rt, heap, seat, watch);
     resume(heap, seat);
     watch.resumes();
-    match go_on(heap, seat, cache, done) {
-        Safe::Full => Some(Refill::Full),
-        Safe::Going(Some(cache)) => Some(Refill::Cache(cache, nothing_paid())),
-        Safe::Going(None) => None,
+    if !goes_on(heap, seat, &mut cache, done) {
+        spend_none(cache);
+        return Some(Refill::Full);
+    }
+    match cache {
+        Some(kept) => Some(Refill::Cache(kept, nothing_paid())),
+        None => None,
     }
 }

@@ -1,6 +1,5 @@
-//! Safe points, entries and caches for a mutator whose caller (in C, say) has no runtime to wait with. If another
-//! seat's stop is under way it is told so, and comes again. If a collection is called for it makes it in steps
-//! (`gc_cycle`).
+//! Safe points, entries and caches for a mutator that doesn't wait. If another seat's stop is under way it is told
+//! so, and comes again. A collection it makes in steps (`gc_cycle`).
 ghost use Rattle.std.specs.Bool.{OnFalse, OnTrue};
 ghost use Rattle.std.specs.Prelude.{◌≡◌, ◌≤◌, ◌+◌, ◌*◌, [], length, None, Some, IfNone, IfSome, IsFalse, IsTrue, is_some};
 ghost use Rattle.mark_core.specs.Layout.{block_count};
@@ -31,7 +30,7 @@ ghost use Rattle.cache_refills.specs.Trying.{CallsForCollection, EntersTo, Finds
 use crate::pace::begin_due;
 use crate::refilling::{has_seen_marking, marking_is_done, pay_for};
 use alloc_cache::{Cache, claim};
-use gc_cycle::{Refill, ends_full, finds_full, go_out, goes_on, retire_some};
+use gc_cycle::{Refill, go_out, goes_on, reads_full, retire_some, stores_if_full};
 use gc_table::{Heap, HeapSeat};
 use stop_world::{enter, poll};
 
@@ -40,15 +39,14 @@ use stop_world::{enter, poll};
 pub enum Pass {
     /// It goes on.
     Going,
-    /// A stop of another seat is under way, and it is outside.
+    /// Another seat's stop is under way, and it is outside.
     Out,
     /// Every cell is reachable.
     Full,
 }
 
-/// A safe point that doesn't wait, of a mutator that has done `done` commands. Out: a stop was under way, and the
-/// mutator has given up its cache and left; it comes in by [`try_enter`]. Full: it read that the heap is full, and
-/// has no cache.
+/// A safe point of a mutator that has done `done` commands. Out: it has given its cache up and left; it comes in by
+/// [`try_enter`]. Full: it read that the heap is full, and has no cache.
 pub fn try_safe_point(
     heap: &Heap,
     seat: &mut HeapSeat,
@@ -76,8 +74,7 @@ pub fn try_safe_point(
     Pass::Full
 }
 
-/// Enters the world if one step finds no stop under way, and reads the phase. Out: there was one, and the seat is
-/// still outside. Full: it entered and read that the heap is full.
+/// Enters the world if one step finds no stop under way. Full: it entered and read that the heap is full.
 pub fn try_enter(heap: &Heap, seat: &mut HeapSeat) -> Pass
     requires seat { Sits heap.now seat.old × IsOut (view_of seat.old) }
     requires section { IsTrue (is_some (state_of seat.old).section) }
@@ -92,17 +89,14 @@ pub fn try_enter(heap: &Heap, seat: &mut HeapSeat) -> Pass
     if !enter(heap, seat) {
         return Pass::Out;
     }
-    if finds_full(heap, seat) {
+    if reads_full(heap, seat) {
         return Pass::Full;
     }
     Pass::Going
 }
 
-/// Begins a cycle, if the phase was read as Idle and one is due. It wakes no tracer: one that rests looks again
-/// after a while. The answer: whether marking is done.
-///
-/// `sees_to_cycle` in `refilling` also wakes the tracers. These stay two: a static library may not link what wakes
-/// a thread, so what it calls can't reach that one, not even behind a test.
+/// `sees_to_cycle` of `refilling`, but it wakes no tracer: one that rests looks again after a while. These stay two,
+/// since a static library may not link what wakes a thread, not even behind a test.
 pub(crate) fn begins_or_ends(heap: &Heap, seat: &mut HeapSeat) -> bool
     requires seat { Sits heap.now seat.old × Mutates (view_of seat.old) }
     requires marking { (state_of seat.old).phase_seen ≡ Some Marking → Known (view_of seat.old) the_phase (phase_number Marking) }
@@ -124,8 +118,8 @@ pub(crate) fn begins_or_ends(heap: &Heap, seat: &mut HeapSeat) -> bool
     false
 }
 
-/// [`refill`](crate::refill) without waiting. None means that no block has a free cell or marking is done, and
-/// nothing was traced: the caller collects in steps.
+/// [`refill`](crate::refill) without waiting. None: no block has a free cell or marking is done, and nothing was
+/// traced; the caller collects in steps.
 ///
 /// It takes three steps for each block, and five more; with a cache six more, and those of a payment.
 pub fn try_refill(heap: &Heap, seat: &mut HeapSeat, done: u32) -> Option<Refill>
@@ -143,7 +137,7 @@ pub fn try_refill(heap: &Heap, seat: &mut HeapSeat, done: u32) -> Option<Refill>
     ensures few { IfNone result (length (did seat.old seat.new) ≤ 3 * block_count heap.now.shape + 5) }
     ensures longest { length (did seat.old seat.new) ≤ 3 * block_count heap.now.shape + 6 + payment_steps 1024 card_looks heap.now.shape }
 {
-    if ends_full(heap, seat, done) {
+    if stores_if_full(heap, seat, done) {
         return Some(Refill::Full);
     }
     if begins_or_ends(heap, seat) {

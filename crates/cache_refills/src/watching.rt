@@ -4,14 +4,13 @@ use gc_cycle::{Counts, Paid};
 
 /// Is told of a call that gets a cache, so that it may read a clock at a stop's two ends. No clause speaks of it.
 pub trait Watch {
-    /// The mutator has paid for its cache, while a cycle was marking.
+    /// The mutator has paid for its cache.
     fn pays(&mut self, paid: Paid);
 
-    /// The seat asks for a stop. It is told again before the seat asks once more, if another seat's stop came
-    /// first.
+    /// The seat asks for a stop; once more if another seat's stop came first.
     fn asks(&mut self);
 
-    /// An ordinary cycle has ended in the stop: what it found.
+    /// An ordinary cycle has ended in the stop.
     fn finishes(&mut self, counts: Counts);
 
     /// A precise collection has ended in the stop.

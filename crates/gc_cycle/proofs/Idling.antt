@@ -34,6 +34,7 @@ use Rattle.gc_cycle.specs.Lower.{HasTraced, traces_or_cleans}
 use Rattle.gc_cycle.specs.Moments.{total_of}
 use Rattle.gc_cycle.specs.Standing.{is_at_rest}
 use Rattle.gc_cycle.proofs.Traced.{rest-nothing}
+use Rattle.gc_cycle.proofs.Ends.Swept.{unless}
 
 pub none-slot : (h : Slot) → is_some h ≡ false → h ≡ None
 none-slot None e = refl
@@ -55,10 +56,6 @@ four-none (a ∷ b ∷ c ∷ d ∷ f ∷ xs) n e = absurd (omega (arith, n))
 
 four-slots : (v : View) → ∥ IsPossible v ∥₁ → length v.state.held ≡ 4
 four-slots v p = ∥∥₁_elim p (Prim.hlevel props) (λ (q : IsPossible v). (q.whole.core.formed.seats q.index v.state q.agrees.seat).held.four)
-
-unless : (b : Bool) → not b ≡ true → b ≡ false
-unless true e = absurd (false≢true e)
-unless false e = refl
 
 none-block : (o : Option BlockState) → is_none o ≡ true → o ≡ None
 none-block None e = refl

@@ -1,5 +1,5 @@
 -- The steps of a collection that doesn't wait.
-use Rattle.std.proofs.Common.{ℕ, ◌≡◌, ◌≤◌, ◌-◌, ◌/◌, ◌%◌, refl, sym, ap, ◌∙◌, Bool, true, false, Option, ◌&&◌, ◌||◌, Some, None, subst, eqb-true, eq-eqb, ◌⊎◌, inl, inr, ⊎_elim, ◌<◌, ◌+◌, ◌*◌, List, length, arith}
+use Rattle.std.proofs.Common.{ℕ, ◌≡◌, ◌≤◌, ◌-◌, ◌/◌, ◌%◌, refl, sym, ap, ◌∙◌, Bool, true, false, Option, ◌&&◌, ◌||◌, Some, None, subst, eqb-true, eq-eqb, ◌⊎◌, inl, inr, ⊎_elim, ◌<◌, ◌*◌, List, length, arith}
 use Rattle.std.specs.Prelude.{is_some, ◌==◌}
 use Rattle.std.proofs.lemmas.Bool.{false≢true, and_from, or_cases, or_left, or_right}
 use Rattle.mark_core.specs.Cards.{block_cells}
@@ -32,6 +32,7 @@ use Rattle.stop_world.specs.Waiting.{HasStopped, Waits}
 use Rattle.stop_world.proofs.Waits.{stopped-in, stopped-state, waits-join, waits-observe, waits-read}
 use Rattle.sweeper.specs.Freeing.{block_floor}
 use Rattle.sweeper.specs.Sweepers.{is_sweeping}
+use Rattle.sweeper.proofs.Sweepers.{sweeping-stays as sweeps-quiet}
 use Rattle.gc_cycle.specs.Collecting.{HoldsWorld}
 use Rattle.gc_cycle.specs.Drained.{RootedAlone}
 use Rattle.gc_cycle.specs.Finishing.{finishes, IsAloneIn, IsPart, stays_in, AllocsNoted, ones_noted}
@@ -44,7 +45,7 @@ use Rattle.gc_cycle.proofs.SectionKept.{keeps-seat, keeps-section, tries-keep}
 use Rattle.gc_cycle.proofs.Stops.FlagRaised.{mutators-left}
 use Rattle.gc_cycle.proofs.Parts.{part-finishes, part-reset}
 use Rattle.gc_cycle.proofs.Ends.Rooted.{cleared}
-use Rattle.gc_cycle.proofs.Ends.Swept.{done-of, nothing_by, sweeps-quiet, sweeps-stay}
+use Rattle.gc_cycle.proofs.Ends.Swept.{done-of, nothing_by, sweeps-stay}
 use Rattle.gc_cycle.proofs.Ends.Spared.{finish-keeps}
 use Rattle.gc_cycle.specs.Stepping.{AwaitsStop, Drains, IsOwner, HasSwept, Keeps, RunsAgain, notes_root, says_marked, says_root, IsAtRoots, IsAtSweep}
 use Rattle.std.specs.List.{range_with_len}

@@ -24,9 +24,10 @@ use Rattle.gc_cycle.specs.Roots.{roots_scanned, root_marked}
 use Rattle.gc_cycle.specs.Sorts.{joins, pops}
 use Rattle.gc_cycle.specs.RoundParts.{BringsBack}
 use Rattle.gc_cycle.specs.Turns.{DrainsFor, HelpsBetween, HelpsInTurns, HelpsOnce, SeesToRoots, StaysApart, help_quota}
-use Rattle.gc_cycle.proofs.Stops.Admitted.{count-run, never-join, late, longer}
+use Rattle.gc_cycle.proofs.Stops.Admitted.{count-run, late, longer}
 use Rattle.gc_cycle.proofs.Searched.{work-longer, work-widens, front-more, moment-wider, Widens}
 use Rattle.gc_cycle.proofs.Sequences.{this-moment}
+use Rattle.gc_cycle.proofs.Ends.Finishes.{never-both as never-join}
 use Rattle.std.specs.List.{range_with_len}
 use Rattle.mark_core.specs.Held.{holds_any}
 use Rattle.mark_core.specs.Numbers.{section_variables}

@@ -1,4 +1,4 @@
-//! Blocks are swept: a call of `sweeper`, told in the words of this crate.
+//! Blocks are swept, through `sweeper`.
 ghost use Rattle.std.specs.Prelude.{◌≡◌, ◌<◌, ◌≤◌, ◌+◌, ◌&&◌, ◌⊎◌, None, IsTrue, IsFalse, IfSome, IfNone, ◌*◌, length};
 ghost use Rattle.mark_core.specs.Layout.{block_count};
 ghost use Rattle.mark_core.specs.Places.{the_phase};
@@ -17,7 +17,7 @@ ghost use Rattle.gc_cycle.specs.Sorts.{draws_block, sees_last_block};
 use gc_table::{Heap, HeapSeat};
 
 /// Sweeps the next stretch of blocks: how many cells were freed, or None if no block is left.
-pub fn sweep_next(heap: &Heap, seat: &mut HeapSeat) -> Option<u32>
+pub(crate) fn sweep_next(heap: &Heap, seat: &mut HeapSeat) -> Option<u32>
     requires seat { Sits heap.now seat.old }
     requires sweeps { IsTrue ((state_of seat.old).knows && is_the (look the_phase (view_of seat.old).known) (phase_number Sweep)) ⊎ IsTrue ((state_of seat.old).admitted && saw (state_of seat.old).phase_seen Sweep) }
     requires block { (state_of seat.old).block ≡ None }

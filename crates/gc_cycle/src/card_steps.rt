@@ -28,23 +28,23 @@ use mark_core::CARD_CELLS;
 /// What a look at some cards came to.
 #[derive(Clone, Copy, Debug, PartialEq, Eq, Drop)]
 pub enum Look {
-    /// So many cards are clean: none is left if they are fewer than asked for.
+    /// So many cards are clean: fewer than asked for only if none is left.
     Clean(u32),
     /// This card is dirty.
     Dirty(u32),
 }
 
-/// What a step of cleaning came to.
+/// What a step of cleaning did.
 #[derive(Clone, Copy, Debug, PartialEq, Eq, Drop)]
 pub struct CleanStep {
-    /// How many cards it passed: none is left if they are fewer than asked for.
+    /// How many cards it passed: fewer than asked for only if none is left.
     pub passed: u32,
     /// How many of them it cleaned.
     pub cleaned: u32,
 }
 
-/// Brings back what was deferred, and traces at most `most` objects: how many it popped, fewer only if at some
-/// moment there was none.
+/// Brings back what was deferred, and traces. The answer: how many objects it popped, fewer than `most` only if at
+/// some moment there was none.
 pub fn trace_step(heap: &Heap, seat: &mut HeapSeat, most: u32) -> u32
     requires seat { Sits heap.now seat.old }
     requires drains { Drains (view_of seat.old) }
@@ -64,8 +64,8 @@ pub fn trace_step(heap: &Heap, seat: &mut HeapSeat, most: u32) -> u32
     traced.done
 }
 
-/// Looks at no more than `most` cards from `from` on, up to the first dirty one. What it saw clean stays noted
-/// while the seat does nothing else.
+/// Looks at up to `most` cards from `from` on, up to the first dirty one. What it saw clean stays noted while it
+/// does nothing else.
 pub fn look_step(heap: &Heap, seat: &mut HeapSeat, from: u32, most: u32) -> Look
     requires seat { Sits heap.now seat.old }
     requires looks { LooksFrom from (view_of seat.old) }
@@ -85,7 +85,7 @@ pub fn look_step(heap: &Heap, seat: &mut HeapSeat, from: u32, most: u32) -> Look
     }
 }
 
-/// Whether all is marked, once each card was seen clean: by one look at the count of empty packets.
+/// Whether all is marked, once each card was seen clean, by the count of empty packets.
 pub fn finds_all_marked(heap: &Heap, seat: &mut HeapSeat) -> bool
     requires seat { Sits heap.now seat.old }
     requires looked { HasLooked (view_of seat.old) }
@@ -101,8 +101,6 @@ pub fn finds_all_marked(heap: &Heap, seat: &mut HeapSeat) -> bool
     sees_all_empty(heap, seat)
 }
 
-/// Cleans those of these cards that are dirty, and answers how many; None if no packet can be had. Then what was
-/// deferred is brought back, which is all that can keep packets from a seat that is alone.
 fn cleans_some(heap: &Heap, seat: &mut HeapSeat, first: u32, end: u32) -> Option<u32>
     requires seat { Sits heap.now seat.old }
     requires drains { Drains (view_of seat.old) }
@@ -127,8 +125,8 @@ fn cleans_some(heap: &Heap, seat: &mut HeapSeat, first: u32, end: u32) -> Option
     }
 }
 
-/// Looks at no more than `most` cards from `from` on, and cleans those that are dirty. It passes fewer only if none
-/// is left. None means that no packet could be had: the deferred ones are back, and it is to be called again.
+/// Looks at up to `most` cards from `from` on, fewer only if none is left, and cleans those that are dirty. None: no
+/// packet could be had; the deferred ones are back, and it is to be called again.
 ///
 /// A card may be dirty again afterwards, so another look is due.
 pub fn clean_step(heap: &Heap, seat: &mut HeapSeat, from: u32, most: u32) -> Option<CleanStep>

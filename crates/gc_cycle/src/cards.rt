@@ -26,7 +26,6 @@ ghost use Rattle.gc_cycle.specs.Standing.{is_at_rest};
 
 use gc_table::{Heap, HeapSeat};
 
-/// Cleans every dirty card, for a seat that is alone: how many objects were scanned again.
 pub(crate) fn clean_dirty(heap: &Heap, seat: &mut HeapSeat) -> u32
     requires seat { Sits heap.now seat.old × IsTrue (traces (view_of seat.old)) }
     requires rest { IsTrue (is_at_rest heap.now.shape (state_of seat.old)) }
@@ -38,7 +37,7 @@ pub(crate) fn clean_dirty(heap: &Heap, seat: &mut HeapSeat) -> u32
     card_clean::clean_dirty(heap, seat)
 }
 
-/// Cleans the dirty cards beside others, from a card of its own on and around: how many objects were scanned again.
+/// It begins at a card of the seat's own, and goes around.
 pub(crate) fn clean_dirty_round(heap: &Heap, seat: &mut HeapSeat) -> u32
     requires seat { Sits heap.now seat.old × IsTrue (traces (view_of seat.old)) }
     requires rest { IsTrue (is_at_rest heap.now.shape (state_of seat.old)) }
@@ -99,7 +98,7 @@ pub fn clean(heap: &Heap, seat: &mut HeapSeat, card: u32) -> Option<u32>
     }
 }
 
-/// Cleans those of these cards that are dirty, beside others, or looks at none if no packet can be had.
+/// Cleans those of these cards that are dirty, or looks at none if no packet can be had.
 pub fn clean_between(heap: &Heap, seat: &mut HeapSeat, first: u32, end: u32)
     requires seat { Sits heap.now seat.old × IsTrue (traces (view_of seat.old)) }
     requires rest { IsTrue (is_at_rest heap.now.shape (state_of seat.old)) }
@@ -116,7 +115,6 @@ pub fn clean_between(heap: &Heap, seat: &mut HeapSeat, first: u32, end: u32)
     let _ = card_clean::clean_some(heap, seat, first, end);
 }
 
-/// Whether nothing is left to mark, once all roots are seen to.
 pub(crate) fn is_drained(heap: &Heap, seat: &mut HeapSeat) -> bool
     requires seat { Sits heap.now seat.old × RootedAlone (view_of seat.old) }
     ensures seat { Sits heap.now seat.new × RootedAlone (view_of seat.new) }

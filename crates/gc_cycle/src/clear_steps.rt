@@ -22,7 +22,7 @@ use crate::stepping::reset_blocks;
 use gc_table::{Heap, HeapSeat};
 use sweeper::clear_marks_next;
 
-/// Begins to clear all marks, once all is marked.
+/// Leaves the drain, once all is marked.
 pub fn start_clear(heap: &Heap, seat: &mut HeapSeat)
     requires seat { Sits heap.now seat.old }
     requires drained { HasMarkedAll (view_of seat.old) }
@@ -70,7 +70,7 @@ pub fn clear_step(heap: &Heap, seat: &mut HeapSeat, most: u32) -> u32
     most
 }
 
-/// Begins the drain once more, once no block is left to clear: no cell is marked.
+/// Begins the drain once more, with no cell marked.
 pub fn finish_clear(heap: &Heap, seat: &mut HeapSeat)
     requires seat { Sits heap.now seat.old }
     requires cleared { HasCleared (view_of seat.old) }

@@ -31,8 +31,8 @@ use mark_core::Phase;
 use std::sync::Wait;
 use stop_world::{poll, resume};
 
-/// A precise collection by this mutator, which has no cache and has done `done` commands. If another seat's stop
-/// comes first it tries again. Full: it read that the heap is full.
+/// A precise collection by a mutator without a cache, that has done `done` commands. If another seat's stop comes
+/// first it tries again. Full: it read that the heap is full.
 pub fn collect<R: Wait>(rt: &R, heap: &Heap, seat: &mut HeapSeat, done: u32) -> Safe
     requires seat { Sits heap.now seat.old × Mutates (view_of seat.old) }
     requires cache { (state_of seat.old).cache ≡ None }
@@ -55,7 +55,7 @@ pub fn collect<R: Wait>(rt: &R, heap: &Heap, seat: &mut HeapSeat, done: u32) -> 
     unreachable!()
 }
 
-/// One try; None if another seat's stop came first.
+/// None: another seat's stop came first.
 fn collect_once<R: Wait>(rt: &R, heap: &Heap, seat: &mut HeapSeat, done: u32) -> Option<Safe>
     requires seat { Sits heap.now seat.old × Mutates (view_of seat.old) }
     requires cache { (state_of seat.old).cache ≡ None }
@@ -69,20 +69,19 @@ fn collect_once<R: Wait>(rt: &R, heap: &Heap, seat: &mut HeapSeat, done: u32) ->
     ensures unbegun { IsTrue (never tries_marking (did seat.old seat.new)) }
     ensures known { IfSome result (λ safe. KnowsAnswer safe (view_of seat.new)) }
 {
-    if ends_full(heap, seat, done) {
+    if stores_if_full(heap, seat, done) {
         return Some(Safe::Full);
     }
     if !stop(rt, heap, seat, done) {
         return None;
     }
     collect_in_stop(rt, heap, seat);
-    if ends_full(heap, seat, done) {
+    if stores_if_full(heap, seat, done) {
         return Some(Safe::Full);
     }
     Some(Safe::Going(None))
 }
 
-/// Collects in a stop of its own, unless the heap is full, and ends the stop.
 fn collect_in_stop<R: Wait>(rt: &R, heap: &Heap, seat: &mut HeapSeat)
     requires seat { Sits heap.now seat.old }
     requires stopped { HoldsWorld (view_of seat.old) }
@@ -99,8 +98,7 @@ fn collect_in_stop<R: Wait>(rt: &R, heap: &Heap, seat: &mut HeapSeat)
     resume(heap, seat);
 }
 
-/// Whether the seat read the phase as Full last.
-pub fn has_seen_full(seat: &HeapSeat) -> bool
+pub(crate) fn has_seen_full(seat: &HeapSeat) -> bool
     ensures seen { OnTrue result ((state_of seat.now).phase_seen ≡ Some Full) }
     ensures other { OnFalse result ((state_of seat.now).phase_seen ≢ Some Full) }
 {
@@ -110,8 +108,8 @@ pub fn has_seen_full(seat: &HeapSeat) -> bool
     }
 }
 
-/// A safe point of a mutator that has done `done` commands. If a stop is under way it gives up its cache, leaves
-/// until the stop has ended, and helps meanwhile. Full: it read that the heap is full.
+/// A safe point of a mutator that has done `done` commands. If a stop is under way it gives its cache up, leaves
+/// until the stop has ended, and helps. Full: it read that the heap is full.
 pub fn safe_point<R: Wait>(
     rt: &R,
     heap: &Heap,
@@ -142,8 +140,7 @@ pub fn safe_point<R: Wait>(
     Safe::Full
 }
 
-/// [`safe_point`] with the cache lent, which moves only if a stop is under way or the heap is full: for a player
-/// that comes to one at each command. True if the mutator goes on; otherwise it has no cache.
+/// [`safe_point`] with the cache lent. False: the heap is full, and the mutator has no cache.
 #[inline(always)]
 pub fn pass_safe_point<R: Wait>(
     rt: &R,
@@ -171,7 +168,6 @@ pub fn pass_safe_point<R: Wait>(
     goes_on(heap, seat, cache, done)
 }
 
-/// Gives way to a stop, if one is under way.
 #[inline(always)]
 fn give_way<R: Wait>(rt: &R, heap: &Heap, seat: &mut HeapSeat, cache: &mut Option<Cache>, done: u32)
     requires seat { Sits heap.now seat.old × Mutates (view_of seat.old) }
@@ -189,24 +185,6 @@ fn give_way<R: Wait>(rt: &R, heap: &Heap, seat: &mut HeapSeat, cache: &mut Optio
 }
 
 /// Whether a mutator goes on, with its cache. If the heap is full it gives the cache up and stores its position.
-pub fn go_on(heap: &Heap, seat: &mut HeapSeat, cache: Option<Cache>, done: u32) -> Safe
-    requires seat { Sits heap.now seat.old × Mutates (view_of seat.old) }
-    requires cache { HasCache cache (view_of seat.old) }
-    ensures seat { Sits heap.now seat.new × Mutates (view_of seat.new) }
-    ensures ran { Across Ran seat.old seat.new }
-    ensures only { Across (Only answers) seat.old seat.new }
-    ensures numbers { Across (GivesUp cache (cache_of result)) seat.old seat.new }
-    ensures answer { Across (AnswersTo result cache done) seat.old seat.new }
-{
-    let mut cache = cache;
-    if goes_on(heap, seat, &mut cache, done) {
-        return Safe::Going(cache);
-    }
-    spend_none(cache);
-    Safe::Full
-}
-
-/// [`go_on`] with the cache lent. A mutator that doesn't go on has none.
 #[inline(always)]
 pub fn goes_on(heap: &Heap, seat: &mut HeapSeat, cache: &mut Option<Cache>, done: u32) -> bool
     requires seat { Sits heap.now seat.old × Mutates (view_of seat.old) }
@@ -219,7 +197,7 @@ pub fn goes_on(heap: &Heap, seat: &mut HeapSeat, cache: &mut Option<Cache>, done
     ensures full { OnFalse result (Across (AnswersTo safes.Full cache.old done) seat.old seat.new × (cache.new ≡ None)) }
     ensures few { length (did seat.old seat.new) ≤ 5 }
 {
-    if !finds_full(heap, seat) {
+    if !reads_full(heap, seat) {
         return true;
     }
     retire_some(heap, seat, cache.take());
@@ -227,7 +205,7 @@ pub fn goes_on(heap: &Heap, seat: &mut HeapSeat, cache: &mut Option<Cache>, done
     false
 }
 
-/// There is no cache to give up.
+/// Takes a cache that isn't there: a [`Cache`] can't be dropped.
 pub fn spend_none(cache: Option<Cache>)
     requires { cache ≡ None }
 {
@@ -237,8 +215,8 @@ pub fn spend_none(cache: Option<Cache>)
     }
 }
 
-/// Whether the heap is full; if so the mutator, which has no cache, stores its position.
-pub fn ends_full(heap: &Heap, seat: &mut HeapSeat, done: u32) -> bool
+/// Whether the heap is full. If so the mutator, which has no cache, stores its position.
+pub fn stores_if_full(heap: &Heap, seat: &mut HeapSeat, done: u32) -> bool
     requires seat { Sits heap.now seat.old × Mutates (view_of seat.old) }
     requires cache { (state_of seat.old).cache ≡ None }
     ensures seat { Sits heap.now seat.new × Mutates (view_of seat.new) }
@@ -249,7 +227,7 @@ pub fn ends_full(heap: &Heap, seat: &mut HeapSeat, done: u32) -> bool
     ensures going { OnFalse result (Across (KeepsOn None None) seat.old seat.new) }
     ensures few { length (did seat.old seat.new) ≤ 2 }
 {
-    if !finds_full(heap, seat) {
+    if !reads_full(heap, seat) {
         return false;
     }
     heap.store_position(seat, done);
@@ -258,7 +236,7 @@ pub fn ends_full(heap: &Heap, seat: &mut HeapSeat, done: u32) -> bool
 
 /// Whether the heap is full, as a mutator reads it.
 #[inline(always)]
-pub fn finds_full(heap: &Heap, seat: &mut HeapSeat) -> bool
+pub fn reads_full(heap: &Heap, seat: &mut HeapSeat) -> bool
     requires seat { Sits heap.now seat.old × Mutates (view_of seat.old) }
     ensures seat { Sits heap.now seat.new × Mutates (view_of seat.new) }
     ensures read { Across (Took ReadPhase) seat.old seat.new }
@@ -271,8 +249,7 @@ pub fn finds_full(heap: &Heap, seat: &mut HeapSeat) -> bool
     }
 }
 
-/// Gives a cache up, if there is one. That takes two steps, and one more if objects in it aren't published yet. Of
-/// the seat's record only the cache changes.
+/// Gives a cache up, if there is one: in two steps, and one more if objects in it aren't published yet.
 #[cold]
 #[inline(never)]
 pub fn retire_some(heap: &Heap, seat: &mut HeapSeat, cache: Option<Cache>)

@@ -26,13 +26,13 @@ use stop_world::resume;
 /// What a step of the count did.
 #[derive(Clone, Copy, Debug, PartialEq, Eq, Drop)]
 pub struct CountStep {
-    /// How many blocks it counted: none is left if they are fewer than asked for.
+    /// How many blocks it counted: fewer than asked for only if none is left.
     pub blocks: u32,
     /// How many cells are in use in all blocks counted so far.
     pub counted: u32,
 }
 
-/// Ends the cycle, once no block is left to sweep, and begins to count.
+/// Ends the sweep, and begins to count.
 pub fn start_count(heap: &Heap, seat: &mut HeapSeat)
     requires seat { Sits heap.now seat.old }
     requires swept { HasSwept (view_of seat.old) }

@@ -1,4 +1,4 @@
-//! The drain: what the mutators left is marked, first with helpers and then alone.
+//! The drain marks what the mutators left, first with helpers and then alone.
 ghost use Rattle.std.specs.Prelude.{ℕ, ◌≡◌, ◌<◌, ◌+◌, ◌⊎◌, [], ◌∷◌, min, IsTrue};
 ghost use Rattle.mark_core.specs.Numbers.{card_counter, empty_offset};
 ghost use Rattle.mark_core.specs.Seats.{phase_number};
@@ -31,8 +31,7 @@ use stop_world::{close_help, open_help};
 /// cards.
 const ROUND: u32 = u32::MAX;
 
-/// Begins the drain. The pass over all cards begins again.
-pub fn begin_drain(heap: &Heap, seat: &mut HeapSeat)
+pub(crate) fn begin_drain(heap: &Heap, seat: &mut HeapSeat)
     requires seat { Sits heap.now seat.old }
     requires alone { IsAloneIn Idle (view_of seat.old) ⊎ IsAloneIn Marking (view_of seat.old) }
     ensures seat { Sits heap.now seat.new }
@@ -45,8 +44,6 @@ pub fn begin_drain(heap: &Heap, seat: &mut HeapSeat)
     heap.reset(seat, CARD_COUNTER);
 }
 
-/// One round, alone or beside helpers: deferred packets, `quota` objects, and all cards. How many objects were
-/// scanned again.
 fn drain_round(heap: &Heap, seat: &mut HeapSeat, quota: u32) -> u32
     requires seat { Sits heap.now seat.old }
     requires drains { DrainsInStop (view_of seat.old) }
@@ -62,7 +59,6 @@ fn drain_round(heap: &Heap, seat: &mut HeapSeat, quota: u32) -> u32
     clean_dirty(heap, seat)
 }
 
-/// Marks what the roots of all sections refer to, as far as packets can be had.
 fn scan_all_roots(heap: &Heap, seat: &mut HeapSeat)
     requires seat { Sits heap.now seat.old }
     requires drains { DrainsInStop (view_of seat.old) }
@@ -76,7 +72,6 @@ fn scan_all_roots(heap: &Heap, seat: &mut HeapSeat)
     }
 }
 
-/// Traces, deferred packets included, and looks whether all packets are empty.
 fn trace_and_look(heap: &Heap, seat: &mut HeapSeat) -> bool
     requires seat { Sits heap.now seat.old }
     requires drains { DrainsInStop (view_of seat.old) }
@@ -92,7 +87,7 @@ fn trace_and_look(heap: &Heap, seat: &mut HeapSeat) -> bool
     sees_all_empty(heap, seat)
 }
 
-/// Traces beside helpers until all packets are empty: then nobody has work in hand.
+/// Once all packets are empty nobody has work in hand.
 fn trace_to_end<R: Wait>(rt: &R, heap: &Heap, seat: &mut HeapSeat)
     requires seat { Sits heap.now seat.old }
     requires drains { DrainsInStop (view_of seat.old) }
@@ -112,7 +107,6 @@ fn trace_to_end<R: Wait>(rt: &R, heap: &Heap, seat: &mut HeapSeat)
     unreachable!()
 }
 
-/// Marks together with helpers, which are let in first. How many objects this seat scanned again.
 pub(crate) fn drain_together<R: Wait>(rt: &R, heap: &Heap, seat: &mut HeapSeat) -> u32
     requires seat { Sits heap.now seat.old }
     requires alone { IsAloneIn Drain (view_of seat.old) }
@@ -128,12 +122,8 @@ pub(crate) fn drain_together<R: Wait>(rt: &R, heap: &Heap, seat: &mut HeapSeat) 
     rescanned
 }
 
-/// Marks what is left, alone. Then every packet is empty, no card is dirty, and each root is nil or marked. The
-/// answer: how many objects were scanned again.
-///
-/// Notes taken before help was opened ended with it, since helpers dirty cards and mark cells. So the roots, the
-/// cards and the count are looked at again, and the counter of blocks is set. What is read now stays; a look that
-/// finds work is followed by another round.
+/// Helpers dirty cards and mark cells, so what was noted before help was opened ended with it: the roots, the cards
+/// and the count are looked at again. What is read now stays. A look that finds work is followed by another round.
 pub(crate) fn drain_alone<R: Wait>(rt: &R, heap: &Heap, seat: &mut HeapSeat) -> u32
     requires seat { Sits heap.now seat.old }
     requires alone { IsAloneIn Drain (view_of seat.old) }
@@ -153,8 +143,7 @@ pub(crate) fn drain_alone<R: Wait>(rt: &R, heap: &Heap, seat: &mut HeapSeat) -> 
     unreachable!()
 }
 
-/// Ends the drain.
-pub fn begin_sweep(heap: &Heap, seat: &mut HeapSeat)
+pub(crate) fn begin_sweep(heap: &Heap, seat: &mut HeapSeat)
     requires seat { Sits heap.now seat.old }
     requires drained { DrainedAlone (view_of seat.old) }
     ensures seat { Sits heap.now seat.new }

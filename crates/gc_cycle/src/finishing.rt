@@ -22,7 +22,6 @@ use gc_table::{Heap, HeapSeat};
 use mark_core::Phase as CyclePhase;
 use std::sync::Wait;
 
-/// From a drain that has begun to the end of the cycle.
 fn complete<R: Wait>(rt: &R, heap: &Heap, seat: &mut HeapSeat, before: u32) -> Counts
     requires seat { Sits heap.now seat.old }
     requires alone { IsAloneIn Drain (view_of seat.old) }
@@ -41,7 +40,6 @@ fn complete<R: Wait>(rt: &R, heap: &Heap, seat: &mut HeapSeat, before: u32) -> C
     settle(heap, seat, rescanned, freed)
 }
 
-/// Whether no cycle is under way. Otherwise one is marking.
 fn finds_idle(heap: &Heap, seat: &mut HeapSeat) -> bool
     requires seat { Sits heap.now seat.old }
     requires alone { IsAloneIn Idle (view_of seat.old) ⊎ IsAloneIn Marking (view_of seat.old) }
@@ -56,7 +54,7 @@ fn finds_idle(heap: &Heap, seat: &mut HeapSeat) -> bool
     }
 }
 
-/// Begins a drain in which no cell is marked. How many objects were scanned again.
+/// Begins a drain in which no cell is marked.
 fn begin_exactly<R: Wait>(rt: &R, heap: &Heap, seat: &mut HeapSeat) -> u32
     requires seat { Sits heap.now seat.old }
     requires alone { IsAloneIn Idle (view_of seat.old) ⊎ IsAloneIn Marking (view_of seat.old) }
@@ -76,9 +74,8 @@ fn begin_exactly<R: Wait>(rt: &R, heap: &Heap, seat: &mut HeapSeat) -> u32
     rescanned
 }
 
-/// Ends a cycle that is marking: marks what the mutators left, and frees white cells, none of them reachable.
-///
-/// Helpers are let in for the drain and the sweep, and have left before each move of the phase.
+/// Ends a cycle that is marking: marks what the mutators left, and frees white cells. Helpers have left before each
+/// move of the phase.
 pub fn finish_cycle<R: Wait>(rt: &R, heap: &Heap, seat: &mut HeapSeat) -> Counts
     requires seat { Sits heap.now seat.old }
     requires alone { IsAloneIn Marking (view_of seat.old) }
@@ -89,10 +86,8 @@ pub fn finish_cycle<R: Wait>(rt: &R, heap: &Heap, seat: &mut HeapSeat) -> Counts
     complete(rt, heap, seat, 0)
 }
 
-/// A precise collection: the cells in use afterwards are exactly the reachable ones.
-///
-/// A cycle that was marking has marked cells that died since. So it drains first, because only then are all packets
-/// empty, clears all marks, and drains once more from the roots.
+/// A precise collection: the cells in use afterwards are exactly the reachable ones. A cycle that was marking has
+/// marked cells that died since, so it drains, clears all marks, and drains once more.
 pub fn precise<R: Wait>(rt: &R, heap: &Heap, seat: &mut HeapSeat) -> Counts
     requires seat { Sits heap.now seat.old }
     requires alone { IsAloneIn Idle (view_of seat.old) ⊎ IsAloneIn Marking (view_of seat.old) }

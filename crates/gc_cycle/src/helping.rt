@@ -43,7 +43,7 @@ pub fn help(heap: &Heap, seat: &mut HeapSeat, quota: u32) -> Helped
     help_with(heap, seat, quota, false)
 }
 
-/// [`help`], which passes all cards first in a drain if `cards` says so.
+/// In a drain it passes all cards first if `cards` says so.
 ///
 /// It ends by itself: the counter of blocks never falls while the seat is admitted.
 pub(crate) fn help_with(heap: &Heap, seat: &mut HeapSeat, quota: u32, cards: bool) -> Helped
@@ -97,7 +97,6 @@ fn help_sweep(heap: &Heap, seat: &mut HeapSeat) -> Helped
     }
 }
 
-/// A helper that found no work traces on if others give some of theirs away.
 fn trace_on(heap: &Heap, seat: &mut HeapSeat, quota: u32, before: Helped) -> Helped
     requires seat { Sits heap.now seat.old × Helps (view_of seat.old) }
     requires drain { (state_of seat.old).phase_seen ≡ Some Drain }
@@ -124,7 +123,6 @@ fn trace_on(heap: &Heap, seat: &mut HeapSeat, quota: u32, before: Helped) -> Hel
 /// How often a helper without work looks whether others give it some.
 const LOOKS: u32 = 64;
 
-/// Traces until the quota is spent or all packets are empty, and waits a while for work that others give away.
 fn help_drain(heap: &Heap, seat: &mut HeapSeat, quota: u32) -> Helped
     requires seat { Sits heap.now seat.old × Helps (view_of seat.old) }
     requires drain { (state_of seat.old).phase_seen ≡ Some Drain }
@@ -152,7 +150,6 @@ fn help_drain(heap: &Heap, seat: &mut HeapSeat, quota: u32) -> Helped
     helped
 }
 
-/// Passes all cards, then helps.
 fn help_anew(heap: &Heap, seat: &mut HeapSeat, quota: u32) -> Helped
     requires seat { Sits heap.now seat.old × Helps (view_of seat.old) }
     requires drain { (state_of seat.old).phase_seen ≡ Some Drain }

@@ -10,8 +10,7 @@ pub(crate) fn at_most(most: u32, from: u32, all: u32) -> u32
     most.min(all.saturating_sub(from))
 }
 
-/// How many stretches have no more than `blocks` blocks between them, but at least one. To sweep or clear so many
-/// comes to at most so many blocks, or to those of one stretch if they are more.
+/// How many stretches have at most `blocks` blocks between them, but at least one.
 pub fn stretches_of(heap: &Heap, blocks: u32) -> u32
     ensures { result ≡ stretches_in heap.now.shape blocks }
 {

@@ -23,8 +23,8 @@ use crate::roots::sees_to_some;
 use card_clean::count_roots;
 use gc_table::{Heap, HeapSeat};
 
-/// Marks what at most `most` roots from `from` on refer to, and answers how many: fewer only if none is left. None
-/// means that no packet could be had: the deferred ones are back, and it is to be called again.
+/// Marks what at most `most` roots from `from` on refer to, and answers how many: fewer only if none is left. None:
+/// no packet could be had; the deferred ones are back, and it is to be called again.
 ///
 /// The roots are the variables of all sections, and behind them their slots.
 pub fn root_piece(heap: &Heap, seat: &mut HeapSeat, from: u32, most: u32) -> Option<u32>

@@ -28,7 +28,7 @@ use gc_table::{Heap, HeapSeat};
 use std::sync::Wait;
 use tracer::RootScan;
 
-/// Scans the roots of a section.
+/// Marks what the roots of a section refer to.
 pub fn scan_roots(heap: &Heap, seat: &mut HeapSeat, section: u32) -> RootScan
     requires seat { Sits heap.now seat.old × IsTrue (traces (view_of seat.old)) }
     requires rest { IsTrue (is_at_rest heap.now.shape (state_of seat.old)) }
@@ -46,9 +46,9 @@ pub fn scan_roots(heap: &Heap, seat: &mut HeapSeat, section: u32) -> RootScan
     tracer::scan_roots(heap, seat, section)
 }
 
-/// Marks what the roots from `from` on and before `end` refer to, and is true; or finds no packet, and brings back
+/// Marks what the roots from `from` on and before `end` refer to. If it finds no packet it is false, and brings back
 /// what was deferred, which is all that can keep packets from a seat that is alone.
-pub fn sees_to_some(heap: &Heap, seat: &mut HeapSeat, from: u32, end: u32) -> bool
+pub(crate) fn sees_to_some(heap: &Heap, seat: &mut HeapSeat, from: u32, end: u32) -> bool
     requires seat { Sits heap.now seat.old }
     requires alone { IsAloneIn Drain (view_of seat.old) × (look the_next_block (view_of seat.old).known ≡ Some 0) }
     requires roots { (from ≤ end) × (end ≤ root_count heap.now.shape) }
@@ -72,7 +72,6 @@ pub fn sees_to_some(heap: &Heap, seat: &mut HeapSeat, from: u32, end: u32) -> bo
     false
 }
 
-/// [`sees_to_some`] of the roots of all sections.
 fn sees_to_all_roots(heap: &Heap, seat: &mut HeapSeat) -> bool
     requires seat { Sits heap.now seat.old }
     requires alone { IsAloneIn Drain (view_of seat.old) × (look the_next_block (view_of seat.old).known ≡ Some 0) }
@@ -86,8 +85,8 @@ fn sees_to_all_roots(heap: &Heap, seat: &mut HeapSeat) -> bool
     sees_to_some(heap, seat, 0, end)
 }
 
-/// Marks what the roots of all sections refer to, for a seat that is alone, until each is nil or marked. It ends
-/// because each packet is in a pool then: once the deferred ones are back one can be had.
+/// Marks what all roots refer to. It ends because each packet is in a pool: once the deferred ones are back one can
+/// be had.
 pub(crate) fn see_to_roots<R: Wait>(rt: &R, heap: &Heap, seat: &mut HeapSeat)
     requires seat { Sits heap.now seat.old }
     requires alone { IsAloneIn Drain (view_of seat.old) × (look the_next_block (view_of seat.old).known ≡ Some 0) }

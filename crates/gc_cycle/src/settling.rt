@@ -17,8 +17,14 @@ use crate::counts::Counts;
 use gc_table::{Heap, HeapSeat};
 use mark_core::{BLOCK_CELLS, CARD_COUNTER, FREE, LAST, RESCANNED, TRACED};
 
-/// How many allocation bits are set in the blocks before `end`, of which `counted` were counted before `from`.
-pub fn count_between(heap: &Heap, seat: &mut HeapSeat, from: u32, end: u32, counted: u32) -> u32
+/// How many allocation bits are set before block `end`, of which `counted` were counted before `from`.
+pub(crate) fn count_between(
+    heap: &Heap,
+    seat: &mut HeapSeat,
+    from: u32,
+    end: u32,
+    counted: u32,
+) -> u32
     requires seat { Sits heap.now seat.old }
     requires alone { IsAloneIn Idle (view_of seat.old) }
     requires blocks { (from ≤ end) × (end ≤ block_count heap.now.shape) }
@@ -66,8 +72,7 @@ fn set_statistic(heap: &Heap, seat: &mut HeapSeat, which: u8, number: u32)
     heap.add_stat(seat, which, number, false);
 }
 
-/// Sets the numbers that pace the next cycle.
-pub fn set_numbers(
+pub(crate) fn set_numbers(
     heap: &Heap,
     seat: &mut HeapSeat,
     marked: u32,
@@ -99,7 +104,6 @@ pub fn set_numbers(
     }
 }
 
-/// Counts the cells in use, and sets the numbers that pace the next cycle.
 pub(crate) fn settle(heap: &Heap, seat: &mut HeapSeat, rescanned: u32, freed: u32) -> Counts
     requires seat { Sits heap.now seat.old }
     requires alone { IsAloneIn Idle (view_of seat.old) }

@@ -21,7 +21,7 @@ use gc_table::{Heap, HeapSeat};
 use mark_core::BLOCK_COUNTER;
 use stop_world::{Raised, raise, resume};
 
-/// Leaves the world with the position stored, and asks for a stop. True if the flag is the seat's own now; false if
+/// Leaves the world with the position stored, and asks for a stop. True: the flag is the seat's own now. False:
 /// another's was up, and the seat is outside.
 pub fn ask_to_stop(heap: &Heap, seat: &mut HeapSeat, done: u32) -> bool
     requires seat { Sits heap.now seat.old × Mutates (view_of seat.old) }
@@ -61,7 +61,6 @@ pub fn finds_stopped(heap: &Heap, seat: &mut HeapSeat) -> bool
     true
 }
 
-/// The block counter is set, before the roots are seen to.
 pub(crate) fn reset_blocks(heap: &Heap, seat: &mut HeapSeat)
     requires seat { Sits heap.now seat.old }
     requires owner { IsOwner (view_of seat.old) }
@@ -75,7 +74,7 @@ pub(crate) fn reset_blocks(heap: &Heap, seat: &mut HeapSeat)
     heap.reset(seat, BLOCK_COUNTER);
 }
 
-/// Begins the drain in a stopped world. False if the heap is full: then the world goes on.
+/// Begins the drain in a stopped world. False: the heap is full, and the world goes on.
 pub fn begin_collection(heap: &Heap, seat: &mut HeapSeat) -> bool
     requires seat { Sits heap.now seat.old }
     requires stopped { HoldsWorld (view_of seat.old) }

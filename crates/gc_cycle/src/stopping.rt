@@ -31,11 +31,10 @@ use stop_world::{Raised, await_stopped, enter, join_help, leave, leave_help, pol
 /// How many objects a waiting seat traces before it looks again whether the stop has ended.
 const TURN: u32 = 1_024;
 
-/// How often a waiting seat looks whether the stop has ended, or its help is wanted, before it offers help unasked:
-/// seldom, since helpers hold each other up in a sweep whose blocks are handed out one by one.
+/// How often a waiting seat looks before it offers help unasked: seldom, since helpers hold each other up in a sweep
+/// whose blocks are handed out one by one.
 const PAUSE: u32 = 65_536;
 
-/// Helps, and in a drain passes all cards first if `cards` says so.
 fn help_joined(heap: &Heap, seat: &mut HeapSeat, cards: bool)
     requires seat { Sits heap.now seat.old × IsAdmitted (view_of seat.old) }
     ensures seat { Sits heap.now seat.new × IsAdmitted (view_of seat.new) }
@@ -57,7 +56,7 @@ fn help_joined(heap: &Heap, seat: &mut HeapSeat, cards: bool)
     }
 }
 
-/// Joins the helpers once, if help is open, and helps.
+/// Whether help was open, and it helped.
 fn help_once(heap: &Heap, seat: &mut HeapSeat, cards: bool) -> bool
     requires seat { Sits heap.now seat.old × IsOut (view_of seat.old) }
     ensures seat { Sits heap.now seat.new × IsOut (view_of seat.new) }
@@ -76,19 +75,16 @@ fn help_once(heap: &Heap, seat: &mut HeapSeat, cards: bool) -> bool
     false
 }
 
-/// How often a waiting seat yields between two looks: the stopping seat counts in a word beside the one that it
-/// reads.
+/// How often it yields between two looks: the stopping seat counts in a word beside the one that it reads.
 const YIELDS: u32 = 16;
 
-/// Whether some blocks were handed out and some are left. If they are handed out one by one none is called left,
-/// since helpers then hold each other up.
+/// Of blocks that are handed out one by one none is called left, since helpers hold each other up.
 fn is_partly_handed_out(shape: &Shape, next: u64) -> bool
     ensures { IsTrue result ↔ ((1 < shape.now.stretch) × (0 < next) × (next < block_count shape.now)) }
 {
     1 < shape.stretch && 0 < next && next < u64::from(shape.cells / BLOCK_CELLS)
 }
 
-/// Whether a sweep has blocks left.
 fn has_blocks_left(heap: &Heap, seat: &mut HeapSeat) -> bool
     requires seat { Sits heap.now seat.old × IsOut (view_of seat.old) }
     ensures seat { Sits heap.now seat.new × IsOut (view_of seat.new) }
@@ -102,7 +98,6 @@ fn has_blocks_left(heap: &Heap, seat: &mut HeapSeat) -> bool
     is_partly_handed_out(&heap.shape(), next)
 }
 
-/// Whether help is open and there is work: a packet isn't empty, or, in a sweep, blocks are left.
 fn is_wanted(heap: &Heap, seat: &mut HeapSeat) -> bool
     requires seat { Sits heap.now seat.old × IsOut (view_of seat.old) }
     ensures seat { Sits heap.now seat.new × IsOut (view_of seat.new) }
@@ -142,7 +137,6 @@ fn yield_some() {
     }
 }
 
-/// Looks some times whether the stop has ended or help is wanted.
 fn pause(heap: &Heap, seat: &mut HeapSeat)
     requires seat { Sits heap.now seat.old × IsOut (view_of seat.old) }
     ensures seat { Sits heap.now seat.new × IsOut (view_of seat.new) }
@@ -160,7 +154,7 @@ fn pause(heap: &Heap, seat: &mut HeapSeat)
     }
 }
 
-/// Waits until no stop is under way, and meanwhile joins the helpers.
+/// Waits until no stop is under way, and helps meanwhile.
 pub fn await_resumed_helping<R: Wait>(rt: &R, heap: &Heap, seat: &mut HeapSeat)
     requires seat { Sits heap.now seat.old × IsOut (view_of seat.old) }
     ensures seat { Sits heap.now seat.new × IsOut (view_of seat.new) }
@@ -187,7 +181,7 @@ pub fn await_resumed_helping<R: Wait>(rt: &R, heap: &Heap, seat: &mut HeapSeat)
     unreachable!()
 }
 
-/// Leaves the world with the position stored, without a cache.
+/// Leaves the world with the position stored.
 #[inline(never)]
 pub fn go_out(heap: &Heap, seat: &mut HeapSeat, done: u32)
     requires seat { Sits heap.now seat.old × Mutates (view_of seat.old) }
@@ -227,8 +221,8 @@ pub fn go_in<R: Wait>(rt: &R, heap: &Heap, seat: &mut HeapSeat)
     unreachable!()
 }
 
-/// Asks for a stop of its own, with the position stored. True if the seat is now alone in the world. If another
-/// seat's flag is up it waits until that stop has ended, and enters again.
+/// Asks for a stop, with the position stored. True: the seat is alone in the world. False: another seat's flag was
+/// up; it has waited until that stop had ended, and has entered again.
 pub fn stop<R: Wait>(rt: &R, heap: &Heap, seat: &mut HeapSeat, done: u32) -> bool
     requires seat { Sits heap.now seat.old × Mutates (view_of seat.old) }
     requires cache { (state_of seat.old).cache ≡ None }

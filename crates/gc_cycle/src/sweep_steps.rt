@@ -19,13 +19,13 @@ use gc_table::{Heap, HeapSeat};
 /// What a step of the sweep did.
 #[derive(Clone, Copy, Debug, PartialEq, Eq, Drop)]
 pub struct SweepStep {
-    /// How many stretches it swept: no block is left if they are fewer than asked for.
+    /// How many stretches it swept: fewer than asked for only if no block is left.
     pub stretches: u32,
     /// How many cells it freed.
     pub freed: u32,
 }
 
-/// Begins the sweep, once all is marked.
+/// Leaves the drain, once all is marked.
 pub fn start_sweep(heap: &Heap, seat: &mut HeapSeat)
     requires seat { Sits heap.now seat.old }
     requires drained { HasMarkedAll (view_of seat.old) }

@@ -19,7 +19,7 @@ ghost use Rattle.gc_cycle.specs.Standing.{is_at_rest};
 use gc_table::{Heap, HeapSeat};
 use tracer::Traced;
 
-/// Traces at most this many objects.
+/// Traces at most `quota` objects.
 pub fn trace(heap: &Heap, seat: &mut HeapSeat, quota: u32) -> Traced
     requires seat { Sits heap.now seat.old × IsTrue (traces (view_of seat.old)) }
     requires rest { IsTrue (is_at_rest heap.now.shape (state_of seat.old)) }
@@ -39,7 +39,7 @@ pub fn trace(heap: &Heap, seat: &mut HeapSeat, quota: u32) -> Traced
     tracer::trace(heap, seat, quota)
 }
 
-/// Takes the deferred packets back into their pools.
+/// Takes the deferred packets back into their pools: how many.
 pub fn recycle_deferred(heap: &Heap, seat: &mut HeapSeat) -> u32
     requires seat { Sits heap.now seat.old × IsTrue (traces (view_of seat.old)) }
     requires rest { IsTrue (is_at_rest heap.now.shape (state_of seat.old)) }
@@ -71,7 +71,7 @@ pub(crate) fn lacks_work(heap: &Heap, seat: &mut HeapSeat) -> bool
 }
 
 /// Whether the count of empty packets says all: then nothing is left to trace.
-pub fn sees_all_empty(heap: &Heap, seat: &mut HeapSeat) -> bool
+pub(crate) fn sees_all_empty(heap: &Heap, seat: &mut HeapSeat) -> bool
     requires seat { Sits heap.now seat.old }
     requires rest { IsTrue (is_at_rest heap.now.shape (state_of seat.old)) }
     ensures seat { Sits heap.now seat.new }

@@ -19,8 +19,9 @@ use Rattle.gc_cycle.specs.Moments.{at_some_moment, begins, finds_no_packet}
 use Rattle.gc_cycle.specs.Sorts.{reads_pace}
 use Rattle.gc_cycle.specs.Turns.{SeesToRoots}
 use Rattle.gc_cycle.proofs.Turns.{roots-earlier, roots-later, earlier-moment, later-moment, packet-longer, packet-widens}
-use Rattle.gc_cycle.proofs.Stops.Admitted.{count-none, count-run, never-join}
+use Rattle.gc_cycle.proofs.Stops.Admitted.{count-none, count-run}
 use Rattle.gc_cycle.proofs.CleaningSpares.{Spares, untaken}
+use Rattle.gc_cycle.proofs.Ends.Finishes.{never-both as never-join}
 use Rattle.cache_refills.specs.Pace.Early.{early_by, early_seen, HasPassed, PassesNext}
 use Rattle.cache_refills.specs.Pace.Others.{SeesToNext, turn_by, turn_seen}
 use Rattle.cache_refills.specs.Pace.Pacing.{looks_by, looks_seen}

@@ -39,13 +39,15 @@ use Rattle.gc_cycle.specs.Polling.{saw_full}
 use Rattle.cache_refills.specs.Refilling.{ClaimsAlone, HasMissed, RestsAlone, SeesFull}
 use Rattle.gc_cycle.specs.Sorts.{begins_exactly, ends_cycle, moves_to, names, raises_flag, reads_all_ones, reads_free_cell, resumes}
 use Rattle.cache_refills.specs.Stops.{claim_failed, misses_block}
-use Rattle.cache_refills.proofs.Causes.{after-join, each-in, failed-later, followed-some, search-failed, since-more}
+use Rattle.cache_refills.proofs.Causes.{after-join, each-in, failed-later, search-failed, since-more}
 use Rattle.gc_cycle.proofs.Refills.Collected.{followed-earlier}
 use Rattle.gc_cycle.proofs.Stops.OutAndIn.{no-cache}
 use Rattle.cache_refills.proofs.Stops.InStop.{claims-later, ClaimsNone, quiet-part, rests-later, resume-in, unfills}
 use Rattle.gc_cycle.proofs.Ends.Moving.{moved}
 use Rattle.gc_cycle.proofs.Parts.{move-finishes, part-finishes, part-join, part-stays, part-step}
 use Rattle.gc_cycle.proofs.Sequences.{none-of-steps, some-none}
+use Rattle.gc_cycle.proofs.Ends.Finishes.{some-of-followed as followed-some}
+use Rattle.gc_cycle.proofs.Ends.Completing.{no-end as unended}
 
 -- every word of allocation bits is all ones, in each state that agrees with such notes
 
@@ -125,10 +127,6 @@ full-claims u v w x n p b s is f =
 -- the seat knows it
 pub full-told : (u v w x : View) (n : ℕ) → IsPart Idle u v → Stored StoreNamed v w → x ≡ after (StorePhase Full) n w → Finds (StorePhase Full) n w → KnowsFull x
 full-told u v w x n p s is f = (moved Idle Full w x n refl (part-join Idle u v w p (named-part v w s p.alone)).alone is f).alone.alone.phase
-
-unended : (step : Step) (n : ℕ) → stays step ≡ true → ends_cycle step n ≡ false
-unended (StorePhase to) n e = absurd (false≢true e)
-unended step n e = refl
 
 pub seeks-unended : (step : Step) (n : ℕ) → seeks_block step ≡ true → ends_cycle step n ≡ false
 seeks-unended (StorePhase to) n e = absurd (false≢true e)

@@ -26,11 +26,11 @@ use Rattle.gc_table.specs.declared.view.View.{View}
 use Rattle.gc_table.proofs.History.Log.{only-more}
 use Rattle.gc_table.proofs.Noticing.{found-noted, known-here, known-step, spares-phase}
 use Rattle.gc_table.proofs.Running.{run-keeps}
+use Rattle.gc_table.proofs.Joining.{full-steady as steady-full}
 use Rattle.packet_pools.specs.Seeking.{some_event}
 use Rattle.alloc_cache.specs.Claiming.{seeks_block}
 use Rattle.cache_refills.specs.Pace.Pacing.{due_by, kicks, KicksOff, last_read, not_due, read_of, tries_marking, was_not_due}
 use Rattle.cache_refills.specs.Refilling.{IsPaced, KnowsCycle, looks_for_end, prepares}
-use Rattle.gc_cycle.proofs.Refills.KnownFull.{steady-full}
 
 pub steady-marking : (s : SeatState) → s.active ≡ true → steady s the_phase 1 ≡ true
 steady-marking s a = or_right s.alone _ (or_left (s.knows || s.admitted || (s.active && is_phase 1 Marking)) (is_phase 1 Full) (or_right (s.knows || s.admitted) _ (and_from s.active true a refl)))

@@ -33,11 +33,12 @@ use Rattle.gc_cycle.specs.Roots.{roots_scanned}
 use Rattle.gc_cycle.specs.Sorts.{claims, draws, pops, raises_traced, reads_pace, reads_root}
 use Rattle.gc_cycle.specs.Standing.{is_at_rest, Mutates}
 use Rattle.gc_cycle.specs.Statistics.{changing_step, numbers_changed, tells}
-use Rattle.gc_cycle.proofs.Stops.Admitted.{count-none, count-run, never-join, traces-kept}
+use Rattle.gc_cycle.proofs.Stops.Admitted.{count-none, count-run, traces-kept}
 use Rattle.gc_cycle.proofs.Turns.{earlier-moment, later-moment, packet-longer, packet-widens, roots-left, roots-right}
 use Rattle.cache_refills.proofs.Refills.Payment.{moment-map, mutates-on, quiet-moment, stops-later, stops-longer}
 use Rattle.gc_cycle.proofs.CleaningSpares.{Spares, untaken}
 use Rattle.gc_cycle.proofs.Changes.{picked-none}
+use Rattle.gc_cycle.proofs.Ends.Finishes.{never-both as never-join}
 
 number-pays : (step : Step) → reads_number step ≡ true → pays_cells step ≡ true
 number-pays (ReadStat which) e = e

@@ -8,14 +8,16 @@ use Rattle.std.proofs.lemmas.Bool.{and_from, and_parts, false≢true, le-leb, lt
 use Rattle.mark_core.specs.Held.{Slot, Slots, holds_any}
 use Rattle.mark_core.specs.declared.kinds.Shape.{Shape}
 use Rattle.mark_core.specs.declared.kinds.Step.{Step}
-use Rattle.mark_core.specs.declared.kinds.Step.TheVariants.{NextOfCards}
+use Rattle.mark_core.specs.declared.kinds.Step.TheVariants.{NextOfCards, ReadCard}
 use Rattle.mark_core.specs.declared.seat.SeatState.{SeatState}
 use Rattle.gc_table.specs.Log.{events}
 use Rattle.gc_table.specs.PlainSteps.{own_section}
 use Rattle.gc_table.specs.Rule.{IsPossible}
 use Rattle.gc_table.specs.Running.{Ran}
+use Rattle.gc_table.specs.Taking.{after, Finds}
 use Rattle.gc_table.specs.declared.view.Entry.{Entry}
 use Rattle.gc_table.specs.declared.view.View.{View}
+use Rattle.gc_table.proofs.History.Log.{events-after}
 use Rattle.gc_table.proofs.Running.{ran-events, ran-shape}
 use Rattle.packet_pools.specs.Counts.{count_of}
 use Rattle.packet_pools.specs.Seeking.{moves_packet, output_pools, some_event}
@@ -31,11 +33,13 @@ use Rattle.gc_cycle.specs.Lower.{EndsTrace, HasTraced}
 use Rattle.gc_cycle.specs.Moments.{Moment, after_moment, at_some_moment, begins, finds_no_packet, finds_no_room, finds_no_work}
 use Rattle.gc_cycle.specs.Roots.{roots_scanned}
 use Rattle.gc_cycle.specs.Sorts.{draws, draws_or_clears, pops, reads_pace, reads_root}
-use Rattle.gc_cycle.specs.Standing.{Mutates}
-use Rattle.gc_cycle.proofs.Stops.Admitted.{count-none, count-run, never-join}
+use Rattle.gc_cycle.specs.Standing.{is_at_rest, Mutates}
+use Rattle.gc_cycle.proofs.Stops.Admitted.{count-none, count-run}
+use Rattle.gc_cycle.proofs.Stops.Looked.{has-looked}
 use Rattle.gc_cycle.proofs.Searched.{both-widen, room-longer, room-widens, work-longer, work-widens}
 use Rattle.gc_cycle.proofs.Sequences.{this-moment}
 use Rattle.gc_cycle.proofs.Turns.{later-moment, earlier-moment, roots-left, has-traced}
+use Rattle.gc_cycle.proofs.Ends.Finishes.{never-both as never-join}
 
 pub quiet-longer : (f : Sort) (test : Moment → List Entry → Bool) (ys : List Entry) → never f ys ≡ true → ((m : Moment) (es : List Entry) → test m es ≡ true → test m (es ++ ys) ≡ true) → (m : Moment) (es : List Entry) → (never f es && test m es) ≡ true → (never f (es ++ ys) && test m (es ++ ys)) ≡ true
 quiet-longer f test ys n g m es h = let p = and_parts (never f es) (test m es) h in and_from _ _ (never-join f es ys p.0 n) (g m es p.1)
@@ -135,6 +139,19 @@ undrawn es h = count-none draws es (ap not (none-drawn es (not-true _ h)))
     none-drawn [] k = refl
     none-drawn (f ∷ fs) k =
         let q = or_parts (draws_or_clears f.step f.found) (some_event draws_or_clears fs) k in or_from (draws f.step f.found) (some_event draws fs) (drawn-one f.step f.found q.0) (none-drawn fs q.1)
+
+-- a look at a card traces nothing
+pub card-looked : (card n : ℕ) (v w : View) → is_at_rest v.shape v.state ≡ true → w ≡ after (ReadCard card) n v → Finds (ReadCard card) n v → TracesNone 0 v w
+card-looked card n v w rest e f =
+    let one = events-after v w (ReadCard card) n e in
+    let few = ap {B = ℕ} (count_of draws) one in
+    record {
+      traced = has-looked card n v w rest e f;
+      looked = omega (arith, few);
+      unpopped = ap (never pops) one;
+      unread = ap (never reads_pace) one;
+      unrooted = ap (never reads_root) one;
+    }
 
 -- this many cards were drawn in one call, and this many in the next
 looked-join : (j k : ℕ) (u v w : View) → Ran u v → Ran v w → count_of draws (events u v) ≤ j → count_of draws (events v w) ≤ k → count_of draws (events u w) ≤ j + k

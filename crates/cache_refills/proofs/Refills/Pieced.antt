@@ -20,6 +20,7 @@ use Rattle.packet_pools.specs.Seeking.{some_event}
 use Rattle.alloc_cache.specs.Claiming.{blocks_tried, ClaimsFirst, Misses, seeks_block, seen_taken, tried_by}
 use Rattle.alloc_cache.specs.declared.cache.Cache.{Cache}
 use Rattle.alloc_cache.proofs.Tried.{both-tried}
+use Rattle.alloc_cache.proofs.Searches.{seen-front as taken-more, seen-back as taken-later}
 use Rattle.gc_cycle.specs.declared.counts.Refill.{Refill}
 use Rattle.gc_cycle.specs.Events.{never, before_last, Sort}
 use Rattle.gc_cycle.specs.Mutating.{stays_calm}
@@ -36,7 +37,7 @@ use Rattle.cache_refills.specs.Stops.{marking_done}
 use Rattle.cache_refills.specs.Trying.{GoesWithout}
 use Rattle.cache_refills.specs.declared.pieces.Piece.{Piece}
 use Rattle.cache_refills.specs.declared.pieces.Piece.TheVariants as pieces
-use Rattle.cache_refills.proofs.Causes.{done-later, taken-later, taken-more}
+use Rattle.cache_refills.proofs.Causes.{done-later}
 use Rattle.cache_refills.proofs.Refills.Paced.{seeks-prepare}
 use Rattle.cache_refills.proofs.Refills.Passed.{unseen-full, unseen-join}
 use Rattle.cache_refills.proofs.Refills.Payment.{never-run}

@@ -13,7 +13,7 @@ use Rattle.mark_core.specs.Seats.{phase_number, phase_of, saw}
 use Rattle.mark_core.specs.declared.kinds.Phase.TheVariants.{Full, Marking}
 use Rattle.mark_core.specs.declared.kinds.Shape.{Shape}
 use Rattle.mark_core.specs.declared.kinds.Step.{Step}
-use Rattle.mark_core.specs.declared.kinds.Step.TheVariants.{AddStat, ClaimBlock, DropStep, EnterStep, ReadCount, ReadFree, RaiseStep, ReadPhase, ReadStat, ReleaseBlock, StorePhase}
+use Rattle.mark_core.specs.declared.kinds.Step.TheVariants.{AddStat, ClaimBlock, DropStep, EnterStep, ReadCount, ReadFree, ReadPhase, ReadStat, ReleaseBlock, StorePhase}
 use Rattle.gc_table.specs.Log.{event, events, Only}
 use Rattle.gc_table.specs.Rule.{IsPossible}
 use Rattle.gc_table.specs.Running.{Known, Ran}
@@ -43,13 +43,14 @@ use Rattle.cache_refills.proofs.Stops.StopsAgain.{again-join, again-stops-join, 
 use Rattle.cache_refills.proofs.Causes.{done-stops, failed-stops, fills-join, search-failed, unfilled}
 use Rattle.cache_refills.proofs.Stops.Visits.{collects-join, cycles-join, ended-all, ends-join, unended-cycles, unresumed-ends}
 use Rattle.gc_cycle.proofs.Refills.Collected.{calm-spares}
-use Rattle.gc_cycle.proofs.Refills.KnownFull.{found-low, phase-seen}
-use Rattle.gc_cycle.proofs.SectionKept.{calm-keeps}
+use Rattle.gc_cycle.proofs.Refills.KnownFull.{phase-seen}
+use Rattle.gc_cycle.proofs.SectionKept.{calm-keeps, no-raise as calm-unraised}
 use Rattle.cache_refills.proofs.Refills.Popping.{pops-join, prepared-pops, unpopped}
 use Rattle.cache_refills.proofs.Refills.Paced.{full-kept, paced-later, steady-marking}
 use Rattle.cache_refills.proofs.Positions.{prepares-inside, stays_inside}
 use Rattle.gc_cycle.proofs.Sequences.{none-of-steps, some-none}
 use Rattle.gc_cycle.proofs.Stops.Outside.{unresumed-out}
+use Rattle.stop_world.proofs.Passing.{read-most as found-low}
 
 pub on-false : {P : Type 0} (b : Bool) → P → OnFalse b P
 on-false true p = tt
@@ -216,13 +217,6 @@ round-later done u v w o l r =
     some-later : (p : Option Refill) → IfSome p (λ x. SparesRefill x v w) → IfSome p (λ x. SparesRefill x u w)
     some-later None s = tt
     some-later (Some x) s = spares-refill x u v w l.ran r.ran l.spares s
-
-calm-unraised : (step : Step) (n : ℕ) → stays_calm step ≡ true → raises_flag step n ≡ false
-calm-unraised step n e = unraised-by step n e
-  where
-    unraised-by : (s : Step) (m : ℕ) → stays_calm s ≡ true → raises_flag s m ≡ false
-    unraised-by RaiseStep m h = absurd (false≢true h)
-    unraised-by s m h = refl
 
 calm-unended : (step : Step) (n : ℕ) → stays_calm step ≡ true → ends_cycle step n ≡ false
 calm-unended (StorePhase to) n e = absurd (false≢true e)

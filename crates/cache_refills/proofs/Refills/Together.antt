@@ -16,6 +16,7 @@ use Rattle.gc_table.proofs.History.Log.{events-after}
 use Rattle.gc_table.proofs.Running.{ran-events, ran-join, ran-shape, ran-took}
 use Rattle.packet_pools.specs.Seeking.{some_event}
 use Rattle.alloc_cache.specs.Claiming.{seen_taken}
+use Rattle.alloc_cache.proofs.Searches.{seen-front as taken-more}
 use Rattle.gc_cycle.specs.declared.counts.Refill.{Refill}
 use Rattle.gc_cycle.specs.Events.{never, since_last, since_or_all, Sort}
 use Rattle.gc_cycle.specs.Sorts.{comes_in}
@@ -24,7 +25,7 @@ use Rattle.cache_refills.specs.Refilling.{SeesEnd}
 use Rattle.cache_refills.specs.Stops.{marking_done, no_block, this_visit}
 use Rattle.cache_refills.specs.declared.pieces.Piece.{Piece}
 use Rattle.cache_refills.specs.declared.pieces.Piece.TheVariants as pieces
-use Rattle.cache_refills.proofs.Causes.{done-here, done-later, each-in, taken-more}
+use Rattle.cache_refills.proofs.Causes.{done-here, done-later, each-in}
 use Rattle.cache_refills.proofs.Refills.Payment.{never-run}
 use Rattle.cache_refills.proofs.Refills.Pieced.{none-some, seen-later}
 

@@ -36,7 +36,7 @@ use Rattle.gc_cycle.specs.Sorts.{moves_to, raises_flag, reads_phase, resumes, te
 use Rattle.gc_cycle.specs.Sparing.{spares_part}
 use Rattle.gc_cycle.specs.Standing.{is_at_rest}
 use Rattle.cache_refills.proofs.Causes.{after-earlier, after-join, after-none, fill-later}
-use Rattle.gc_cycle.proofs.Refills.Collected.{finishes-keep, full-alone}
+use Rattle.gc_cycle.proofs.Refills.Collected.{full-alone}
 use Rattle.gc_cycle.proofs.Ends.Completing.{part-untold}
 use Rattle.gc_cycle.proofs.Stops.OutAndIn.{no-cache}
 use Rattle.gc_cycle.proofs.Parts.{part-finishes}
@@ -44,7 +44,7 @@ use Rattle.cache_refills.proofs.Positions.{position-kept}
 use Rattle.cache_refills.proofs.Refills.Claimed.{claim-only, claims-cached, claims-prepare, claims_block, seeks-claim, some-ones, with-cache}
 use Rattle.cache_refills.proofs.Refills.Rounds.{leads-prepared, unfull}
 use Rattle.gc_cycle.proofs.Sequences.{none-of-steps, some-none}
-use Rattle.gc_cycle.proofs.Ends.Spared.{finish-calm, finish-position, finish-spares, untold-fills, untold-sees}
+use Rattle.gc_cycle.proofs.Ends.Spared.{finish-calm, finish-position, finish-spares, untold-fills, untold-sees, keeps as finishes-keep}
 use Rattle.gc_cycle.proofs.Traced.{nothing-rest}
 
 seeks-quiet : (step : Step) → seeks_block step ≡ true → ends_alone step ≡ false

@@ -39,6 +39,7 @@ use Rattle.gc_cycle.proofs.Refills.Answered.{answers-try}
 use Rattle.cache_refills.proofs.Refills.Claimed.{claim-only, claims_block, claims-end, claims-only}
 use Rattle.cache_refills.proofs.Positions.{stays_inside, stored-more}
 use Rattle.cache_refills.proofs.Refills.Rounds.{leads-prepared}
+use Rattle.cache_refills.proofs.Refills.Filling.{seeks-unended}
 use Rattle.gc_cycle.proofs.Sequences.{none-of-steps, since-this, some-none}
 
 -- steps that begin no cycle
@@ -96,10 +97,6 @@ unbegun-stop u v w x y r q d l o k t a =
     (unbegun-join v w y q (ran-join w x y d l) k (unbegun-join w x y d l (unbegun-after w x DropStep t.0 refl t.1.0) (unbegun-answers x y a)))
 
 -- steps that end no cycle
-
-seeks-unended : (step : Step) (n : ℕ) → seeks_block step ≡ true → ends_cycle step n ≡ false
-seeks-unended (StorePhase to) n e = absurd (false≢true e)
-seeks-unended step n e = refl
 
 claims-unended : (step : Step) (n : ℕ) → claims_block step ≡ true → ends_cycle step n ≡ false
 claims-unended (StorePhase to) n e = absurd (false≢true e)

@@ -232,9 +232,6 @@ move-total f from to h v w m = ap (total_of f v) m.events_are ∙ (let z = h v.s
 pub freed-none : (p : Phase) → saw (Some p) Sweep ≡ false → (v w : View) → IsPart p v w → freed_in v (events v w) ≡ 0
 freed-none p d v w k = sym (freed-same (events v w) v) ∙ none-in frees p (frees-none p d) v w k
 
-pub freed-run : (u v w : View) → Ran u v → Ran v w → freed_in u (events u w) ≡ freed_in u (events u v) + freed_in v (events v w)
-freed-run u v w r q = sym (freed-same (events u w) u) ∙ (total-run frees u v w r q ∙ (λ i. freed-same (events u v) u i + freed-same (events v w) v i))
-
 pub freed-move : (from to : Phase) (v w : View) → IsMove from to v w → freed_in v (events v w) ≡ 0
 freed-move from to v w m = sym (freed-same (events v w) v) ∙ move-total frees from to (λ s n. refl) v w m
 

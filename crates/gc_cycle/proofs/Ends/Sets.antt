@@ -1,11 +1,10 @@
 -- The steps of a seat that is alone, and counts and sets the numbers for the next cycle.
-use Rattle.std.proofs.Common.{ℕ, ◌≡◌, ◌≤◌, ◌+◌, ◌-◌, List, [], ◌∷◌, ◌++◌, suc, zero, arith, refl, sym, ap, ◌∙◌, subst, Bool, true, false, not, ◌&&◌, ◌||◌, Some, None, Option, is_some, cond, eqb, eq-eqb, eqb-true, inl, inr, ⊎_elim}
-use Rattle.std.specs.Prelude.{◌==◌, bit_and, is_none, unwrap_or}
+use Rattle.std.proofs.Common.{ℕ, ◌≡◌, ◌≤◌, ◌+◌, ◌-◌, List, [], ◌∷◌, ◌++◌, suc, zero, arith, refl, sym, ap, ◌∙◌, subst, Bool, true, false, not, ◌&&◌, ◌||◌, Some, None, Option, is_some, eq-eqb, eqb-true, inl, inr, ⊎_elim}
+use Rattle.std.specs.Prelude.{◌==◌, is_none, unwrap_or}
 use Rattle.std.specs.Int.Count.{ones}
-use Rattle.std.proofs.lemmas.Bool.{and_from, and_parts, cases_eq, false≢true, le-leb, ne_eqb, not-false, not-true, or_from, or_left, or_parts, or_right, true≢false}
-use Rattle.std.proofs.lemmas.Nat.{and_le_l}
-use Rattle.mark_core.specs.Bits.{complement, wrapped_sum}
-use Rattle.mark_core.specs.Steps.ColourSteps.{cleaning_after, popped_after, scan_after, seen_in, with_alloc_word}
+use Rattle.std.proofs.lemmas.Bool.{and_from, and_parts, cases_eq, false≢true, le-leb, ne_eqb, not-true, or_from, or_left, or_parts, or_right, true≢false}
+use Rattle.mark_core.specs.Bits.{wrapped_sum}
+use Rattle.mark_core.specs.Steps.ColourSteps.{cleaning_after, popped_after, scan_after, with_alloc_word}
 use Rattle.mark_core.specs.Effects.{seat_after}
 use Rattle.mark_core.specs.Notes.{is_gate, same_place, steady}
 use Rattle.mark_core.specs.Places.{alloc_at, counter_at}
@@ -17,7 +16,6 @@ use Rattle.mark_core.specs.declared.kinds.Shape.{Shape}
 use Rattle.mark_core.specs.declared.kinds.Step.{Step}
 use Rattle.mark_core.specs.declared.kinds.Step.TheVariants.{AddStat, ReadAlloc, Reset}
 use Rattle.mark_core.specs.declared.seat.BlockState.{BlockState}
-use Rattle.mark_core.specs.declared.seat.Cleaning.{Cleaning}
 use Rattle.mark_core.specs.declared.seat.SeatState.{SeatState}
 use Rattle.gc_table.specs.Log.{events, steps_of}
 use Rattle.gc_table.specs.Seats.{Found, Took}
@@ -28,37 +26,15 @@ use Rattle.gc_table.proofs.History.Log.{events-after, only-after}
 use Rattle.gc_table.proofs.Noticing.{alone-steady, alone-step, found-noted, known-alone, known-here, known-step, Spares}
 use Rattle.gc_table.proofs.Running.{ran-events, ran-found, ran-only}
 use Rattle.tracer.proofs.Recycled.{steps-append}
+use Rattle.tracer.proofs.Hand.{alloc-left as cleaned}
 use Rattle.gc_cycle.specs.Finishing.{AllocsNoted, IsAloneIn, IsPart, ones_noted, stays_in}
 use Rattle.gc_cycle.specs.Settling.{adjusts, alloc_reads, Sets}
 use Rattle.mark_core.specs.Numbers.{done_count, free_count, last_count}
 use Rattle.gc_cycle.specs.Standing.{IsAlone}
 use Rattle.gc_cycle.proofs.Ends.Moving.{may-reset_idle, no-block}
 use Rattle.gc_cycle.proofs.Parts.{part-join, part-reset, part-step}
-use Rattle.mark_core.specs.Cards.{block_of_card}
 
 -- a read of allocation bits
-
-nothing-left : (word : ℕ) → bit_and 0 word ≡ 0
-nothing-left word = let low = and_le_l 0 word in omega (arith, low)
-
--- a cleaning that is done stays done, whatever is read
-cleaned : (o : Option Cleaning) (b word : ℕ) → cleaning_left o ≡ false → cleaning_left (cleaning_after o b word) ≡ false
-cleaned None b word e = refl
-cleaned (Some x) b word e =
-    let a = or_parts (not x.known || not (eqb x.left 0)) x.redirty e in
-    let c = or_parts (not x.known) (not (eqb x.left 0)) a.0 in
-    let left : x.left ≡ 0 = eqb-true x.left 0 (not-false (eqb x.left 0) c.1) in
-    by_block (x.known && eqb (block_of_card x.card) b) c.0 left a.1
-  where
-    none : (k : ℕ) → k ≡ 0 → not (eqb k 0) ≡ false
-    none k h = ap not (eq-eqb k 0 h)
-
-    by_block : (z : Bool) → not x.known ≡ false → x.left ≡ 0 → x.redirty ≡ false → cleaning_left (Some (cond z (seen_in x word) x)) ≡ false
-    by_block false k l r = e
-    by_block true k l r =
-        or_from (not x.known || not (eqb (bit_and x.left word) 0)) (x.redirty || not (eqb (bit_and x.left (complement word)) 0))
-        (or_from (not x.known) (not (eqb (bit_and x.left word) 0)) k (none (bit_and x.left word) (ap (λ n. bit_and n word) l ∙ nothing-left word)))
-        (or_from x.redirty (not (eqb (bit_and x.left (complement word)) 0)) r (none (bit_and x.left (complement word)) (ap (λ n. bit_and n (complement word)) l ∙ nothing-left (complement word))))
 
 is-none : {X : Type 0} (o : Option X) → is_some o ≡ false → o ≡ None
 is-none None e = refl

@@ -10,7 +10,7 @@ use Rattle.mark_core.specs.declared.kinds.Step.TheVariants.{NextBlock, ReadAlloc
 use Rattle.mark_core.specs.declared.seat.SeatState.{SeatState}
 use Rattle.gc_table.specs.Log.{Only}
 use Rattle.gc_table.specs.Notes.{look}
-use Rattle.gc_table.specs.Running.{AtLeast, IsSeen, Ran, ends_alone}
+use Rattle.gc_table.specs.Running.{AtLeast, IsSeen, Ran}
 use Rattle.gc_table.specs.Taking.{after}
 use Rattle.gc_table.specs.declared.view.View.{View}
 use Rattle.gc_table.proofs.Running.{run-keeps}
@@ -31,15 +31,6 @@ sweeps-stay StoreAlloc e = refl
 sweeps-stay ClearMarks e = refl
 sweeps-stay (ReadStat which) e = refl
 sweeps-stay step e = absurd (false≢true e)
-
-pub sweeps-quiet : (step : Step) → is_sweeping step ≡ true → ends_alone step ≡ false
-sweeps-quiet NextBlock e = refl
-sweeps-quiet (ReadAlloc b) e = refl
-sweeps-quiet ReadBlockMarks e = refl
-sweeps-quiet StoreAlloc e = refl
-sweeps-quiet ClearMarks e = refl
-sweeps-quiet (ReadStat which) e = refl
-sweeps-quiet step e = absurd (false≢true e)
 
 -- nothing is in hand, by whether something of a cleaning is left
 abbrev pub nothing_by : Shape → SeatState → Bool → Bool

@@ -36,10 +36,10 @@ use Rattle.gc_cycle.proofs.SectionKept.{keeps-seat, keeps-section}
 use Rattle.gc_cycle.proofs.Stops.OutAndIn.{no-cache}
 use Rattle.gc_cycle.proofs.Stops.FlagRaised.{calm-count, count-calls}
 use Rattle.gc_cycle.proofs.Sequences.{followed-later, none-of-steps, some-none}
-use Rattle.gc_cycle.proofs.Ends.Spared.{finish-position}
+use Rattle.gc_cycle.proofs.Ends.Spared.{finish-position, keeps as finishes-keep}
 use Rattle.gc_cycle.proofs.Traced.{nothing-rest}
 use Rattle.mark_core.specs.declared.kinds.Step.{Step}
-use Rattle.mark_core.specs.declared.kinds.Step.TheVariants.{ClaimBlock, DropStep, JoinHelpStep, LeaveHelpStep, RaiseStep, ReadCat, ReadOwn, ReadPhase, StorePhase, StorePosition, ReadStat, ReadSlot}
+use Rattle.mark_core.specs.declared.kinds.Step.TheVariants.{ClaimBlock, DropStep, JoinHelpStep, LeaveHelpStep, RaiseStep, ReadCat, ReadOwn, ReadPhase, StorePhase, ReadStat, ReadSlot}
 use Rattle.gc_cycle.specs.Collecting.{EndsStop, HoldsWorld, spares_section, TriesAgain}
 use Rattle.gc_cycle.specs.Mutating.{keeps_section, stays_calm, StopsWorld, tries_stopping, TriesToStop}
 use Rattle.gc_cycle.specs.Sparing.{spares_part}
@@ -74,17 +74,6 @@ calm-spares (ReadCat v) e = absurd (false≢true e)
 calm-spares (ReadSlot k) e = absurd (false≢true e)
 calm-spares (ReadStat which) e = refl
 calm-spares step e = e
-
--- a step that ends a cycle keeps what the section has come to
-pub finishes-keep : (step : Step) → finishes step ≡ true → keeps_section step ≡ true
-finishes-keep (StorePhase to) e = refl
-finishes-keep RaiseStep e = refl
-finishes-keep DropStep e = refl
-finishes-keep JoinHelpStep e = refl
-finishes-keep LeaveHelpStep e = refl
-finishes-keep ReadPhase e = refl
-finishes-keep (StorePosition done) e = refl
-finishes-keep step e = e
 
 helping-kept : (sh : Shape) (s : SeatState) (step : Step) (old : ℕ) → finishes step ≡ true → (seat_after sh s step old).helping ≡ s.helping
 helping-kept sh s JoinHelpStep old e = absurd (false≢true e)

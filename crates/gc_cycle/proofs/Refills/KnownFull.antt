@@ -1,20 +1,19 @@
 -- A heap that is full stays so, and so a mutator that doesn't find it full hasn't found it full before.
-use Rattle.std.proofs.Common.{ℕ, ◌≡◌, ◌≤◌, zero, suc, List, [], ◌∷◌, ◌++◌, arith, refl, sym, ap, ◌∙◌, subst, Bool, true, false, ◌&&◌, ◌||◌, Some, ⊎_elim, ◌⊎◌, inl, inr}
+use Rattle.std.proofs.Common.{ℕ, ◌≡◌, ◌≤◌, zero, suc, List, [], ◌∷◌, ◌++◌, arith, refl, sym, ap, ◌∙◌, subst, Bool, true, false, ◌||◌, Some, ⊎_elim, ◌⊎◌, inl, inr}
 use Rattle.std.specs.Prelude.{if◌then◌else◌, is_some}
-use Rattle.std.proofs.lemmas.Bool.{and_parts, cases_Bool, false≢true, or_cases, or_from, or_left, or_right, true≢false}
+use Rattle.std.proofs.lemmas.Bool.{and_parts, cases_Bool, false≢true, or_cases, or_from, or_left, true≢false}
 use Rattle.mark_core.specs.Effects.{place, seat_after}
 use Rattle.mark_core.specs.Notes.{same_place, steady}
 use Rattle.mark_core.specs.Places.{the_phase}
-use Rattle.mark_core.specs.Seats.{is_phase, phase_of, saw, takes_part}
+use Rattle.mark_core.specs.Seats.{phase_of, saw, takes_part}
 use Rattle.mark_core.specs.declared.kinds.Phase.{Phase}
-use Rattle.mark_core.specs.declared.kinds.Phase.TheVariants.{Full, Marking}
+use Rattle.mark_core.specs.declared.kinds.Phase.TheVariants.{Full}
 use Rattle.mark_core.specs.declared.kinds.Shape.{Shape}
 use Rattle.mark_core.specs.declared.kinds.Step.{Step}
 use Rattle.mark_core.specs.declared.kinds.Step.TheVariants.{DropStep, OpenStep, ReadPhase, StorePhase}
 use Rattle.mark_core.specs.declared.seat.SeatState.{SeatState}
-use Rattle.mark_core.proofs.Notes.NotesKept.{single-word}
 use Rattle.gc_table.specs.Seats.{Found}
-use Rattle.gc_table.specs.Taking.{after, Finds}
+use Rattle.gc_table.specs.Taking.{after}
 use Rattle.gc_table.specs.declared.view.Entry.{Entry}
 use Rattle.gc_table.specs.declared.view.View.{View}
 use Rattle.packet_pools.specs.Seeking.{some_event}
@@ -26,11 +25,13 @@ use Rattle.gc_table.proofs.Noticing.{found-noted, is_load, known-here, known-ste
 use Rattle.gc_table.proofs.Running.{ran-events, ran-found}
 use Rattle.gc_cycle.specs.Answering.{GoesOn, last_phase, later_or, phase_read, TellsFull}
 use Rattle.gc_table.specs.Rule.{KnowsFull}
+use Rattle.gc_table.proofs.Joining.{full-steady as steady-full}
 use Rattle.gc_cycle.specs.Mutating.{tries_stopping}
 use Rattle.gc_cycle.specs.Polling.{saw_full}
 use Rattle.gc_cycle.specs.Sorts.{reads_phase}
 use Rattle.gc_cycle.specs.Standing.{Mutates}
 use Rattle.gc_cycle.proofs.Sequences.{some-none}
+use Rattle.stop_world.proofs.Passing.{read-most as found-low}
 
 full-number : (n : ℕ) → n ≤ 5 → saw (Some (phase_of n)) Full ≡ true → n ≡ 5
 full-number zero l e = absurd (false≢true e)
@@ -40,14 +41,6 @@ full-number (suc (suc (suc zero))) l e = absurd (false≢true e)
 full-number (suc (suc (suc (suc zero)))) l e = absurd (false≢true e)
 full-number (suc (suc (suc (suc (suc zero))))) l e = refl
 full-number (suc (suc (suc (suc (suc (suc n)))))) l e = absurd (omega (arith, l))
-
-pub found-low : (v : View) (n : ℕ) → Finds ReadPhase n v → n ≤ 5
-found-low v n f =
-    let core = f.state.core in
-    subst (λ k. k ≤ 5) (sym (single-word core.shape core.words 1 (omega arith)) ∙ f.word) f.whole.core.formed.phase
-
-pub steady-full : (s : SeatState) → steady s the_phase 5 ≡ true
-steady-full s = or_right s.alone _ (or_right (s.knows || s.admitted || (s.active && is_phase 5 Marking)) true refl)
 
 spares-full : (sh : Shape) (s : SeatState) (step : Step) → tries_stopping step ≡ true → (same_place (place sh s step) the_phase ≡ false) ⊎ (is_load step ≡ true)
 spares-full sh s (StorePhase to) e = absurd (false≢true e)

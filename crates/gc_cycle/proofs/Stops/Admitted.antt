@@ -26,8 +26,9 @@ use Rattle.gc_cycle.specs.Lower.{traces_or_cleans}
 use Rattle.gc_cycle.specs.Moments.{Moment, after_moment, at_some_moment, begins, finds_no_room, finds_no_work}
 use Rattle.gc_cycle.specs.Draining.{is_idle_now}
 use Rattle.gc_cycle.specs.Sorts.{clears, draws, draws_or_clears}
-use Rattle.gc_cycle.proofs.Sequences.{moments, moments-state, some-moment-later, some-none, this-moment}
+use Rattle.gc_cycle.proofs.Sequences.{moments, moments-state, some-moment-later, this-moment}
 use Rattle.gc_cycle.proofs.Searched.{work-longer}
+use Rattle.gc_cycle.proofs.Ends.Finishes.{never-both as never-join}
 
 -- what waits in the first list waits in the second
 abbrev pub Sub : List ℕ → List ℕ → Type 0
@@ -101,10 +102,6 @@ idle-grows sh s ps qs es h e = let a = and_parts (never clears es) _ e in and_fr
 
 pub room-grows : (sh : Shape) → Grows (finds_no_room sh)
 room-grows sh s ps qs es h e = e
-
--- a search is also shown by more events
-pub never-join : (f : Sort) (xs ys : List Entry) → never f xs ≡ true → never f ys ≡ true → never f (xs ++ ys) ≡ true
-never-join f xs ys a b = ap not (some-none f xs ys (not-true _ a) (not-true _ b))
 
 pub idle-longer : (sh : Shape) (ys : List Entry) → never clears ys ≡ true → (m : Moment) (es : List Entry) → is_idle_now sh m es ≡ true → is_idle_now sh m (es ++ ys) ≡ true
 idle-longer sh ys n m es e = let a = and_parts (never clears es) _ e in and_from _ _ (never-join clears es ys a.0 n) (work-longer sh ys m es a.1)

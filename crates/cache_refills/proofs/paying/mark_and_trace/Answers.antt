@@ -12,7 +12,7 @@ use Rattle.gc_cycle.specs.Roots.{roots_scanned}
 use Rattle.gc_cycle.specs.CardLooks.{looks_at_card}
 use Rattle.gc_cycle.specs.Sorts.{draws_or_clears, pops, reads_pace}
 use Rattle.gc_cycle.specs.Turns.{SeesToRoots}
-use Rattle.gc_cycle.proofs.Turns.{has-traced, roots-left, roots-earlier, roots-later}
+use Rattle.gc_cycle.proofs.Turns.{has-traced, roots-left, roots-earlier, roots-later, roots-scanned}
 use Rattle.cache_refills.proofs.Refills.Payment.{marks-none, marks-traces, never-run, none-traces, section-below, traces-within}
 use Rattle.tracer.specs.StepBounds.{section_steps}
 use Rattle.cache_refills.specs.Pace.StepBounds.{early_steps, quota_steps}
@@ -47,8 +47,8 @@ section_at-other-requires c =
     let some = some-section c.args.heap.now.shape v c.requires.seat.0.1 (section-below v c.args.seat.now.possible c.requires.seat.1.section) in
     omega (arith, some, sections)
 
-pub scan_other-requires-clause-section : goal.scan_other-requires-clause-section
-scan_other-requires-clause-section c =
+pub scan_roots-requires-in-Done-clause-section : goal.scan_roots-requires-in-Done-clause-section
+scan_roots-requires-in-Done-clause-section c =
     let v : View = view_of c.args.seat.now in
     let some = some-section c.args.heap.now.shape v c.requires.seat.0.1 (section-below v c.args.seat.now.possible c.requires.seat.1.section) in
     subst (λ n. n < c.args.heap.now.shape.sections) (sym (c.section_at-other.ensures ∙ ap (λ (s : Shape). c.args.owed.turn % s.sections) c.shape.ensures)) (mod-lt c.args.owed.turn some)
@@ -57,11 +57,11 @@ pub returns-in-Done-clause-pays : goal.returns-in-Done-clause-pays
 returns-in-Done-clause-pays c =
     let u : View = view_of c.args.seat.now in
     let v : View = view_of c.scan_roots.new.seat in
-    let y : View = view_of c.scan_other.new.seat in
+    let y : View = view_of c.scan_roots-in-Done.new.seat in
     let x : View = view_of c.pass_early.new.seat in
     let w : View = view_of c.pay_quota.new.seat in
     let e = c.in-Done.ensures in
-    let o = c.scan_other.ensures in
+    let o = c.scan_roots-in-Done.ensures in
     let quota = c.args.owed.quota in
     let looks = c.args.owed.looks in
     let own = subst (λ n. roots_scanned n (events u v) ≡ true) (c.unwrap_or-section.ensures ∙ ap (λ (s : SeatState). own_section s) c.state.ensures) e.scans in
@@ -86,13 +86,13 @@ pub returns-in-Done-clause-other : goal.returns-in-Done-clause-other
 returns-in-Done-clause-other c =
     let u : View = view_of c.args.seat.now in
     let v : View = view_of c.scan_roots.new.seat in
-    let y : View = view_of c.scan_other.new.seat in
+    let y : View = view_of c.scan_roots-in-Done.new.seat in
     let x : View = view_of c.pass_early.new.seat in
     let w : View = view_of c.pay_quota.new.seat in
     let e = c.in-Done.ensures in
-    let o = c.scan_other.ensures in
+    let o = c.scan_roots-in-Done.ensures in
     let later = ran-join y x w c.pass_early.ensures.none.traced.ran c.pay_quota.ensures.traces.traced.ran in
-    let seen = subst (λ n. SeesToRoots n v y) (c.section_at-other.ensures ∙ ap (λ (s : Shape). c.args.owed.turn % s.sections) c.shape.ensures) o.sees in
+    let seen = subst (λ n. SeesToRoots n v y) (c.section_at-other.ensures ∙ ap (λ (s : Shape). c.args.owed.turn % s.sections) c.shape.ensures) (roots-scanned c.section_at-other.result c.scan_roots-in-Done.result v y o.scans) in
     roots-earlier _ u y w (ran-join u v y e.traced.ran o.traced.ran) later (roots-later _ u v y e.traced.ran o.traced.ran seen)
 
 pub returns-in-Done-clause-few : goal.returns-in-Done-clause-few
@@ -101,10 +101,10 @@ returns-in-Done-clause-few c =
     let e = c.in-Done.ensures in
     let u : View = view_of c.args.seat.now in
     let v : View = view_of c.scan_roots.new.seat in
-    let y : View = view_of c.scan_other.new.seat in
+    let y : View = view_of c.scan_roots-in-Done.new.seat in
     let x : View = view_of c.pass_early.new.seat in
     let w : View = view_of c.pay_quota.new.seat in
-    let o = c.scan_other.ensures in
+    let o = c.scan_roots-in-Done.ensures in
     let p = c.pass_early.ensures in
     let q = c.pay_quota.ensures in
     let quota = quota_steps c.pay_quota.result.done c.args.owed.looks sh in
@@ -124,11 +124,11 @@ pub returns-in-Done-clause-passes : goal.returns-in-Done-clause-passes
 returns-in-Done-clause-passes c =
     let u : View = view_of c.args.seat.now in
     let v : View = view_of c.scan_roots.new.seat in
-    let y : View = view_of c.scan_other.new.seat in
+    let y : View = view_of c.scan_roots-in-Done.new.seat in
     let x : View = view_of c.pass_early.new.seat in
     let w : View = view_of c.pay_quota.new.seat in
     let e = c.in-Done.ensures in
-    let o = c.scan_other.ensures in
+    let o = c.scan_roots-in-Done.ensures in
     let p = c.pass_early.ensures in
     let q = c.pay_quota.ensures in
     let before = ran-join u v y e.traced.ran o.traced.ran in

@@ -29,25 +29,25 @@ returns-then-not-enter c =
       few = few-events 2 u v _ b.events (omega arith);
     }
 
-pub finds_full-requires : goal.finds_full-requires
-finds_full-requires c =
+pub reads_full-requires : goal.reads_full-requires
+reads_full-requires c =
     record { seat = (c.enter.ensures.seat, come-mutates (view_of c.args.seat.now) (view_of c.enter.new.seat) c.requires.seat.1 c.requires.section c.enter.ensures.ran c.if-not-enter.ensures.enters) }
 
-pub returns-then-finds_full : goal.returns-then-finds_full
-returns-then-finds_full c =
+pub returns-then-reads_full : goal.returns-then-reads_full
+returns-then-reads_full c =
     let u : View = view_of c.args.seat.now in
     let v : View = view_of c.enter.new.seat in
-    let w : View = view_of c.finds_full.new.seat in
+    let w : View = view_of c.reads_full.new.seat in
     let o = c.requires.seat.1 in
     let s = c.requires.section in
     let r = c.enter.ensures.ran in
     let e = c.if-not-enter.ensures.enters in
-    let t = c.finds_full.ensures.read in
-    let f = c.if-finds_full.ensures.full in
+    let t = c.reads_full.ensures.read in
+    let f = c.if-reads_full.ensures.full in
     let g = come-full u v w o s r e t f.0 f.1 in
     let out = come-out u v w o s r e t in
     record {
-      seat = c.finds_full.ensures.seat.0;
+      seat = c.reads_full.ensures.seat.0;
       enters = (come-once u v w o s r e t, g.0, g.1);
       out = out;
       own = come-own u v w o s r e t;
@@ -60,16 +60,16 @@ pub returns : goal.returns
 returns c =
     let u : View = view_of c.args.seat.now in
     let v : View = view_of c.enter.new.seat in
-    let w : View = view_of c.finds_full.new.seat in
+    let w : View = view_of c.reads_full.new.seat in
     let o = c.requires.seat.1 in
     let s = c.requires.section in
     let r = c.enter.ensures.ran in
     let e = c.if-not-enter.ensures.enters in
-    let t = c.finds_full.ensures.read in
+    let t = c.reads_full.ensures.read in
     let out = come-out u v w o s r e t in
     record {
-      seat = c.finds_full.ensures.seat.0;
-      enters = (come-once u v w o s r e t, come-going u v w o s r e t c.if-finds_full.ensures.going, come-cache u v w o s r e t);
+      seat = c.reads_full.ensures.seat.0;
+      enters = (come-once u v w o s r e t, come-going u v w o s r e t c.if-reads_full.ensures.going, come-cache u v w o s r e t);
       out = out;
       own = come-own u v w o s r e t;
       spares = only-more stays_calm spares_part calm-spares u w out.only;

@@ -26,12 +26,12 @@ use Rattle.cache_refills.proofs.Due.{due-calm, due-join}
 use Rattle.cache_refills.proofs.Few.{none-few}
 use Rattle.cache_refills.proofs.trying.try_refill.Goals as goal
 
-pub returns-then-ends_full : goal.returns-then-ends_full
-returns-then-ends_full c =
+pub returns-then-stores_if_full : goal.returns-then-stores_if_full
+returns-then-stores_if_full c =
     let v : View = view_of c.args.seat.now in
-    let w : View = view_of c.ends_full.new.seat in
-    let e = c.ends_full.ensures in
-    let f = c.if-ends_full.ensures.full in
+    let w : View = view_of c.stores_if_full.new.seat in
+    let e = c.stores_if_full.ensures in
+    let f = c.if-stores_if_full.ensures.full in
     let few = e.few in
     let p = plays-calm v w e.ran (only-more answers stays_calm answers-calm v w e.only) in
     record { seat = e.seat.0; plays = p; refills = (f.0, f.1); calls = tt; keeps = plays-keeps v w p; due = due-calm v w (only-more answers stays_calm answers-calm v w e.only); pops = stops-paid (events v w) (unpopped (events v w) (answered-pops v w e.only)); unpopped = tt; numbers = leaves-full v w e.numbers; few = tt; longest = omega (arith, few) }
@@ -39,17 +39,17 @@ returns-then-ends_full c =
 pub begins_or_ends-requires-clause-marking : goal.begins_or_ends-requires-clause-marking
 begins_or_ends-requires-clause-marking c =
     let v : View = view_of c.args.seat.now in
-    let w : View = view_of c.ends_full.new.seat in
-    let t = c.if-ends_full.ensures.going.looked in
-    λ h. marking-known v w t c.ends_full.ensures.seat.1.active (looked-seen v w t c.requires.seat.1 h)
+    let w : View = view_of c.stores_if_full.new.seat in
+    let t = c.if-stores_if_full.ensures.going.looked in
+    λ h. marking-known v w t c.stores_if_full.ensures.seat.1.active (looked-seen v w t c.requires.seat.1 h)
 
 pub returns-then-begins_or_ends : goal.returns-then-begins_or_ends
 returns-then-begins_or_ends c =
     let v : View = view_of c.args.seat.now in
-    let w : View = view_of c.ends_full.new.seat in
+    let w : View = view_of c.stores_if_full.new.seat in
     let x : View = view_of c.begins_or_ends.new.seat in
-    let e = c.ends_full.ensures in
-    let k = c.if-ends_full.ensures.going in
+    let e = c.stores_if_full.ensures in
+    let k = c.if-stores_if_full.ensures.going in
     let s = c.begins_or_ends.ensures in
     let d = c.if-begins_or_ends.ensures.done in
     let l = leads-looked v w k in
@@ -78,11 +78,11 @@ returns-then-begins_or_ends c =
 pub returns : goal.returns
 returns c =
     let v : View = view_of c.args.seat.now in
-    let w : View = view_of c.ends_full.new.seat in
+    let w : View = view_of c.stores_if_full.new.seat in
     let x : View = view_of c.begins_or_ends.new.seat in
     let y : View = view_of c.try_claim.new.seat in
-    let e = c.ends_full.ensures in
-    let k = c.if-ends_full.ensures.going in
+    let e = c.stores_if_full.ensures in
+    let k = c.if-stores_if_full.ensures.going in
     let s = c.begins_or_ends.ensures in
     let t = c.try_claim.ensures in
     let a = leads-looked v w k in

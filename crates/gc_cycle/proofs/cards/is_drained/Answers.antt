@@ -1,5 +1,4 @@
-use Rattle.std.proofs.Common.{◌≡◌, refl, sym, ap, ◌∙◌, Bool, true, false, not}
-use Rattle.std.proofs.lemmas.Bool.{false≢true}
+use Rattle.std.proofs.Common.{◌≡◌, sym, ap, ◌∙◌, true}
 use Rattle.mark_core.specs.Seats.{work_in_hand}
 use Rattle.mark_core.specs.declared.kinds.Shape.{Shape}
 use Rattle.gc_table.specs.Seats.{view_of}
@@ -9,10 +8,7 @@ use Rattle.gc_cycle.proofs.Idling.{rooted-by, traced-of}
 use Rattle.gc_cycle.proofs.Ends.Moving.{no-work}
 use Rattle.gc_cycle.proofs.Traced.{nothing-rest}
 use Rattle.gc_cycle.proofs.cards.is_drained.Goals as goal
-
-unless : (b : Bool) → not b ≡ true → b ≡ false
-unless true e = absurd (false≢true e)
-unless false e = refl
+use Rattle.gc_cycle.proofs.Ends.Swept.{unless}
 
 pub is_drained-requires-clause-rooted : goal.is_drained-requires-clause-rooted
 is_drained-requires-clause-rooted c = c.requires.seat.1.rooted

@@ -7,6 +7,7 @@ use Rattle.gc_table.specs.declared.view.View.{View}
 use Rattle.gc_table.specs.Log.{event, events}
 use Rattle.gc_table.proofs.Running.{ran-events, ran-join, ran-only}
 use Rattle.sweeper.specs.Sweepers.{is_clearing}
+use Rattle.sweeper.proofs.SweptBlocks.{freed-join as freed-run}
 use Rattle.gc_cycle.specs.Events.{never}
 use Rattle.gc_cycle.specs.Finishing.{finishes}
 use Rattle.card_clean.specs.Leaving.{rescans}
@@ -14,7 +15,7 @@ use Rattle.gc_cycle.specs.Sorts.{ends_cycle, tells_full, tries_marking}
 use Rattle.gc_cycle.proofs.ClearedBlocks.{cleared-part, clearing-rescans, may-clear}
 use Rattle.gc_cycle.proofs.Ends.Swept.{floor-above}
 use Rattle.gc_cycle.proofs.Sequences.{total-none}
-use Rattle.gc_cycle.proofs.Ends.Completing.{freed-move, freed-none, freed-run, move-total, part-unended, part-untold, part-untried, total-run}
+use Rattle.gc_cycle.proofs.Ends.Completing.{freed-move, freed-none, move-total, part-unended, part-untold, part-untried, total-run}
 use Rattle.gc_cycle.proofs.Ends.Finishes.{begins-later, never-both}
 use Rattle.gc_cycle.proofs.Parts.{move-finishes, part-finishes}
 use Rattle.gc_cycle.proofs.clearing.clear_all_marks.Goals as goal

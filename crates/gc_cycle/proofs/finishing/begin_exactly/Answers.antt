@@ -6,7 +6,8 @@ use Rattle.gc_table.proofs.Running.{ran-events, ran-join, ran-only}
 use Rattle.gc_table.specs.Log.{events}
 use Rattle.card_clean.specs.Leaving.{rescans, rescanned_in}
 use Rattle.sweeper.specs.Freeing.{freed_in}
-use Rattle.gc_cycle.proofs.Ends.Completing.{freed-none, freed-run, part-unended, part-untried, total-run}
+use Rattle.sweeper.proofs.SweptBlocks.{freed-join as freed-run}
+use Rattle.gc_cycle.proofs.Ends.Completing.{freed-none, part-unended, part-untried, total-run}
 use Rattle.gc_cycle.specs.Events.{never, since_last}
 use Rattle.gc_cycle.specs.Finishing.{finishes}
 use Rattle.gc_cycle.specs.Sorts.{ends_cycle, moves_to, tries_marking}

@@ -9,10 +9,11 @@ use Rattle.card_clean.specs.Leaving.{rescans}
 use Rattle.gc_cycle.specs.Moments.{begins}
 use Rattle.gc_table.proofs.Running.{ran-only}
 use Rattle.gc_cycle.specs.Finishing.{finishes, IsAloneIn}
-use Rattle.gc_cycle.proofs.Ends.Completing.{freed-run, total-run}
+use Rattle.gc_cycle.proofs.Ends.Completing.{total-run}
 use Rattle.gc_cycle.proofs.Ends.Finishes.{before-more, exact-collects, exact-end, exact-fresh, exact-help, exact-not-full, exact-once, exact-ran, exact-unbegun}
 use Rattle.gc_cycle.proofs.Ends.Spared.{finish-calm, finish-keeps, finish-position, finish-spares, untold-fills, untold-sees}
 use Rattle.gc_cycle.proofs.finishing.precise.Goals as goal
+use Rattle.sweeper.proofs.SweptBlocks.{freed-join as freed-run}
 
 pub returns-clause-ends : goal.returns-clause-ends
 returns-clause-ends g c =

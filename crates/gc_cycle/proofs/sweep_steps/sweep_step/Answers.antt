@@ -3,6 +3,7 @@ use Rattle.mark_core.specs.Layout.{block_count}
 use Rattle.mark_core.specs.declared.kinds.Phase.TheVariants.{Sweep}
 use Rattle.packet_pools.specs.Counts.{count_of}
 use Rattle.sweeper.specs.Freeing.{freed_in}
+use Rattle.sweeper.proofs.SweptBlocks.{freed-join as freed-run}
 use Rattle.gc_table.specs.Seats.{view_of}
 use Rattle.gc_table.specs.declared.view.View.{View}
 use Rattle.gc_table.proofs.History.Log.{events-none, only-more, only-none}
@@ -12,7 +13,6 @@ use Rattle.gc_cycle.specs.Statistics.{leaves_numbers}
 use Rattle.gc_cycle.proofs.Leaving.{sweeps-leave}
 use Rattle.gc_cycle.specs.Sorts.{draws_block}
 use Rattle.gc_cycle.proofs.Stops.Admitted.{count-run}
-use Rattle.gc_cycle.proofs.Ends.Completing.{freed-run}
 use Rattle.gc_cycle.proofs.Ends.Moving.{no-block}
 use Rattle.gc_cycle.proofs.Exactly.{exact-part}
 use Rattle.gc_cycle.proofs.Parts.{part-join, part-none}

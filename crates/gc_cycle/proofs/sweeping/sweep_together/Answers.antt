@@ -20,12 +20,13 @@ use Rattle.gc_table.proofs.Running.{ran-join, ran-shape}
 use Rattle.sweeper.specs.Sweepers.{is_sweeping}
 use Rattle.gc_cycle.specs.Finishing.{IsAloneIn, IsOpen, stays_in}
 use Rattle.sweeper.specs.Freeing.{block_floor, frees}
+use Rattle.sweeper.proofs.Sweepers.{sweeping-stays as sweeps-quiet}
 use Rattle.gc_cycle.proofs.Ends.Moving.{no-block}
 use Rattle.gc_cycle.proofs.Stops.Opened.{closed, closes-block_floor, open-event, open-part, open-total, opened, phase-kept}
 use Rattle.gc_cycle.proofs.Stops.Unopened.{openable}
 use Rattle.gc_cycle.proofs.Sequences.{freed-same}
 use Rattle.gc_table.specs.Log.{events}
-use Rattle.gc_cycle.proofs.Ends.Swept.{cleaning-done, done-of, floor-above, nothing_by, sweeps-quiet, sweeps-stay}
+use Rattle.gc_cycle.proofs.Ends.Swept.{cleaning-done, done-of, floor-above, nothing_by, sweeps-stay}
 use Rattle.gc_cycle.proofs.sweeping.sweep_together.Goals as goal
 
 closes-none : (s : SeatState) (step : Step) (n : ℕ) → closes step ≡ true → frees s step n ≡ 0

@@ -5,7 +5,7 @@ use Rattle.gc_table.specs.Seats.{view_of}
 use Rattle.gc_table.specs.declared.view.View.{View}
 use Rattle.std.specs.Prelude.{Some}
 use Rattle.gc_cycle.proofs.Refills.KnownFull.{goes-on, mutates-still, not-full}
-use Rattle.gc_cycle.proofs.collecting.finds_full.Goals as goal
+use Rattle.gc_cycle.proofs.collecting.reads_full.Goals as goal
 
 pub returns-in_default : goal.returns-in_default
 returns-in_default c =
