@@ -18,6 +18,7 @@ use mark_core::variable_or_nil;
 ///
 /// The store is done at the first step. Others may read and store in the object also before its card is dirtied; no
 /// collection ends between the two, since the seat is inside.
+#[tactic(auto, using(crate::proofs::Owned::sharing))]
 pub fn share_ref(heap: &Heap, seat: &mut HeapSeat, v: u8, field: u8, w: Option<u8>)
     requires seat { Sits heap.now seat.old × MayStore (view_of seat.old) }
     requires shared { IsTrue (view_of seat.old).shape.sharing }
