@@ -8,14 +8,13 @@ use gc_table::HeapSeat;
 
 /// A block that the seat claimed, and its free cells. It can't be dropped: [`retire`](crate::retire) spends it.
 pub struct Cache {
-    /// The block's number.
     pub(crate) block: u32,
-    /// Bit i is cell 64 * block + i.
+    /// Bit i is for cell 64 * block + i.
     pub(crate) cells: u64,
 }
 
 impl Cache {
-    /// The number of its block, whose first cell is 64 times that number.
+    /// The number of its block, whose first cell is 64 times that.
     pub fn block(&self) -> u32
         ensures { result ≡ self.now.block }
     {
@@ -30,8 +29,8 @@ impl Cache {
     }
 }
 
-/// The cache that the seat's record has, for a caller that kept none between two calls. Once it is given up, no
-/// other of the same block can be spent.
+/// The cache in the seat's record, for a caller that kept none between two calls. Once it is given up, no other of the
+/// same block can be spent.
 pub fn cache_of(seat: &HeapSeat) -> Option<Cache>
     requires whole { IsTrue (is_whole (state_of seat.now).cache) }
     ensures some { IfSome result (λ h. IsCached h (view_of seat.now)) }

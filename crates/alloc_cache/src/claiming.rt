@@ -10,17 +10,16 @@ use crate::cache::Cache;
 use gc_table::{Heap, HeapSeat};
 use mark_core::{BLOCK_CELLS, FREE};
 
-/// What a search of some of the blocks came to.
+/// What [`claim_some`] answers.
 pub enum Search {
     /// A block with free cells, now the seat's.
     Claimed(Cache),
-    /// None of them had a free cell: go on from this block.
+    /// No block that was tried had a free cell: go on from this one.
     Next(u32),
-    /// None from the first to the last block had a free cell.
+    /// The same, and no block is left.
     Ended,
 }
 
-/// Claims block b, unless another seat has it. If no cell of it is free it is released again.
 fn claim_block(heap: &Heap, seat: &mut HeapSeat, b: u32) -> Option<Cache>
     requires seat { Sits heap.now seat.old × MayClaim (view_of seat.old) }
     requires block { b < block_count heap.now.shape }
@@ -57,7 +56,6 @@ fn claim_among(heap: &Heap, seat: &mut HeapSeat, first: u32, end: u32) -> Option
     None
 }
 
-/// Claims a block with free cells, from block `first` (modulo their number) on and around.
 fn claim_from(heap: &Heap, seat: &mut HeapSeat, first: u32) -> Option<Cache>
     requires seat { Sits heap.now seat.old × MayClaim (view_of seat.old) }
     ensures seat { Sits heap.now seat.new }
@@ -74,11 +72,9 @@ fn claim_from(heap: &Heap, seat: &mut HeapSeat, first: u32) -> Option<Cache>
     }
 }
 
-/// Claims a block with at least one free cell; the count of free cells falls by them. The seat has a section and no
-/// cache, and runs, or has stopped the world while no cycle is under way.
-///
-/// The search begins behind the block that the seat claimed last. The answer is None only if this call saw each
-/// block claimed, or with all allocation bits set.
+/// Claims a block with at least one free cell. The answer is None only if this call saw each block claimed, or with all
+/// allocation bits set. The seat has a section and no cache, and runs, or has stopped the world while no cycle is under
+/// way.
 pub fn claim(heap: &Heap, seat: &mut HeapSeat) -> Option<Cache>
     requires seat { Sits heap.now seat.old × MayClaim (view_of seat.old) }
     ensures seat { Sits heap.now seat.new }
@@ -97,7 +93,6 @@ pub fn claim(heap: &Heap, seat: &mut HeapSeat) -> Option<Cache>
     }
 }
 
-/// Where a search that found no block goes on.
 fn goes_on(end: u32, blocks: u32) -> Option<u32>
     requires end { end ≤ blocks }
     ensures some { IfSome result (λ n. (n ≡ end) × (n < blocks)) }
@@ -109,11 +104,11 @@ fn goes_on(end: u32, blocks: u32) -> Option<u32>
     None
 }
 
-/// Claims a block as [`claim`] does, but looks only at `most` blocks from block `from` on: for a caller that may
-/// not take long.
+/// Claims the first block in which it sees a free cell, of the `most` blocks from block `from` on: for a caller that
+/// may not take long. It asks of the seat what [`claim`] does.
 ///
-/// It claims the first in which it sees a free cell. Otherwise it answers Next if there are more blocks, else
-/// Ended: a caller that began at block 0 has then seen each block.
+/// If it sees none it answers Next if there are more blocks, else Ended: a caller that began at block 0 has then seen
+/// each block.
 pub fn claim_some(heap: &Heap, seat: &mut HeapSeat, from: u32, most: u32) -> Search
     requires seat { Sits heap.now seat.old × MayClaim (view_of seat.old) }
     requires from { from ≤ block_count heap.now.shape }

@@ -1,25 +1,20 @@
 //! Blocks in which mutators make cells.
 //!
-//! A mutator claims a block of 64 cells, its *cache*, and reads once which of them are free. Then it makes one
-//! after another by stores into words that nobody else touches ([`new_cell`]). A cell that was made is *used*: the
-//! mutator refers to it from a variable, and nobody can take it, but its allocation bit isn't set yet. One step
-//! publishes all used cells of a cache ([`publish`]).
+//! A mutator claims a block of 64 cells, its *cache*, and reads once which of them are free. Then it makes one after
+//! another by stores into words that nobody else touches ([`new_cell`]). A cell that was made is *used*: a variable of
+//! the mutator refers to it and nobody can take it, but its allocation bit isn't set yet. One step publishes all used
+//! cells of a cache ([`publish`]).
 //!
 //! # Why cells are published together
 //!
-//! A tracer that reads a field of a cell must find what its maker stored there. A step for each cell would cost a
-//! write to a word that tracers read. So the allocation word is written once per cache, and only this word says
-//! which cells may be scanned: a tracer defers a used cell that isn't published. These are the allocation caches
-//! and allocation bits of Barabash and others, "A parallel, incremental, mostly concurrent garbage collector for
-//! servers", TOPLAS 2005.
+//! A tracer that reads a field of a cell must find what its maker stored there. A step for each cell would be a write
+//! to a word that tracers read. So the allocation word is written once per cache, and a tracer defers a used cell that
+//! isn't published. These are the allocation caches and allocation bits of Barabash and others, TOPLAS 2005.
 //!
 //! # The search
 //!
-//! [`claim`] goes from the block behind the seat's last one on, so seats spread over the heap and don't look again
-//! at blocks that they filled. No lock is held, so a block may be free again when it answers None.
-//!
-//! The count of free cells falls by a block's free cells when the block is claimed, and rises by those left before
-//! it is released. It paces the cycle; no proof rests on it.
+//! [`claim`] begins behind the block that the seat claimed last, so seats spread over the heap and don't look again at
+//! blocks that they filled. No lock is held, so a block may be free again when it answers None.
 #![tactic(auto)]
 
 mod cache;

@@ -57,11 +57,11 @@ fn without_cell(cells: u64, i: u32) -> u64
     cells & !(1 << i)
 }
 
-/// Makes an unpublished cell with this identity and value and nil references. The answer is None exactly if no cell
-/// of the cache is free, and nothing changes.
+/// Makes an unpublished cell with this identity and value and nil references. The answer is None exactly if no cell of
+/// the cache is free, and nothing changes.
 ///
-/// The seat has its section's turn. `id` is that section and the number of cells that the seat has made, below what
-/// the shape allows. A cell is stored in a variable before the next one is made.
+/// The seat has its section's turn. `id` is that section and the number of cells that the seat has made, below what the
+/// shape allows. A cell is stored in a variable before the next one is made.
 pub fn new_cell(
     heap: &Heap,
     seat: &mut HeapSeat,

@@ -12,8 +12,8 @@ use crate::cache::Cache;
 use gc_table::{Heap, HeapSeat};
 use mark_core::{FREE, used_bits};
 
-/// Publishes the cells made from this cache, by one step on the allocation word. From then on tracers scan them,
-/// and stores in them go through the barrier. The seat owes no card.
+/// Publishes the cells made from this cache, by one step. From then on tracers scan them, and stores in them go through
+/// the barrier. The seat owes no card.
 pub fn publish(heap: &Heap, seat: &mut HeapSeat, cache: &mut Cache)
     requires seat { Sits heap.now seat.old }
     requires cache { IsCached cache.old (view_of seat.old) }
@@ -44,8 +44,7 @@ fn publish_used(heap: &Heap, seat: &mut HeapSeat, cache: &Cache)
     }
 }
 
-/// Gives the block up: publishes what was made, raises the count of free cells by those left, and then releases the
-/// block. The seat owes no card.
+/// Publishes what was made, counts the cells left as free, and releases the block. The seat owes no card.
 pub fn retire(heap: &Heap, seat: &mut HeapSeat, cache: Cache)
     requires seat { Sits heap.now seat.old }
     requires cache { IsCached cache (view_of seat.old) }

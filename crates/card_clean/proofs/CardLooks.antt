@@ -1,9 +1,9 @@
 -- Cards are looked at, one after another.
 use Rattle.std.proofs.Common.{ℕ, zero, suc, ◌≡◌, ◌≢◌, ◌<◌, ◌≤◌, ◌+◌, ◌-◌, List, [], ◌∷◌, ◌++◌, map, arith, refl, sym, ap, ◌∙◌, subst, true, false, Some, eq-eqb, eqb-true, ⊎_elim, Bool}
 use Rattle.std.specs.List.{range_with_len}
-use Rattle.std.proofs.lemmas.Bool.{true≢false, cases_eq, and_from}
+use Rattle.std.proofs.lemmas.Bool.{true≢false, cases_eq}
 use Rattle.mark_core.specs.Layout.{card_count}
-use Rattle.mark_core.specs.Notes.{steady, same_place}
+use Rattle.mark_core.specs.Notes.{steady}
 use Rattle.mark_core.specs.Places.{card_at, the_empty_count}
 use Rattle.mark_core.specs.declared.kinds.Shape.{Shape}
 use Rattle.mark_core.specs.declared.kinds.Step.TheVariants.{ReadCard, ReadCount}
@@ -24,11 +24,7 @@ use Rattle.card_clean.proofs.Steps.{card-small}
 use Rattle.mark_core.specs.Effects.{written, seat_after}
 use Rattle.mark_core.specs.declared.kinds.Step.{Step}
 use Rattle.mark_core.specs.declared.seat.SeatState.{SeatState}
-use Rattle.packet_pools.proofs.TracedSteps.{read-keeps}
-
--- What is noted after one step.
-same-place : (at : ℕ × ℕ) → same_place at at ≡ true
-same-place at = and_from _ _ (eq-eqb at.0 at.0 refl) (eq-eqb at.1 at.1 refl)
+use Rattle.packet_pools.proofs.TracedSteps.{read-keeps, place-again as same-place}
 
 -- the word that the step left
 pub noted-here : (keeps : ℕ × ℕ → ℕ → Bool) (at : ℕ × ℕ) (word : ℕ) (xs : Notes) → keeps at word ≡ true → look at (noting keeps at word xs) ≡ Some word

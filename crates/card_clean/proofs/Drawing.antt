@@ -1,7 +1,7 @@
 -- The next card of the pass is drawn.
-use Rattle.std.proofs.Common.{ℕ, ◌≡◌, ◌<◌, ◌≤◌, ◌+◌, arith, refl, sym, ap, ◌∙◌, Bool, true, false, Some, None, Option, eqb-true, unwrap_or}
+use Rattle.std.proofs.Common.{ℕ, ◌≡◌, ◌<◌, ◌≤◌, ◌+◌, arith, refl, ap, ◌∙◌, Bool, true, false, Some, None, Option, unwrap_or}
 use Rattle.std.specs.Prelude.{◌&&◌, ◌||◌}
-use Rattle.std.proofs.lemmas.Bool.{and_from, and_parts, true≢false, lt-ltb, le-ltb}
+use Rattle.std.proofs.lemmas.Bool.{and_from, and_parts, lt-ltb, le-ltb}
 use Rattle.mark_core.specs.Layout.{card_count}
 use Rattle.mark_core.specs.Bits.{wrapped_sum}
 use Rattle.mark_core.specs.Numbers.{card_counter}
@@ -15,21 +15,11 @@ use Rattle.gc_table.specs.declared.view.View.{View}
 use Rattle.gc_table.specs.Notes.{look}
 use Rattle.gc_table.specs.Taking.{May, Finds, after}
 use Rattle.packet_pools.specs.Tracing.{notes_drain, Traces}
-use Rattle.packet_pools.proofs.Conditions.{may-trace}
+use Rattle.packet_pools.proofs.Conditions.{may-trace, some-is as the-is, or-mono}
 use Rattle.packet_pools.proofs.TracedSteps.{read-keeps}
 use Rattle.card_clean.specs.Passing.{card_floor}
 use Rattle.gc_table.proofs.Noticing.{knows-steady, note-stays}
 use Rattle.card_clean.proofs.CardLooks.{noted-here}
-
-the-is : (o : Option ℕ) (n : ℕ) → is_the o n ≡ true → o ≡ Some n
-the-is None n e = absurd (true≢false (sym e))
-the-is (Some m) n e = ap Some (eqb-true m n e)
-
-or-mono : (a b c d : Bool) → (b ≡ true → c ≡ true) → (a || b || d) ≡ true → (a || c || d) ≡ true
-or-mono true b c d h e = refl
-or-mono false true c d h e = rw (h refl) refl
-or-mono false false true d h e = refl
-or-mono false false false d h e = e
 
 -- the record without what is known of the counters
 abbrev pub aside : SeatState → SeatState

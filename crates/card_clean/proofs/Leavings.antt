@@ -1,11 +1,11 @@
 -- How many objects leave a cleaning, event by event.
-use Rattle.std.proofs.Common.{ℕ, zero, suc, ◌≡◌, ◌+◌, ◌/◌, ◌%◌, List, [], ◌∷◌, ◌++◌, arith, refl, sym, ap, ◌∙◌, Bool, true, false, cond, Some, None, Option, eqb}
+use Rattle.std.proofs.Common.{ℕ, zero, suc, ◌≡◌, ◌+◌, ◌/◌, ◌%◌, List, [], ◌∷◌, ◌++◌, arith, refl, sym, ap, ◌∙◌, Bool, true, false, cond, Some, None, Option}
 use Rattle.std.specs.Prelude.{◌&&◌, ◌==◌}
 use Rattle.std.proofs.lemmas.Bool.{and_parts, false≢true, and_from}
 use Rattle.mark_core.specs.Bits.{has_bit, without_bit}
 use Rattle.mark_core.specs.Effects.{seat_after}
-use Rattle.mark_core.specs.Seats.{left_in, may_scan, in_set}
-use Rattle.mark_core.specs.Steps.ColourSteps.{redirty_off, without_cell}
+use Rattle.mark_core.specs.Seats.{left_in}
+use Rattle.mark_core.specs.Steps.ColourSteps.{without_cell}
 use Rattle.mark_core.specs.declared.kinds.Shape.{Shape}
 use Rattle.mark_core.specs.declared.kinds.Step.{Step}
 use Rattle.mark_core.specs.declared.kinds.Step.TheVariants.{ReadAlloc, ReadField, DirtyCard, ClearCard, ReadMarks, LoadSlot, Push, ReadRoot, SetMark}
@@ -23,6 +23,7 @@ use Rattle.gc_table.specs.Log.{events, all_steps}
 use Rattle.packet_pools.specs.Seeking.{moves_packet, only_moves, output_pools}
 use Rattle.card_clean.specs.Leaving.{rescans, rescanned_in}
 use Rattle.mark_core.specs.Cards.{block_cells, block_of_card}
+use Rattle.mark_core.proofs.Hands.HandsCleaning.{left-dirtied as left-dirty, scan-left}
 use Rattle.card_clean.specs.Drained.{sees_roots}
 
 total-join : (xs ys : List Entry) (v : View) → rescanned_in v (xs ++ ys) ≡ rescanned_in v xs + rescanned_in (after_all xs v) ys
@@ -47,14 +48,6 @@ rescanned-moves qs (e ∷ es) v m =
     let one = idle qs v.state e.step e.found h.0 in
     let rest = rescanned-moves qs es (after e.step e.found v) h.1 in
     omega (arith, one, rest)
-
-left-dirty : (o : Option Cleaning) (card c : ℕ) → left_in (redirty_off o card) c ≡ left_in o c
-left-dirty None card c = refl
-left-dirty (Some x) card c = by_card (eqb x.card card)
-  where
-    by_card : (b : Bool) → left_in (Some (cond b (record x { redirty = false }) x)) c ≡ left_in (Some x) c
-    by_card true = refl
-    by_card false = refl
 
 pub no_first : (x : ℕ × ℕ) (xs : List (ℕ × ℕ)) → x ∷ xs ≡ [] → ⊥
 no_first x xs e = cc
@@ -132,11 +125,6 @@ one-leaves c [] v i n o p l = absurd (no_first (c, i) (fields_from c (i + 1) n) 
 one-leaves c (e ∷ es) v i n o p l =
     let h = and_parts (scans_object e.step) (only_scans es) o in
     one-step c i n v e.step e.found es h.1 (λ w q k. one-leaves c es w i n h.1 q k) h.0 p l
-
--- a cell that may be scanned is left
-pub scan-left : (o : Option Cleaning) (c : ℕ) → may_scan o c ≡ true → left_in o c ≡ true
-scan-left None c e = e
-scan-left (Some x) c e = (and_parts (in_set (block_of_card x.card) x.left c) (in_set (block_of_card x.card) x.published c) e).0
 
 -- if no field is read, nothing is scanned again
 unread-step : (s : SeatState) (step : Step) (found : ℕ) (xs : List (ℕ × ℕ)) → fields_read step found ++ xs ≡ [] → (rescans s step found ≡ 0) × (xs ≡ [])

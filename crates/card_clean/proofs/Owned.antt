@@ -1,7 +1,7 @@
 -- A variable that holds an object of the own section names a cell of this section, so the object may be stored in.
-use Rattle.std.proofs.Common.{ℕ, ◌≡◌, ◌-◌, ◌<◌, ◌&&◌, eqb, List, true, refl, sym, ap, subst, arith, inl, inr, Option, Some, None, is_none}
+use Rattle.std.proofs.Common.{ℕ, ◌≡◌, ◌-◌, ◌<◌, ◌&&◌, eqb, List, true, refl, sym, ap, ◌∙◌, subst, arith, inl, inr, Option, Some, None, is_none}
 use Rattle.std.specs.Prelude.{not, IsFalse, IsTrue, IfSome, ◌||◌}
-use Rattle.std.proofs.lemmas.Bool.{and_parts, and_from, eq-eqb, ne_eqb, lt-ltb, false≢true, or_left, or_right}
+use Rattle.std.proofs.lemmas.Bool.{and_parts, and_from, eq-eqb, ne_eqb, lt-ltb, false≢true, true≢false, or_left, or_right}
 use Rattle.mark_core.specs.Numbers.{section_variables, value_bound}
 use Rattle.mark_core.specs.Rules.HeapRules.{section_of_cell}
 use Rattle.mark_core.specs.Layout.{words_of, card_count}
@@ -16,7 +16,7 @@ use Rattle.plain_heap.specs.declared.object.Ref.{Ref}
 use Rattle.plain_heap.specs.declared.object.Ref.TheVariants as refs
 use Rattle.gc_table.specs.Rule.{IsState, Agrees}
 use Rattle.gc_table.specs.StandsFor.{WordAgrees, object_count}
-use Rattle.gc_table.specs.Taking.{May}
+use Rattle.gc_table.specs.Taking.{Asked, May}
 use Rattle.gc_table.specs.TableState.{TableState, meanings_of}
 use Rattle.gc_table.specs.declared.view.Meaning.{Meaning}
 use Rattle.gc_table.specs.declared.view.View.{View}
@@ -99,3 +99,9 @@ may-exchange_value v u n o shared m below some fits t k st a = (
   and_from _ _ (and_from _ _ (lt-ltb u section_variables below) (lt-ltb n value_bound fits)) m.turn,
   (exchange-there t k v u shared a some, (ap is_none m.owes, tt)),
 )
+
+-- what is asked besides of a store in an object that others share
+pub asked-shared_field : (v : View) (u i : ℕ) (w : Option ℕ) → MayStore v → IsTrue v.shape.sharing → Asked (StoreField u i w) v
+asked-shared_field v u i w m shared = (m.seen, λ alone. absurd (true≢false (sym shared ∙ alone)))
+
+pub ruleset sharing = (asked-shared_field, may-share_field, may-dirty_owed)

@@ -9,15 +9,13 @@ ghost use Rattle.gc_table.specs.Running.{Ran};
 
 use gc_table::{Heap, HeapSeat};
 
-/// The barrier: field `field` of variable v's object becomes what variable w is, or nil if `w` is None, and then
-/// the object's card is dirtied. The seat owes no card when the call returns.
+/// The barrier: field `field` of variable v's object becomes what variable w is, or nil if `w` is None, and then the
+/// object's card is dirtied. The seat owes no card when the call returns.
 ///
-/// Variables are numbered from 0 to 31, fields from 0 up to the shape's number. The object is of the seat's own
-/// section; the seat is in its section's turn, has read a phase other than Full, and owes no card. None is for a
-/// heap in which some variable is nil.
+/// Variables are numbered from 0 to 31. The object is of the seat's own section; the seat is in its section's turn, has
+/// read a phase other than Full, and owes no card. None is for a heap in which some variable is nil.
 ///
-/// The field comes first. In the other order a white cell can be lost. Let c be an object that was scanned, and x a
-/// white cell:
+/// The field comes first. In the other order a white cell x that is stored in a scanned object c can be lost:
 ///
 /// ```text
 /// mutator                         tracer
@@ -27,9 +25,8 @@ use gc_table::{Heap, HeapSeat};
 /// stores x in the field of c
 /// ```
 ///
-/// Now the card is clean and c was read, so no tracer looks at c again, and x stays white though c refers to it.
-/// With the field first, whoever clears the card before the mutator dirtied it leaves a card that is dirty again;
-/// whoever clears it later reads x.
+/// Now the card is clean, and no tracer looks at c again. With the field first, a card that is cleared before the
+/// mutator dirties it is dirty again, and whoever clears it later reads x.
 ///
 /// An object that isn't published yet needs no card: nobody scans it before, and then all its fields are read.
 pub fn store_ref(heap: &Heap, seat: &mut HeapSeat, v: u8, field: u8, w: Option<u8>)

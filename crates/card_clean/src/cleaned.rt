@@ -6,8 +6,7 @@ ghost use Rattle.std.specs.Prelude.{◌≡◌, false};
 pub struct Cleaned {
     /// How many of its cells were scanned again: at most the cells of a card.
     pub rescanned: u32,
-    /// Whether it was dirtied again: it has a marked cell that isn't published, or a cell found no packet with
-    /// room.
+    /// Whether it was dirtied again.
     pub redirtied: bool,
 }
 
@@ -32,7 +31,6 @@ pub struct CleanedCards {
     pub cards: u32,
 }
 
-/// How many cells of a card were scanned again, and how many of those that they refer to found no packet.
 #[derive(Clone, Copy, Debug, PartialEq, Eq)]
 pub(crate) struct Rescanned {
     pub(crate) cells: u32,

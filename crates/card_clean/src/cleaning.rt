@@ -31,8 +31,6 @@ fn what_is_left(seat: &HeapSeat) -> (u64, bool)
     }
 }
 
-/// Reads the mark and the allocation bits of the card's block: which cells are left to scan, and whether the card
-/// must be dirtied again.
 fn read_block(heap: &Heap, seat: &mut HeapSeat, card: u32) -> (u64, bool)
     requires seat { IsTracer heap.now seat.old }
     requires card { card < card_count heap.now.shape }
@@ -100,11 +98,9 @@ fn rescan_card(heap: &Heap, seat: &mut HeapSeat, card: u32, out: &mut Held) -> C
 }
 
 /// Cleans a card: if it is dirty it is cleared, and then its marked published cells are scanned again, into packet
-/// `out`. If it has a marked cell that isn't published yet, or a cell found no packet with room, it is dirtied
-/// again. Nothing is in hand when the call returns.
+/// `out`. If it has a marked cell that isn't published yet, or a cell found no packet with room, it is dirtied again.
 ///
-/// The card is cleared first. In the other order a white cell can be lost. Let c be an object on the card, and x a
-/// white cell:
+/// The card is cleared first. In the other order a white cell x that is stored in an object c of the card can be lost:
 ///
 /// ```text
 /// tracer                          mutator
@@ -114,11 +110,11 @@ fn rescan_card(heap: &Heap, seat: &mut HeapSeat, card: u32, out: &mut Held) -> C
 /// clears the card of c
 /// ```
 ///
-/// Now the card is clean and c was read, and nothing leads a tracer to x. With the clearing first, a mutator that
-/// stores after c was read dirties the card after it was cleared, so it is dirty when this call returns.
+/// Now the card is clean, and no tracer looks at c again. With the clearing first, a mutator that stores after c was
+/// read dirties the card after it was cleared, so it stays dirty.
 ///
-/// The seat may trace, has no work in hand, and holds at most three packets, `out` among them, which may be
-/// exchanged as [`scan_cell`](packet_pools::scan_cell) says.
+/// The seat may trace, has no work in hand, and holds at most three packets, `out` among them, which may be exchanged
+/// as [`scan_cell`](packet_pools::scan_cell) says.
 pub fn clean_card(heap: &Heap, seat: &mut HeapSeat, card: u32, out: &mut Held) -> Cleaned
     requires seat { IsTracer heap.now seat.old }
     requires card { card < card_count heap.now.shape }

@@ -31,8 +31,7 @@ use gc_table::{Heap, HeapSeat};
 use mark_core::CARD_CELLS;
 use packet_pools::{Held, give};
 
-/// The first dirty card from this one on and before `end`. If there is none a seat that is alone knows them all
-/// clean.
+/// The first dirty card from this one on and before `end`. If there is none a seat that is alone knows them all clean.
 pub fn dirty_between(heap: &Heap, seat: &mut HeapSeat, from: u32, end: u32) -> Option<u32>
     requires seat { Sits heap.now seat.old }
     requires cards { from < end → end ≤ card_count heap.now.shape }
@@ -95,7 +94,6 @@ fn clean_where_dirty(heap: &Heap, seat: &mut HeapSeat, card: u32, out: &mut Held
     }
 }
 
-/// Cleans the dirty ones of these cards. A clean card costs one look.
 fn clean_between(
     heap: &Heap,
     seat: &mut HeapSeat,
@@ -151,8 +149,8 @@ pub fn clean_dirty(heap: &Heap, seat: &mut HeapSeat) -> u32
     cleaned.rescanned
 }
 
-/// Cleans the dirty ones of these cards. The answer is None only if no packet was found, and then no card was
-/// looked at.
+/// Cleans the dirty ones of these cards. The answer is None only if no packet was found, and then no card was looked
+/// at.
 pub fn clean_some(heap: &Heap, seat: &mut HeapSeat, first: u32, end: u32) -> Option<CleanedCards>
     requires seat { IsTracer heap.now seat.old }
     requires cards { (first ≤ end) × (end ≤ card_count heap.now.shape) }
@@ -178,7 +176,6 @@ pub fn clean_some(heap: &Heap, seat: &mut HeapSeat, first: u32, end: u32) -> Opt
 /// How many cards are passed with one packet.
 const STRETCH: u32 = 4_096;
 
-/// Cleans the dirty cards of a stretch.
 fn clean_stretch(heap: &Heap, seat: &mut HeapSeat, s: u32) -> u32
     requires seat { IsTracer heap.now seat.old }
     requires stretch { s < stretch_count heap.now.shape }
@@ -201,7 +198,6 @@ fn clean_stretch(heap: &Heap, seat: &mut HeapSeat, s: u32) -> u32
     }
 }
 
-/// The stretch with which a seat begins: seats spread over all of them.
 fn first_stretch(number: u32, sections: u32, stretches: u32) -> u32
     requires stretches { 0 < stretches }
     ensures { result < stretches }
@@ -210,10 +206,8 @@ fn first_stretch(number: u32, sections: u32, stretches: u32) -> u32
     (spread % u64::from(stretches)) as u32
 }
 
-/// Cleans every dirty card, from a stretch of its own on and around, beside others that begin elsewhere: how many
-/// cells were scanned again. A stretch for which no packet is found is left as it is.
-///
-/// No seat waits for another: a card that two of them find dirty is cleaned twice.
+/// Cleans every dirty card, from a stretch of the seat's own on and around: how many cells were scanned again. A
+/// stretch for which no packet is found is left as it is. A card that two seats find dirty is cleaned twice.
 pub fn clean_dirty_round(heap: &Heap, seat: &mut HeapSeat) -> u32
     requires seat { IsTracer heap.now seat.old }
     requires free { 2 ≤ free_slots (state_of seat.old).held }

@@ -1,8 +1,7 @@
 //! The end of a drain, as a seat sees it that is alone.
 //!
-//! What such a seat reads stays until it changes it. So once each root is nil, or names a marked cell, this stays
-//! so: tracing clears no mark, and no mutator stores a root. Then it is enough to look at every card, and at the
-//! count of empty packets, with no step between that dirties a card or takes a packet.
+//! What such a seat reads stays until it changes it. So once each root is nil, or names a marked cell, it is enough to
+//! look at every card, and at the count of empty packets, with no step between that dirties a card or takes a packet.
 ghost use Rattle.std.specs.Prelude.{◌≡◌, IsTrue, IsFalse, ◌≤◌, ◌+◌, length};
 ghost use Rattle.mark_core.specs.Seats.{work_in_hand};
 ghost use Rattle.gc_table.specs.Seats.{Across, did, Sits, state_of, view_of};
@@ -15,8 +14,7 @@ use crate::dirty_cards::first_dirty;
 use gc_table::{Heap, HeapSeat};
 use packet_pools::all_empty;
 
-/// Whether the drain is at its end, for a seat that is alone and has seen to all roots: true only if no card is
-/// dirty and no packet has an entry.
+/// For a seat that is alone and has seen to all roots: true only if no card is dirty and no packet has an entry.
 pub fn is_drained(heap: &Heap, seat: &mut HeapSeat) -> bool
     requires seat { Sits heap.now seat.old }
     requires rooted { IsRooted (view_of seat.old) }

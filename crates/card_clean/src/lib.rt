@@ -1,30 +1,25 @@
 //! Cards: a mutator's barrier dirties them, and tracers clean them.
 //!
-//! While tracers read the fields of objects, mutators store in them, so an object that was scanned may refer to a
-//! white cell. Then its card is dirty, and to clean the card is to scan its marked objects again (as in Boehm and
-//! others, "Mostly parallel garbage collection", PLDI 1991, with pages for cards, and in Barabash and others,
-//! TOPLAS 2005, whose cards these are). Throughout a cycle a marked published object that refers to a white cell is
-//! in a packet or in somebody's hand, or its card is dirty, owed by a mutator, or being cleaned.
+//! While tracers read the fields of objects, mutators store in them, so an object that was scanned may refer to a white
+//! cell. Then its card is dirty, and to clean the card is to scan its marked objects again (as in Boehm and others,
+//! "Mostly parallel garbage collection", PLDI 1991, with pages for cards, and in Barabash and others, TOPLAS 2005,
+//! whose cards these are). [`store_ref`] stores the field and then dirties the card; [`clean_card`] clears the card and
+//! then scans. At each stands the interleaving that its order prevents.
 //!
-//! [`store_ref`] stores the field and then dirties the card; [`clean_card`] clears the card and then scans. The
-//! interleavings that either order prevents are written out at the two calls.
-//!
-//! A marked cell whose allocation bit is clear is still being written by its maker, without a barrier. It isn't
-//! scanned, and its card is dirtied again. So is the card if a cell that was marked found no packet with room.
+//! A marked cell whose allocation bit is clear is still being written by its maker, without a barrier: it isn't
+//! scanned, and its card is dirtied again.
 //!
 //! # Passes
 //!
 //! While mutators run cards are drawn from one counter ([`next_card`], [`clean_one`]). In a stop each seat looks at
-//! every card, which costs it one load if the card is clean: the seat that drains and its helpers each from a
-//! stretch of its own on ([`clean_dirty_round`]), so that they seldom meet, and a seat that is alone from the first
-//! one on ([`clean_dirty`]).
+//! every card, by one load if the card is clean: the seat that drains and its helpers each from a stretch of its own on
+//! ([`clean_dirty_round`]), so that they seldom meet, and a seat that is alone from the first one on ([`clean_dirty`]).
 //!
 //! # The end of a drain
 //!
-//! A seat that is alone sees to the roots once ([`see_to_roots`]). Then it traces and cleans in turns until one
-//! look at all cards and then at the count of empty packets finds nothing left ([`is_drained`]): every reachable
-//! cell is marked. Each can be done a part at a time ([`see_to_some`], [`dirty_between`], [`clean_some`]); the
-//! caller keeps how far it has come.
+//! A seat that is alone sees to the roots once ([`see_to_roots`]). Then it traces and cleans in turns until every
+//! reachable cell is marked ([`is_drained`]). Each can be done a part at a time ([`see_to_some`], [`dirty_between`],
+//! [`clean_some`]).
 #![tactic(auto)]
 
 mod barrier;

@@ -18,9 +18,8 @@ use crate::cleaning::clean_card;
 use gc_table::{Heap, HeapSeat};
 use packet_pools::{give, take_output};
 
-/// Cleans a card as [`clean_card`](crate::clean_card) does, with a packet that it takes and gives back. The seat
-/// holds at most two packets. The answer is None only if its search for one missed each packet; then the card
-/// wasn't touched.
+/// Cleans a card as [`clean_card`](crate::clean_card) does, with a packet that it takes and gives back. The seat holds
+/// at most two packets. The answer is None only if its search for one missed each packet; the card wasn't touched.
 pub fn clean_one(heap: &Heap, seat: &mut HeapSeat, card: u32) -> Option<Cleaned>
     requires seat { IsTracer heap.now seat.old }
     requires card { card < card_count heap.now.shape }

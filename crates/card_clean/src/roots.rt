@@ -24,7 +24,6 @@ use gc_table::{Heap, HeapSeat};
 use mark_core::{VARIABLES, cell_of};
 use packet_pools::{Held, give, mark_cell};
 
-/// How many variables a section has.
 const ROW: u32 = VARIABLES as u32;
 
 fn mark_root(heap: &Heap, seat: &mut HeapSeat, out: &mut Held, section: u32, v: u8)
@@ -69,7 +68,6 @@ fn mark_slot(heap: &Heap, seat: &mut HeapSeat, out: &mut Held, section: u32, k: 
     }
 }
 
-/// Marks what root `i` refers to, by the order of [`count_roots`].
 fn mark_one(heap: &Heap, seat: &mut HeapSeat, out: &mut Held, i: u32)
     requires seat { IsTracer heap.now seat.old }
     requires out { HoldsPacket out.old (view_of seat.old) × IsTrue (has_free_slot (state_of seat.old).held) }
@@ -156,11 +154,11 @@ pub fn count_roots(heap: &Heap, seat: &HeapSeat) -> u32
     shape.sections * ROW + shape.sections * shape.slots
 }
 
-/// Sees to all roots, for a seat that is alone in a drain: each root is then nil, or names a cell that the seat
-/// knows marked. It takes a packet for it; the seat has no work in hand and holds at most two.
+/// Sees to all roots, for a seat that is alone in a drain: each root is then nil, or names a cell that the seat knows
+/// marked. The seat has no work in hand and holds at most two packets.
 ///
-/// The answer is false only if this call found no packet, with room or with entries; nothing is marked then. It
-/// doesn't look for deferred packets.
+/// The answer is false only if this call found no packet, with room or with entries; nothing is marked then. It doesn't
+/// look for deferred packets.
 pub fn see_to_roots(heap: &Heap, seat: &mut HeapSeat) -> bool
     requires seat { IsTracer heap.now seat.old }
     requires ready { IsBeforeSweep (view_of seat.old) }

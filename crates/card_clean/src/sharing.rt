@@ -13,11 +13,12 @@ ghost use Rattle.card_clean.specs.Barrier.{Exchanged, MayStore, barrier_steps, r
 use gc_table::{Heap, HeapSeat};
 use mark_core::variable_or_nil;
 
-/// The barrier if objects are shared: as [`store_ref`](crate::store_ref), but whoever made the object. Variable v
-/// isn't nil.
+/// The barrier if objects are shared: [`store_ref`](crate::store_ref), but whoever made the object. Variable v isn't
+/// nil.
 ///
-/// The store is done at the first step. Other mutators may read and store in the object before and after it, also
-/// before the step that dirties the card; no collection ends between the two, since the seat is inside.
+/// The store is done at the first step. Others may read and store in the object also before its card is dirtied; no
+/// collection ends between the two, since the seat is inside.
+#[tactic(auto, using(crate::proofs::Owned::sharing))]
 pub fn share_ref(heap: &Heap, seat: &mut HeapSeat, v: u8, field: u8, w: Option<u8>)
     requires seat { Sits heap.now seat.old × MayStore (view_of seat.old) }
     requires shared { IsTrue (view_of seat.old).shape.sharing }
@@ -52,7 +53,7 @@ pub fn share_value(heap: &Heap, seat: &mut HeapSeat, v: u8, value: u32)
 /// `expected` is, or nil, it becomes what variable `new` is, or nil, and then the object's card is dirtied: true.
 /// Otherwise nothing is done.
 ///
-/// Of several mutators that expect the same only one gets true: the exchange is one step, the first.
+/// The exchange is one step: of several mutators that expect the same only one gets true.
 pub fn exchange_ref(
     heap: &Heap,
     seat: &mut HeapSeat,

@@ -23,6 +23,7 @@ use Rattle.gc_table.specs.declared.view.SectionState.{SectionState}
 use Rattle.gc_table.specs.declared.view.View.{View}
 use Rattle.gc_table.proofs.Running.{ran-join, ran-shape, ran-stored, ran-events, ran-found}
 use Rattle.alloc_cache.specs.Making.{Makes, identity_word, with_cell, making_steps}
+use Rattle.alloc_cache.proofs.Cells.{steps-after, steps-join as steps-two}
 use Rattle.mutator_ops.specs.Sharing.{ShareCreates, SharesReady, next_word}
 use Rattle.mutator_ops.proofs.Creating.{last_cell, whole_cell}
 use Rattle.mark_core.specs.declared.kinds.Step.{Step}
@@ -38,13 +39,6 @@ use Rattle.mutator_ops.specs.declared.objects.Holds.TheVariants.{LentObject, Not
 pub steps-joined : (xs ys : List Entry) → steps_of (xs ++ ys) ≡ steps_of xs ++ steps_of ys
 steps-joined [] ys = refl
 steps-joined (x ∷ xs) ys = ap (λ (zs : List Step). x.step ∷ zs) (steps-joined xs ys)
-
-pub steps-two : (u v w : View) (xs ys : List Step) → Ran u v → Ran v w → steps_of (events u v) ≡ xs → steps_of (events v w) ≡ ys → steps_of (events u w) ≡ xs ++ ys
-steps-two u v w xs ys a b e f = ap steps_of (ran-events u v w a b) ∙ steps-joined (events u v) (events v w) ∙ (λ i. e i ++ f i)
-
--- one step
-pub steps-after : (v w : View) (step : Step) (n : ℕ) → w ≡ after step n v → steps_of (events v w) ≡ step ∷ []
-steps-after v w step n e = ap steps_of (events-after v w step n e)
 
 -- a word was read, and stored in a variable
 read_stored : (u n r : ℕ) (step : Step) (v x w : View) → Ran v x → Found step n v x → r ≡ reference_in n → Stored (StoreRoot u r) x w → events v w ≡ event step n ∷ event (StoreRoot u (reference_in n)) (reference_in n) ∷ []

@@ -3,17 +3,13 @@
 //! A command is a few loads, and at most one store that the plain heap sees. So it takes effect at one step, and no
 //! other thread sees half of it.
 //!
-//! # Words and references
-//!
 //! A variable's word is 0 for nil, or the number of a cell plus 1. The seat's record has a copy of its section's
-//! variables, so a variable is read without a load. A field or a variable of the catalogue is loaded into the
-//! seat's register, and goes from there into a variable. A command leaves the register empty: if the walk of `sum`
-//! doesn't end at nil, it ends with a store of a variable in itself, which only empties the register.
+//! variables, so a variable is read without a load. A field or a variable of the catalogue is loaded into the seat's
+//! register, and goes from there into a variable. A command leaves the register empty: if the walk of `sum` doesn't end
+//! at nil, it stores its variable in itself.
 //!
-//! # Objects of the catalogue
-//!
-//! A warehouse stores in no object of the catalogue: such a store is dropped. An object's identity tells whose it
-//! is, and is read before each store. The words don't say how many stores were dropped, so the answer does.
+//! A warehouse stores in no object of the catalogue. [`set`] and [`put`] read the object's identity first; if it is the
+//! catalogue's they drop the store, and answer true.
 #![tactic(auto)]
 
 mod commands;

@@ -11,8 +11,8 @@ use crate::variables::word_of;
 use gc_table::{Heap, HeapSeat};
 use mark_core::Cell;
 
-/// The cell of variable v's object; None if v is nil. If the object is of the seat's own section it was made there,
-/// and stays there for good.
+/// The cell of variable v's object; None if v is nil. An object of the seat's own section was made there, and stays
+/// there.
 pub fn cell_of_variable(_heap: &Heap, seat: &HeapSeat, v: u8) -> Option<Cell>
     requires seat { Sits _heap.now seat.now × IsReady (view_of seat.now) }
     requires range { v < section_variables }

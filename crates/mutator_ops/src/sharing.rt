@@ -1,5 +1,5 @@
-//! Calls of a mutator whose heap shares its objects: each takes effect at one of the steps that it lists. The
-//! objects may be anybody's.
+//! Calls of a mutator whose heap shares its objects. The objects may be anybody's, and each call takes effect at one of
+//! the steps that it lists.
 ghost use Rattle.std.specs.Prelude.{◌≡◌, ◌≢◌, ◌<◌, ◌-◌, ◌∷◌, [], IfNone, IfSome, IsTrue, Some};
 ghost use Rattle.std.specs.Int.Count.{ones};
 ghost use Rattle.mark_core.specs.Numbers.{section_variables};
@@ -46,8 +46,8 @@ pub fn share_follow(heap: &Heap, seat: &mut HeapSeat, v: u8, w: u8, i: u8)
     heap.store_root(seat, v, u64::from(field));
 }
 
-/// If field i of variable v's object, which isn't nil, is what variable `expected` is, or nil, it becomes what
-/// variable `new` is, or nil, by the barrier: true if it was. Of several that expect the same one wins.
+/// If field i of variable v's object, which isn't nil, is what variable `expected` is, or nil, it becomes what variable
+/// `new` is, or nil, by the barrier: true if it was. Of several that expect the same one wins.
 pub fn share_exchange(
     heap: &Heap,
     seat: &mut HeapSeat,
@@ -80,8 +80,8 @@ pub fn share_count(heap: &Heap, seat: &mut HeapSeat, v: u8, expected: u32, new: 
     exchange_value(heap, seat, v, expected, new)
 }
 
-/// The value of variable v's object, by one read; None if v is nil, without a step. It has 64 bits: no clause says
-/// that a value has 32, which only `share_put` and `share_create` store.
+/// The value of variable v's object, by one read; None if v is nil, without a step. It has 64 bits: no clause says that
+/// only values of 32 are stored.
 pub fn share_value_of(heap: &Heap, seat: &mut HeapSeat, v: u8) -> Option<u64>
     requires seat { Sits heap.now seat.old × SharesReady (view_of seat.old) }
     requires range { v < section_variables }
@@ -143,8 +143,8 @@ pub fn share_lend(heap: &Heap, seat: &mut HeapSeat, v: u8, c: u8)
     heap.store_root(seat, v, u64::from(word));
 }
 
-/// Makes an object with value n and nil fields in a cell of the cache; variable v refers to it, by the last step.
-/// The answer is None exactly if the cache has no free cell, and nothing changes.
+/// Makes an object with value n and nil fields in a cell of the cache; variable v refers to it, by the last step. The
+/// answer is None exactly if the cache has no free cell, and nothing changes.
 pub fn share_create(
     heap: &Heap,
     seat: &mut HeapSeat,

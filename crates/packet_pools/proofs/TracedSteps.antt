@@ -53,7 +53,7 @@ note-again keeps to at word n xs here is k =
 traced-apart : (to at : ℕ × ℕ) → is_traced to ≡ true → is_traced at ≡ false → same_place to at ≡ false
 traced-apart to at t f = false_from_ne_true (same_place to at) (λ e. true≢false (sym t ∙ (ap is_traced (place-same to at e) ∙ f)))
 
-place-again : (at : ℕ × ℕ) → same_place at at ≡ true
+pub place-again : (at : ℕ × ℕ) → same_place at at ≡ true
 place-again at = and_from _ _ (eq-eqb at.0 at.0 refl) (eq-eqb at.1 at.1 refl)
 
 same-steady : (s t : SeatState) (at : ℕ × ℕ) (n : ℕ) → rest_of t ≡ rest_of s → steady s at n ≡ true → steady t at n ≡ true

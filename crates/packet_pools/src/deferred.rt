@@ -15,8 +15,7 @@ use crate::lengths::read_length;
 use gc_table::{Heap, HeapSeat};
 use mark_core::DEFERRED_POOL;
 
-/// Takes packet p out of the deferred pool, for a seat that holds at most three. The answer is None if it isn't
-/// there any more.
+/// Takes packet p out of the deferred pool. The answer is None if it isn't there any more.
 pub fn take_deferred_at(heap: &Heap, seat: &mut HeapSeat, p: u32) -> Option<Held>
     requires seat { IsTracer heap.now seat.old }
     requires free { IsTrue (has_free_slot (state_of seat.old).held) }

@@ -13,8 +13,8 @@ use crate::held::{Held, PacketFull};
 use gc_table::{Heap, HeapSeat};
 use mark_core::Cell;
 
-/// Puts in a cell that the seat marked, or that it popped and saw unpublished. A full packet is refused, and
-/// nothing changes.
+/// Puts in a cell that the seat marked, or that it popped and saw unpublished. A full packet is refused, and nothing
+/// changes.
 #[inline(always)]
 pub fn push(heap: &Heap, seat: &mut HeapSeat, held: &mut Held, cell: Cell) -> Result<(), PacketFull>
     requires seat { IsTracer heap.now seat.old }
@@ -34,8 +34,8 @@ pub fn push(heap: &Heap, seat: &mut HeapSeat, held: &mut Held, cell: Cell) -> Re
     Ok(())
 }
 
-/// Takes out the cell that was put in last, into the seat's hand. The answer is None if the packet is empty, and
-/// nothing changes.
+/// Takes the cell that was put in last into the seat's hand. The answer is None if the packet is empty, and nothing
+/// changes.
 #[inline(always)]
 pub fn pop(heap: &Heap, seat: &mut HeapSeat, held: &mut Held) -> Option<Cell>
     requires seat { IsTracer heap.now seat.old }

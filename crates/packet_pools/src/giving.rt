@@ -12,8 +12,8 @@ ghost use Rattle.packet_pools.specs.Hands.{HoldsPacket};
 use crate::held::Held;
 use gc_table::{Heap, HeapSeat};
 
-/// Returns the packet to the pool of its length, or to the deferred pool, and then counts an empty one. A deferred
-/// packet has an entry, and a seat with work in hand keeps another packet.
+/// Returns the packet to the pool of its length, or to the deferred pool. A deferred packet has an entry, and a seat
+/// with work in hand keeps another packet.
 pub fn give(heap: &Heap, seat: &mut HeapSeat, held: Held, deferred: bool)
     requires seat { IsTracer heap.now seat.old }
     requires held { HoldsPacket held (view_of seat.old) }

@@ -1,21 +1,21 @@
 //! A packet in a seat's hand.
 ghost use Rattle.std.specs.Prelude.{◌≡◌};
 
-/// A packet in the seat's hand, and how many cells are in it. It can't be dropped: `give` spends it.
+/// A packet that the seat took. It can't be dropped: `give` spends it.
 pub struct Held {
     pub(crate) packet: u32,
     pub(crate) length: u32,
 }
 
 impl Held {
-    /// The number of the packet.
+    /// Its number.
     pub fn packet(&self) -> u32
         ensures { result ≡ self.now.packet }
     {
         self.packet
     }
 
-    /// How many cells are in the packet, at most the shape's entries.
+    /// How many cells are in it, at most the shape's entries.
     pub fn length(&self) -> u32
         ensures { result ≡ self.now.length }
     {

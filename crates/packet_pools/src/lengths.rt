@@ -7,7 +7,6 @@ ghost use Rattle.gc_table.specs.Taking.{May};
 use gc_table::{Heap, HeapSeat};
 use mark_core::{Step, reference_in};
 
-/// The length of packet p, from its head.
 pub fn read_length(heap: &Heap, seat: &mut HeapSeat, p: u32) -> u32
     requires seat { Sits heap.now seat.old }
     requires may { May (Step.ReadLength p) (view_of seat.old) }

@@ -1,37 +1,29 @@
 //! Packets of grey cells, which tracers take from pools, fill, empty and give back.
 //!
-//! Grey cells wait in packets, so that a tracer can leave them to another: a packet in a pool is anybody's, one in
-//! hand is its holder's.
+//! A packet in a pool is anybody's, so a tracer can leave its cells to another; one in hand is its holder's.
 //!
 //! # What a seat has in hand
 //!
-//! A grey cell that is in no packet is in the record of one seat. These words are used throughout:
+//! A grey cell that is in no packet is in the record of one seat:
 //!
-//! - *popped*: a cell that came out of a packet. Once its allocation bit was read it is in scan; if it isn't
-//!   published yet, it goes back into a packet or its card is dirtied;
+//! - *popped*: a cell that came out of a packet. Once its allocation bit was read it is in scan; if it isn't published
+//!   yet, it goes back into a packet or its card is dirtied;
 //! - *scan*: the object whose fields are read, and the next field;
 //! - *value*: a cell that was loaded from a field or a root, and isn't marked yet;
-//! - *fresh*: a cell that this seat marked, and that is in no packet yet.
+//! - *fresh*: a cell that this seat marked.
 //!
 //! A seat with any of these holds a packet, so it takes one before it gives its last one back.
 //!
 //! # Pools
 //!
-//! A packet goes back to the pool of its length (empty, low or high), or to the deferred pool, if its cells can't
-//! be scanned yet. [`take_input`] looks in the high pool first, and [`take_output`] in the empty one, so full
-//! packets are emptied and empty ones filled, and both are found with few looks. A seat holds at most four packets.
+//! A packet goes back to the pool of its length (empty, low or high), or to the deferred pool, if its cells can't be
+//! scanned yet. [`take_input`] looks in the high pool first, and [`take_output`] in the empty one, so both need few
+//! looks. A seat holds at most four packets, and at most three as it calls what may take another.
 //!
-//! # Why one count tells that nothing is left
+//! A search that answers None *missed* each packet in each pool that it asked (`specs/Seeking.antt`): it saw the packet
+//! outside, lost it to another seat, or (only [`take_output`], in the high pool) took it and found it full.
 //!
-//! The count of empty packets falls before one is looked for, and rises after one was given back, or if none was
-//! found. So it is never above the number of packets that are empty in their pool. If it says all packets
-//! ([`all_empty`]), no packet has an entry and none is in hand, so no seat has work in hand either; no second count
-//! and no flush is needed.
-//!
-//! # None
-//!
-//! A search that answers None *missed* each packet in each pool that it asked (`specs/Seeking.antt`): the packet
-//! was seen outside, or lost to another seat there, or (by [`take_output`], in the high pool) taken and found full.
+//! docs/CYCLE.md says why one count tells that nothing is left ([`all_empty`]).
 #![tactic(auto)]
 
 mod deferred;

@@ -17,7 +17,6 @@ use crate::scanned::Scanned;
 use gc_table::{Heap, HeapSeat};
 use mark_core::{Cell, card_of};
 
-/// Pushes the cell that the seat marked. If no packet has room it dirties the cell's card, and answers true.
 #[inline(always)]
 fn push_marked(heap: &Heap, seat: &mut HeapSeat, out: &mut Held, cell: Cell) -> bool
     requires seat { IsTracer heap.now seat.old }
@@ -40,8 +39,7 @@ fn push_marked(heap: &Heap, seat: &mut HeapSeat, out: &mut Held, cell: Cell) -> 
     }
 }
 
-/// Marks the cell that the seat loaded, and pushes it if it was white, as [`scan_cell`](crate::scan_cell) does. The
-/// seat holds at most three packets.
+/// Marks the cell that the seat loaded, and pushes it if it was white, as [`scan_cell`](crate::scan_cell) does.
 #[inline(always)]
 pub fn mark_cell(heap: &Heap, seat: &mut HeapSeat, out: &mut Held, cell: Cell) -> Scanned
     requires seat { IsTracer heap.now seat.old }

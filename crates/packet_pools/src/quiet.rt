@@ -9,8 +9,7 @@ ghost use Rattle.packet_pools.specs.Quiet.{IsQuietAt};
 use gc_table::{Heap, HeapSeat};
 use mark_core::EMPTY_OFFSET;
 
-/// Whether the count of empty packets says all. Then at that step no packet held work, and no seat had work in
-/// hand. Any seat may ask.
+/// Whether the count of empty packets says all. If so, no packet and no seat had work at that step. Any seat may ask.
 pub fn all_empty(heap: &Heap, seat: &mut HeapSeat) -> bool
     requires { Sits heap.now seat.old }
     ensures seat { Sits heap.now seat.new }

@@ -30,7 +30,6 @@ fn change(heap: &Heap, seat: &mut HeapSeat, out: &mut Held, other: Held)
     give(heap, seat, full, false);
 }
 
-/// Takes another packet with room, and then returns this one, which is full; or keeps it if there is none.
 #[inline(never)]
 fn change_full(heap: &Heap, seat: &mut HeapSeat, out: &mut Held)
     requires seat { IsTracer heap.now seat.old }
@@ -48,7 +47,7 @@ fn change_full(heap: &Heap, seat: &mut HeapSeat, out: &mut Held)
     }
 }
 
-/// Sees to it that the packet in hand has room. If it is still full, no packet had room.
+/// Leaves `out` full only if no packet had room.
 #[inline(always)]
 pub(crate) fn make_room(heap: &Heap, seat: &mut HeapSeat, out: &mut Held)
     requires seat { IsTracer heap.now seat.old }

@@ -1,12 +1,12 @@
 //! What a scan came to.
 ghost use Rattle.std.specs.Prelude.{◌≡◌};
 
-/// How many cells a scan marked, and how many of them found no packet.
+/// What a scan did.
 #[derive(Clone, Copy, Debug, PartialEq, Eq)]
 pub struct Scanned {
     /// The cells that it marked.
     pub marked: u32,
-    /// Those of them that are in no packet: their cards are dirty.
+    /// Those of them that found no packet with room: their cards are dirty.
     pub overflowed: u32,
 }
 

@@ -18,7 +18,6 @@ use crate::scanned::Scanned;
 use gc_table::{Heap, HeapSeat};
 use mark_core::{Cell, cell_of};
 
-/// Reads a field of the cell in scan, or the first one of a cell left in cleaning, and marks what it refers to.
 #[inline(always)]
 fn scan_field(heap: &Heap, seat: &mut HeapSeat, out: &mut Held, cell: Cell, i: u8) -> Scanned
     requires seat { IsTracer heap.now seat.old }
@@ -63,10 +62,8 @@ fn scan_fields(heap: &Heap, seat: &mut HeapSeat, out: &mut Held, cell: Cell, nex
     scanned
 }
 
-/// Scans what is left of the object in scan: reads each field, marks what it refers to, and pushes what was white.
-/// If no packet has room it dirties the marked cell's card.
-///
-/// The seat holds at most three packets. A full one is exchanged for another, which is then in `out`.
+/// Scans what is left of the object in scan: marks what its fields refer to, and pushes what was white. If no packet
+/// has room it dirties the marked cell's card. A packet that is full is exchanged for another, which is then in `out`.
 #[inline(always)]
 pub fn scan_cell(heap: &Heap, seat: &mut HeapSeat, out: &mut Held) -> Scanned
     requires seat { IsTracer heap.now seat.old }

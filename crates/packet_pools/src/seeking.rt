@@ -16,7 +16,6 @@ use crate::lengths::read_length;
 use gc_table::{Heap, HeapSeat};
 use mark_core::{WORD_BITS, has_bit};
 
-/// Takes packet p out of pool q, unless another seat is first. With `not_full` a full packet is given back.
 fn take_packet(heap: &Heap, seat: &mut HeapSeat, q: u8, p: u32, not_full: bool) -> Option<Held>
     requires seat { Sits heap.now seat.old × Seeks q (view_of seat.old) }
     requires packet { (p < heap.now.shape.packets) × IsFalse (holds (state_of seat.old).held p) }
@@ -39,7 +38,6 @@ fn take_packet(heap: &Heap, seat: &mut HeapSeat, q: u8, p: u32, not_full: bool) 
     Some(held)
 }
 
-/// Takes packet p as `take_packet` does, if its bit is set in this word of the pool.
 fn take_shown(
     heap: &Heap,
     seat: &mut HeapSeat,
@@ -83,8 +81,7 @@ fn take_in_word(heap: &Heap, seat: &mut HeapSeat, q: u8, g: u32, not_full: bool)
     None
 }
 
-/// Takes a packet out of pool q. The answer is None only if each packet was seen outside the pool, was lost, or was
-/// full and must not be.
+/// With `not_full` a packet that is found full is given back, and the search goes on.
 pub(crate) fn take_any(heap: &Heap, seat: &mut HeapSeat, q: u8, not_full: bool) -> Option<Held>
     requires seat { Sits heap.now seat.old × Seeks q (view_of seat.old) }
     requires high { IsTrue not_full → q ≡ high_pool_number }

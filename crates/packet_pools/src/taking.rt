@@ -15,8 +15,8 @@ use crate::seeking::take_any;
 use gc_table::{Heap, HeapSeat};
 use mark_core::{DEFERRED_POOL, EMPTY_POOL, HIGH_POOL, LOW_POOL};
 
-/// Takes a packet with cells to trace, from the high or else the low pool, for a seat that holds at most three. The
-/// answer is None only if this call missed each packet in both.
+/// Takes a packet with cells to trace, from the high or else the low pool. The answer is None only if this call missed
+/// each packet in both.
 pub fn take_input(heap: &Heap, seat: &mut HeapSeat) -> Option<Held>
     requires seat { IsTracer heap.now seat.old }
     requires free { IsTrue (has_free_slot (state_of seat.old).held) }
@@ -32,8 +32,7 @@ pub fn take_input(heap: &Heap, seat: &mut HeapSeat) -> Option<Held>
     }
 }
 
-/// Takes a packet with deferred cells, for a seat that holds at most three. The answer is None only if this call
-/// missed each.
+/// Takes a packet with deferred cells. The answer is None only if this call missed each.
 pub fn take_deferred(heap: &Heap, seat: &mut HeapSeat) -> Option<Held>
     requires seat { IsTracer heap.now seat.old }
     requires free { IsTrue (has_free_slot (state_of seat.old).held) }
@@ -46,8 +45,6 @@ pub fn take_deferred(heap: &Heap, seat: &mut HeapSeat) -> Option<Held>
     take_any(heap, seat, DEFERRED_POOL, false)
 }
 
-/// Takes an empty packet. The count of empty packets falls before one is looked for, and rises again if none was
-/// found.
 fn take_empty(heap: &Heap, seat: &mut HeapSeat) -> Option<Held>
     requires seat { IsTracer heap.now seat.old }
     requires free { IsTrue (has_free_slot (state_of seat.old).held) }
@@ -67,8 +64,8 @@ fn take_empty(heap: &Heap, seat: &mut HeapSeat) -> Option<Held>
     }
 }
 
-/// Takes a packet with room, from the empty pool, else the low or the high one, for a seat that holds at most
-/// three. The answer is None only if this call missed each packet in each of them.
+/// Takes a packet with room, from the empty pool, else the low or the high one. The answer is None only if this call
+/// missed each packet in all of them.
 pub fn take_output(heap: &Heap, seat: &mut HeapSeat) -> Option<Held>
     requires seat { IsTracer heap.now seat.old }
     requires free { IsTrue (has_free_slot (state_of seat.old).held) }

@@ -16,13 +16,13 @@ use mark_core::{Step, has_flag as flag_of};
 /// Whose flag it is that stops the world.
 #[derive(Clone, Copy)]
 pub enum Raised {
-    /// The seat's own, from now on.
+    /// The seat's own.
     Yours,
     /// Another seat's, which was up before.
     Theirs,
 }
 
-/// Enters the running world: true if the seat is now active. If a stop is under way the seat has left again.
+/// Enters the running world: true if the seat is now active. If a stop is under way it has left again.
 pub fn enter(heap: &Heap, seat: &mut HeapSeat) -> bool
     requires seat { Sits heap.now seat.old }
     requires bare { IsTrue (is_bare (state_of seat.old)) }
@@ -38,7 +38,7 @@ pub fn enter(heap: &Heap, seat: &mut HeapSeat) -> bool
     false
 }
 
-/// Leaves the running world, with nothing in hand: no packet, no cache.
+/// Leaves the running world, with no packet and no cache in hand.
 pub fn leave(heap: &Heap, seat: &mut HeapSeat)
     requires seat { Sits heap.now seat.old }
     requires active { IsTrue (state_of seat.old).active }
@@ -61,8 +61,7 @@ pub fn poll(heap: &Heap, seat: &mut HeapSeat) -> bool
     flag_of(heap.observe(seat))
 }
 
-/// Raises the flag that stops the world: Theirs exactly if another seat's flag was up. The seat is outside the
-/// world and its help.
+/// Raises the flag that stops the world. The seat is outside the world and its help.
 pub fn raise(heap: &Heap, seat: &mut HeapSeat) -> Raised
     requires seat { Sits heap.now seat.old }
     requires bare { IsTrue (is_bare (state_of seat.old)) }
@@ -78,7 +77,7 @@ pub fn raise(heap: &Heap, seat: &mut HeapSeat) -> Raised
     }
 }
 
-/// Lets the world go on. The seat is active in the same step, so that no other stop comes first.
+/// Lets the world go on. The seat is active in the same step.
 pub fn resume(heap: &Heap, seat: &mut HeapSeat)
     requires seat { Sits heap.now seat.old }
     requires alone { (p : Phase) × IsTrue (is_resting (phase_number p)) × Alone p (view_of seat.old) }

@@ -17,7 +17,7 @@ use Rattle.gc_table.proofs.History.Log.{events-after, events-none}
 use Rattle.gc_table.proofs.Running.{ran-events, run-keeps}
 use Rattle.sweeper.specs.Blocks.{ClearsOn, HasBlock, IsSweptBlock, SweepsOn, cleaning_after_all, freed_blocks, freed_of, rest_of, swept_blocks, swept_events, DrawsBlock, IsCleared, IsSweptNext}
 use Rattle.sweeper.specs.Freeing.{freed_in}
-use Rattle.sweeper.proofs.SweptBlocks.{freed-more}
+use Rattle.sweeper.proofs.SweptBlocks.{freed-more, split-sum as freed-add}
 use Rattle.mark_core.specs.Effects.{place, seat_after}
 use Rattle.mark_core.specs.Notes.{same_place, keeps_bound, is_counter}
 use Rattle.mark_core.specs.Places.{the_next_block}
@@ -37,9 +37,6 @@ swept-more b [] x = let same : b ≡ b + 0 = omega arith in ap (λ n. swept_even
 swept-more b (y ∷ ys) x =
     let same : b + 1 + length ys ≡ b + length (y ∷ ys) = omega arith in
     ap (λ (es : List Entry). swept_events b y.0 y.1 ++ es) (swept-more (b + 1) ys x ∙ ap (λ n. swept_blocks (b + 1) ys ++ swept_events n x.0 x.1) same)
-
-freed-add : (f a b c : ℕ) → a ≡ b + c → f + a ≡ f + b + c
-freed-add f a b c e = omega (arith, e)
 
 freed-all : (xs : List (ℕ × ℕ)) (x : ℕ × ℕ) → freed_blocks (xs ++ x ∷ []) ≡ freed_blocks xs + freed_of x.0 x.1
 freed-all [] x = let same : (n : ℕ) → n + 0 ≡ 0 + n = λ n. omega arith in same (freed_of x.0 x.1)

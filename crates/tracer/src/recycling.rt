@@ -51,7 +51,6 @@ fn recycle_between(heap: &Heap, seat: &mut HeapSeat, first: u32, end: u32) -> u3
     moved
 }
 
-/// Moves the packets of word g of the deferred pool that are below `end`. A word that shows none is read once.
 fn recycle_in_word(heap: &Heap, seat: &mut HeapSeat, g: u32, end: u32) -> u32
     requires seat { IsTracer heap.now seat.old }
     requires idle { IsIdle (view_of seat.old) }
@@ -69,7 +68,6 @@ fn recycle_in_word(heap: &Heap, seat: &mut HeapSeat, g: u32, end: u32) -> u32
     recycle_between(heap, seat, WORD_BITS * g, end)
 }
 
-/// Moves the packets of those words of the deferred pool that stand for 64 packets each.
 fn recycle_words(heap: &Heap, seat: &mut HeapSeat) -> u32
     requires seat { IsTracer heap.now seat.old }
     requires idle { IsIdle (view_of seat.old) }
@@ -87,11 +85,10 @@ fn recycle_words(heap: &Heap, seat: &mut HeapSeat) -> u32
     moved
 }
 
-/// Moves the deferred packets to the pools of their lengths, where tracers find them: how many it moved, each at
-/// most once. The seat may trace, and holds no packet.
+/// Moves the deferred packets to the pools of their lengths, where tracers find them: how many it moved, each at most
+/// once.
 ///
-/// Cells that still aren't published are deferred again when they are popped, so a caller publishes first, or waits
-/// for others to.
+/// Cells that still aren't published are deferred again, so a caller publishes first, or waits for others to.
 pub fn recycle_deferred(heap: &Heap, seat: &mut HeapSeat) -> u32
     requires seat { IsTracer heap.now seat.old }
     requires idle { IsIdle (view_of seat.old) }

@@ -64,11 +64,9 @@ fn scan_root(
     mark_cell(heap, seat, out, cell_of(word))
 }
 
-/// Marks what the 32 variables of a section refer to, and pushes what was white: how many cells that were. The seat
-/// may trace, and holds no packet.
-///
-/// The section's mutator may run meanwhile: if it stores a variable after it was read, it has to scan that again.
-/// The answer is NoPacket only if no packet with room or with cells was found, and nothing is marked then.
+/// Marks what the 32 variables of a section refer to, and pushes what was white. If the section's mutator runs, and
+/// stores a variable after it was read, it has to scan that again. The answer is NoPacket only if no packet with room
+/// or with cells was found, and nothing is marked then.
 pub fn scan_roots(heap: &Heap, seat: &mut HeapSeat, section: u32) -> RootScan
     requires seat { IsTracer heap.now seat.old }
     requires idle { IsIdle (view_of seat.old) }

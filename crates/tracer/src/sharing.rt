@@ -19,10 +19,10 @@ use mark_core::{HIGH_POOL, LOW_POOL, WORD_BITS};
 use packet_pools::take_output;
 use std::mem;
 
-/// How many cells a packet has at least that is given away.
+/// The least number of cells of a packet that is given away.
 const SHARE_CELLS: u32 = 4;
 
-/// How often a tracer looks whether others lack work: once in this many objects.
+/// Objects between two looks whether others lack work.
 const SHARE_EACH: u32 = 64;
 
 fn is_bare(heap: &Heap, seat: &mut HeapSeat, q: u8, g: u32) -> bool
@@ -53,7 +53,7 @@ fn are_bare(heap: &Heap, seat: &mut HeapSeat, g: u32) -> bool
     is_bare(heap, seat, LOW_POOL, g)
 }
 
-/// Whether no packet with a cell shows in a pool, so that whoever looks for work finds none.
+/// Whether no packet with a cell shows in a pool.
 pub fn lacks_work(heap: &Heap, seat: &mut HeapSeat) -> bool
     requires seat { IsTracer heap.now seat.old }
     ensures seat { IsTracer heap.now seat.new }
@@ -86,7 +86,6 @@ fn fill_another(heap: &Heap, seat: &mut HeapSeat, packets: &mut Packets)
     give_some(heap, seat, nothing, false);
 }
 
-/// If others lack work and the input has cells to spare, the seat goes on with a second packet.
 fn part_with(heap: &Heap, seat: &mut HeapSeat, packets: &mut Packets)
     requires seat { IsTracer heap.now seat.old }
     requires packets { Carries (packets_of packets.old) (view_of seat.old) × (packets.old.output ≡ None) }
@@ -106,7 +105,6 @@ fn part_with(heap: &Heap, seat: &mut HeapSeat, packets: &mut Packets)
     }
 }
 
-/// If there is a second packet, goes on with it and gives the first away; else takes one if others lack work.
 fn share(heap: &Heap, seat: &mut HeapSeat, packets: &mut Packets)
     requires seat { IsTracer heap.now seat.old }
     requires packets { Carries (packets_of packets.old) (view_of seat.old) }
@@ -124,7 +122,6 @@ fn share(heap: &Heap, seat: &mut HeapSeat, packets: &mut Packets)
     }
 }
 
-/// Shares once in some turns.
 pub(crate) fn share_in_turn(heap: &Heap, seat: &mut HeapSeat, packets: &mut Packets, turn: u32)
     requires seat { IsTracer heap.now seat.old }
     requires packets { Carries (packets_of packets.old) (view_of seat.old) }

@@ -24,7 +24,6 @@ use gc_table::{Heap, HeapSeat};
 use mark_core::{BLOCK_CELLS, Cell, has_bit};
 use packet_pools::{Scanned, give, scan_whole, take_input};
 
-/// Scans the object in scan into the output, or into the input if there is none.
 fn scan(heap: &Heap, seat: &mut HeapSeat, packets: &mut Packets, cell: Cell) -> Scanned
     requires seat { IsTracer heap.now seat.old }
     requires packets { Carries (packets_of packets.old) (view_of seat.old) }
@@ -98,7 +97,6 @@ fn trace_all(heap: &Heap, seat: &mut HeapSeat, packets: &mut Packets, quota: u32
     traced
 }
 
-/// Takes a packet to trace with. The answer is None only if no packet with a cell was found.
 fn begin(heap: &Heap, seat: &mut HeapSeat) -> Option<Packets>
     requires seat { IsTracer heap.now seat.old }
     requires idle { IsIdle (view_of seat.old) }
@@ -118,7 +116,6 @@ fn begin(heap: &Heap, seat: &mut HeapSeat) -> Option<Packets>
     })
 }
 
-/// Gives all packets back, the one with deferred cells to the deferred pool.
 fn finish(heap: &Heap, seat: &mut HeapSeat, packets: Packets)
     requires seat { IsTracer heap.now seat.old }
     requires packets { Carries (packets_of packets) (view_of seat.old) × HasCellAndRoom heap.now.shape packets.deferred }
@@ -140,11 +137,8 @@ fn finish(heap: &Heap, seat: &mut HeapSeat, packets: Packets)
     give(heap, seat, input, false);
 }
 
-/// Traces at most `quota` objects: each is popped, and what it refers to is marked and pushed. The seat may trace,
-/// and holds no packet.
-///
-/// The answer is Quota exactly if `done` is the quota. It is never NoPacket: if only one packet is to be had, the
-/// seat pops out of it and pushes into it.
+/// Traces at most `quota` objects: each is popped, and what it refers to is marked and pushed. The answer is Quota
+/// exactly if `done` is the quota, and never NoPacket.
 pub fn trace(heap: &Heap, seat: &mut HeapSeat, quota: u32) -> Traced
     requires seat { IsTracer heap.now seat.old }
     requires idle { IsIdle (view_of seat.old) }

@@ -15,8 +15,9 @@ use Rattle.mutator_ops.proofs.Holdings.{stored-nothing, stored-lent, stored-own,
 use Rattle.mutator_ops.proofs.Stepping.{once-after}
 use Rattle.mutator_ops.proofs.Knowing.{ready-does}
 use Rattle.mutator_ops.proofs.Storing.{looks-does, stores-does, reads-put}
-use Rattle.mutator_ops.proofs.ShareCreating.{looked-lent, looked-nothing, looked-own, steps-after}
+use Rattle.mutator_ops.proofs.ShareCreating.{looked-lent, looked-nothing, looked-own}
 use Rattle.mutator_ops.proofs.objects.put.Goals as goal
+use Rattle.alloc_cache.proofs.Cells.{steps-after}
 
 pub returns-in-Nothing-clause-does : goal.returns-in-Nothing-clause-does
 returns-in-Nothing-clause-does c =
