@@ -1,13 +1,12 @@
 -- A mutator polls, reads the season, and is ready for a command.
 use Rattle.std.proofs.Common.{ℕ, ◌≡◌, ◌==◌, ◌&&◌, ◌||◌, List, [], ◌∷◌, ◌++◌, refl, sym, ap, ◌∙◌, subst, Bool, true, false, not, Option, Some, None, if◌then◌else◌, arith, eqb-true, ⊎_elim}
 use Rattle.std.specs.Prelude.{IsFalse, is_none, is_some}
-use Rattle.std.proofs.lemmas.Bool.{and_from, and_parts, false≢true, true≢false, not-true, or_left, or_parts, or_right}
-use Rattle.mark_core.specs.Seats.{empty_handed, has_making, has_turn, saw, work_in_hand}
+use Rattle.std.proofs.lemmas.Bool.{and_from, and_parts, false≢true, true≢false, not-true, or_parts, or_right}
+use Rattle.mark_core.specs.Seats.{empty_handed, has_making, has_turn, work_in_hand}
 use Rattle.mark_core.specs.declared.kinds.Phase.{Phase}
 use Rattle.mark_core.specs.declared.kinds.Phase.TheVariants.{Full}
 use Rattle.mark_core.specs.declared.kinds.Shape.{Shape}
-use Rattle.mark_core.specs.declared.kinds.Step.{Step}
-use Rattle.mark_core.specs.declared.kinds.Step.TheVariants.{ReadPhase, ReadSeason}
+use Rattle.mark_core.specs.declared.kinds.Step.TheVariants.{ReadSeason}
 use Rattle.mark_core.specs.declared.seat.SeatState.{SeatState}
 use Rattle.gc_table.specs.Log.{Only, all_steps, events}
 use Rattle.gc_table.specs.PlainSteps.{HasSeenPhase}
@@ -20,14 +19,14 @@ use Rattle.gc_table.proofs.Running.{ran-events, ran-found, ran-only, ran-refl, r
 use Rattle.packet_pools.specs.Seeking.{some_event}
 use Rattle.packet_pools.proofs.Searches.{some-left}
 use Rattle.alloc_cache.specs.declared.cache.Cache.{Cache}
-use Rattle.gc_cycle.specs.Answering.{GoesOn, HasCache, later_or, last_phase, phase_read}
+use Rattle.gc_cycle.specs.Answering.{GoesOn, HasCache, last_phase}
 use Rattle.gc_cycle.specs.Events.{never}
 use Rattle.cache_refills.specs.PartEvents.{polled_last}
 use Rattle.seat_turns.specs.Turning.{LooksAtSeason}
+use Rattle.seat_turns.proofs.Seats.{read_full, either_full, last_full}
 use Rattle.warehouse.specs.Pacing.{Paces}
 use Rattle.warehouse.specs.Playing.{Acts, GetsReady, ObjectsHaveCells, IsInTurn, Stays, DoesNothing, counts_part}
-use Rattle.gc_cycle.specs.Polling.{saw_full}
-use Rattle.gc_cycle.specs.Sorts.{stores_new, polls, raises_flag, reads_phase, mutator_stores}
+use Rattle.gc_cycle.specs.Sorts.{stores_new, polls, raises_flag, mutator_stores}
 use Rattle.gc_cycle.specs.Sparing.{spares_part}
 use Rattle.gc_cycle.specs.Standing.{KeepsSeat, Mutates, is_at_rest}
 use Rattle.cache_refills.specs.Stops.{stops_without_cause}
@@ -41,18 +40,6 @@ use Rattle.warehouse.proofs.InTheStop.{spares-stores, stays-join, stays-none, st
 -- the phase that was read last isn't Full, if none was read as Full
 none_some : (p : Phase) → None ≡ Some p → ⊥
 none_some p e = false≢true (ap (λ (o : Option Phase). is_some o) e)
-
-read_full : (step : Step) (n : ℕ) → phase_read step n ≡ Some Full → reads_phase Full step n ≡ true
-read_full ReadPhase n h = ap (λ (o : Option Phase). saw o Full) h
-read_full step n h = absurd (none_some Full h)
-
-either_full : (later here : Option Phase) (a b : Bool) → (later ≡ Some Full → b ≡ true) → (here ≡ Some Full → a ≡ true) → later_or later here ≡ Some Full → (a || b) ≡ true
-either_full None here a b p q h = or_left a b (q h)
-either_full (Some x) here a b p q h = or_right a b (p h)
-
-last_full : (es : List Entry) → last_phase es ≡ Some Full → saw_full es ≡ true
-last_full [] h = absurd (none_some Full h)
-last_full (e ∷ es) h = either_full (last_phase es) (phase_read e.step e.found) (reads_phase Full e.step e.found) (saw_full es) (last_full es) (read_full e.step e.found) h
 
 pub going-seen : (v w : View) → GoesOn v w → HasSeenPhase w.state
 going-seen v w g = by (last_phase (events v w)) refl g.read g.seen
