@@ -29,7 +29,7 @@ use Rattle.gc_cycle.specs.Sorts.{enters_freely, polls, reads_phase, sees_flag, s
 use Rattle.cache_refills.specs.Trying.{EntersOnce, PassesTo}
 use Rattle.cache_refills.specs.declared.trying.Pass.{Pass}
 use Rattle.cache_refills.specs.declared.trying.Pass.TheVariants as passes
-use Rattle.seat_turns.specs.Turning.{LooksAtSeason, SeesOther}
+use Rattle.seat_turns.specs.SeasonLooks.{LooksAtSeason, SeesOther}
 use Rattle.seat_turns.specs.Standing.{LacksFree}
 use Rattle.seat_turns.proofs.Seats.{looks-ran}
 use Rattle.seat_steps.specs.Causes.{ArrivesBy, ComesFreely, EntersBy, FoundStop, GoesFreely, HasFree, LacksBy, LooksBy, LooksFreely, PassesBy, SawOther, finds_flag}

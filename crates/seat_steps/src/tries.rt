@@ -7,7 +7,7 @@ ghost use Rattle.cache_refills.specs.Trying.{EntersTo};
 ghost use Rattle.gc_table.specs.Running.{Ran};
 ghost use Rattle.gc_table.specs.Seats.{Across, state_of, view_of};
 ghost use Rattle.mutator_ops.specs.Few.{AtMost};
-ghost use Rattle.seat_turns.specs.Turning.{LooksAtSeason, SeesOther};
+ghost use Rattle.seat_turns.specs.SeasonLooks.{LooksAtSeason, SeesOther};
 ghost use Rattle.seat_turns.specs.Sharing.{LeavesHeap};
 ghost use Rattle.seat_turns.specs.Standing.{Halts, IsAtTurn, Plays, IsMutatorOutside, Works, plain_of};
 ghost use Rattle.seat_steps.specs.Causes.{ArrivesBy, EntersBy, GoesFreely, LooksBy, PassesBy};

@@ -7,7 +7,7 @@ use Rattle.gc_table.specs.declared.view.View.{View}
 use Rattle.gc_cycle.specs.Turns.{HelpsInTurns}
 use Rattle.gc_cycle.specs.Polling.{saw_resumed}
 use Rattle.seat_turns.specs.Tracing.{TracerTakesTurn}
-use Rattle.seat_turns.specs.Trying.{TriesTurn}
+use Rattle.seat_turns.specs.TracerTries.{TriesTurn}
 use Rattle.seat_turns.specs.declared.background.Turn.TheVariants as turns
 use Rattle.seat_turns.specs.declared.try_turns.TryTurn.TheVariants as tries
 

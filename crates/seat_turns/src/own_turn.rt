@@ -3,7 +3,7 @@ ghost use Rattle.std.specs.Prelude.{◌≡◌, Some, IsTrue, is_some};
 ghost use Rattle.std.specs.Bool.{OnFalse};
 ghost use Rattle.gc_table.specs.Seats.{Across, Sits, state_of, view_of};
 ghost use Rattle.gc_cycle.specs.Standing.{Mutates};
-ghost use Rattle.seat_turns.specs.Turning.{LooksAtSeason, SeesOther};
+ghost use Rattle.seat_turns.specs.SeasonLooks.{LooksAtSeason, SeesOther};
 
 use gc_table::{Heap, HeapSeat};
 

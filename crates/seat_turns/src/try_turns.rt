@@ -2,7 +2,7 @@
 ghost use Rattle.std.specs.Prelude.{◌≡◌};
 ghost use Rattle.gc_table.specs.Seats.{Across};
 ghost use Rattle.seat_turns.specs.Tallying.{Tallies};
-ghost use Rattle.seat_turns.specs.Trying.{TriesTurn};
+ghost use Rattle.seat_turns.specs.TracerTries.{TriesTurn};
 
 use crate::background::Tracer;
 use crate::tracer_turn::{go_round, goes_in, see_dismissals};

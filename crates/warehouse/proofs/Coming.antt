@@ -27,7 +27,7 @@ use Rattle.warehouse.specs.Playing.{Acts, FindsFull, GetsReady, HasFree, HasRoom
 use Rattle.warehouse.specs.declared.mutator.Mutator.{Mutator}
 use Rattle.warehouse.proofs.Leavings.{acts-join, within-still}
 use Rattle.warehouse.proofs.Commanding.{stays-of}
-use Rattle.warehouse.proofs.Fulls.{counted-kept}
+use Rattle.warehouse.proofs.FullStops.{counted-kept}
 use Rattle.warehouse.proofs.Readying.{polled-right}
 use Rattle.mark_core.specs.declared.kinds.Shape.{Shape}
 use Rattle.warehouse.proofs.InTheStop.{stays-join}

@@ -14,7 +14,7 @@ use Rattle.warehouse.specs.Playing.{counts_part}
 use Rattle.mark_core.specs.Numbers.{done_count}
 use Rattle.gc_cycle.specs.Sparing.{fills_part, spares_part}
 use Rattle.gc_cycle.proofs.Sequences.{some-none as none_both, count-none as none-count, none-of-steps as none-of}
-use Rattle.warehouse.proofs.Turning.{is_of_command, season-step}
+use Rattle.warehouse.proofs.TurnChanges.{is_of_command, season-step}
 use Rattle.packet_pools.specs.Counts.{count_of}
 use Rattle.packet_pools.specs.Seeking.{some_event}
 use Rattle.packet_pools.proofs.Searches.{some-right}

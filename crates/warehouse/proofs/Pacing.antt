@@ -31,7 +31,7 @@ use Rattle.cache_refills.specs.Pace.Pacing.{begins_where_due}
 use Rattle.cache_refills.proofs.Refills.Payment.{never-run as never-join}
 use Rattle.warehouse.specs.Pacing.{Changes, EndsCyclesAlone, LeavesPace, Paces, PacesBetween, by_collection, by_counting, by_refill, by_retiring, by_safe_point}
 use Rattle.warehouse.proofs.Counting.{never-of}
-use Rattle.warehouse.proofs.Turning.{is_of_command}
+use Rattle.warehouse.proofs.TurnChanges.{is_of_command}
 use Rattle.stop_world.specs.Waiting.{watches}
 
 untried : (v : View) → never tries_marking (events v v) ≡ true

@@ -22,7 +22,7 @@ use Rattle.alloc_cache.specs.declared.cache.Cache.{Cache}
 use Rattle.gc_cycle.specs.Answering.{GoesOn, HasCache, last_phase}
 use Rattle.gc_cycle.specs.Events.{never}
 use Rattle.cache_refills.specs.PartEvents.{polled_last}
-use Rattle.seat_turns.specs.Turning.{LooksAtSeason}
+use Rattle.seat_turns.specs.SeasonLooks.{LooksAtSeason}
 use Rattle.seat_turns.proofs.Seats.{read_full, either_full, last_full}
 use Rattle.warehouse.specs.Pacing.{Paces}
 use Rattle.warehouse.specs.Playing.{Acts, GetsReady, ObjectsHaveCells, IsInTurn, Stays, DoesNothing, counts_part}
@@ -31,7 +31,7 @@ use Rattle.gc_cycle.specs.Sparing.{spares_part}
 use Rattle.gc_cycle.specs.Standing.{KeepsSeat, Mutates, is_at_rest}
 use Rattle.cache_refills.specs.Stops.{stops_without_cause}
 use Rattle.warehouse.proofs.Leavings.{acts-join, waits-join}
-use Rattle.warehouse.proofs.Fulls.{counted-kept}
+use Rattle.warehouse.proofs.FullStops.{counted-kept}
 use Rattle.warehouse.proofs.Others.{has-cache}
 use Rattle.warehouse.proofs.Pacing.{paces-after}
 use Rattle.warehouse.proofs.Counting.{last-right, last-some, some-count, stored-none, stores_none, writes-none}

@@ -4,7 +4,7 @@ ghost use Rattle.mark_core.specs.Seats.{has_turn, saw};
 ghost use Rattle.mark_core.specs.declared.kinds.Phase.TheVariants.{Full};
 ghost use Rattle.gc_table.specs.Seats.{Across, did, Sits, state_of, view_of};
 ghost use Rattle.gc_cycle.specs.Answering.{GoesOn, HasCache};
-ghost use Rattle.seat_turns.specs.Turning.{SeesOther};
+ghost use Rattle.seat_turns.specs.SeasonLooks.{SeesOther};
 ghost use Rattle.warehouse.specs.Playing.{FindsFull, GetsReady, Glances, HasFree, HasNoFree, ObjectsHaveCells, IsHindered, Stays, DoesNothing};
 ghost use Rattle.gc_cycle.specs.Polling.{poll_found_stop};
 ghost use Rattle.gc_cycle.specs.Standing.{Mutates};

@@ -6,7 +6,7 @@ use Rattle.gc_table.specs.Seats.{view_of}
 use Rattle.mark_core.specs.Seats.{has_turn}
 use Rattle.warehouse.proofs.Leavings.{waits-ran}
 use Rattle.warehouse.proofs.Coming.{at-later, comes-going, next-moved, own-turn, stops-later}
-use Rattle.warehouse.proofs.Fulls.{counted-kept}
+use Rattle.warehouse.proofs.FullStops.{counted-kept}
 use Rattle.warehouse.proofs.commands.come_to.Goals as goal
 
 pub is_ready-ready-requires-clause-owned : goal.is_ready-ready-requires-clause-owned

@@ -7,7 +7,7 @@ use Rattle.mark_core.specs.Seats.{has_turn}
 use Rattle.mark_core.specs.declared.kinds.Shape.{Shape}
 use Rattle.std.specs.Prelude.{Some}
 use Rattle.warehouse.proofs.Leavings.{waits-join, waits-ran}
-use Rattle.warehouse.proofs.Fulls.{counted-kept, finds-after}
+use Rattle.warehouse.proofs.FullStops.{counted-kept, finds-after}
 use Rattle.warehouse.proofs.Pacing.{paces-passed}
 use Rattle.warehouse.proofs.Readying.{looks-cache, looks-stays, looks-waits, reads-ready, ready-after}
 use Rattle.warehouse.proofs.InTheStop.{stays-join, stays-none, stays-spared, waits-calm, waits-none}
