@@ -266,5 +266,3 @@ plays-made h cell x y p sits operates ran state =
           };
       operates = operates;
     }
-
-pub ruleset standing = (retired-halts)

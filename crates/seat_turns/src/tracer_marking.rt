@@ -98,6 +98,7 @@ fn clean_late(heap: &Heap, seat: &mut HeapSeat)
     }
 }
 
+#[tactic(auto, using(crate::proofs::Tending::tends_nothing))]
 fn clean_after(heap: &Heap, seat: &mut HeapSeat, stopped: Stopped)
     requires { GoesMarking heap.now seat.old }
     ensures seat { GoesMarking heap.now seat.new }

@@ -26,6 +26,7 @@ use std::sync::Wait;
 pub const TURN: u64 = 1;
 
 /// Gives a cache up, if there is one.
+#[tactic(auto, using(crate::proofs::Leaving::leaving))]
 pub fn retire_some(heap: &Heap, seat: &mut HeapSeat, cache: Option<Cache>)
     requires works { Works heap.now seat.old }
     requires cache { HasCache cache (view_of seat.old) }
