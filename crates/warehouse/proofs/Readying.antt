@@ -101,9 +101,6 @@ module _ (n : ℕ) (w x : View) (found : Found ReadSeason n w x) where
         paced = paces-after ReadSeason n w x refl refl season_ran found.0;
       }
 
-  season_cache : (kept : Option Cache) → HasCache kept w → HasCache kept x
-  season_cache kept h = has-cache kept w x (ap (λ (y : View). y.state.cache) found.0) h
-
 -- the season is read, if it wasn't known
 module _ (w x : View) (looks : LooksAtSeason w x) where
   looks_by : (P : View → Type 0) → P w → ((n : ℕ) → Found ReadSeason n w x → P x) → P x
@@ -127,8 +124,11 @@ module _ (w x : View) (looks : LooksAtSeason w x) where
   looks_seen : HasSeenPhase w.state → HasSeenPhase x.state
   looks_seen h = looks_by (λ y. HasSeenPhase y.state) h (λ n found. subst (λ (y : View). HasSeenPhase y.state) (sym found.0) h)
 
+  pub looks-kept : x.state.cache ≡ w.state.cache
+  looks-kept = looks_by (λ y. y.state.cache ≡ w.state.cache) refl (λ n found. ap (λ (y : View). y.state.cache) found.0)
+
   pub looks-cache : (kept : Option Cache) → HasCache kept w → HasCache kept x
-  looks-cache kept h = looks_by (λ y. HasCache kept y) h (λ n found. season_cache n w x found kept h)
+  looks-cache kept h = has-cache kept w x looks-kept h
 
 -- a mutator that knows the phase and its turn
 known_ready : (turn : ℕ) (x : View) → IsFalse x.shape.sharing → Mutates x → HasSeenPhase x.state → ObjectsHaveCells x → has_turn x.state.section (Some turn) ≡ true → x.state.season_seen ≡ Some turn → IsInTurn turn x

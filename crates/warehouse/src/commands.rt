@@ -3,9 +3,10 @@ ghost use Rattle.std.specs.Bool.{OnFalse, OnTrue};
 ghost use Rattle.plain_heap.specs.PlainRun.{with_label};
 ghost use Rattle.plain_heap.specs.Sections.{makes_object};
 ghost use Rattle.plain_heap.specs.declared.operation.Op.TheVariants as ops;
+ghost use Rattle.gc_table.specs.Seats.{Sits};
 ghost use Rattle.play_report.specs.Report.{printed_of};
 ghost use Rattle.gc_script.specs.Shown.{execution_of};
-ghost use Rattle.warehouse.specs.Commands.{DoesOne, IsAtCommand, IsNextOf, IsTurn, MayDo, PlaysOne, StopsBefore, is_other};
+ghost use Rattle.warehouse.specs.Commands.{ComesOrStops, DoesOne, DoesOneWithOwn, IsToCome, MayDo, PlaysOne, StopsBefore, is_other};
 ghost use Rattle.warehouse.specs.Playing.{HasFree, HasNoFree, IsPlaying};
 
 use crate::gate::Gate;
@@ -84,12 +85,11 @@ fn do_other<'a>(
     mutator: &mut Mutator<'a>,
     section: &Section<'a>,
     command: &Command<'a>,
-    _cache: &Option<Cache>,
 )
     requires op { IsTrue (is_other (execution_of command.now).op) }
-    requires playing { IsPlaying heap.now section.now _cache.now mutator.old }
+    requires sits { Sits heap.now mutator.old.seat }
     requires may { MayDo section.now (execution_of command.now) mutator.old }
-    ensures { DoesOne heap.now section.now _cache.now (execution_of command.now) mutator.old mutator.new }
+    ensures { DoesOneWithOwn heap.now section.now (execution_of command.now) mutator.old mutator.new }
 {
     let done = mutator_ops::command(heap, &mut mutator.seat, command.op);
     say(&mut mutator.said, command, done.line);
@@ -145,7 +145,7 @@ fn do_command<'a, R: Wait>(
         }
         Op::Collect => collect_now(rt, heap, mutator, section, command, cache),
         _ => {
-            do_other(heap, mutator, section, command, cache);
+            do_other(heap, mutator, section, command);
             true
         }
     }
@@ -174,11 +174,8 @@ fn come_late<'a, R: Wait>(
     cache: &mut Option<Cache>,
     turn: u64,
 ) -> bool
-    requires playing { IsPlaying heap.now section.now cache.old mutator.old }
-    requires turn { IsTurn section.now turn mutator.old }
-    requires left { IsNextOf section.now turn (execution_of command.now) mutator.old }
-    ensures at { OnTrue result (IsAtCommand heap.now section.now turn cache.new (execution_of command.now) mutator.old mutator.new) }
-    ensures stops { OnFalse result (StopsBefore heap.now section.now (execution_of command.now) mutator.old mutator.new × (cache.new ≡ None)) }
+    requires { IsToCome heap.now section.now turn cache.old (execution_of command.now) mutator.old }
+    ensures { ComesOrStops result heap.now section.now turn cache.new (execution_of command.now) mutator.old mutator.new }
 {
     if makes(command.op) {
         await_cell(rt, heap, &mut mutator.seat, cache, turn, mutator.count)
@@ -206,13 +203,10 @@ fn come_to<'a, R: Wait>(
     cache: &mut Option<Cache>,
     turn: u64,
 ) -> bool
-    requires playing { IsPlaying heap.now section.now cache.old mutator.old }
-    requires turn { IsTurn section.now turn mutator.old }
-    requires left { IsNextOf section.now turn (execution_of command.now) mutator.old }
-    ensures at { OnTrue result (IsAtCommand heap.now section.now turn cache.new (execution_of command.now) mutator.old mutator.new) }
-    ensures stops { OnFalse result (StopsBefore heap.now section.now (execution_of command.now) mutator.old mutator.new × (cache.new ≡ None)) }
+    requires { IsToCome heap.now section.now turn cache.old (execution_of command.now) mutator.old }
+    ensures { ComesOrStops result heap.now section.now turn cache.new (execution_of command.now) mutator.old mutator.new }
 {
-    let ready = is_ready(heap, &mut mutator.seat, cache, turn);
+    let ready = is_ready(heap, &mut mutator.seat, turn);
     if may_begin(ready, command, cache) {
         return true;
     }
@@ -230,9 +224,7 @@ pub(crate) fn play_command<'a, R: Wait, G: Gate>(
     turn: u64,
     gate: &G,
 ) -> bool
-    requires playing { IsPlaying heap.now section.now cache.old mutator.old }
-    requires turn { IsTurn section.now turn mutator.old }
-    requires left { IsNextOf section.now turn (execution_of command.now) mutator.old }
+    requires { IsToCome heap.now section.now turn cache.old (execution_of command.now) mutator.old }
     ensures plays { OnTrue result (PlaysOne heap.now section.now turn cache.new (execution_of command.now) mutator.old mutator.new) }
     ensures stops { OnFalse result (StopsBefore heap.now section.now (execution_of command.now) mutator.old mutator.new × (cache.new ≡ None)) }
 {

@@ -1,11 +1,11 @@
-ghost use Rattle.std.specs.Prelude.{◌≡◌, ◌⊎◌, Some, None, IsTrue, IsFalse};
+ghost use Rattle.std.specs.Prelude.{ℕ, ◌≡◌, ◌⊎◌, Some, None, IsTrue, IsFalse};
 ghost use Rattle.std.specs.Bool.{OnFalse, OnTrue};
 ghost use Rattle.mark_core.specs.Seats.{has_turn, saw};
 ghost use Rattle.mark_core.specs.declared.kinds.Phase.TheVariants.{Full};
 ghost use Rattle.gc_table.specs.Seats.{Across, did, Sits, state_of, view_of};
 ghost use Rattle.gc_cycle.specs.Answering.{GoesOn, HasCache};
 ghost use Rattle.seat_turns.specs.SeasonLooks.{SeesOther};
-ghost use Rattle.warehouse.specs.Playing.{FindsFull, GetsReady, Glances, HasFree, HasNoFree, ObjectsHaveCells, IsHindered, Stays, DoesNothing};
+ghost use Rattle.warehouse.specs.Playing.{FindsFull, GetsReady, GetsReadyWithOwn, Glances, HasFree, HasNoFree, ObjectsHaveCells, IsHindered, Stays, DoesNothing};
 ghost use Rattle.gc_cycle.specs.Polling.{poll_found_stop};
 ghost use Rattle.gc_cycle.specs.Standing.{Mutates};
 
@@ -21,17 +21,16 @@ use stop_world::poll;
 /// Leaves and enters again, only if the season is another than this turn's.
 #[cold]
 #[inline(never)]
-fn go_round<R: Wait>(
+fn leave_and_enter<R: Wait>(
     rt: &R,
     heap: &Heap,
     seat: &mut HeapSeat,
     cache: &mut Option<Cache>,
-    _turn: u64,
     done: u32,
 )
     requires seat { Sits heap.now seat.old × Mutates (view_of seat.old) }
     requires cache { HasCache cache.old (view_of seat.old) }
-    requires other { SeesOther _turn (view_of seat.old) }
+    requires other { (turn : ℕ) × SeesOther turn (view_of seat.old) }
     ensures seat { Sits heap.now seat.new × Mutates (view_of seat.new) }
     ensures cache { (state_of seat.new).cache ≡ None }
     ensures none { cache.new ≡ None }
@@ -72,15 +71,14 @@ fn sees_clear(heap: &Heap, seat: &mut HeapSeat) -> bool
 /// Whether a command may be done at once, as it nearly always may: no stop is under way, the heap is not full, and
 /// it is the turn. Otherwise the mutator only looked.
 #[inline(always)]
-pub(crate) fn is_ready(heap: &Heap, seat: &mut HeapSeat, _cache: &Option<Cache>, turn: u64) -> bool
+pub(crate) fn is_ready(heap: &Heap, seat: &mut HeapSeat, turn: u64) -> bool
     requires seat { Sits heap.now seat.old × Mutates (view_of seat.old) }
-    requires cache { HasCache _cache.now (view_of seat.old) }
     requires owned { IsFalse (view_of seat.old).shape.sharing }
     requires counted { ObjectsHaveCells (view_of seat.old) }
     requires turn { IsTrue (has_turn (state_of seat.old).section (Some turn)) }
     ensures seat { Sits heap.now seat.new × Mutates (view_of seat.new) }
-    ensures cache { HasCache _cache.now (view_of seat.new) }
-    ensures ready { IsTrue result → Across (GetsReady turn _cache.now) seat.old seat.new }
+    ensures cache { (state_of seat.new).cache ≡ (state_of seat.old).cache }
+    ensures ready { IsTrue result → Across (GetsReadyWithOwn turn) seat.old seat.new }
     ensures late { OnFalse result (Across IsHindered seat.old seat.new ⊎ SeesOther turn (view_of seat.new)) }
     ensures stays { Across Stays seat.old seat.new }
     ensures waits { Across DoesNothing seat.old seat.new }
@@ -119,7 +117,7 @@ pub(crate) fn await_turn<R: Wait>(
         if is_turn(heap, seat, turn) {
             return true;
         }
-        go_round(rt, heap, seat, cache, turn, done);
+        leave_and_enter(rt, heap, seat, cache, done);
     }
     unreachable!()
 }
