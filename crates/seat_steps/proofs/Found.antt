@@ -188,3 +188,5 @@ comes-filled o none u v w a b g some bare e l t =
       few = λ f. absurd (lacking_none o none u some bare e l f);
       besides = inr t;
     }
+
+pub ruleset looking = (looks-by)
