@@ -1,5 +1,4 @@
 -- What a seat knows of a full heap, it knows when it has left the world.
-use Rattle.std.proofs.Common.{◌≡◌}
 use Rattle.gc_table.specs.Rule.{KnowsFull}
 use Rattle.gc_table.specs.declared.view.View.{View}
 use Rattle.gc_table.proofs.History.Log.{only-more}

@@ -1,5 +1,5 @@
 -- No plain heap sees how the tracers are told that they are dismissed.
-use Rattle.std.proofs.Common.{◌≡◌, ap, refl, false}
+use Rattle.std.proofs.Common.{ap, refl, false}
 use Rattle.mark_core.specs.Numbers.{done_count}
 use Rattle.mark_core.specs.declared.kinds.Step.TheVariants.{AddStat, LeaveStep}
 use Rattle.gc_table.specs.Log.{Only, all_steps}

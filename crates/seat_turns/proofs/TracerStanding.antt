@@ -1,5 +1,5 @@
 -- A seat that marks stays one.
-use Rattle.std.proofs.Common.{ℕ, ◌≡◌, ◌⊎◌, ⊎_elim, ◌∷◌, length, refl, sym, ap, ◌∙◌, Bool, true, false, not, ◌&&◌, Some, None, Option}
+use Rattle.std.proofs.Common.{ℕ, ◌≡◌, ◌⊎◌, ⊎_elim, length, refl, sym, ap, ◌∙◌, Bool, true, false, not, ◌&&◌, Some, None, Option}
 use Rattle.std.specs.Prelude.{is_none, ◌==◌}
 use Rattle.std.proofs.Math.Logic.{∥∥₁_elim}
 use Rattle.std.proofs.Props.{props}
@@ -19,7 +19,7 @@ use Rattle.packet_pools.specs.OnlyTraced.{OnlyTracedBy, rest_of}
 use Rattle.packet_pools.specs.Tracing.{Traces as MayTrace}
 use Rattle.tracer.specs.Hands.{IsIdle}
 use Rattle.seat_turns.specs.TracerStanding.{GoesMarking}
-use Rattle.gc_cycle.proofs.Idling.{four-none, none-slot}
+use Rattle.gc_cycle.proofs.Idling.{four-none}
 use Rattle.gc_cycle.proofs.Ends.Swept.{unless}
 
 -- what a seat with nothing in hand hasn't

@@ -1,5 +1,5 @@
 -- A turn that waits is one that doesn't, and then the seat helps if it has to.
-use Rattle.std.proofs.Common.{ℕ, ◌≡◌, inl, inr, true}
+use Rattle.std.proofs.Common.{◌≡◌, inl, inr, true}
 use Rattle.mark_core.specs.declared.kinds.Phase.TheVariants as phases
 use Rattle.gc_table.specs.Log.{events}
 use Rattle.gc_table.specs.Running.{Ran}

@@ -13,14 +13,13 @@ use Rattle.gc_cycle.specs.Events.{never, Sort, last_is}
 use Rattle.warehouse.specs.Playing.{counts_part}
 use Rattle.mark_core.specs.Numbers.{done_count}
 use Rattle.gc_cycle.specs.Sparing.{fills_part, spares_part}
-use Rattle.gc_cycle.proofs.Sequences.{some-none as none_both, count-none as none-count, none-of-steps as none-of}
+use Rattle.gc_cycle.proofs.Sequences.{none-of-steps as none-of}
 use Rattle.warehouse.proofs.TurnChanges.{is_of_command, season-step}
 use Rattle.packet_pools.specs.Counts.{count_of}
 use Rattle.packet_pools.specs.Seeking.{some_event}
 use Rattle.packet_pools.proofs.Searches.{some-right}
 use Rattle.mark_core.specs.Seats.{is_the}
 use Rattle.warehouse.specs.Storing.{stores_in, writes}
-use Rattle.cache_refills.proofs.Refills.Payment.{never-run as never-join}
 
 -- In which season a call stored what it stored.
 -- the step stores or exchanges no object, no variable and no new cell

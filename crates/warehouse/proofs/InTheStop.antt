@@ -45,8 +45,6 @@ use Rattle.gc_table.specs.declared.view.SectionState.{SectionState}
 use Rattle.alloc_cache.specs.declared.cache.Cache.{Cache}
 use Rattle.gc_cycle.specs.Answering.{HasCache, retires}
 use Rattle.gc_cycle.specs.Statistics.{GivesUp}
-use Rattle.gc_cycle.proofs.Since.{since-more}
-use Rattle.gc_cycle.proofs.Sequences.{some-none as neither}
 
 -- What the calls of a turn leave of the section.
 -- What the calls of the collector leave, by the clauses that are asked of them.

@@ -4,7 +4,6 @@ use Rattle.std.specs.Prelude.{IsFalse, is_none, is_some}
 use Rattle.std.proofs.lemmas.Bool.{and_from, and_parts, false≢true, true≢false, not-true, or_parts, or_right}
 use Rattle.mark_core.specs.Seats.{empty_handed, has_making, has_turn, work_in_hand}
 use Rattle.mark_core.specs.declared.kinds.Phase.{Phase}
-use Rattle.mark_core.specs.declared.kinds.Phase.TheVariants.{Full}
 use Rattle.mark_core.specs.declared.kinds.Shape.{Shape}
 use Rattle.mark_core.specs.declared.kinds.Step.TheVariants.{ReadSeason}
 use Rattle.mark_core.specs.declared.seat.SeatState.{SeatState}
@@ -23,7 +22,7 @@ use Rattle.gc_cycle.specs.Answering.{GoesOn, HasCache, last_phase}
 use Rattle.gc_cycle.specs.Events.{never}
 use Rattle.cache_refills.specs.PartEvents.{polled_last}
 use Rattle.seat_turns.specs.SeasonLooks.{LooksAtSeason}
-use Rattle.seat_turns.proofs.Seats.{read_full, either_full, last_full}
+use Rattle.seat_turns.proofs.Seats.{last_full}
 use Rattle.warehouse.specs.Pacing.{Paces}
 use Rattle.warehouse.specs.Playing.{Acts, GetsReady, ObjectsHaveCells, IsInTurn, Stays, DoesNothing, counts_part}
 use Rattle.gc_cycle.specs.Sorts.{stores_new, polls, raises_flag, mutator_stores}
