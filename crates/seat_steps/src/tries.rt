@@ -1,4 +1,4 @@
-//! Into the world, to the mutator's turn, and a safe point, each as one try.
+//! Into the world, to the mutator's turn, and past a safe point, each as one try.
 ghost use Rattle.std.specs.Prelude.{◌≡◌, ◌<◌, IfErr, IfOk, IsTrue, is_some, None};
 ghost use Rattle.std.specs.Bool.{OnFalse, OnTrue};
 ghost use Rattle.gc_cycle.specs.Answering.{HasCache};
@@ -75,7 +75,6 @@ fn leave_with(heap: &Heap, seat: &mut HeapSeat, cache: Option<Cache>)
     leave(heap, seat);
 }
 
-/// Comes to its turn with this cache, or leaves.
 pub fn point(heap: &Heap, seat: &mut HeapSeat, cache: Option<Cache>) -> Result<Option<Cache>, Came>
     requires works { Works heap.now seat.old }
     requires cache { HasCache cache (view_of seat.old) }
@@ -109,7 +108,6 @@ pub fn point(heap: &Heap, seat: &mut HeapSeat, cache: Option<Cache>) -> Result<O
     }
 }
 
-/// Comes to its turn, or leaves.
 pub fn arrive(heap: &Heap, seat: &mut HeapSeat) -> Came
     requires halts { Halts heap.now seat.old }
     ensures arrives { Arrives result heap.now seat.new }
@@ -127,7 +125,6 @@ pub fn arrive(heap: &Heap, seat: &mut HeapSeat) -> Came
     }
 }
 
-/// Enters the world, if no stop is under way, and comes to its turn.
 pub fn enter_once(heap: &Heap, seat: &mut HeapSeat) -> Came
     requires waits { IsMutatorOutside heap.now seat.old }
     ensures arrives { Arrives result heap.now seat.new }
@@ -145,7 +142,6 @@ pub fn enter_once(heap: &Heap, seat: &mut HeapSeat) -> Came
     }
 }
 
-/// A safe point at its turn.
 pub fn pass_once(heap: &Heap, seat: &mut HeapSeat) -> Came
     requires turn { IsAtTurn heap.now seat.old }
     ensures arrives { Arrives result heap.now seat.new }

@@ -25,9 +25,9 @@ pub enum TryTurn {
 }
 
 impl Tracer {
-    /// One turn for a thread without a runtime: it traces at most 64 objects if a cycle is marking, and passes at
-    /// most 1,024 cards if that is far on. If a stop is under way it does nothing. Between two turns its thread
-    /// lets others run. Each answer has a bound of steps (`tried_steps`).
+    /// One turn for a thread without a runtime: it traces at most 64 objects if a cycle is marking, and passes at most
+    /// 1,024 cards if that is far on. Between two turns its thread lets others run. Each answer has a bound of steps
+    /// (`tried_steps`).
     pub fn try_turn(&mut self) -> TryTurn
         ensures turn { Across (TriesTurn result) self.old.seat self.new.seat }
         ensures tally { Across (Tallies self.old.traced self.new.traced) self.old.seat self.new.seat }

@@ -48,7 +48,6 @@ pub fn keep_some(cache: Option<Cache>) {
     }
 }
 
-/// A safe point: if a stop is under way the mutator gives its cache up, leaves, helps, and enters again.
 pub fn pass<R: Wait>(
     rt: &R,
     heap: &Heap,
@@ -124,7 +123,6 @@ fn fill_in_stops<R: Wait, W: Watch>(
     }
 }
 
-/// Another cache, with a free cell. The old one is given up.
 fn fill<R: Wait, W: Watch>(
     rt: &R,
     heap: &Heap,
@@ -169,8 +167,7 @@ pub fn with_free(cache: Option<Cache>) -> Result<Cache, Option<Cache>>
     }
 }
 
-/// Comes to a new object: a safe point, and a cache with a free cell. After a refill it passes a safe point again,
-/// since a refill may stop the world.
+/// Comes to a cache with a free cell. A safe point follows each refill, since that may stop the world.
 pub fn come_to<R: Wait, W: Watch>(
     rt: &R,
     heap: &Heap,

@@ -1,3 +1,4 @@
+//! One command of a part.
 ghost use Rattle.std.specs.Prelude.{◌≡◌, ◌+◌, ◌<◌, ◌≤◌, ◌⊎◌, ◌++◌, [], ◌∷◌, if◌then◌else◌, is_some, length, map, IsTrue, IsFalse, None, vec_capacity};
 ghost use Rattle.std.specs.Bool.{OnFalse, OnTrue};
 ghost use Rattle.plain_heap.specs.PlainRun.{with_label};
@@ -21,7 +22,6 @@ use plain_heap::{Line, Op};
 use play_report::Said;
 use std::sync::Wait;
 
-/// Notes what a command printed, in room taken before.
 fn say<'a>(said: &mut Vec<Said<'a>>, command: &Command<'a>, line: Option<Line>)
     requires room { IsTrue (is_some line) → length said.old.items < vec_capacity said.old }
     ensures said { map printed_of said.new.items ≡ map printed_of said.old.items ++ with_label command.now.label.now line [] }
@@ -38,7 +38,6 @@ fn say<'a>(said: &mut Vec<Said<'a>>, command: &Command<'a>, line: Option<Line>)
     }
 }
 
-/// Notes the cell of a new object, in room taken before.
 fn place(places: &mut Vec<u32>, cell: u32)
     requires room { length places.old.items < vec_capacity places.old }
     ensures places { places.new.items ≡ places.old.items ++ cell ∷ [] }
@@ -79,7 +78,6 @@ fn one_if(so: bool) -> u32
     if so { 1 } else { 0 }
 }
 
-/// Does a command that neither makes an object nor collects.
 fn do_other<'a>(
     heap: &Heap,
     mutator: &mut Mutator<'a>,
@@ -97,7 +95,7 @@ fn do_other<'a>(
     mutator.count += 1;
 }
 
-/// Collects if the command says so. False if the heap is full.
+/// False if the heap is full.
 fn collect_now<'a, R: Wait>(
     rt: &R,
     heap: &Heap,
@@ -123,7 +121,7 @@ fn collect_now<'a, R: Wait>(
     }
 }
 
-/// Does a command in its turn, with a cell if it makes an object. False if the heap is full.
+/// False if the heap is full.
 fn do_command<'a, R: Wait>(
     rt: &R,
     heap: &Heap,
@@ -151,7 +149,6 @@ fn do_command<'a, R: Wait>(
     }
 }
 
-/// Whether the command makes an object.
 fn makes(op: Op) -> bool
     ensures { result ≡ makes_object op }
 {
@@ -161,8 +158,7 @@ fn makes(op: Op) -> bool
     }
 }
 
-/// Comes to the command through a safe point in the turn, with a cell if it makes an object. False if the heap is
-/// full.
+/// A safe point in the turn, with a cell if the command makes an object. False if the heap is full.
 #[cold]
 #[inline(never)]
 fn come_late<'a, R: Wait>(
@@ -184,7 +180,6 @@ fn come_late<'a, R: Wait>(
     }
 }
 
-/// Whether a ready mutator has the cell that the command needs.
 fn may_begin(ready: bool, command: &Command<'_>, cache: &Option<Cache>) -> bool
     ensures ready { IsTrue result → IsTrue ready }
     ensures free { IsTrue result → IsTrue (makes_object (execution_of command.now).op) → HasFree cache.now }
@@ -213,7 +208,7 @@ fn come_to<'a, R: Wait>(
     come_late(rt, heap, mutator, section, command, cache, turn)
 }
 
-/// Comes to a command, tells the gate, and does it. False if the heap is full; then no cache is left.
+/// Comes to a command, tells the gate, and does it. False if the heap is full.
 pub(crate) fn play_command<'a, R: Wait, G: Gate>(
     rt: &R,
     heap: &Heap,

@@ -1,3 +1,4 @@
+//! A mutator comes to its turn, and to a free cell.
 ghost use Rattle.std.specs.Prelude.{ℕ, ◌≡◌, ◌⊎◌, Some, None, IsTrue, IsFalse};
 ghost use Rattle.std.specs.Bool.{OnFalse, OnTrue};
 ghost use Rattle.mark_core.specs.Seats.{has_turn, saw};
@@ -18,7 +19,7 @@ use seat_turns::is_turn;
 use std::sync::Wait;
 use stop_world::poll;
 
-/// Leaves and enters again, only if the season is another than this turn's.
+/// It is called only if the season is another than the turn's.
 #[cold]
 #[inline(never)]
 fn leave_and_enter<R: Wait>(
@@ -51,8 +52,7 @@ fn is_full(phase: Phase) -> bool
     }
 }
 
-/// Whether no stop is under way and the heap isn't full. The mutator only looks: if not, it still has a safe point
-/// to pass.
+/// Whether no stop is under way and the heap isn't full. If not, the mutator still has a safe point to pass.
 #[inline(always)]
 fn sees_clear(heap: &Heap, seat: &mut HeapSeat) -> bool
     requires seat { Sits heap.now seat.old × Mutates (view_of seat.old) }
@@ -68,8 +68,7 @@ fn sees_clear(heap: &Heap, seat: &mut HeapSeat) -> bool
     !is_full(heap.read_phase(seat))
 }
 
-/// Whether a command may be done at once, as it nearly always may: no stop is under way, the heap is not full, and
-/// it is the turn. Otherwise the mutator only looked.
+/// Whether a command may be done at once, as it nearly always may. If not, the mutator only looked.
 #[inline(always)]
 pub(crate) fn is_ready(heap: &Heap, seat: &mut HeapSeat, turn: u64) -> bool
     requires seat { Sits heap.now seat.old × Mutates (view_of seat.old) }
@@ -89,9 +88,7 @@ pub(crate) fn is_ready(heap: &Heap, seat: &mut HeapSeat, turn: u64) -> bool
     is_turn(heap, seat, turn)
 }
 
-/// A safe point, and the season after it: in a stop the seat was outside, and what it had read of the season is no
-/// longer known. If it isn't this turn, the seat goes out and in until it is. False if the heap is full; the cache
-/// is then given up.
+/// Safe points, until the season is this turn's. False if the heap is full: then the cache is given up.
 pub(crate) fn await_turn<R: Wait>(
     rt: &R,
     heap: &Heap,
@@ -132,7 +129,7 @@ pub(crate) fn has_free(cache: &Option<Cache>) -> bool
     }
 }
 
-/// Takes out a cache without a free cell, if there is one.
+/// A cache is given up only if it has no free cell.
 fn take_empty(cache: &mut Option<Cache>) -> Option<Cache>
     requires { HasNoFree cache.old }
     ensures value { result ≡ cache.old }
@@ -141,7 +138,6 @@ fn take_empty(cache: &mut Option<Cache>) -> Option<Cache>
     cache.take()
 }
 
-/// Keeps a cache if there was none.
 fn keep(place: &mut Option<Cache>, cache: Cache)
     requires { place.old ≡ None }
     ensures { place.new ≡ Some cache }
@@ -149,7 +145,7 @@ fn keep(place: &mut Option<Cache>, cache: Cache)
     spend_none(place.replace(cache));
 }
 
-/// Comes to the section's turn, with a cell to make an object in.
+/// As [`await_turn`], with a cell to make an object in.
 pub(crate) fn await_cell<R: Wait>(
     rt: &R,
     heap: &Heap,
