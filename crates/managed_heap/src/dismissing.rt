@@ -3,7 +3,7 @@ ghost use Rattle.std.specs.Bool.{OnFalse, OnTrue};
 ghost use Rattle.gc_table.specs.Seats.{Across};
 ghost use Rattle.stop_world.specs.Gates.{TurnsBack};
 ghost use Rattle.managed_heap.specs.Lending.{HasAllStill};
-ghost use Rattle.seat_turns.specs.Trying.{Dismisses, DismissesInside};
+ghost use Rattle.seat_turns.specs.TracerTries.{Dismisses, DismissesInside};
 
 use crate::world::World;
 use seat_turns::{tell_dismissed, try_dismiss};

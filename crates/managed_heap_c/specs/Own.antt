@@ -4,7 +4,7 @@ use Rattle.std.specs.Arc.{arc_value}
 use Rattle.gc_table.specs.Seats.{Across, view_of}
 use Rattle.mutator_ops.specs.Few.{AtMost}
 use Rattle.stop_world.specs.Gates.{TurnsBack}
-use Rattle.seat_turns.specs.Trying.{Dismisses}
+use Rattle.seat_turns.specs.TracerTries.{Dismisses}
 use Rattle.seat_turns.specs.declared.background.Tracer.{Tracer}
 use Rattle.seat_steps.specs.Stepping.{heap_of_stepper, shares}
 use Rattle.seat_steps.specs.declared.stepper.Stage.TheVariants.{Outside}

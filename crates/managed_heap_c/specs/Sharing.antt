@@ -5,7 +5,7 @@ use Rattle.gc_table.specs.Seats.{Across, view_of}
 use Rattle.stop_world.specs.Gates.{TurnsBack}
 use Rattle.mutator_ops.specs.Few.{AtMost}
 use Rattle.seat_turns.specs.Sharing.{LeavesHeap}
-use Rattle.seat_turns.specs.Trying.{Dismisses}
+use Rattle.seat_turns.specs.TracerTries.{Dismisses}
 use Rattle.seat_turns.specs.declared.background.Tracer.{Tracer}
 use Rattle.seat_steps.specs.declared.stepper.Stepper.{Stepper}
 use Rattle.shared_heap.specs.Handing.{IsInSteps, IsOfSteps}

@@ -1,7 +1,7 @@
 -- What an export of a tracer answers.
 use Rattle.std.specs.Prelude.{ℕ, ◌≡◌, ◌⊎◌, Option, Some, None, IsFalse, IsTrue}
 use Rattle.gc_table.specs.Seats.{Across}
-use Rattle.seat_turns.specs.Trying.{TriesTurn}
+use Rattle.seat_turns.specs.TracerTries.{TriesTurn}
 use Rattle.seat_turns.specs.declared.background.Tracer.{Tracer}
 use Rattle.seat_turns.specs.declared.try_turns.TryTurn.{TryTurn}
 use Rattle.seat_turns.specs.declared.try_turns.TryTurn.TheVariants as tries

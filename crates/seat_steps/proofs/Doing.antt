@@ -1,17 +1,16 @@
 -- An operation by the kind of heap.
-use Rattle.std.proofs.Common.{ℕ, ◌≡◌, ◌%◌, ◌∙◌, ap, refl, sym, subst, Bool, true, false, None, Some}
+use Rattle.std.proofs.Common.{ℕ, ◌≡◌, ◌%◌, ◌∙◌, ap, refl, sym, subst, Bool, true, false}
 use Rattle.std.proofs.lemmas.Bool.{false≢true}
-use Rattle.gc_table.specs.Seats.{state_of, view_of}
+use Rattle.gc_table.specs.Seats.{view_of}
 use Rattle.gc_table.specs.declared.seat.Heap.{Heap}
 use Rattle.gc_table.specs.declared.seat.HeapSeat.{HeapSeat}
-use Rattle.mark_core.specs.Steps.MutatorSteps.{seat_variable as word_in}
 use Rattle.mark_core.specs.declared.kinds.Shape.{Shape}
 use Rattle.plain_heap.specs.declared.operation.Op.{Op}
 use Rattle.plain_heap.specs.declared.operation.Op.TheVariants as ops
-use Rattle.seat_turns.specs.Plain.{Steps, value_in}
-use Rattle.seat_turns.specs.Sharing.{LeavesHeap, MakesShared}
+use Rattle.seat_turns.specs.Plain.{Steps}
+use Rattle.seat_turns.specs.Sharing.{LeavesHeap}
 use Rattle.seat_turns.specs.Standing.{plain_of}
-use Rattle.seat_steps.specs.Doing.{Does, DoesShared, FindsNone, FindsSome, FindsValue, MakesNow}
+use Rattle.seat_steps.specs.Doing.{Does, FindsSome, FindsValue, MakesNow}
 
 -- a heap isn't of both kinds
 both : (b : Bool) → b ≡ true → b ≡ false → ⊥
@@ -25,30 +24,12 @@ pub shared-of : (h : Heap) (s : Shape) → s ≡ h.shape → s.sharing ≡ true 
 shared-of h s e t = ap (λ (s : Shape). s.sharing) (sym e) ∙ t
 
 module _ (h : Heap) (x y : HeapSeat) where
-  pub does-shared : (op : Op) → h.shape.sharing ≡ true → DoesShared op (view_of x) (view_of y) → Does op h x y
-  does-shared op t p = record { own = λ f. absurd (both h.shape.sharing t f); shared = λ _. p }
-
   pub does-own : (op : Op) → h.shape.sharing ≡ false → Steps op (plain_of x) (plain_of y) → Does op h x y
   does-own op f p = record { own = λ _. p; shared = λ t. absurd (both h.shape.sharing t f) }
-
-  pub made-shared : (u n : ℕ) → h.shape.sharing ≡ true → MakesShared u n (view_of x) (view_of y) → MakesNow u n h x y
-  made-shared u n t p = record { own = λ f. absurd (both h.shape.sharing t f); shared = λ _. p }
-
-  pub made-own : (u n : ℕ) → h.shape.sharing ≡ false → Steps (ops.New u n) (plain_of x) (plain_of y) → MakesNow u n h x y
-  made-own u n f p = record { own = λ _. p; shared = λ t. absurd (both h.shape.sharing t f) }
 
   -- a value
   pub found-shared : (u found : ℕ) → h.shape.sharing ≡ true → FindsValue u found (view_of x) (view_of y) → FindsSome u (found % 4294967296) h x y
   found-shared u found t p = record { own = λ f. absurd (both h.shape.sharing t f); shared = λ _. (found, refl, p) }
-
-  pub found-own : (u n : ℕ) → h.shape.sharing ≡ false → value_in (plain_of x) u ≡ Some n → plain_of y ≡ plain_of x → FindsSome u n h x y
-  found-own u n f e p = record { own = λ _. (e, p); shared = λ t. absurd (both h.shape.sharing t f) }
-
-  pub none-shared : (u : ℕ) → h.shape.sharing ≡ true → word_in (state_of x) u ≡ 0 → view_of y ≡ view_of x → FindsNone u h x y
-  none-shared u t e p = record { own = λ f. absurd (both h.shape.sharing t f); shared = λ _. (e, p) }
-
-  pub none-own : (u : ℕ) → h.shape.sharing ≡ false → value_in (plain_of x) u ≡ None → plain_of y ≡ plain_of x → FindsNone u h x y
-  none-own u f e p = record { own = λ _. (e, p); shared = λ t. absurd (both h.shape.sharing t f) }
 
 -- an object was made after the way to a cell, of which no plain heap sees anything
 pub makes-after : (op : Op) (u n : ℕ) (h : Heap) (x m y : HeapSeat) → op ≡ ops.New u n → LeavesHeap (view_of x) (view_of m) → plain_of m ≡ plain_of x → MakesNow u n h m y → Does op h x y

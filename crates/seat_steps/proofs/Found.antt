@@ -29,7 +29,7 @@ use Rattle.gc_cycle.specs.Sorts.{enters_freely, polls, reads_phase, sees_flag, s
 use Rattle.cache_refills.specs.Trying.{EntersOnce, PassesTo}
 use Rattle.cache_refills.specs.declared.trying.Pass.{Pass}
 use Rattle.cache_refills.specs.declared.trying.Pass.TheVariants as passes
-use Rattle.seat_turns.specs.Turning.{LooksAtSeason, SeesOther}
+use Rattle.seat_turns.specs.SeasonLooks.{LooksAtSeason, SeesOther}
 use Rattle.seat_turns.specs.Standing.{LacksFree}
 use Rattle.seat_turns.proofs.Seats.{looks-ran}
 use Rattle.seat_steps.specs.Causes.{ArrivesBy, ComesFreely, EntersBy, FoundStop, GoesFreely, HasFree, LacksBy, LooksBy, LooksFreely, PassesBy, SawOther, finds_flag}
@@ -188,3 +188,5 @@ comes-filled o none u v w a b g some bare e l t =
       few = λ f. absurd (lacking_none o none u some bare e l f);
       besides = inr t;
     }
+
+pub ruleset looking = (looks-by)

@@ -14,4 +14,4 @@ mod PaidCounts
 mod Doing
 mod Filled
 pub mod Found
-mod Searched
+pub mod Searched

@@ -1,5 +1,5 @@
 -- What is counted as traced to pay for caches.
-use Rattle.std.proofs.Common.{ℕ, ◌≡◌, ◌+◌, ◌⊎◌, arith, inl, inr, ap, refl, sym, subst, Some, ⊎_elim}
+use Rattle.std.proofs.Common.{ℕ, ◌≡◌, ◌+◌, arith, inl, inr, ap, refl, sym, subst, Some, ⊎_elim}
 use Rattle.std.specs.Prelude.{IfErr, IfOk, Result, Ok, Err}
 use Rattle.mark_core.specs.declared.kinds.Shape.{Shape}
 use Rattle.gc_table.specs.Running.{Ran}

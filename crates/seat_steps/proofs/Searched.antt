@@ -193,3 +193,5 @@ pub misses : (c : Came) (h : Heap) (s : HeapSeat) (v w : View) → LeavesWorld c
 misses cames.Stopped h s v w l g = g
 misses cames.Full h s v w l g = g
 misses c h s v w l g = absurd l
+
+pub ruleset trying = (has-section, tries-enter, tries-pass)

@@ -31,6 +31,10 @@ Passes passes.Going h s kept = Works h s × HasCache kept (view_of s) × HasSeen
 Passes passes.Full h s kept = Halts h s × KnowsFull (view_of s) × (kept ≡ None)
 Passes passes.Out h s kept = IsMutatorOutside h s × (kept ≡ None)
 
+-- where it is after a safe point at which it goes on
+abbrev pub HasPassed : Heap → HeapSeat → Type 0
+HasPassed h s = (kept : Option Cache) × Passes passes.Going h s kept
+
 -- where it is after it asked for a cache
 abbrev pub Refills : Refill → Heap → HeapSeat → Type 0
 Refills (refills.Cache free paid) h s = Works h s × IsCached free (view_of s) × (0 < ones free.cells)

@@ -16,7 +16,7 @@ use seat_turns::word_of;
 const ROOT: u8 = 0;
 
 impl Stepper {
-    /// Variable w becomes the root. Nil says that nothing was found: no contract of this call excludes that.
+    /// Variable w becomes the root. `Nil` says that nothing was found: no contract of this call excludes that.
     pub fn root(&mut self, w: u8) -> Came
         ensures root { TakesRoot result w self.old self.new }
     {
@@ -39,8 +39,8 @@ impl Stepper {
         }
     }
 
-    /// If reference i of variable v's object is variable `expected`, it becomes variable `new`. True if it was.
-    /// Either variable may be nil.
+    /// If reference i of variable v's object is variable `expected`, it becomes variable `new`. True if it was. Either
+    /// may be nil.
     pub fn exchange(&mut self, v: u8, i: u8, expected: u8, new: u8) -> Result<bool, Came>
         ensures done { IfOk result (λ won. StepperActs (CanExchange self.old v i expected new) 2 (ExchangesField v i expected new won) self.old self.new) }
         ensures refused { IfErr result (λ came. WantsObject came (CanExchange self.old v i expected new) v self.old self.new) }

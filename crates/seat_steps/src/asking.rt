@@ -12,7 +12,7 @@ use crate::stepper::{Stage, Stepper};
 use mark_core::VARIABLES;
 
 impl Stepper {
-    /// Whether variable v refers to nothing. Err: v is out of range, or the stepper is outside or collects.
+    /// Whether variable v refers to nothing.
     pub fn is_nil(&self, v: u8) -> Result<bool, Came>
         ensures nil { IfOk result (λ nil. IsTrue nil → RefersToNothing (shares self.now) v self.now.seat) }
         ensures some { IfOk result (λ nil. IsFalse nil → RefersToNothing (shares self.now) v self.now.seat → ⊥) }
@@ -57,8 +57,7 @@ impl Stepper {
         }
     }
 
-    /// Whether it has asked for a stop and others may still be inside: then its thread may rest before the next
-    /// step.
+    /// Whether others may still be inside after it asked for a stop: then its thread may rest before the next step.
     pub fn is_stopping(&self) -> bool
         ensures stopping { result ≡ is_stopping_at self.now.stage }
     {

@@ -1,13 +1,13 @@
-//! What a call that doesn't wait came to.
+//! The answers of calls that don't wait.
 
-/// What a call of a mutator that doesn't wait came to. If it isn't `Done`, objects and variables are as before.
+/// What a call came to. If it isn't `Done`, objects and variables are as before.
 #[derive(Clone, Copy, Debug, PartialEq, Eq, Drop)]
 pub enum Came {
     /// It is done.
     Done,
     /// A collection or a refill is under way: the next step is to be taken.
     NotYet,
-    /// A stop of another is under way: the mutator is outside now.
+    /// Another's stop is under way: the mutator is outside now.
     Stopped,
     /// No cell is free, or marking is done: a collection is called for.
     NoCell,
@@ -25,6 +25,6 @@ pub enum Came {
     Full,
     /// The mutator has made 4,294,967,295 objects, which are all that have numbers.
     Spent,
-    /// The world's mutators don't share their objects: there is no root, no exchange and no slot.
+    /// The world's mutators don't share their objects.
     NotShared,
 }

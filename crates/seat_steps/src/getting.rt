@@ -53,7 +53,6 @@ fn lacks_cell(heap: &Heap, seat: &mut HeapSeat) -> Came
     }
 }
 
-/// Comes to its turn with this cache, and with a free cell of it.
 pub fn point_with(heap: &Heap, seat: &mut HeapSeat, cache: Cache) -> Result<Cache, Came>
     requires works { Works heap.now seat.old }
     requires cache { IsCached cache (view_of seat.old) }
@@ -135,7 +134,7 @@ fn come_once(heap: &Heap, seat: &mut HeapSeat, paid: &mut u64) -> Result<Cache, 
     }
 }
 
-/// Makes an object in variable v, after a safe point. The section hasn't made all its objects.
+/// Makes an object in variable v, after a safe point.
 pub fn make_once(heap: &Heap, seat: &mut HeapSeat, paid: &mut u64, v: u8, value: u32) -> Came
     requires turn { IsAtTurn heap.now seat.old }
     requires room { length (plain_of seat.old).objects < heap.now.shape.objects }

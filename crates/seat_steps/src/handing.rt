@@ -8,7 +8,7 @@ use crate::stepper::{Stage, Stepper};
 use seat_turns::leave_turn;
 
 impl Stepper {
-    /// A stepper with this seat. It is outside the world.
+    /// A stepper with this seat, outside the world.
     pub fn of_resting(resting: RestingSeat) -> Stepper
         ensures stepped { IsSteppedBy resting result }
     {
@@ -30,7 +30,7 @@ impl Stepper {
         }
     }
 
-    /// Its seat, which leaves the world first. While it collects it is handed back.
+    /// Its seat, which leaves the world first. A stepper that collects is handed back.
     pub fn into_resting(self) -> Result<RestingSeat, Stepper>
         ensures ok { IfOk result (λ r. HasStopped self r) }
         ensures err { IfErr result (λ s. IsHandedBack self s) }

@@ -1,16 +1,11 @@
 //! A mutator in steps that never wait, in either kind of world.
 //!
-//! A [`Stepper`] owns its seat, and its type keeps where the seat stands; a call that only one kind of world has
-//! answers `NotShared` in the other. Each call is one try: if a stop is under way or the heap is full, the seat is
-//! outside the world afterwards, and the answer says why ([`Came`]).
+//! A [`Stepper`] owns its seat, and its type keeps where the seat stands. Each call is one try: if a stop is under way
+//! or the heap is full, the seat is outside the world afterwards, and the answer says why ([`Came`]).
 //!
 //! The calls are in `stepping`, `asking` and `refills`, those of a world that shares its objects in `acting`,
 //! `spilling` and `knowing`; the collection is in `steps`. What they do with the heap and the seat is in `tries`,
-//! `leaving`, `operations`, `getting` and `seeking`.
-//!
-//! In `specs/`, `Arriving` and `Collecting` say where the seat is after a call, `Causes` and `Seeking` what it
-//! found on its way, `Filling` what a search for a cell took, `Doing` what an operation did, and `Passes`, `Asked`
-//! and `Course` what a collection did.
+//! `operations`, `getting` and `seeking`.
 #![tactic(auto)]
 
 mod acting;

@@ -20,7 +20,7 @@ use seat_turns::{
     get_shared, make_in, make_shared_in, read_value, refer_to_one, refers_to_nothing, word_of,
 };
 
-/// Makes an object in variable v. The cache, which has a free cell, stays the seat's.
+/// Makes an object in variable v. The cache stays the seat's.
 pub fn makes(heap: &Heap, seat: &mut HeapSeat, cache: Cache, v: u8, value: u32)
     requires plays { Plays heap.now seat.old }
     requires cache { IsCached cache (view_of seat.old) }
@@ -39,7 +39,6 @@ pub fn makes(heap: &Heap, seat: &mut HeapSeat, cache: Cache, v: u8, value: u32)
     }
 }
 
-/// Reference i of variable v's object becomes what variable w is.
 #[tactic(auto, using(seat_turns::proofs::Done::operating))]
 pub fn sets(heap: &Heap, seat: &mut HeapSeat, v: u8, i: u8, w: u8)
     requires turn { IsAtTurn heap.now seat.old }
@@ -55,7 +54,6 @@ pub fn sets(heap: &Heap, seat: &mut HeapSeat, v: u8, i: u8, w: u8)
     }
 }
 
-/// Variable w becomes reference i of variable v's object, or nil if v is.
 #[tactic(auto, using(seat_turns::proofs::Done::operating))]
 pub fn gets(heap: &Heap, seat: &mut HeapSeat, w: u8, v: u8, i: u8)
     requires turn { IsAtTurn heap.now seat.old }
@@ -71,7 +69,6 @@ pub fn gets(heap: &Heap, seat: &mut HeapSeat, w: u8, v: u8, i: u8)
     }
 }
 
-/// Variable w becomes what variable v is.
 #[tactic(auto, using(seat_turns::proofs::Done::operating))]
 pub fn copies(heap: &Heap, seat: &mut HeapSeat, w: u8, v: u8)
     requires turn { IsAtTurn heap.now seat.old }
@@ -87,7 +84,6 @@ pub fn copies(heap: &Heap, seat: &mut HeapSeat, w: u8, v: u8)
     }
 }
 
-/// Variable v refers to nothing any more.
 #[tactic(auto, using(seat_turns::proofs::Done::operating))]
 pub fn forgets(heap: &Heap, seat: &mut HeapSeat, v: u8)
     requires turn { IsAtTurn heap.now seat.old }
@@ -103,7 +99,6 @@ pub fn forgets(heap: &Heap, seat: &mut HeapSeat, v: u8)
     }
 }
 
-/// The value of variable v's object becomes this one.
 #[tactic(auto, using(seat_turns::proofs::Done::operating))]
 pub fn puts(heap: &Heap, seat: &mut HeapSeat, v: u8, value: u32)
     requires turn { IsAtTurn heap.now seat.old }
@@ -134,7 +129,6 @@ fn finds_low(heap: &Heap, seat: &mut HeapSeat, v: u8) -> Option<u32>
     }
 }
 
-/// The value of variable v's object; None if it refers to nothing.
 pub fn finds(heap: &Heap, seat: &mut HeapSeat, v: u8) -> Option<u32>
     requires turn { IsAtTurn heap.now seat.old }
     requires range { v < section_variables }
@@ -150,7 +144,6 @@ pub fn finds(heap: &Heap, seat: &mut HeapSeat, v: u8) -> Option<u32>
     }
 }
 
-/// Whether variable v refers to nothing.
 pub fn is_nothing(heap: &Heap, seat: &HeapSeat, v: u8) -> bool
     requires turn { IsAtTurn heap.now seat.now }
     requires range { v < section_variables }
@@ -164,7 +157,6 @@ pub fn is_nothing(heap: &Heap, seat: &HeapSeat, v: u8) -> bool
     }
 }
 
-/// Whether two variables refer to one object, or both to nothing.
 pub fn are_one(heap: &Heap, seat: &HeapSeat, v: u8, w: u8) -> bool
     requires turn { IsAtTurn heap.now seat.now }
     requires range { (v < section_variables) × (w < section_variables) }

@@ -1,4 +1,4 @@
-//! A stepper makes an object of its cache, and comes to a cache in pieces.
+//! A stepper makes objects in its cache, and comes to a cache in pieces.
 ghost use Rattle.std.specs.Prelude.{◌≡◌, ◌≤◌, ◌<◌, ◌+◌, min, IfNone, IfSome};
 ghost use Rattle.std.specs.Arc.{arc_value};
 ghost use Rattle.mark_core.specs.Layout.{block_count};
@@ -13,7 +13,6 @@ use crate::seeking::{Sought, make_here, refill_once};
 use crate::stepper::{Stage, Stepper};
 use mark_core::{BLOCK_CELLS, CacheState, VARIABLES};
 
-/// The block behind that of this cache.
 fn behind(cache: Option<CacheState>, blocks: u32) -> u32
     ensures { result ≡ min (block_behind cache) blocks }
 {
@@ -23,7 +22,7 @@ fn behind(cache: Option<CacheState>, blocks: u32) -> u32
     }
 }
 
-/// How many blocks were seen, with `number` more; None if these are all blocks.
+/// How many blocks were seen with `number` more; None if that is all of them.
 fn seen_after(seen: u32, number: u32, blocks: u32) -> Option<u32>
     ensures some { IfSome result (λ n. (n ≡ seen + number) × (n < blocks)) }
     ensures none { IfNone result (blocks ≤ seen + number) }
@@ -36,8 +35,8 @@ fn seen_after(seen: u32, number: u32, blocks: u32) -> Option<u32>
 }
 
 impl Stepper {
-    /// Makes an object if a cell of the mutator's cache is free. Otherwise it answers `NoCache`: then `refill_step`
-    /// is to be called until it is `Done`.
+    /// As [`Stepper::make`], if a cell of its cache is free. With `NoCache` it is to call `refill_step` until that
+    /// answers `Done`.
     pub fn make_cached(&mut self, v: u8, value: u32) -> Came
         ensures makes { MakesCached result (ops.New v value) self.old self.new }
     {
@@ -69,10 +68,10 @@ impl Stepper {
         }
     }
 
-    /// The next step on the way to a cache with a free cell: `Done` if the mutator has one, `NotYet` if there is
-    /// more to do. It looks at no more than `most` blocks, at least 1: 0 is out of range. For a cache that it gets
-    /// it pays. `NoCell` means that its steps saw all blocks, one after another, without a free cell, or that
-    /// marking is done: a collection is called for. It is a safe point too.
+    /// The next step on the way to a cache with a free cell, and a safe point: `Done` if the mutator has one, `NotYet`
+    /// if there is more to do. It looks at no more than `most` blocks (0 is out of range), and pays for a cache that it
+    /// gets. `NoCell` calls for a collection: its steps saw all blocks, one after another, without a free cell, or
+    /// marking is done.
     pub fn refill_step(&mut self, most: u32) -> Came
         ensures refills { StepperRefills most result self.old self.new }
         ensures pays { PaysRefill most self.old self.new }
@@ -115,7 +114,6 @@ impl Stepper {
         self.heap.shape().cells / BLOCK_CELLS
     }
 
-    /// The next search goes on behind the block that the mutator got.
     fn begin_search(&mut self)
         ensures begins { BeginsSearch self.old self.new }
     {
@@ -123,7 +121,6 @@ impl Stepper {
         self.seen = 0;
     }
 
-    /// Notes how many blocks more were seen without a free cell, and where the search goes on.
     fn note_seen(&mut self, number: u32, next: u32) -> Came
         requires next { next ≤ block_count (arc_value self.old.heap).shape }
         ensures notes { NotesSeen number next result self.old self.new }

@@ -1,4 +1,4 @@
-//! A mutator's seat outside the world: mutators and steppers are made of it, and come apart into it.
+//! What mutators and steppers are made of, and come apart into.
 ghost use Rattle.std.specs.Arc.{arc_value};
 ghost use Rattle.seat_turns.specs.Standing.{IsMutatorOutside};
 

@@ -28,7 +28,7 @@ use seat_turns::{keep_some, leave, retire_some, with_free};
 pub enum Sought {
     /// The mutator has a cache with a free cell.
     Free,
-    /// None of the blocks that it looked at had a free cell. The search goes on from this one.
+    /// No block that it looked at had a free cell. The search goes on from this one.
     Next(u32),
     /// None up to the last block had a free cell.
     Ended,
@@ -105,8 +105,7 @@ fn seek(
     }
 }
 
-/// Comes to a cache with a free cell, or looks for one in `most` blocks from `from` on. A cache without a free cell
-/// is given up.
+/// Looks for a free cell in the cache, and if it has none, gives it up and looks in `most` blocks from `from` on.
 pub fn refill_once(
     heap: &Heap,
     seat: &mut HeapSeat,
@@ -136,8 +135,7 @@ pub fn refill_once(
     }
 }
 
-/// Makes an object in variable v, after a safe point, if the cache has a free cell. The section hasn't made all its
-/// objects.
+/// Makes an object in variable v, after a safe point, if the cache has a free cell.
 pub fn make_here(heap: &Heap, seat: &mut HeapSeat, v: u8, value: u32) -> Came
     requires turn { IsAtTurn heap.now seat.old }
     requires room { length (plain_of seat.old).objects < heap.now.shape.objects }

@@ -1,4 +1,4 @@
-//! Slots of a stepper in a shared world: numbered roots, for the frames of a stack.
+//! Slots of a stepper in a shared world: numbered roots, as for the frames of a stack.
 ghost use Rattle.std.specs.Prelude.{◌-◌, ◌∷◌, []};
 ghost use Rattle.mark_core.specs.Steps.MutatorSteps.{seat_variable as word_in};
 ghost use Rattle.mark_core.specs.declared.kinds.Step.TheVariants.{StoreSlot};
@@ -54,7 +54,7 @@ impl Stepper {
         }
     }
 
-    /// The slots from `from` on and below `to` refer to nothing any more, as when a frame is left.
+    /// The slots from `from` on and below `to` refer to nothing any more.
     pub fn forget_slots(&mut self, from: u32, to: u32) -> Came
         ensures forgets { ActsTo result (HasSlots self.old from to) (to - from) (TakesSteps (clearing_steps from (to - from))) self.old self.new }
     {

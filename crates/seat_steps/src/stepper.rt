@@ -1,4 +1,4 @@
-//! A mutator in the hand of one thread that doesn't wait.
+//! A mutator for one thread that doesn't wait.
 ghost use Rattle.std.specs.Arc.{arc_value};
 ghost use Rattle.std.specs.Prelude.{◌≡◌, ◌≤◌};
 ghost use Rattle.mark_core.specs.Layout.{block_count};
@@ -13,63 +13,57 @@ use gc_table::{Heap, HeapSeat};
 use std::alloc::Global;
 use std::sync::Arc;
 
-/// Where a stepper stands.
+/// Where a stepper stands: from `Stopping` on it collects.
 #[derive(Clone, Copy, Debug, PartialEq, Eq, Drop)]
 pub enum Stage {
-    /// Outside the world: a stop doesn't wait for it.
+    /// Outside the world.
     Outside,
     /// In the world, at its turn.
     Inside,
-    /// It asked for a stop, to collect.
+    /// It asked for a stop.
     Stopping,
-    /// It collects, and sees to the roots.
+    /// It sees to the roots.
     Rooting,
-    /// It collects, and traces objects.
+    /// It traces objects.
     Draining,
-    /// It collects, and looks for a dirty card, since no object was left to trace.
+    /// It looks for a dirty card, since no object was left to trace.
     Looking,
-    /// It collects, and cleans cards, since it found a dirty one.
+    /// It cleans cards, since it found a dirty one.
     Cleaning,
-    /// It collects, and clears all marks, to mark once more.
+    /// It clears all marks, to mark once more.
     Clearing,
-    /// It collects, and sweeps.
+    /// It sweeps.
     Sweeping,
-    /// It collects, and counts the cells in use, since all blocks are swept.
+    /// It counts the cells in use, since all blocks are swept.
     Counting,
-    /// It collects, and has counted all cells in use.
+    /// It has counted all cells in use.
     Ending,
 }
 
-/// A mutator for a thread that may not wait, in either kind of world: what may take long is done in steps. Before
-/// it is dropped it has to leave: a stop waits for each that is inside, and while it collects the world stands
-/// still.
+/// A mutator for a thread that may not wait: what may take long is done in steps. Before it is dropped it has to leave:
+/// a stop waits for each that is inside, and while it collects the world stands still.
 #[derive(Drop)]
 pub struct Stepper {
-    /// The world's heap.
     pub(crate) heap: Arc<Heap, Global>,
-    /// The seat of its section, which has its variables and objects.
     pub(crate) seat: HeapSeat,
     pub(crate) stage: Stage,
     pub(crate) name: u32,
     /// Whether the mutator that it was collects only in stops.
     pub(crate) in_stops: bool,
-    /// The collection is to mark once more, from the roots only, since a cycle was marking when it began.
+    /// Whether its collection is to mark once more, since a cycle was marking when it began.
     pub(crate) again: bool,
-    /// How many cells its sweep has freed, at most 4,294,967,295.
+    /// How many cells its sweep has freed, as far as 32 bits hold, like the next two.
     pub(crate) freed: u32,
-    /// How many objects its collection has traced, at most 4,294,967,295.
     pub(crate) traced: u32,
-    /// How many cards its collection has cleaned, at most 4,294,967,295.
     pub(crate) cleaned: u32,
-    /// How many objects it has traced to pay for its caches, at most 2^64 - 1.
+    /// How many objects it has traced to pay for its caches, as far as 64 bits hold.
     pub(crate) paid: u64,
     /// The root, card or block from which the pass of its stage goes on.
     pub(crate) next: u32,
-    /// How many cells in use it has counted.
     pub(crate) counted: u32,
     /// The block from which its search for a free cell goes on.
     pub(crate) block: u32,
-    /// How many blocks it has seen without a free cell in that search, one after another.
+    /// How many blocks that search has seen, one after another.
     pub(crate) seen: u32,
     ghost within: { block ≤ block_count (arc_value heap).shape },
     ghost outside: { stage ≡ stages.Outside → IsMutatorOutside (arc_value heap) seat },

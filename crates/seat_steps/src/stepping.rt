@@ -78,9 +78,9 @@ impl Stepper {
         }
     }
 
-    /// Makes an object with this value, whose references refer to nothing, and lets variable v refer to it. It is a
-    /// safe point too. If no cell of its cache is free it may look at all blocks and pay for another cache:
-    /// `make_cached` and `refill_step` do so in steps.
+    /// A safe point, and then variable v refers to a new object with this value, whose references refer to nothing. If
+    /// no cell of its cache is free it may look at all blocks and pay for another cache: `make_cached` and `refill_step`
+    /// do so in steps.
     pub fn make(&mut self, v: u8, value: u32) -> Came
         ensures makes { StepperMakes result (ops.New v value) self.old self.new }
         ensures pays { PaysMaking self.old self.new }
@@ -114,8 +114,7 @@ impl Stepper {
         }
     }
 
-    /// Reference i of variable v's object becomes what variable w refers to. Nothing happens if v refers to
-    /// nothing.
+    /// Reference i of variable v's object becomes what variable w refers to. Nothing happens if v refers to nothing.
     pub fn set(&mut self, v: u8, i: u8, w: u8) -> Came
         ensures operates { Operates result (ops.Set v i w) self.old self.new }
     {

@@ -26,11 +26,9 @@ use gc_cycle::{
 use gc_table::{Heap, HeapSeat};
 use seat_turns::{leave, retire_own_cache};
 
-/// How many roots, objects, cards or blocks a step does at most, if its caller says nothing of it.
 const STEP: u32 = 4_096;
 
-/// Asks for a stop, with the number of objects that were made. False if another's comes first, and then the seat is
-/// outside.
+/// Asks for a stop. False if another's comes first, and then the seat is outside.
 fn asks(heap: &Heap, seat: &mut HeapSeat) -> bool
     requires halts { Halts heap.now seat.old }
     ensures yours { OnTrue result (Collects AwaitsStop WaitsSinceAsked heap.now seat.new) }
@@ -56,17 +54,16 @@ fn end_to_turn(heap: &Heap, seat: &mut HeapSeat, counted: u32, freed: u32) -> Ca
 }
 
 impl Stepper {
-    /// The next step of a precise collection: `NotYet` if there is more to do. Meanwhile the world stands still, so
-    /// the caller comes again soon.
+    /// The next step of a precise collection, with 4,096 for `most`: `NotYet` if there is more to do. Meanwhile the world
+    /// stands still.
     pub fn collect_step(&mut self) -> Came
         ensures collects { CollectsAtMost 4096 result self.old self.new }
     {
         self.take_step(STEP)
     }
 
-    /// The next step of a collection, which sees to, traces, looks at, cleans, clears, sweeps or counts at most
-    /// `most` roots, objects, cards or blocks. Blocks are cleared and swept in stretches (of 1 to 128, by the
-    /// heap's size): one at least. 0 is out of range.
+    /// The next step of a collection, of at most `most` roots, objects, cards or blocks; 0 is out of range. Blocks are
+    /// cleared and swept in stretches (of 1 to 128, by the heap's size): one at least.
     pub fn collect_at_most(&mut self, most: u32) -> Came
         ensures collects { CollectsAtMost most result self.old self.new }
     {
@@ -109,7 +106,6 @@ impl Stepper {
         Came::Stopped
     }
 
-    /// Begins to mark once the world has stopped.
     fn begin(&mut self) -> Came
         requires stopping { self.old.stage ≡ stages.Stopping }
         ensures collects { (most : ℕ) → StepsCollection most result self.old self.new }
@@ -147,7 +143,6 @@ impl Stepper {
         Came::NotYet
     }
 
-    /// Traces on. If there is no object left it is to look for a dirty card.
     fn trace(&mut self, most: u32) -> Came
         requires draining { self.old.stage ≡ stages.Draining }
         ensures collects { StepsCollection most result self.old self.new }
@@ -162,7 +157,7 @@ impl Stepper {
         Came::NotYet
     }
 
-    /// Looks for a dirty card. If all is marked it begins to sweep, or to clear all marks.
+    /// If all is marked it begins to sweep, or to clear all marks.
     fn look(&mut self, most: u32) -> Came
         requires looking { self.old.stage ≡ stages.Looking }
         ensures collects { StepsCollection most result self.old self.new }
@@ -195,7 +190,7 @@ impl Stepper {
         Came::NotYet
     }
 
-    /// Cleans on. After the last card it traces again.
+    /// After the last card it traces again.
     fn clean(&mut self, most: u32) -> Came
         requires cleaning { self.old.stage ≡ stages.Cleaning }
         ensures collects { StepsCollection most result self.old self.new }
@@ -213,7 +208,6 @@ impl Stepper {
         Came::NotYet
     }
 
-    /// Clears the marks of as many stretches as have at most `most` blocks, or of one.
     fn clear(&mut self, most: u32) -> Came
         requires clearing { self.old.stage ≡ stages.Clearing }
         ensures collects { StepsCollection most result self.old self.new }
@@ -230,7 +224,6 @@ impl Stepper {
         Came::NotYet
     }
 
-    /// Sweeps as many stretches as have at most `most` blocks, or one.
     fn sweep(&mut self, most: u32) -> Came
         requires sweeping { self.old.stage ≡ stages.Sweeping }
         ensures collects { StepsCollection most result self.old self.new }

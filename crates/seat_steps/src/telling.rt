@@ -10,7 +10,6 @@ use gc_cycle::Counts;
 use gc_table::HeapSeat;
 use mark_core::Phase;
 
-/// Whether a cycle was marking, as the seat read it last.
 pub(crate) fn read_marking(seat: &HeapSeat) -> bool
     ensures marking { result ≡ saw (state_of seat.now).phase_seen Marking }
 {
@@ -28,8 +27,8 @@ impl Stepper {
         self.stage
     }
 
-    /// What its collection has counted: how many cells it freed, from the sweep on, and how many are in use, once
-    /// it is at [`Stage::Ending`]. No object is counted as scanned again.
+    /// How many cells its collection freed, from the sweep on, and how many are in use, once it is at
+    /// [`Stage::Ending`]. No object is counted as scanned again.
     pub fn counts(&self) -> Counts
         ensures counts { result ≡ counts_of self.now }
     {
@@ -54,14 +53,14 @@ impl Stepper {
         self.cleaned
     }
 
-    /// How many objects it has traced to pay for its caches, since it was made.
+    /// How many objects it has traced to pay for its caches.
     pub fn paid(&self) -> u64
         ensures paid { result ≡ self.now.paid }
     {
         self.paid
     }
 
-    /// Whether its collection is to mark once more, since a cycle was marking when the world stopped.
+    /// Whether its collection is to mark once more.
     pub fn is_to_mark_again(&self) -> bool
         ensures again { result ≡ self.now.again }
     {

@@ -1,17 +1,16 @@
-//! Into the world, to the mutator's turn, and a safe point, each as one try.
+//! Into the world, to the mutator's turn, and past a safe point, each as one try.
 ghost use Rattle.std.specs.Prelude.{◌≡◌, ◌<◌, IfErr, IfOk, IsTrue, is_some, None};
 ghost use Rattle.std.specs.Bool.{OnFalse, OnTrue};
 ghost use Rattle.gc_cycle.specs.Answering.{HasCache};
-ghost use Rattle.cache_refills.specs.declared.trying.Pass.TheVariants as passes;
 ghost use Rattle.cache_refills.specs.Trying.{EntersTo};
 ghost use Rattle.gc_table.specs.Running.{Ran};
 ghost use Rattle.gc_table.specs.Seats.{Across, state_of, view_of};
 ghost use Rattle.mutator_ops.specs.Few.{AtMost};
-ghost use Rattle.seat_turns.specs.Turning.{LooksAtSeason, SeesOther};
+ghost use Rattle.seat_turns.specs.SeasonLooks.{LooksAtSeason, SeesOther};
 ghost use Rattle.seat_turns.specs.Sharing.{LeavesHeap};
 ghost use Rattle.seat_turns.specs.Standing.{Halts, IsAtTurn, Plays, IsMutatorOutside, Works, plain_of};
 ghost use Rattle.seat_steps.specs.Causes.{ArrivesBy, EntersBy, GoesFreely, LooksBy, PassesBy};
-ghost use Rattle.seat_steps.specs.Arriving.{Arrives, LeavesWorld, Passes, Tries};
+ghost use Rattle.seat_steps.specs.Arriving.{Arrives, HasPassed, LeavesWorld, Passes, Tries};
 
 use crate::came::Came;
 use alloc_cache::{Cache, cache_of};
@@ -20,6 +19,7 @@ use gc_cycle::spend_none;
 use gc_table::{Heap, HeapSeat};
 use seat_turns::{TURN, is_turn, keep_some, leave, retire_some};
 
+#[tactic(auto, using(seat_turns::proofs::Leaving::leaving, crate::proofs::Searched::trying))]
 fn try_in(heap: &Heap, seat: &mut HeapSeat) -> Pass
     requires waits { IsMutatorOutside heap.now seat.old }
     ensures tries { Tries result heap.now seat.new }
@@ -32,6 +32,7 @@ fn try_in(heap: &Heap, seat: &mut HeapSeat) -> Pass
     try_enter(heap, seat)
 }
 
+#[tactic(auto, using(seat_turns::proofs::Leaving::leaving, crate::proofs::Searched::trying, crate::proofs::Found::looking))]
 fn try_pass(heap: &Heap, seat: &mut HeapSeat, cache: &mut Option<Cache>) -> Pass
     requires works { Works heap.now seat.old }
     requires cache { HasCache cache.old (view_of seat.old) }
@@ -46,12 +47,11 @@ fn try_pass(heap: &Heap, seat: &mut HeapSeat, cache: &mut Option<Cache>) -> Pass
     try_safe_point(heap, seat, cache, made)
 }
 
-fn comes_to_turn(heap: &Heap, seat: &mut HeapSeat, _cache: &Option<Cache>) -> bool
-    requires going { Passes passes.Going heap.now seat.old _cache.now }
+fn comes_to_turn(heap: &Heap, seat: &mut HeapSeat) -> bool
+    requires going { HasPassed heap.now seat.old }
     ensures plays { OnTrue result (Plays heap.now seat.new) }
     ensures turn { OnTrue result (IsAtTurn heap.now seat.new) }
     ensures works { Works heap.now seat.new }
-    ensures cache { HasCache _cache.now (view_of seat.new) }
     ensures same { plain_of seat.new ≡ plain_of seat.old }
     ensures leaves { Across LeavesHeap seat.old seat.new }
     ensures looks { Across LooksAtSeason seat.old seat.new }
@@ -61,6 +61,7 @@ fn comes_to_turn(heap: &Heap, seat: &mut HeapSeat, _cache: &Option<Cache>) -> bo
     is_turn(heap, seat, TURN)
 }
 
+#[tactic(auto, using(seat_turns::proofs::Leaving::leaving))]
 fn leave_with(heap: &Heap, seat: &mut HeapSeat, cache: Option<Cache>)
     requires works { Works heap.now seat.old }
     requires cache { HasCache cache (view_of seat.old) }
@@ -74,7 +75,6 @@ fn leave_with(heap: &Heap, seat: &mut HeapSeat, cache: Option<Cache>)
     leave(heap, seat);
 }
 
-/// Comes to its turn with this cache, or leaves.
 pub fn point(heap: &Heap, seat: &mut HeapSeat, cache: Option<Cache>) -> Result<Option<Cache>, Came>
     requires works { Works heap.now seat.old }
     requires cache { HasCache cache (view_of seat.old) }
@@ -99,7 +99,7 @@ pub fn point(heap: &Heap, seat: &mut HeapSeat, cache: Option<Cache>) -> Result<O
             Err(Came::Full)
         }
         Pass::Going => {
-            if comes_to_turn(heap, seat, &cache) {
+            if comes_to_turn(heap, seat) {
                 return Ok(cache);
             }
             leave_with(heap, seat, cache);
@@ -108,7 +108,6 @@ pub fn point(heap: &Heap, seat: &mut HeapSeat, cache: Option<Cache>) -> Result<O
     }
 }
 
-/// Comes to its turn, or leaves.
 pub fn arrive(heap: &Heap, seat: &mut HeapSeat) -> Came
     requires halts { Halts heap.now seat.old }
     ensures arrives { Arrives result heap.now seat.new }
@@ -126,7 +125,6 @@ pub fn arrive(heap: &Heap, seat: &mut HeapSeat) -> Came
     }
 }
 
-/// Enters the world, if no stop is under way, and comes to its turn.
 pub fn enter_once(heap: &Heap, seat: &mut HeapSeat) -> Came
     requires waits { IsMutatorOutside heap.now seat.old }
     ensures arrives { Arrives result heap.now seat.new }
@@ -144,7 +142,6 @@ pub fn enter_once(heap: &Heap, seat: &mut HeapSeat) -> Came
     }
 }
 
-/// A safe point at its turn.
 pub fn pass_once(heap: &Heap, seat: &mut HeapSeat) -> Came
     requires turn { IsAtTurn heap.now seat.old }
     ensures arrives { Arrives result heap.now seat.new }

@@ -24,7 +24,7 @@ use Rattle.gc_cycle.specs.declared.counts.Refill.{Refill}
 use Rattle.gc_cycle.specs.declared.counts.Refill.TheVariants as refills
 use Rattle.gc_cycle.proofs.Changes.{by-none, changes-after, gives-join, keeps-up}
 use Rattle.gc_cycle.proofs.Ends.Finishes.{never-both}
-use Rattle.seat_turns.specs.Turning.{LooksAtSeason}
+use Rattle.seat_turns.specs.SeasonLooks.{LooksAtSeason}
 use Rattle.seat_turns.specs.Coming.{ComesTo, ComesToNone, FillsWith, FindsFull, Polls, RefillsBeside, RefillsBy, RefillsInStops}
 use Rattle.seat_turns.specs.Halting.{HaltsFull}
 use Rattle.seat_turns.specs.declared.refused.Refused.{Refused}

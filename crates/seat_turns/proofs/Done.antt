@@ -50,6 +50,7 @@ use Rattle.alloc_cache.specs.Making.{making_steps, nil_fields}
 use Rattle.mutator_ops.specs.Listing.{creating_steps, following_events, saying_steps, storing_steps}
 use Rattle.mutator_ops.specs.declared.objects.Holds.{Holds}
 use Rattle.mutator_ops.specs.declared.objects.Holds.TheVariants.{LentObject, Nothing, OwnObject}
+use Rattle.gc_cycle.proofs.Stops.OutAndIn.{by-events as only-events}
 
 -- The steps of an operation count no part that was played.
 -- each of these steps is of this sort
@@ -68,9 +69,6 @@ each-join P (x ∷ xs) ys a b = let r = and_parts (P x) (each P xs) a in and_fro
 -- by the list of the steps, and by that of the events
 pub only-steps : (P : Step → Bool) (v w : View) (xs : List Step) → steps_of (events v w) ≡ xs → each P xs ≡ true → Only P v w
 only-steps P v w xs e a = all-each P (events v w) ∙ (ap (each P) e ∙ a)
-
-pub only-events : (P : Step → Bool) (v w : View) (es : List Entry) → events v w ≡ es → all_steps P es ≡ true → Only P v w
-only-events P v w es e a = ap (all_steps P) e ∙ a
 
 -- one of two lists
 either : {X : Type 0} (f : X → Bool) (b : Bool) (x y : X) → f x ≡ true → f y ≡ true → f (if b then x else y) ≡ true

@@ -1,20 +1,21 @@
 -- What a seat does on its way that no plain heap sees.
-use Rattle.std.proofs.Common.{ℕ, ◌≡◌, ◌∙◌, ap, refl, subst, sym, true, None, ⊎_elim}
+use Rattle.std.proofs.Common.{ℕ, ◌≡◌, ◌∙◌, ap, refl, subst, sym, true, None, ⊎_elim, ◌+◌, length}
 use Rattle.std.proofs.lemmas.Bool.{false≢true}
 use Rattle.mark_core.specs.declared.kinds.Step.{Step}
 use Rattle.mark_core.specs.declared.kinds.Step.TheVariants.{AddStat, ExchangeField, ExchangeValue, ReadSeason, StoreField, StoreNew, StoreRoot, StoreSlot, StoreValue}
 use Rattle.mark_core.specs.declared.seat.SeatState.{SeatState}
-use Rattle.gc_table.specs.Log.{Only}
+use Rattle.gc_table.specs.Log.{Only, events}
 use Rattle.gc_table.specs.Running.{Ran}
 use Rattle.gc_table.specs.Seats.{Found}
 use Rattle.gc_table.specs.declared.view.View.{View}
 use Rattle.gc_table.proofs.History.Log.{only-after, only-more, only-none}
-use Rattle.gc_table.proofs.Running.{ran-found, ran-join, ran-only, ran-refl}
+use Rattle.gc_table.proofs.Running.{ran-found, ran-join, ran-only, ran-refl, ran-events}
 use Rattle.gc_cycle.specs.Answering.{retires}
 use Rattle.gc_cycle.specs.Sparing.{fills_part, spares_part}
 use Rattle.gc_cycle.specs.Standing.{KeepsSeat}
-use Rattle.seat_turns.specs.Turning.{LooksAtSeason}
+use Rattle.seat_turns.specs.SeasonLooks.{LooksAtSeason}
 use Rattle.seat_turns.specs.Sharing.{LeavesHeap, spares_heap, spares_tracers}
+use Rattle.std.proofs.lemmas.List.{length-append}
 
 fills_spares : (step : Step) → fills_part step ≡ true → spares_heap step ≡ true
 fills_spares (StoreField v i w) e = absurd (false≢true e)
@@ -91,3 +92,9 @@ leaves-looked v w looks =
       words = ap (λ (y : View). y.state.env) read.1.0;
     })
     looks
+
+-- one call after another
+pub counts-join : (u v w : View) → Ran u v → Ran v w → length (events u w) ≡ length (events u v) + length (events v w)
+counts-join u v w a b = ap length (ran-events u v w a b) ∙ length-append (events u v) (events v w)
+
+pub ruleset leaving = (leaves-none, leaves-join, leaves-spared, leaves-retired, leaves-looked, ran-join, ran-found, counts-join)

@@ -28,7 +28,7 @@ use Rattle.gc_cycle.specs.Polling.{saw_full}
 use Rattle.gc_cycle.specs.Sorts.{reads_phase}
 use Rattle.gc_cycle.specs.Standing.{KeepsSeat, KeepsSection, Mutates, is_at_rest}
 use Rattle.gc_cycle.proofs.Refills.Answered.{cached-still}
-use Rattle.seat_turns.specs.Turning.{LooksAtSeason}
+use Rattle.seat_turns.specs.SeasonLooks.{LooksAtSeason}
 use Rattle.seat_turns.specs.Standing.{Halts, IsAtTurn, IsMutator, MayOperate, Plays, Works, saw_going}
 use Rattle.alloc_cache.specs.Making.{with_cell}
 

@@ -1,9 +1,7 @@
 -- No plain heap sees how the tracers are told that they are dismissed.
-use Rattle.std.proofs.Common.{◌≡◌, ap, refl, true, false}
-use Rattle.std.proofs.lemmas.Bool.{false≢true}
+use Rattle.std.proofs.Common.{ap, refl, false}
 use Rattle.mark_core.specs.Numbers.{done_count}
-use Rattle.mark_core.specs.declared.kinds.Step.{Step}
-use Rattle.mark_core.specs.declared.kinds.Step.TheVariants.{AddStat, ExchangeField, ExchangeValue, LeaveStep, StoreField, StoreNew, StoreRoot, StoreSlot, StoreValue}
+use Rattle.mark_core.specs.declared.kinds.Step.TheVariants.{AddStat, LeaveStep}
 use Rattle.gc_table.specs.Log.{Only, all_steps}
 use Rattle.gc_table.specs.Running.{Ran}
 use Rattle.gc_table.specs.Seats.{Took}
@@ -13,16 +11,7 @@ use Rattle.gc_table.proofs.Running.{ran-join, ran-only, ran-took}
 use Rattle.stop_world.specs.Gates.{Enters, TurnsBack}
 use Rattle.gc_cycle.specs.Sparing.{spares_part}
 use Rattle.seat_turns.specs.Sharing.{spares_heap}
-
-part_spares : (step : Step) → spares_part step ≡ true → spares_heap step ≡ true
-part_spares (StoreField v i w) e = absurd (false≢true e)
-part_spares (StoreValue v n) e = absurd (false≢true e)
-part_spares (StoreRoot v r) e = absurd (false≢true e)
-part_spares (StoreSlot k r) e = absurd (false≢true e)
-part_spares (ExchangeField v i x y) e = absurd (false≢true e)
-part_spares (ExchangeValue v m n) e = absurd (false≢true e)
-part_spares (StoreNew c part word) e = absurd (false≢true e)
-part_spares step e = refl
+use Rattle.seat_turns.proofs.Leaving.{spared as part_spares}
 
 pub part-heap : (v w : View) → Only spares_part v w → Only spares_heap v w
 part-heap v w o = only-more spares_part spares_heap part_spares v w o

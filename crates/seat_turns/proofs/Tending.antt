@@ -20,6 +20,7 @@ use Rattle.card_clean.specs.declared.cleaned.Cleaned.{Cleaned}
 use Rattle.tracer.specs.Tally.{pops}
 use Rattle.cache_refills.specs.Pace.Payment.{reads_number}
 use Rattle.seat_turns.specs.Tending.{MarksSome, Tends, tends_inside}
+use Rattle.packet_pools.proofs.Few.{few-none}
 
 -- a step of tracing is one that a tracer may take inside
 traces-tend : (step : Step) → traces_cells step ≡ true → tends_inside step ≡ true
@@ -130,3 +131,5 @@ tends-read v w ran only =
 -- a turn's marking as a whole
 pub marks-tend : (n : ℕ) (v w : View) → MarksSome n v w → Tends n v w
 marks-tend n v w m = tends-join n 0 n v m.between w (omega arith) m.traces.tends m.tends
+
+pub ruleset tends_nothing = (tends-none, few-none)

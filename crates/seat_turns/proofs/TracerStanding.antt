@@ -1,10 +1,10 @@
 -- A seat that marks stays one.
-use Rattle.std.proofs.Common.{ℕ, ◌≡◌, ◌⊎◌, ⊎_elim, [], ◌∷◌, length, refl, sym, ap, ◌∙◌, arith, Bool, true, false, not, ◌&&◌, Some, None, Option}
-use Rattle.std.specs.Prelude.{is_none, is_some, ◌==◌}
+use Rattle.std.proofs.Common.{ℕ, ◌≡◌, ◌⊎◌, ⊎_elim, length, refl, sym, ap, ◌∙◌, Bool, true, false, not, ◌&&◌, Some, None, Option}
+use Rattle.std.specs.Prelude.{is_none, ◌==◌}
 use Rattle.std.proofs.Math.Logic.{∥∥₁_elim}
 use Rattle.std.proofs.Props.{props}
-use Rattle.std.proofs.lemmas.Bool.{true≢false, and_parts, and_from, or_left, or_parts, not_from_false}
-use Rattle.mark_core.specs.Held.{Slot, Slots, holds_any}
+use Rattle.std.proofs.lemmas.Bool.{true≢false, and_parts, and_from, or_left, not_from_false}
+use Rattle.mark_core.specs.Held.{holds_any}
 use Rattle.mark_core.specs.Seats.{empty_handed, saw, work_in_hand}
 use Rattle.mark_core.specs.Steps.WorldSteps.{has_nothing}
 use Rattle.mark_core.specs.declared.kinds.Phase.TheVariants.{Marking}
@@ -17,12 +17,10 @@ use Rattle.gc_table.specs.declared.seat.HeapSeat.{HeapSeat}
 use Rattle.gc_table.specs.declared.view.View.{View}
 use Rattle.packet_pools.specs.OnlyTraced.{OnlyTracedBy, rest_of}
 use Rattle.packet_pools.specs.Tracing.{Traces as MayTrace}
-use Rattle.tracer.specs.Hands.{IsIdle, no_packets}
+use Rattle.tracer.specs.Hands.{IsIdle}
 use Rattle.seat_turns.specs.TracerStanding.{GoesMarking}
-
-unless : (b : Bool) → not b ≡ true → b ≡ false
-unless true e = sym e
-unless false e = refl
+use Rattle.gc_cycle.proofs.Idling.{four-none}
+use Rattle.gc_cycle.proofs.Ends.Swept.{unless}
 
 -- what a seat with nothing in hand hasn't
 pub record Empty (sh : Shape) (s : SeatState) : Type 0 where
@@ -70,24 +68,6 @@ marks-trace h x m =
     let s = (view_of x).state in
     let e = empty-of h.shape s m.goes.idle in
     record { may = or_left _ _ (or_left _ _ (and_from s.active (saw s.phase_seen Marking) m.goes.active m.marking)); unreserved = e.reserved; uncredited = e.credit }
-
-none-slot : (h : Slot) → is_some h ≡ false → h ≡ None
-none-slot None e = refl
-none-slot (Some x) e = absurd (true≢false e)
-
--- four slots without a packet
-four-none : (hs : Slots) → length hs ≡ 4 → holds_any hs ≡ false → hs ≡ no_packets
-four-none [] n e = absurd (omega (arith, n))
-four-none (a ∷ []) n e = absurd (omega (arith, n))
-four-none (a ∷ b ∷ []) n e = absurd (omega (arith, n))
-four-none (a ∷ b ∷ c ∷ []) n e = absurd (omega (arith, n))
-four-none (a ∷ b ∷ c ∷ d ∷ []) n e =
-    let x = or_parts (is_some a) (holds_any (b ∷ c ∷ d ∷ [])) e in
-    let y = or_parts (is_some b) (holds_any (c ∷ d ∷ [])) x.1 in
-    let z = or_parts (is_some c) (holds_any (d ∷ [])) y.1 in
-    let u = or_parts (is_some d) false z.1 in
-    λ i. none-slot a x.0 i ∷ none-slot b y.0 i ∷ none-slot c z.0 i ∷ none-slot d u.0 i ∷ []
-four-none (a ∷ b ∷ c ∷ d ∷ f ∷ xs) n e = absurd (omega (arith, n))
 
 four-slots : (v : View) → ∥ IsPossible v ∥₁ → length v.state.held ≡ 4
 four-slots v p = ∥∥₁_elim p (Prim.hlevel props) (λ (q : IsPossible v). (q.whole.core.formed.seats q.index v.state q.agrees.seat).held.four)

@@ -1,5 +1,5 @@
 -- A turn that waits is one that doesn't, and then the seat helps if it has to.
-use Rattle.std.proofs.Common.{ℕ, ◌≡◌, inl, inr, true}
+use Rattle.std.proofs.Common.{◌≡◌, inl, inr, true}
 use Rattle.mark_core.specs.declared.kinds.Phase.TheVariants as phases
 use Rattle.gc_table.specs.Log.{events}
 use Rattle.gc_table.specs.Running.{Ran}
@@ -7,7 +7,7 @@ use Rattle.gc_table.specs.declared.view.View.{View}
 use Rattle.gc_cycle.specs.Turns.{HelpsInTurns}
 use Rattle.gc_cycle.specs.Polling.{saw_resumed}
 use Rattle.seat_turns.specs.Tracing.{TracerTakesTurn}
-use Rattle.seat_turns.specs.Trying.{TriesTurn}
+use Rattle.seat_turns.specs.TracerTries.{TriesTurn}
 use Rattle.seat_turns.specs.declared.background.Turn.TheVariants as turns
 use Rattle.seat_turns.specs.declared.try_turns.TryTurn.TheVariants as tries
 

@@ -13,7 +13,7 @@ use Rattle.mutator_ops.specs.Few.{AtMost}
 use Rattle.mutator_ops.proofs.Few.{at-most-after, at-most-events, at-most-join}
 use Rattle.seat_turns.specs.Tending.{Tends, TracesSome}
 use Rattle.seat_turns.specs.Tracing.{HasMarked, MarksIn, Rounds, Tended, TracesForTurn, VisitsWorld, marking_steps}
-use Rattle.seat_turns.specs.Trying.{TriesTo, TriesTurn, tried_steps}
+use Rattle.seat_turns.specs.TracerTries.{TriesTo, TriesTurn, tried_steps}
 use Rattle.seat_turns.specs.declared.try_turns.TryTurn.{TryTurn}
 
 -- if marking isn't under way, nothing is done

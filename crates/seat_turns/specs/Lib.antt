@@ -9,7 +9,7 @@ pub mod Standing
 pub mod TracerStanding
 pub mod StepBounds
 pub mod Tending
-pub mod Turning
+pub mod SeasonLooks
 pub mod Tallying
 pub mod Tracing
-pub mod Trying
+pub mod TracerTries

@@ -1,4 +1,4 @@
-//! A tracer in the hand of one thread.
+//! A tracer that owns its seat.
 ghost use Rattle.std.specs.Arc.{arc_value};
 ghost use Rattle.std.specs.Prelude.{◌≡◌};
 ghost use Rattle.gc_table.specs.Seats.{Across, state_of};
@@ -25,22 +25,19 @@ pub enum Turn {
     Full,
 }
 
-/// How often a tracer yields between two turns. A turn changes the word of the world, which each mutator reads at
-/// each safe point or command.
+/// How often a tracer yields between two turns: a turn changes the word of the world, which each mutator reads at each
+/// safe point.
 const YIELDS: u32 = 64;
 
-/// How long a tracer sleeps at most while no cycle marks, in microseconds. It is woken if one begins, and once there
-/// is nothing more to trace.
+/// How long a tracer sleeps at most while no cycle marks, in microseconds. It is woken if one begins.
 const SLEEP: u64 = 2_000;
 
-/// What one thread marks with beside the mutators, outside the world between two turns.
+/// A tracer, for one thread.
 #[derive(Drop)]
 pub struct Tracer {
     pub(crate) heap: Arc<Heap, Global>,
     pub(crate) seat: HeapSeat,
-    /// The name of the world that lends it.
     pub(crate) name: u32,
-    /// How many objects it has traced beside the mutators.
     pub(crate) traced: u64,
     ghost rests: { RestsOutside (arc_value heap) seat },
 }
@@ -54,7 +51,7 @@ pub fn rest<R: Wait>(rt: &R, heap: &Heap) {
 }
 
 impl Tracer {
-    /// A tracer with this seat, outside the world, that has traced nothing.
+    /// A tracer with this seat, which has traced nothing.
     pub fn of_seat(heap: Arc<Heap, Global>, seat: HeapSeat, name: u32) -> Tracer
         requires rests { RestsOutside (arc_value heap) seat }
         ensures new { (result.heap ≡ heap) × (result.seat ≡ seat) × (result.name ≡ name) × (result.traced ≡ 0) }
@@ -67,7 +64,7 @@ impl Tracer {
         }
     }
 
-    /// Its seat, which is outside the world.
+    /// Its seat.
     pub fn into_seat(self) -> HeapSeat
         ensures seat { result ≡ self.seat }
         ensures rests { RestsOutside (arc_value self.heap) result }
@@ -82,15 +79,14 @@ impl Tracer {
         self.name
     }
 
-    /// The number of its seat among those of its heap.
+    /// The number of its seat.
     pub fn number(&self) -> u32
         ensures number { result ≡ (state_of self.now.seat).number }
     {
         self.seat.number()
     }
 
-    /// One turn: it enters, traces and cleans a little if a cycle is marking, and leaves. It helps if a stop is
-    /// under way.
+    /// One turn, as [`Tracer::try_turn`]. If a stop is under way it helps until that has ended.
     pub fn trace_turn<R: Wait>(&mut self, rt: &R) -> Turn
         ensures turn { Across (TracerTakesTurn result) self.old.seat self.new.seat }
         ensures tally { Across (Tallies self.old.traced self.new.traced) self.old.seat self.new.seat }
@@ -108,15 +104,14 @@ impl Tracer {
         }
     }
 
-    /// How many objects it has traced beside the mutators. What it traced while it helped a stop isn't counted.
+    /// How many objects it has traced beside the mutators, without those that it traced while it helped a stop.
     pub fn traced(&self) -> u64
         ensures traced { result ≡ self.now.traced }
     {
         self.traced
     }
 
-    /// Takes turns until the world dismisses its tracers or the heap is full. In between it lets others run, and
-    /// sleeps while no cycle marks.
+    /// Takes turns, and rests in between, until the world dismisses its tracers or the heap is full.
     pub fn run<R: Wait>(&mut self, rt: &R) -> Turn
         ensures runs { Across (TracerRunsTo result) self.old.seat self.new.seat }
         ensures tally { Across (Tallies self.old.traced self.new.traced) self.old.seat self.new.seat }

@@ -8,7 +8,7 @@ ghost use Rattle.gc_table.specs.Seats.{Across, state_of};
 ghost use Rattle.stop_world.specs.Gates.{TurnsBack};
 ghost use Rattle.seat_turns.specs.Sharing.{spares_heap};
 ghost use Rattle.seat_turns.specs.Standing.{RestsOutside};
-ghost use Rattle.seat_turns.specs.Trying.{Dismisses, DismissesInside};
+ghost use Rattle.seat_turns.specs.TracerTries.{Dismisses, DismissesInside};
 
 use crate::tracer_turn::{goes_in, goes_out};
 use gc_cycle::{go_in, go_out};

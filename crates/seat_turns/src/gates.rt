@@ -36,7 +36,6 @@ pub fn leave(heap: &Heap, seat: &mut HeapSeat)
     go_out(heap, seat, made);
 }
 
-/// Leaves the world, since the heap is full.
 pub fn leave_full(heap: &Heap, seat: &mut HeapSeat) -> Refused
     requires halts { Halts heap.now seat.old }
     requires full { KnowsFull (view_of seat.old) }
@@ -80,7 +79,6 @@ pub fn leave_turn(heap: &Heap, seat: &mut HeapSeat)
     leave(heap, seat);
 }
 
-/// A safe point, with this cache.
 fn come_to_turn<R: Wait>(
     rt: &R,
     heap: &Heap,
@@ -106,8 +104,8 @@ fn come_to_turn<R: Wait>(
     }
 }
 
-/// Enters the world, as soon as no stop is under way, and comes to its turn. Refused only if the heap is full;
-/// the seat is outside then.
+/// Enters the world, as soon as no stop is under way, and comes to its turn. Refused only if the heap is full; then the
+/// seat is outside.
 pub fn enter_turn<R: Wait>(rt: &R, heap: &Heap, seat: &mut HeapSeat) -> Result<(), Refused>
     requires waits { IsMutatorOutside heap.now seat.old }
     ensures ok { IfOk result (λ _. IsAtTurn heap.now seat.new) }
@@ -121,7 +119,7 @@ pub fn enter_turn<R: Wait>(rt: &R, heap: &Heap, seat: &mut HeapSeat) -> Result<(
     come_to_turn(rt, heap, seat, None)
 }
 
-/// A safe point at its turn. Refused only if the heap is full; then the seat is outside.
+/// A safe point at its turn. Refused as [`enter_turn`].
 pub fn pass_turn<R: Wait>(rt: &R, heap: &Heap, seat: &mut HeapSeat) -> Result<(), Refused>
     requires turn { IsAtTurn heap.now seat.old }
     ensures ok { IfOk result (λ _. IsAtTurn heap.now seat.new) }
@@ -135,8 +133,7 @@ pub fn pass_turn<R: Wait>(rt: &R, heap: &Heap, seat: &mut HeapSeat) -> Result<()
     come_to_turn(rt, heap, seat, cache)
 }
 
-/// A precise collection, which begins and ends at its turn. Refused only if the heap is full; then the seat is
-/// outside.
+/// A precise collection, which begins and ends at its turn. Refused as [`enter_turn`].
 pub fn collect_turn<R: Wait>(rt: &R, heap: &Heap, seat: &mut HeapSeat) -> Result<(), Refused>
     requires turn { IsAtTurn heap.now seat.old }
     ensures ok { IfOk result (λ _. IsAtTurn heap.now seat.new × IsTrue (collects (did seat.old seat.new))) }

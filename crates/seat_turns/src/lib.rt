@@ -2,28 +2,20 @@
 //!
 //! # A mutator
 //!
-//! Into the world and out of it, to its turn, to a cell, and one operation at a time: calls on a heap and a seat,
-//! which ask for the facts that the types above keep (`specs/Standing.antt`). The seat waits outside the world, is
-//! inside without a cache, or is at its turn.
+//! Into the world and out of it, to its turn, to a cell, and one operation at a time. Each call takes a heap and a
+//! seat, and asks for the facts that the types above keep (`specs/Standing.antt`).
 //!
 //! # A tracer
 //!
 //! A tracer enters the world, reads the phase ([`see_phase`]), marks if marking is under way ([`mark_some`]), and
 //! leaves. A stop waits until the turn has ended, so a turn is short:
 //!
-//! 1. it traces 64 objects, or fewer if at some moment nothing was left in hand and no packet with a cell was
-//!    found;
-//! 2. if there were fewer, and the cycle is far on, it passes up to 1,024 cards and cleans those that are dirty. A
-//!    card that is cleaned early is dirtied again, and then the stop cleans it;
+//! 1. it traces 64 objects, or fewer if at some moment nothing was left in hand and no packet with a cell was found;
+//! 2. if there were fewer and the cycle is far on, it passes up to 1,024 cards and cleans the dirty ones. The stop
+//!    cleans those that are dirtied again;
 //! 3. deferred cells, which weren't published yet, may be traced again.
 //!
-//! The caller tells the collector how many objects were traced, by a step of its own; if there were none, one
-//! caller takes that step and another doesn't. A [`Tracer`] owns a seat of no section, and its type keeps that the
-//! seat is outside the world between two turns; so no call of a tracer asks for a proof.
-//!
-//! In `specs/`, `TracerStanding` says who may mark in a turn, `Tending` what its steps are and `StepBounds` how
-//! many; `Tracing` and `Trying` what turns did that wait and that don't, `Tallying` how many objects a tracer
-//! counts, and `Turning` what a reading of the season tells.
+//! A [`Tracer`] owns a seat that is outside the world between two turns, so none of its calls asks for a proof.
 #![tactic(auto)]
 
 mod background;

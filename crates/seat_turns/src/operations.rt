@@ -30,7 +30,7 @@ use mutator_ops::{create, say};
 use plain_heap::Line;
 use std::sync::Wait;
 
-/// Makes an object in variable v. The cache, which has a free cell, stays the seat's.
+/// Makes an object in variable v. The cache stays the seat's.
 pub fn make_in(heap: &Heap, seat: &mut HeapSeat, cache: Cache, v: u8, value: u32)
     requires plays { Plays heap.now seat.old }
     requires owned { IsFalse heap.now.shape.sharing }

@@ -3,12 +3,12 @@ ghost use Rattle.std.specs.Prelude.{◌≡◌, Some, IsTrue, is_some};
 ghost use Rattle.std.specs.Bool.{OnFalse};
 ghost use Rattle.gc_table.specs.Seats.{Across, Sits, state_of, view_of};
 ghost use Rattle.gc_cycle.specs.Standing.{Mutates};
-ghost use Rattle.seat_turns.specs.Turning.{LooksAtSeason, SeesOther};
+ghost use Rattle.seat_turns.specs.SeasonLooks.{LooksAtSeason, SeesOther};
 
 use gc_table::{Heap, HeapSeat};
 
-/// Whether the season is this turn. It is read only if the seat doesn't know it any more: it moves on only in a
-/// stop, and then the seat is outside.
+/// Whether the season is this turn. A seat that is inside knows it once it has read it, since it moves on only in a
+/// stop.
 #[inline(always)]
 pub fn is_turn(heap: &Heap, seat: &mut HeapSeat, turn: u64) -> bool
     requires seat { Sits heap.now seat.old × Mutates (view_of seat.old) }

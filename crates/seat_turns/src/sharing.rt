@@ -48,7 +48,7 @@ pub fn word_of(seat: &HeapSeat, v: u8) -> u32
     seat.state().env[v as usize]
 }
 
-/// Makes an object in variable v. The cache, which has a free cell, stays the seat's.
+/// Makes an object in variable v. The cache stays the seat's.
 pub fn make_shared_in(heap: &Heap, seat: &mut HeapSeat, cache: Cache, v: u8, value: u32)
     requires plays { Plays heap.now seat.old }
     requires shared { IsTrue heap.now.shape.sharing }
@@ -67,8 +67,7 @@ pub fn make_shared_in(heap: &Heap, seat: &mut HeapSeat, cache: Cache, v: u8, val
     leave_with_seat(cache);
 }
 
-/// Makes an object in variable v, after a safe point. Refused if the heap is full (the seat is outside then) or the
-/// section has made all its objects.
+/// Makes an object in variable v, after a safe point. Refused as [`make_object`](crate::make_object).
 pub fn make_shared<R: Wait, W: Watch>(
     rt: &R,
     heap: &Heap,

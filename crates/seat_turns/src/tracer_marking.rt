@@ -17,12 +17,11 @@ use gc_table::{Heap, HeapSeat};
 use mark_core::Phase;
 use tracer::{Stopped, recycle_deferred, trace};
 
-/// How many objects a turn traces.
 const OBJECTS: u32 = 64;
 
 const CARDS: u32 = 1_024;
 
-/// Reads the phase, by one step of a seat in the world. The record has the phase then.
+/// Reads the phase, by one step.
 pub fn see_phase(heap: &Heap, seat: &mut HeapSeat) -> Phase
     requires { Goes heap.now seat.old }
     ensures seat { Goes heap.now seat.new }
@@ -32,7 +31,6 @@ pub fn see_phase(heap: &Heap, seat: &mut HeapSeat) -> Phase
     heap.read_phase(seat)
 }
 
-/// Cleans a card. False if no packet has room.
 fn clean(heap: &Heap, seat: &mut HeapSeat, card: u32) -> bool
     requires seat { GoesMarking heap.now seat.old }
     requires card { card < card_count heap.now.shape }
@@ -46,7 +44,7 @@ fn clean(heap: &Heap, seat: &mut HeapSeat, card: u32) -> bool
     }
 }
 
-/// Cleans a card if it is dirty: a clean one costs one look and no packet. False if no packet has room.
+/// A clean card costs one look and no packet. False if no packet has room.
 fn clean_where_dirty(heap: &Heap, seat: &mut HeapSeat, card: u32) -> bool
     requires seat { GoesMarking heap.now seat.old }
     requires card { card < card_count heap.now.shape }
@@ -60,7 +58,7 @@ fn clean_where_dirty(heap: &Heap, seat: &mut HeapSeat, card: u32) -> bool
     clean(heap, seat, card)
 }
 
-/// Does so for the next card of the pass. False if none is left, or no packet has room.
+/// False if no card is left in the pass, or no packet has room.
 fn clean_next(heap: &Heap, seat: &mut HeapSeat) -> bool
     requires { GoesMarking heap.now seat.old }
     ensures seat { GoesMarking heap.now seat.new }
@@ -86,7 +84,6 @@ fn clean_cards(heap: &Heap, seat: &mut HeapSeat)
     }
 }
 
-/// Cleans the cards of a turn if the cycle is far on.
 fn clean_late(heap: &Heap, seat: &mut HeapSeat)
     requires { GoesMarking heap.now seat.old }
     ensures seat { GoesMarking heap.now seat.new }
@@ -98,6 +95,7 @@ fn clean_late(heap: &Heap, seat: &mut HeapSeat)
     }
 }
 
+#[tactic(auto, using(crate::proofs::Tending::tends_nothing))]
 fn clean_after(heap: &Heap, seat: &mut HeapSeat, stopped: Stopped)
     requires { GoesMarking heap.now seat.old }
     ensures seat { GoesMarking heap.now seat.new }
@@ -119,8 +117,8 @@ fn tend(heap: &Heap, seat: &mut HeapSeat, stopped: Stopped)
     recycle_deferred(heap, seat);
 }
 
-/// Traces the 64 objects of a turn; if there are fewer and the cycle is far on, cleans cards. The caller adds the
-/// answer to the number of traced objects.
+/// Marks as a turn does, and answers how many objects it traced. The caller tells the collector so, by a step of its
+/// own.
 pub fn mark_some(heap: &Heap, seat: &mut HeapSeat) -> u32
     requires { GoesMarking heap.now seat.old }
     ensures seat { GoesMarking heap.now seat.new }

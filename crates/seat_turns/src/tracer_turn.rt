@@ -18,7 +18,6 @@ use gc_table::{Heap, HeapSeat};
 use mark_core::{DONE, Phase, TRACED};
 use stop_world::{enter, leave};
 
-/// Traces a few objects, tells how many, and adds them to the tally.
 fn mark(heap: &Heap, seat: &mut HeapSeat, tally: &mut u64)
     requires { GoesMarking heap.now seat.old }
     ensures seat { Goes heap.now seat.new }
@@ -44,7 +43,7 @@ fn mark_in(heap: &Heap, seat: &mut HeapSeat, phase: Phase, tally: &mut u64)
     }
 }
 
-/// Enters the world: true if no stop is under way; otherwise the seat is outside again.
+/// Enters the world. False if a stop is under way.
 pub fn goes_in(heap: &Heap, seat: &mut HeapSeat) -> bool
     requires { RestsOutside heap.now seat.old }
     ensures inside { IsTrue result → Goes heap.now seat.new }
@@ -56,7 +55,6 @@ pub fn goes_in(heap: &Heap, seat: &mut HeapSeat) -> bool
     enter(heap, seat)
 }
 
-/// Leaves the world.
 pub fn goes_out(heap: &Heap, seat: &mut HeapSeat)
     requires { Goes heap.now seat.old }
     ensures seat { RestsOutside heap.now seat.new }
@@ -66,7 +64,7 @@ pub fn goes_out(heap: &Heap, seat: &mut HeapSeat)
     leave(heap, seat);
 }
 
-/// Marks in the world if it can, and returns the phase that it read there.
+/// Marks if it can, and leaves. The answer: the phase that it read.
 pub fn go_round(heap: &Heap, seat: &mut HeapSeat, tally: &mut u64) -> Phase
     requires { Goes heap.now seat.old }
     ensures seat { RestsOutside heap.now seat.new }

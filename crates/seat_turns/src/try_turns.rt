@@ -2,7 +2,7 @@
 ghost use Rattle.std.specs.Prelude.{◌≡◌};
 ghost use Rattle.gc_table.specs.Seats.{Across};
 ghost use Rattle.seat_turns.specs.Tallying.{Tallies};
-ghost use Rattle.seat_turns.specs.Trying.{TriesTurn};
+ghost use Rattle.seat_turns.specs.TracerTries.{TriesTurn};
 
 use crate::background::Tracer;
 use crate::tracer_turn::{go_round, goes_in, see_dismissals};
@@ -25,9 +25,9 @@ pub enum TryTurn {
 }
 
 impl Tracer {
-    /// One turn for a thread without a runtime: it traces at most 64 objects if a cycle is marking, and passes at
-    /// most 1,024 cards if that is far on. If a stop is under way it does nothing. Between two turns its thread
-    /// lets others run. Each answer has a bound of steps (`tried_steps`).
+    /// One turn for a thread without a runtime: it traces at most 64 objects if a cycle is marking, and passes at most
+    /// 1,024 cards if that is far on. Between two turns its thread lets others run. Each answer has a bound of steps
+    /// (`tried_steps`).
     pub fn try_turn(&mut self) -> TryTurn
         ensures turn { Across (TriesTurn result) self.old.seat self.new.seat }
         ensures tally { Across (Tallies self.old.traced self.new.traced) self.old.seat self.new.seat }

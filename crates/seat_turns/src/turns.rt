@@ -26,6 +26,7 @@ use std::sync::Wait;
 pub const TURN: u64 = 1;
 
 /// Gives a cache up, if there is one.
+#[tactic(auto, using(crate::proofs::Leaving::leaving))]
 pub fn retire_some(heap: &Heap, seat: &mut HeapSeat, cache: Option<Cache>)
     requires works { Works heap.now seat.old }
     requires cache { HasCache cache (view_of seat.old) }
@@ -47,7 +48,6 @@ pub fn keep_some(cache: Option<Cache>) {
     }
 }
 
-/// A safe point: if a stop is under way the mutator gives its cache up, leaves, helps, and enters again.
 pub fn pass<R: Wait>(
     rt: &R,
     heap: &Heap,
@@ -123,7 +123,6 @@ fn fill_in_stops<R: Wait, W: Watch>(
     }
 }
 
-/// Another cache, with a free cell. The old one is given up.
 fn fill<R: Wait, W: Watch>(
     rt: &R,
     heap: &Heap,
@@ -168,8 +167,7 @@ pub fn with_free(cache: Option<Cache>) -> Result<Cache, Option<Cache>>
     }
 }
 
-/// Comes to a new object: a safe point, and a cache with a free cell. After a refill it passes a safe point again,
-/// since a refill may stop the world.
+/// Comes to a cache with a free cell. A safe point follows each refill, since that may stop the world.
 pub fn come_to<R: Wait, W: Watch>(
     rt: &R,
     heap: &Heap,

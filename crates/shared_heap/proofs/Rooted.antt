@@ -18,7 +18,7 @@ use Rattle.gc_cycle.specs.Sparing.{spares_part}
 use Rattle.gc_cycle.proofs.Refills.Retired.{retired-only}
 use Rattle.mutator_ops.specs.Sharing.{ShareCreates}
 use Rattle.seat_turns.specs.Sharing.{spares_heap}
-use Rattle.seat_turns.specs.Turning.{LooksAtSeason}
+use Rattle.seat_turns.specs.SeasonLooks.{LooksAtSeason}
 use Rattle.shared_heap.specs.Rooting.{MakesRoot, Spares, SparesSeason, spares_season}
 
 entered : (step : Step) → spares_part step ≡ true → spares_season step ≡ true

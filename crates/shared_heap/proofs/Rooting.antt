@@ -31,7 +31,7 @@ use Rattle.gc_table.proofs.Noticing.{alone-step}
 use Rattle.gc_table.proofs.Running.{ran-join, ran-plan, ran-shape}
 use Rattle.gc_cycle.specs.Standing.{KeepsSeat, KeepsSection, Mutates, is_at_rest}
 use Rattle.mutator_ops.specs.Sharing.{ShareCreates}
-use Rattle.seat_turns.specs.Turning.{LooksAtSeason}
+use Rattle.seat_turns.specs.SeasonLooks.{LooksAtSeason}
 use Rattle.shared_heap.specs.Opening.{HasFirstCache, HasRoot, IsAloneInIdle, IsAtFirstTurn, IsFirst, IsNewSeat, empty_in}
 
 first_section : (sh : Shape) → 0 < sh.sections → cond {A = Option ℕ} (nat_lt 0 sh.sections) (Some 0) None ≡ Some 0

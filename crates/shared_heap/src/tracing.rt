@@ -3,7 +3,7 @@ ghost use Rattle.std.specs.Prelude.{◌≡◌, ◌<◌, ◌++◌, [], ◌∷◌,
 ghost use Rattle.std.specs.Bool.{OnFalse, OnTrue};
 ghost use Rattle.gc_table.specs.Seats.{Across};
 ghost use Rattle.stop_world.specs.Gates.{TurnsBack};
-ghost use Rattle.seat_turns.specs.Trying.{Dismisses, DismissesInside};
+ghost use Rattle.seat_turns.specs.TracerTries.{Dismisses, DismissesInside};
 ghost use Rattle.shared_heap.specs.Lending.{AreAllBack, HasAllStill, KeepsRest, TakesNoTracer};
 
 use crate::world::SharedWorld;

@@ -25,10 +25,11 @@ use Rattle.warehouse.specs.Commands.{Leaves}
 use Rattle.warehouse.specs.Ending.{CountsAbsent}
 use Rattle.warehouse.specs.Pacing.{CountsOne}
 use Rattle.warehouse.specs.Turns.{KeepsPart}
-use Rattle.warehouse.proofs.Counting.{spares-seasons, never-join}
+use Rattle.warehouse.proofs.Counting.{spares-seasons}
 use Rattle.warehouse.proofs.Leavings.{leaves-calm, leaves-counted, leaves-join}
 use Rattle.warehouse.proofs.Pacing.{counted-by, counted-untried, ends-calm, ends-step, paces-after, paces-out}
 use Rattle.warehouse.proofs.InTheStop.{keeps-join, spared-keeps}
+use Rattle.cache_refills.proofs.Refills.Payment.{never-run as never-join}
 
 -- the seat entered (v), and counted the part (w)
 module _ (u v w : View) (entered : HasEntered u v) (spares : Only spares_part u v) (numbers : Only leaves_numbers u v) (mutates : Mutates v) (count : Took (AddStat done_count 1 false) v w) where

@@ -12,13 +12,14 @@ use Rattle.packet_pools.specs.Counts.{count_of}
 use Rattle.packet_pools.specs.Seeking.{some_event}
 use Rattle.alloc_cache.specs.Claiming.{seeks_block}
 use Rattle.gc_cycle.specs.Cycles.{collects}
-use Rattle.gc_cycle.specs.Events.{Sort, each_after, followed_by, front}
+use Rattle.gc_cycle.specs.Events.{each_after, front}
 use Rattle.warehouse.specs.Pacing.{Paces}
 use Rattle.warehouse.specs.Playing.{Acts, DoesNothing}
 use Rattle.gc_cycle.specs.Sorts.{begins_exactly, ends_cycle, stores_new, raises_flag, reads_phase, sees_all_empty, sees_last_card, mutator_stores}
 use Rattle.mark_core.specs.Layout.{card_count}
 use Rattle.mark_core.specs.declared.kinds.Phase.TheVariants.{Marking}
 use Rattle.gc_cycle.specs.Sparing.{fills_part, spares_part}
+use Rattle.gc_cycle.proofs.Ends.Finishes.{some-of-followed as ended}
 use Rattle.cache_refills.specs.Stops.{claim_failed, marking_done, may_stop, no_block, stops_with_cause, stops_without_cause}
 use Rattle.warehouse.proofs.Counting.{fills-seasons, fills-stores, fills-uncounted, spares-fills, some-count, stored-none, stores_none, writes-none}
 
@@ -106,12 +107,6 @@ stops_counted sh since (e ∷ es) =
     sums true true m k h = omega (arith, h)
     sums true false m k h = omega (arith, h)
     sums false c m k h = omega (arith, h)
-
-ended : (f g : Sort) (es : List Entry) → followed_by f g es ≡ true → some_event g es ≡ true
-ended f g [] h = absurd (false≢true h)
-ended f g (e ∷ es) h =
-    or_right (g e.step e.found) (some_event g es)
-    (⊎_elim (λ a. (and_parts (f e.step e.found) (some_event g es) a).1) (λ a. ended f g es a) (or_cases (f e.step e.found && some_event g es) (followed_by f g es) h))
 
 -- a collection that stopped the world once at most
 pub acts-collect : (season : ℕ) (v w : View) → Ran v w → Only spares_part v w → collects (events v w) ≡ true → count_of raises_flag (events v w) ≤ 1 → Paces v w → Acts season 0 1 1 v w

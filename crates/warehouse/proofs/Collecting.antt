@@ -34,7 +34,7 @@ use Rattle.warehouse.proofs.Leavings.{acts-join}
 use Rattle.warehouse.proofs.Causes.{acts-asked, acts-collect}
 use Rattle.warehouse.proofs.Commanding.{stays-of}
 use Rattle.warehouse.proofs.Coming.{moved, says-moved}
-use Rattle.warehouse.proofs.Fulls.{counted-kept}
+use Rattle.warehouse.proofs.FullStops.{counted-kept}
 use Rattle.warehouse.proofs.Others.{made-later, stops-none, printed-more}
 use Rattle.mark_core.specs.declared.kinds.Shape.{Shape}
 use Rattle.warehouse.proofs.InTheStop.{stays-join, stays-spared}
@@ -47,7 +47,7 @@ use Rattle.mutator_ops.specs.Creating.{Creates}
 use Rattle.mutator_ops.specs.Ready.{IsReady}
 use Rattle.warehouse.proofs.Counting.{command-seasons, command-uncounted, stored-turn}
 use Rattle.warehouse.proofs.Pacing.{paces-command}
-use Rattle.warehouse.proofs.Turning.{is_of_command, of-command}
+use Rattle.warehouse.proofs.TurnChanges.{is_of_command, of-command}
 
 -- What `new` leaves to the mutator.
 -- nothing in hand, but for whether a cell is half made

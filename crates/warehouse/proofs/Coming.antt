@@ -1,5 +1,5 @@
 -- A mutator comes to a command.
-use Rattle.std.proofs.Common.{ℕ, ◌≡◌, ◌-◌, ◌*◌, ◌%◌, ◌<◌, ◌≤◌, ◌==◌, ◌++◌, List, ◌∷◌, [], refl, sym, ap, ◌∙◌, subst, true, Option, Some, if◌then◌else◌, arith, ◌⊎◌, ⊎_elim, inl, inr, eq-eqb, ne_eqb}
+use Rattle.std.proofs.Common.{ℕ, Bool, ◌≡◌, ◌-◌, ◌*◌, ◌%◌, ◌<◌, ◌≤◌, ◌==◌, ◌++◌, List, ◌∷◌, [], refl, sym, ap, ◌∙◌, subst, true, false, Option, Some, None, if◌then◌else◌, arith, ◌⊎◌, ⊎_elim, inl, inr, eq-eqb, ne_eqb}
 use Rattle.std.specs.Prelude.{IsTrue, zero, suc}
 use Rattle.std.proofs.lemmas.Bool.{false≢true}
 use Rattle.mark_core.specs.Seats.{has_turn}
@@ -21,13 +21,13 @@ use Rattle.alloc_cache.specs.declared.cache.Cache.{Cache}
 use Rattle.play_end.specs.Alike.{AreAlike}
 use Rattle.play_end.specs.Done.{turn_word}
 use Rattle.play_end.specs.Parts.{SaysSame}
-use Rattle.warehouse.specs.Commands.{IsAtCommand, IsNextOf, StopsBefore}
+use Rattle.warehouse.specs.Commands.{ComesOrStops, IsAtCommand, IsNextOf, StopsBefore}
 use Rattle.cache_refills.specs.PartEvents.{polled_last}
 use Rattle.warehouse.specs.Playing.{Acts, FindsFull, GetsReady, HasFree, HasRoomForCommands, ObjectsHaveCells, MayPass, Stays, DoesNothing, collects_by, player_of}
 use Rattle.warehouse.specs.declared.mutator.Mutator.{Mutator}
 use Rattle.warehouse.proofs.Leavings.{acts-join, within-still}
 use Rattle.warehouse.proofs.Commanding.{stays-of}
-use Rattle.warehouse.proofs.Fulls.{counted-kept}
+use Rattle.warehouse.proofs.FullStops.{counted-kept}
 use Rattle.warehouse.proofs.Readying.{polled-right}
 use Rattle.mark_core.specs.declared.kinds.Shape.{Shape}
 use Rattle.warehouse.proofs.InTheStop.{stays-join}
@@ -131,13 +131,18 @@ makes-new (ops.Say v) b = absurd (false≢true b)
 makes-new (ops.Sum v i limit) b = absurd (false≢true b)
 makes-new ops.Collect b = absurd (false≢true b)
 
+-- what the call before it says, of its answer
+pub comes-by : (comes : Bool) (h : Heap) (p : Parts) (turn : ℕ) (kept : Option Cache) (e : Execution) (x y : Mutator) → (comes ≡ true → IsAtCommand h p turn kept e x y) → (comes ≡ false → StopsBefore h p e x y × (kept ≡ None)) → ComesOrStops comes h p turn kept e x y
+comes-by true h p turn kept e x y at stops = at refl
+comes-by false h p turn kept e x y at stops = stops refl
+
 -- it waited, and then came to the command, or found the heap full
 module _ (h : Heap) (p : Parts) (turn : ℕ) (e : Execution) (m : Mutator) (s : HeapSeat) (y : Mutator) (stays : Stays (view_of m.seat) (view_of s)) (waits : DoesNothing (view_of m.seat) (view_of s)) where
   says_later : SaysSame (player_of (moved m s)) (player_of y) → SaysSame (player_of m) (player_of y)
   says_later k = record { count = k.count; said = k.said; dropped = k.dropped; cells = k.cells }
 
-  pub at-later : (kept : Option Cache) → IsAtCommand h p turn kept e (moved m s) y → IsAtCommand h p turn kept e m y
-  at-later kept k =
+  at_later : (kept : Option Cache) → IsAtCommand h p turn kept e (moved m s) y → IsAtCommand h p turn kept e m y
+  at_later kept k =
       record {
         playing = k.playing;
         stays = stays-join (view_of m.seat) (view_of s) (view_of y.seat) stays k.stays;
@@ -150,8 +155,8 @@ module _ (h : Heap) (p : Parts) (turn : ℕ) (e : Execution) (m : Mutator) (s : 
         free = k.free;
       }
 
-  pub stops-later : StopsBefore h p e (moved m s) y → StopsBefore h p e m y
-  stops-later k =
+  stops_later : StopsBefore h p e (moved m s) y → StopsBefore h p e m y
+  stops_later k =
       let c : ℕ = collects_by (e ∷ []) in
       record {
         playing = k.playing;
@@ -162,3 +167,7 @@ module _ (h : Heap) (p : Parts) (turn : ℕ) (e : Execution) (m : Mutator) (s : 
         found = λ full. ⊎_elim (λ a. inl (sym stays.still.full ∙ a)) (λ b. inr b) (k.found full);
         acts = λ season. acts-join season 0 0 0 0 0 c 0 0 c (view_of m.seat) (view_of s) (view_of y.seat) (waits season) (k.acts season) (omega arith) (omega arith) (omega arith);
       }
+
+  pub comes-later : (comes : Bool) (kept : Option Cache) → ComesOrStops comes h p turn kept e (moved m s) y → ComesOrStops comes h p turn kept e m y
+  comes-later true kept k = at_later kept k
+  comes-later false kept k = (stops_later k.0, k.1)

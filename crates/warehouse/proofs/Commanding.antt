@@ -24,7 +24,7 @@ use Rattle.play_end.specs.Parts.{Player, DoesCommand, StaysOf}
 use Rattle.plain_heap.specs.Sections.{Execution, makes_object}
 use Rattle.plain_heap.specs.PlainRun.{with_label}
 use Rattle.play_end.specs.Playing.{drops, is_lent}
-use Rattle.warehouse.proofs.Turning.{turns-of}
+use Rattle.warehouse.proofs.TurnChanges.{turns-of}
 
 -- the heap is the one after the operation, apart from the count of dropped stores
 pub alike-stepped : (op : Op) (d : ℕ) (v w : View) → IsStepped op d v w → AreAlike w.own.meaning.heap (heap_after v.own.meaning.heap (seen v) op)

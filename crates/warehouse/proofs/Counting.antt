@@ -1,6 +1,6 @@
 -- Which steps count no part that was played, and move no season on.
 use Rattle.std.proofs.Common.{ℕ, ◌≡◌, ◌==◌, List, refl, Bool, true, false, not, ◌+◌, ◌≤◌, ◌&&◌, ◌||◌, [], ◌∷◌, ◌++◌, ap, ◌∙◌, if◌then◌else◌, arith, sym, Some, Option, eq-eqb}
-use Rattle.std.proofs.lemmas.Bool.{and_left, false≢true, not-true, and_parts, or_from, or_left, or_parts, or_right, and_from}
+use Rattle.std.proofs.lemmas.Bool.{and_left, false≢true, not-true, and_parts, or_left, or_right, and_from}
 use Rattle.mark_core.specs.declared.kinds.Step.{Step}
 use Rattle.mark_core.specs.declared.kinds.Step.TheVariants.{AddStat, NextSeason, StoreField, StoreValue, StoreRoot, StoreNew, StorePhase, ExchangeField, ExchangeValue, StoreSlot}
 use Rattle.gc_table.specs.Log.{Only, all_steps, events}
@@ -13,7 +13,8 @@ use Rattle.gc_cycle.specs.Events.{never, Sort, last_is}
 use Rattle.warehouse.specs.Playing.{counts_part}
 use Rattle.mark_core.specs.Numbers.{done_count}
 use Rattle.gc_cycle.specs.Sparing.{fills_part, spares_part}
-use Rattle.warehouse.proofs.Turning.{is_of_command, season-step}
+use Rattle.gc_cycle.proofs.Sequences.{none-of-steps as none-of}
+use Rattle.warehouse.proofs.TurnChanges.{is_of_command, season-step}
 use Rattle.packet_pools.specs.Counts.{count_of}
 use Rattle.packet_pools.specs.Seeking.{some_event}
 use Rattle.packet_pools.proofs.Searches.{some-right}
@@ -72,31 +73,8 @@ stored-turn season (e ∷ es) v b s =
     same : (m : ℕ) → (m == m) ≡ true
     same m = eq-eqb m m refl
 
--- Tests over events: of lists one after another, and by the steps only.
--- steps of this sort make no such event
-pub none-of : (P : Step → Bool) (f : Sort) → ((step : Step) (n : ℕ) → P step ≡ true → f step n ≡ false) → (es : List Entry) → all_steps P es ≡ true → some_event f es ≡ false
-none-of P f h [] b = refl
-none-of P f h (e ∷ es) b = let p = and_parts (P e.step) (all_steps P es) b in or_from (f e.step e.found) (some_event f es) (h e.step e.found p.0) (none-of P f h es p.1)
-
 pub never-of : (P : Step → Bool) (f : Sort) → ((step : Step) (n : ℕ) → P step ≡ true → f step n ≡ false) → (es : List Entry) → all_steps P es ≡ true → never f es ≡ true
 never-of P f h es b = ap not (none-of P f h es b)
-
-none_both : (f : Sort) (xs ys : List Entry) → some_event f xs ≡ false → some_event f ys ≡ false → some_event f (xs ++ ys) ≡ false
-none_both f [] ys a b = b
-none_both f (x ∷ xs) ys a b = let p = or_parts (f x.step x.found) (some_event f xs) a in or_from (f x.step x.found) (some_event f (xs ++ ys)) p.0 (none_both f xs ys p.1 b)
-
-pub never-join : (f : Sort) (u v w : View) → Ran u v → Ran v w → never f (events u v) ≡ true → never f (events v w) ≡ true → never f (events u w) ≡ true
-never-join f u v w r s a b =
-    ap not (ap (some_event f) (ran-events u v w r s) ∙ none_both f (events u v) (events v w) (not-true (some_event f (events u v)) a) (not-true (some_event f (events v w)) b))
-
-pub none-count : (f : Sort) (es : List Entry) → some_event f es ≡ false → count_of f es ≡ 0
-none-count f [] a = refl
-none-count f (e ∷ es) a =
-    let p = or_parts (f e.step e.found) (some_event f es) a in
-    ap (λ b. (if b then 1 else 0) + count_of f es) p.0 ∙ plus (count_of f es) (none-count f es p.1)
-  where
-    plus : (m : ℕ) → m ≡ 0 → 0 + m ≡ 0
-    plus m e = omega (arith, e)
 
 pub some-count : (f : Sort) (es : List Entry) → some_event f es ≡ true → 1 ≤ count_of f es
 some-count f [] a = absurd (false≢true a)

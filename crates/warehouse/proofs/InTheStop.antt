@@ -1,7 +1,7 @@
 -- What the catalogue's seat knows once it has stopped the world: it is at rest, and it reads the phase.
 use Rattle.std.proofs.Common.{ℕ, ◌≡◌, ◌||◌, List, refl, sym, ap, ◌∙◌, subst, Bool, true, false, not, Option, Some, eq-eqb, ◌++◌, ◌&&◌, [], ◌∷◌, if◌then◌else◌, ◌+◌, arith, None}
 use Rattle.std.specs.Prelude.{unwrap_or}
-use Rattle.std.proofs.lemmas.Bool.{false≢true, not-true, or_left, and_left, or_from, or_parts, or_right}
+use Rattle.std.proofs.lemmas.Bool.{false≢true, not-true, or_left, or_right}
 use Rattle.mark_core.specs.Effects.{seat_after}
 use Rattle.mark_core.specs.Seats.{phase_number, phase_of, saw}
 use Rattle.mark_core.specs.Steps.WorldSteps.{has_nothing}
@@ -27,18 +27,20 @@ use Rattle.gc_cycle.specs.Sorts.{raises_flag, moves_to, stores_new}
 use Rattle.gc_cycle.specs.Sparing.{spares_part, fills_part}
 use Rattle.warehouse.specs.Turns.{LeavesNoCycle, KeepsPart, turns_season}
 use Rattle.gc_table.specs.Log.{Only, events}
-use Rattle.gc_table.specs.Taking.{after, moves_from}
+use Rattle.gc_table.specs.Taking.{after}
 use Rattle.packet_pools.specs.Seeking.{some_event}
 use Rattle.play_end.specs.Playing.{leaves_play}
 use Rattle.play_end.proofs.Commands.{still-then}
 use Rattle.play_end.proofs.Runs.{still-run}
-use Rattle.warehouse.proofs.Counting.{never-join, never-of, fills-stores, fills-uncounted, spares-fills, spares-seasons, stored-none, stores_none}
+use Rattle.warehouse.proofs.Counting.{never-of, fills-stores, fills-uncounted, spares-fills, spares-seasons, stored-none, stores_none}
 use Rattle.warehouse.specs.Pacing.{Paces}
 use Rattle.warehouse.specs.Playing.{Acts, Stays, DoesNothing}
 use Rattle.warehouse.proofs.Pacing.{paces-none, paces-retired}
 use Rattle.warehouse.specs.Storing.{stores_in}
 use Rattle.gc_cycle.specs.Standing.{KeepsSeat}
 use Rattle.cache_refills.specs.Stops.{may_stop, stops_without_cause}
+use Rattle.cache_refills.proofs.Refills.Rounds.{unfull as fills_none}
+use Rattle.cache_refills.proofs.Refills.Payment.{never-run as never-join}
 use Rattle.gc_table.specs.declared.view.SectionState.{SectionState}
 use Rattle.alloc_cache.specs.declared.cache.Cache.{Cache}
 use Rattle.gc_cycle.specs.Answering.{HasCache, retires}
@@ -141,10 +143,6 @@ retired-stays v w ran state own =
       shape = ran-shape v w ran;
     }
 
-fills_none : (step : Step) (n : ℕ) → spares_part step ≡ true → moves_to Full step n ≡ false
-fills_none (StorePhase to) n b = and_left (saw (Some to) Full) (moves_from n to) (not-true (saw (Some to) Full) b)
-fills_none step n b = refl
-
 turns_none : (step : Step) (n : ℕ) → spares_part step ≡ true → turns_season step n ≡ false
 turns_none NextSeason n b = absurd (false≢true b)
 turns_none step n b = refl
@@ -180,27 +178,9 @@ keeps-join u v w a b =
       unfilled = never-join (moves_to Full) u v w a.ran b.ran a.unfilled b.unfilled;
     }
 
--- events of neither list are like this
-pub neither : (f : Sort) (xs ys : List Entry) → some_event f xs ≡ false → some_event f ys ≡ false → some_event f (xs ++ ys) ≡ false
-neither f [] ys a b = b
-neither f (x ∷ xs) ys a b = let p = or_parts (f x.step x.found) (some_event f xs) a in or_from (f x.step x.found) (some_event f (xs ++ ys)) p.0 (neither f xs ys p.1 b)
-
 same_some : (f : Sort) (xs ys : List Entry) → some_event f ys ≡ false → some_event f (xs ++ ys) ≡ some_event f xs
 same_some f [] ys b = b
 same_some f (x ∷ xs) ys b = ap (λ c. f x.step x.found || c) (same_some f xs ys b)
-
--- events that come later belong to what came since the last one
-pub since-more : (f : Sort) (xs ys : List Entry) → some_event f xs ≡ true → some_event f ys ≡ false → since_last f (xs ++ ys) ≡ since_last f xs ++ ys
-since-more f [] ys a b = absurd (false≢true a)
-since-more f (x ∷ xs) ys a b =
-    ap (λ c. if f x.step x.found && not c then xs ++ ys else since_last f (xs ++ ys)) (same_some f xs ys b)
-    ∙ by (some_event f xs) (f x.step x.found) xs (since_last f xs) (since_last f (xs ++ ys)) ys (λ h. since-more f xs ys h b) a
-  where
-    by : (c d : Bool) (zs ms ls ys : List Entry) → (c ≡ true → ls ≡ ms ++ ys) → (d || c) ≡ true → (if d && not c then zs ++ ys else ls) ≡ (if d && not c then zs else ms) ++ ys
-    by true true zs ms ls ys h a = h refl
-    by true false zs ms ls ys h a = h refl
-    by false true zs ms ls ys h a = refl
-    by false false zs ms ls ys h a = absurd (false≢true a)
 
 -- after the last such event come those that came since
 pub since-here : (f : Sort) (xs ys : List Entry) (e : Entry) → f e.step e.found ≡ true → some_event f ys ≡ false → since_last f (xs ++ e ∷ ys) ≡ ys

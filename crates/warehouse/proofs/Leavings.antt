@@ -1,5 +1,5 @@
 -- A mutator leaves at the end of its part.
-use Rattle.std.proofs.Common.{ℕ, ◌≡◌, ◌+◌, ◌≤◌, ◌++◌, List, [], ◌∷◌, refl, sym, ap, ◌∙◌, subst, true, false, not, arith, ◌&&◌, Bool, if◌then◌else◌, ◌⊎◌, Option, Some, IsTrue, ◌-◌, ◌<◌, map, length}
+use Rattle.std.proofs.Common.{ℕ, ◌≡◌, ◌+◌, ◌≤◌, ◌++◌, List, [], ◌∷◌, refl, sym, ap, ◌∙◌, subst, true, false, not, arith, ◌&&◌, if◌then◌else◌, ◌⊎◌, Option, Some, IsTrue, ◌-◌, ◌<◌, map, length}
 use Rattle.std.proofs.lemmas.Bool.{not-true}
 use Rattle.mark_core.specs.declared.kinds.Step.TheVariants.{AddStat, LeaveStep, StorePosition}
 use Rattle.gc_table.specs.Log.{Only, all_steps, event, events}
@@ -11,7 +11,7 @@ use Rattle.gc_table.specs.declared.view.View.{View}
 use Rattle.gc_table.proofs.History.Log.{events-after}
 use Rattle.gc_table.proofs.Running.{ran-events, ran-join, ran-shape, ran-took}
 use Rattle.packet_pools.specs.Counts.{count_of}
-use Rattle.packet_pools.proofs.Counting.{count-join}
+use Rattle.packet_pools.proofs.Counting.{count-join, count-join as count_both}
 use Rattle.play_end.specs.Playing.{moves_phase}
 use Rattle.play_end.proofs.FullKnown.{full-kept}
 use Rattle.warehouse.specs.Commands.{Leaves, DoesOne, IsAtCommand, PlaysOne, StopsBefore}
@@ -21,14 +21,15 @@ use Rattle.warehouse.specs.Playing.{Acts, Stays, DoesNothing, counts_part, colle
 use Rattle.gc_cycle.specs.Sorts.{ends_cycle, polls, raises_flag, stores_new}
 use Rattle.mark_core.specs.Numbers.{done_count}
 use Rattle.gc_cycle.specs.Sparing.{spares_part}
+use Rattle.gc_cycle.proofs.Sequences.{count-none as none-count}
 use Rattle.cache_refills.specs.Stops.{stops_without_cause, may_stop}
+use Rattle.cache_refills.proofs.Refills.Payment.{never-run as never-join}
 use Rattle.warehouse.specs.Storing.{stores_in}
 use Rattle.packet_pools.specs.Seeking.{some_event}
 use Rattle.warehouse.proofs.Pacing.{paces-counted, paces-join}
-use Rattle.warehouse.proofs.Counting.{none-count, never-join, stored-join}
+use Rattle.warehouse.proofs.Counting.{stored-join}
 use Rattle.warehouse.proofs.InTheStop.{waits-calm}
 use Rattle.mark_core.specs.declared.kinds.Shape.{Shape}
-use Rattle.mark_core.specs.declared.kinds.Step.{Step}
 use Rattle.plain_heap.specs.Placement.{IsNew}
 use Rattle.plain_heap.specs.Sections.{Execution, Parts, Sections, end_of}
 use Rattle.gc_table.specs.declared.seat.Heap.{Heap}
@@ -40,17 +41,6 @@ use Rattle.play_end.specs.Done.{IsStill, turn_word}
 use Rattle.play_end.proofs.Doing.{done-still}
 use Rattle.play_end.proofs.Within.{left-next}
 use Rattle.play_end.specs.Parts.{AreOf, DoesCommand, HasLeft, IsWithin, Player, SaysSame, StaysOf}
-
--- Calls one after another.
-count_both : (f : Step → ℕ → Bool) (xs ys : List Entry) → count_of f (xs ++ ys) ≡ count_of f xs + count_of f ys
-count_both f [] ys = zero_plus (count_of f ys)
-  where
-    zero_plus : (m : ℕ) → m ≡ 0 + m
-    zero_plus m = omega arith
-count_both f (x ∷ xs) ys = ap (λ m. (if f x.step x.found then 1 else 0) + m) (count_both f xs ys) ∙ apart (if f x.step x.found then 1 else 0) (count_of f xs) (count_of f ys)
-  where
-    apart : (a b c : ℕ) → a + (b + c) ≡ (a + b) + c
-    apart a b c = omega arith
 
 -- the stops of both, whatever came before the first
 pub stops-both : (sh : Shape) (since xs ys : List Entry) (a b : ℕ) → stops_without_cause sh since xs ≤ a → ((s : List Entry) → stops_without_cause sh s ys ≤ b) → stops_without_cause sh since (xs ++ ys) ≤ a + b

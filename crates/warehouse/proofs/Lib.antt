@@ -1,10 +1,10 @@
-pub mod Turning
+pub mod TurnChanges
 pub mod Counting
 pub mod Commanding
 pub mod Others
 pub mod Readying
 pub mod Causes
-pub mod Fulls
+pub mod FullStops
 pub mod Coming
 pub mod Collecting
 pub mod Going

@@ -31,7 +31,7 @@ use Rattle.gc_cycle.specs.Standing.{Mutates, is_at_rest}
 use Rattle.cache_refills.specs.Stops.{may_stop, stops_without_cause}
 use Rattle.warehouse.proofs.Counting.{command-seasons, command-uncounted, stored-turn}
 use Rattle.warehouse.proofs.Pacing.{paces-command}
-use Rattle.warehouse.proofs.Turning.{is_of_command, of-command}
+use Rattle.warehouse.proofs.TurnChanges.{is_of_command, of-command}
 
 -- the seat is a mutator as before, with the same cache
 pub mutates-other : (op : Op) (d : ℕ) (v w : View) → Does op d v w → Mutates v → Mutates w

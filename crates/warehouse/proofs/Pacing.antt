@@ -25,11 +25,13 @@ use Rattle.gc_cycle.specs.Statistics.{BetweenCycles, ChangesBy, ChangesNumbers, 
 use Rattle.gc_cycle.specs.declared.counts.Refill.{Refill}
 use Rattle.gc_cycle.proofs.Changes.{by-join, by-none, changes-after, numbers-after, numbers-join, numbers-one, only-changes, add-changes}
 use Rattle.gc_cycle.proofs.Unbegun.{calm-unbegun}
+use Rattle.gc_cycle.proofs.Leaving.{watches-leave as watches_numbers}
 use Rattle.cache_refills.specs.Getting.{RefillsTo}
 use Rattle.cache_refills.specs.Pace.Pacing.{begins_where_due}
+use Rattle.cache_refills.proofs.Refills.Payment.{never-run as never-join}
 use Rattle.warehouse.specs.Pacing.{Changes, EndsCyclesAlone, LeavesPace, Paces, PacesBetween, by_collection, by_counting, by_refill, by_retiring, by_safe_point}
-use Rattle.warehouse.proofs.Counting.{never-join, never-of}
-use Rattle.warehouse.proofs.Turning.{is_of_command}
+use Rattle.warehouse.proofs.Counting.{never-of}
+use Rattle.warehouse.proofs.TurnChanges.{is_of_command}
 use Rattle.stop_world.specs.Waiting.{watches}
 
 untried : (v : View) → never tries_marking (events v v) ≡ true
@@ -150,12 +152,6 @@ ends-calm v w ran calm only = ends-none v w ran only (calm-unbegun v w calm)
 -- a cycle ends
 pub ends-cycle : {counts : Counts} (v w : View) → EndsCycle counts v w → EndsCyclesAlone v w
 ends-cycle v w e = record { numbers = numbers-after [] v w w e (numbers-one [] w w (by-none w)); unbegun = e.unbegun }
-
--- Between two turns the numbers that pace a cycle are changed only by the end of a cycle.
-watches_numbers : (step : Step) → watches step ≡ true → leaves_numbers step ≡ true
-watches_numbers (AddStat which by down) e = absurd (false≢true e)
-watches_numbers (Reset which) e = absurd (false≢true e)
-watches_numbers step e = refl
 
 watches_untried : (step : Step) (n : ℕ) → watches step ≡ true → tries_marking step n ≡ false
 watches_untried (StorePhase to) n e = absurd (false≢true e)

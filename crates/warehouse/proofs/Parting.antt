@@ -35,7 +35,7 @@ use Rattle.warehouse.specs.declared.mutator.Mutator.{Mutator}
 use Rattle.warehouse.proofs.Leavings.{acts-join, waits-ran, of-stays, Told, told-left}
 use Rattle.warehouse.proofs.Commanding.{stays-of}
 use Rattle.warehouse.proofs.Coming.{moved, room-moved, says-moved}
-use Rattle.warehouse.proofs.Fulls.{counted-kept}
+use Rattle.warehouse.proofs.FullStops.{counted-kept}
 use Rattle.warehouse.proofs.Going.{part-then}
 
 -- a section that didn't find the heap full moved the phase nowhere so

@@ -1,13 +1,11 @@
 -- A mutator polls, reads the season, and is ready for a command.
 use Rattle.std.proofs.Common.{ℕ, ◌≡◌, ◌==◌, ◌&&◌, ◌||◌, List, [], ◌∷◌, ◌++◌, refl, sym, ap, ◌∙◌, subst, Bool, true, false, not, Option, Some, None, if◌then◌else◌, arith, eqb-true, ⊎_elim}
 use Rattle.std.specs.Prelude.{IsFalse, is_none, is_some}
-use Rattle.std.proofs.lemmas.Bool.{and_from, and_parts, false≢true, true≢false, not-true, or_left, or_parts, or_right}
-use Rattle.mark_core.specs.Seats.{empty_handed, has_making, has_turn, saw, work_in_hand}
+use Rattle.std.proofs.lemmas.Bool.{and_from, and_parts, false≢true, true≢false, not-true, or_parts, or_right}
+use Rattle.mark_core.specs.Seats.{empty_handed, has_making, has_turn, work_in_hand}
 use Rattle.mark_core.specs.declared.kinds.Phase.{Phase}
-use Rattle.mark_core.specs.declared.kinds.Phase.TheVariants.{Full}
 use Rattle.mark_core.specs.declared.kinds.Shape.{Shape}
-use Rattle.mark_core.specs.declared.kinds.Step.{Step}
-use Rattle.mark_core.specs.declared.kinds.Step.TheVariants.{ReadPhase, ReadSeason}
+use Rattle.mark_core.specs.declared.kinds.Step.TheVariants.{ReadSeason}
 use Rattle.mark_core.specs.declared.seat.SeatState.{SeatState}
 use Rattle.gc_table.specs.Log.{Only, all_steps, events}
 use Rattle.gc_table.specs.PlainSteps.{HasSeenPhase}
@@ -20,19 +18,19 @@ use Rattle.gc_table.proofs.Running.{ran-events, ran-found, ran-only, ran-refl, r
 use Rattle.packet_pools.specs.Seeking.{some_event}
 use Rattle.packet_pools.proofs.Searches.{some-left}
 use Rattle.alloc_cache.specs.declared.cache.Cache.{Cache}
-use Rattle.gc_cycle.specs.Answering.{GoesOn, HasCache, later_or, last_phase, phase_read}
+use Rattle.gc_cycle.specs.Answering.{GoesOn, HasCache, last_phase}
 use Rattle.gc_cycle.specs.Events.{never}
 use Rattle.cache_refills.specs.PartEvents.{polled_last}
-use Rattle.seat_turns.specs.Turning.{LooksAtSeason}
+use Rattle.seat_turns.specs.SeasonLooks.{LooksAtSeason}
+use Rattle.seat_turns.proofs.Seats.{last_full}
 use Rattle.warehouse.specs.Pacing.{Paces}
 use Rattle.warehouse.specs.Playing.{Acts, GetsReady, ObjectsHaveCells, IsInTurn, Stays, DoesNothing, counts_part}
-use Rattle.gc_cycle.specs.Polling.{saw_full}
-use Rattle.gc_cycle.specs.Sorts.{stores_new, polls, raises_flag, reads_phase, mutator_stores}
+use Rattle.gc_cycle.specs.Sorts.{stores_new, polls, raises_flag, mutator_stores}
 use Rattle.gc_cycle.specs.Sparing.{spares_part}
 use Rattle.gc_cycle.specs.Standing.{KeepsSeat, Mutates, is_at_rest}
 use Rattle.cache_refills.specs.Stops.{stops_without_cause}
 use Rattle.warehouse.proofs.Leavings.{acts-join, waits-join}
-use Rattle.warehouse.proofs.Fulls.{counted-kept}
+use Rattle.warehouse.proofs.FullStops.{counted-kept}
 use Rattle.warehouse.proofs.Others.{has-cache}
 use Rattle.warehouse.proofs.Pacing.{paces-after}
 use Rattle.warehouse.proofs.Counting.{last-right, last-some, some-count, stored-none, stores_none, writes-none}
@@ -41,18 +39,6 @@ use Rattle.warehouse.proofs.InTheStop.{spares-stores, stays-join, stays-none, st
 -- the phase that was read last isn't Full, if none was read as Full
 none_some : (p : Phase) → None ≡ Some p → ⊥
 none_some p e = false≢true (ap (λ (o : Option Phase). is_some o) e)
-
-read_full : (step : Step) (n : ℕ) → phase_read step n ≡ Some Full → reads_phase Full step n ≡ true
-read_full ReadPhase n h = ap (λ (o : Option Phase). saw o Full) h
-read_full step n h = absurd (none_some Full h)
-
-either_full : (later here : Option Phase) (a b : Bool) → (later ≡ Some Full → b ≡ true) → (here ≡ Some Full → a ≡ true) → later_or later here ≡ Some Full → (a || b) ≡ true
-either_full None here a b p q h = or_left a b (q h)
-either_full (Some x) here a b p q h = or_right a b (p h)
-
-last_full : (es : List Entry) → last_phase es ≡ Some Full → saw_full es ≡ true
-last_full [] h = absurd (none_some Full h)
-last_full (e ∷ es) h = either_full (last_phase es) (phase_read e.step e.found) (reads_phase Full e.step e.found) (saw_full es) (last_full es) (read_full e.step e.found) h
 
 pub going-seen : (v w : View) → GoesOn v w → HasSeenPhase w.state
 going-seen v w g = by (last_phase (events v w)) refl g.read g.seen
@@ -114,9 +100,6 @@ module _ (n : ℕ) (w x : View) (found : Found ReadSeason n w x) where
         paced = paces-after ReadSeason n w x refl refl season_ran found.0;
       }
 
-  season_cache : (kept : Option Cache) → HasCache kept w → HasCache kept x
-  season_cache kept h = has-cache kept w x (ap (λ (y : View). y.state.cache) found.0) h
-
 -- the season is read, if it wasn't known
 module _ (w x : View) (looks : LooksAtSeason w x) where
   looks_by : (P : View → Type 0) → P w → ((n : ℕ) → Found ReadSeason n w x → P x) → P x
@@ -140,8 +123,11 @@ module _ (w x : View) (looks : LooksAtSeason w x) where
   looks_seen : HasSeenPhase w.state → HasSeenPhase x.state
   looks_seen h = looks_by (λ y. HasSeenPhase y.state) h (λ n found. subst (λ (y : View). HasSeenPhase y.state) (sym found.0) h)
 
+  pub looks-kept : x.state.cache ≡ w.state.cache
+  looks-kept = looks_by (λ y. y.state.cache ≡ w.state.cache) refl (λ n found. ap (λ (y : View). y.state.cache) found.0)
+
   pub looks-cache : (kept : Option Cache) → HasCache kept w → HasCache kept x
-  looks-cache kept h = looks_by (λ y. HasCache kept y) h (λ n found. season_cache n w x found kept h)
+  looks-cache kept h = has-cache kept w x looks-kept h
 
 -- a mutator that knows the phase and its turn
 known_ready : (turn : ℕ) (x : View) → IsFalse x.shape.sharing → Mutates x → HasSeenPhase x.state → ObjectsHaveCells x → has_turn x.state.section (Some turn) ≡ true → x.state.season_seen ≡ Some turn → IsInTurn turn x

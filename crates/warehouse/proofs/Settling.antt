@@ -21,9 +21,11 @@ use Rattle.gc_cycle.specs.Moments.{Moment, after_moment, at_some_moment, begins}
 use Rattle.gc_cycle.specs.Polling.{saw_full}
 use Rattle.gc_cycle.specs.Sorts.{begins_exactly, ends_cycle, raises_flag, reads_phase}
 use Rattle.gc_cycle.specs.Sparing.{spares_part}
+use Rattle.gc_cycle.proofs.Sequences.{some-none as neither}
 use Rattle.warehouse.specs.Turns.{LeavesStop, turns_season}
-use Rattle.warehouse.proofs.Counting.{spares-seasons, never-join}
-use Rattle.warehouse.proofs.InTheStop.{keeps-join, neither, seasons-step, spared-keeps, spared-turns}
+use Rattle.warehouse.proofs.Counting.{spares-seasons}
+use Rattle.warehouse.proofs.InTheStop.{keeps-join, seasons-step, spared-keeps, spared-turns}
+use Rattle.cache_refills.proofs.Refills.Payment.{never-run as never-join}
 
 settled_step : (x : View) (step : Step) (n : ℕ) → spares_part step ≡ true → x.own.settled ≡ true → (after step n x).own.settled ≡ true
 settled_step x (StoreField v i w) n b q = absurd (false≢true b)

@@ -38,9 +38,11 @@ use Rattle.gc_cycle.specs.Polling.{saw_full}
 use Rattle.gc_cycle.specs.Sorts.{raises_flag, reads_phase}
 use Rattle.gc_cycle.specs.Sparing.{spares_part}
 use Rattle.gc_cycle.specs.Standing.{IsAlone, IsOut}
+use Rattle.gc_cycle.proofs.Sequences.{some-none as neither, none-of-steps as none-of}
 use Rattle.warehouse.specs.Turns.{LeavesNoCycle, KeepsPart, LeavesStop, StopsAt, in_stop, turns_season}
-use Rattle.warehouse.proofs.Counting.{spares-seasons, never-join, none-of}
-use Rattle.warehouse.proofs.InTheStop.{keeps-join, neither, since-here, spared-keeps, spared-turns, helping_same}
+use Rattle.warehouse.proofs.Counting.{spares-seasons}
+use Rattle.warehouse.proofs.InTheStop.{keeps-join, since-here, spared-keeps, spared-turns, helping_same}
+use Rattle.cache_refills.proofs.Refills.Payment.{never-run as never-join}
 
 -- the end of a cycle makes no helper
 pub finishes-unhelped : (v w : View) → Ran v w → Only finishes v w → w.state.helping ≡ v.state.helping

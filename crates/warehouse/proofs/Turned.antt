@@ -34,9 +34,11 @@ use Rattle.gc_cycle.specs.Cycles.{never_fills}
 use Rattle.gc_cycle.specs.Events.{never}
 use Rattle.gc_cycle.specs.Polling.{saw_full}
 use Rattle.gc_cycle.specs.Sorts.{raises_flag, reads_phase}
+use Rattle.gc_cycle.proofs.Since.{since-more}
+use Rattle.gc_cycle.proofs.Sequences.{some-none as neither, count-none as none-count}
 use Rattle.warehouse.specs.Turns.{AloneAfter, LeavesNoCycle, EndsTurn, KeepsPart, LeavesStop, MayTurnSeason, StopsAt, TurnEnds, in_stop, turns_season}
-use Rattle.warehouse.proofs.InTheStop.{keeps-join, neither, since-more}
-use Rattle.warehouse.proofs.Counting.{never-join, none-count}
+use Rattle.warehouse.proofs.InTheStop.{keeps-join}
+use Rattle.cache_refills.proofs.Refills.Payment.{never-run as never-join}
 
 -- the season is what the catalogue's seat made it
 season_there : (x : TableState) (i : ℕ) (v : View) → IsState x → Agrees x i v → v.state.section ≡ Some 0 → (words_of x.core.shape x.core.words).season ≡ v.own.seasons

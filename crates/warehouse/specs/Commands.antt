@@ -58,16 +58,16 @@ pub record MayDo (p : Parts) (e : Execution) (m : Mutator) : Type 0 where
 abbrev pub ActsIn : ℕ → ℕ → Mutator → Mutator → Type 0
 ActsIn collects stops x y = (season : ℕ) → (view_of x.seat).state.season_seen ≡ Some season → Acts season 0 collects stops (view_of x.seat) (view_of y.seat)
 
--- the season word is that of the section's turn in some season
-abbrev pub IsTurn : Parts → ℕ → Mutator → Type 0
-IsTurn p turn m = (z : ℕ) × (0 < z) × (turn ≡ turn_word p.number z)
-
 -- one command was done, of a player that is in its turn
 pub record DoesOne (h : Heap) (p : Parts) (kept : Option Cache) (e : Execution) (x y : Mutator) : Type 0 where
   pub playing : IsPlaying h p kept y
   pub does : DoesCommand e (player_of x) (player_of y)
   pub room : (later : List Execution) → HasRoomForCommands (e ∷ later) x → HasRoomForCommands later y
   pub acts : ActsIn (collects_by (e ∷ [])) (collects_by (e ∷ [])) x y
+
+-- the same, with the cache that the mutator has
+abbrev pub DoesOneWithOwn : Heap → Parts → Execution → Mutator → Mutator → Type 0
+DoesOneWithOwn h p e x y = (kept : Option Cache) → IsPlaying h p kept x → DoesOne h p kept e x y
 
 -- the heap was found full before the command was done: the section is kept, and if its own seat found that, the command makes an object
 pub record StopsBefore (h : Heap) (p : Parts) (e : Execution) (x y : Mutator) : Type 0 where
@@ -90,6 +90,16 @@ pub record IsAtCommand (h : Heap) (p : Parts) (turn : ℕ) (kept : Option Cache)
   pub room : (left : List Execution) → HasRoomForCommands left x → HasRoomForCommands left y
   pub pass : MayPass y.seat p y.count
   pub free : IsTrue (makes_object e.op) → HasFree kept
+
+-- the command is the next of a mutator that plays
+pub record IsToCome (h : Heap) (p : Parts) (turn : ℕ) (kept : Option Cache) (e : Execution) (m : Mutator) : Type 0 where
+  pub playing : IsPlaying h p kept m
+  pub left : IsNextOf p turn e m
+
+-- it came to the command, or the heap was found full before, and no cache is left
+abbrev pub ComesOrStops : Bool → Heap → Parts → ℕ → Option Cache → Execution → Mutator → Mutator → Type 0
+ComesOrStops true h p turn kept e x y = IsAtCommand h p turn kept e x y
+ComesOrStops false h p turn kept e x y = StopsBefore h p e x y × (kept ≡ None)
 
 -- a command with the poll before it: of a player that had these commands left, all but the first are left
 pub record PlaysOne (h : Heap) (p : Parts) (turn : ℕ) (kept : Option Cache) (e : Execution) (x y : Mutator) : Type 0 where

@@ -120,6 +120,10 @@ pub record GetsReady (turn : ℕ) (kept : Option Cache) (v w : View) : Type 0 wh
   pub cached : HasCache kept w
   pub polled : IsTrue (polled_last (events v w))
 
+-- the same, with the cache that it has
+abbrev pub GetsReadyWithOwn : ℕ → View → View → Type 0
+GetsReadyWithOwn turn v w = (kept : Option Cache) → HasCache kept v → GetsReady turn kept v w
+
 -- the section is kept as it was before the heap was found full, which the seat knows; its record has no cache, and the position is stored
 pub record FindsFull (done : ℕ) (v w : View) : Type 0 where
   pub heap : w.own.meaning.heap ≡ v.own.meaning.heap

@@ -1,11 +1,13 @@
+//! One command of a part.
 ghost use Rattle.std.specs.Prelude.{◌≡◌, ◌+◌, ◌<◌, ◌≤◌, ◌⊎◌, ◌++◌, [], ◌∷◌, if◌then◌else◌, is_some, length, map, IsTrue, IsFalse, None, vec_capacity};
 ghost use Rattle.std.specs.Bool.{OnFalse, OnTrue};
 ghost use Rattle.plain_heap.specs.PlainRun.{with_label};
 ghost use Rattle.plain_heap.specs.Sections.{makes_object};
 ghost use Rattle.plain_heap.specs.declared.operation.Op.TheVariants as ops;
+ghost use Rattle.gc_table.specs.Seats.{Sits};
 ghost use Rattle.play_report.specs.Report.{printed_of};
 ghost use Rattle.gc_script.specs.Shown.{execution_of};
-ghost use Rattle.warehouse.specs.Commands.{DoesOne, IsAtCommand, IsNextOf, IsTurn, MayDo, PlaysOne, StopsBefore, is_other};
+ghost use Rattle.warehouse.specs.Commands.{ComesOrStops, DoesOne, DoesOneWithOwn, IsToCome, MayDo, PlaysOne, StopsBefore, is_other};
 ghost use Rattle.warehouse.specs.Playing.{HasFree, HasNoFree, IsPlaying};
 
 use crate::gate::Gate;
@@ -20,7 +22,6 @@ use plain_heap::{Line, Op};
 use play_report::Said;
 use std::sync::Wait;
 
-/// Notes what a command printed, in room taken before.
 fn say<'a>(said: &mut Vec<Said<'a>>, command: &Command<'a>, line: Option<Line>)
     requires room { IsTrue (is_some line) → length said.old.items < vec_capacity said.old }
     ensures said { map printed_of said.new.items ≡ map printed_of said.old.items ++ with_label command.now.label.now line [] }
@@ -37,7 +38,6 @@ fn say<'a>(said: &mut Vec<Said<'a>>, command: &Command<'a>, line: Option<Line>)
     }
 }
 
-/// Notes the cell of a new object, in room taken before.
 fn place(places: &mut Vec<u32>, cell: u32)
     requires room { length places.old.items < vec_capacity places.old }
     ensures places { places.new.items ≡ places.old.items ++ cell ∷ [] }
@@ -78,18 +78,16 @@ fn one_if(so: bool) -> u32
     if so { 1 } else { 0 }
 }
 
-/// Does a command that neither makes an object nor collects.
 fn do_other<'a>(
     heap: &Heap,
     mutator: &mut Mutator<'a>,
     section: &Section<'a>,
     command: &Command<'a>,
-    _cache: &Option<Cache>,
 )
     requires op { IsTrue (is_other (execution_of command.now).op) }
-    requires playing { IsPlaying heap.now section.now _cache.now mutator.old }
+    requires sits { Sits heap.now mutator.old.seat }
     requires may { MayDo section.now (execution_of command.now) mutator.old }
-    ensures { DoesOne heap.now section.now _cache.now (execution_of command.now) mutator.old mutator.new }
+    ensures { DoesOneWithOwn heap.now section.now (execution_of command.now) mutator.old mutator.new }
 {
     let done = mutator_ops::command(heap, &mut mutator.seat, command.op);
     say(&mut mutator.said, command, done.line);
@@ -97,7 +95,7 @@ fn do_other<'a>(
     mutator.count += 1;
 }
 
-/// Collects if the command says so. False if the heap is full.
+/// False if the heap is full.
 fn collect_now<'a, R: Wait>(
     rt: &R,
     heap: &Heap,
@@ -123,7 +121,7 @@ fn collect_now<'a, R: Wait>(
     }
 }
 
-/// Does a command in its turn, with a cell if it makes an object. False if the heap is full.
+/// False if the heap is full.
 fn do_command<'a, R: Wait>(
     rt: &R,
     heap: &Heap,
@@ -145,13 +143,12 @@ fn do_command<'a, R: Wait>(
         }
         Op::Collect => collect_now(rt, heap, mutator, section, command, cache),
         _ => {
-            do_other(heap, mutator, section, command, cache);
+            do_other(heap, mutator, section, command);
             true
         }
     }
 }
 
-/// Whether the command makes an object.
 fn makes(op: Op) -> bool
     ensures { result ≡ makes_object op }
 {
@@ -161,8 +158,7 @@ fn makes(op: Op) -> bool
     }
 }
 
-/// Comes to the command through a safe point in the turn, with a cell if it makes an object. False if the heap is
-/// full.
+/// A safe point in the turn, with a cell if the command makes an object. False if the heap is full.
 #[cold]
 #[inline(never)]
 fn come_late<'a, R: Wait>(
@@ -174,11 +170,8 @@ fn come_late<'a, R: Wait>(
     cache: &mut Option<Cache>,
     turn: u64,
 ) -> bool
-    requires playing { IsPlaying heap.now section.now cache.old mutator.old }
-    requires turn { IsTurn section.now turn mutator.old }
-    requires left { IsNextOf section.now turn (execution_of command.now) mutator.old }
-    ensures at { OnTrue result (IsAtCommand heap.now section.now turn cache.new (execution_of command.now) mutator.old mutator.new) }
-    ensures stops { OnFalse result (StopsBefore heap.now section.now (execution_of command.now) mutator.old mutator.new × (cache.new ≡ None)) }
+    requires { IsToCome heap.now section.now turn cache.old (execution_of command.now) mutator.old }
+    ensures { ComesOrStops result heap.now section.now turn cache.new (execution_of command.now) mutator.old mutator.new }
 {
     if makes(command.op) {
         await_cell(rt, heap, &mut mutator.seat, cache, turn, mutator.count)
@@ -187,7 +180,6 @@ fn come_late<'a, R: Wait>(
     }
 }
 
-/// Whether a ready mutator has the cell that the command needs.
 fn may_begin(ready: bool, command: &Command<'_>, cache: &Option<Cache>) -> bool
     ensures ready { IsTrue result → IsTrue ready }
     ensures free { IsTrue result → IsTrue (makes_object (execution_of command.now).op) → HasFree cache.now }
@@ -206,20 +198,17 @@ fn come_to<'a, R: Wait>(
     cache: &mut Option<Cache>,
     turn: u64,
 ) -> bool
-    requires playing { IsPlaying heap.now section.now cache.old mutator.old }
-    requires turn { IsTurn section.now turn mutator.old }
-    requires left { IsNextOf section.now turn (execution_of command.now) mutator.old }
-    ensures at { OnTrue result (IsAtCommand heap.now section.now turn cache.new (execution_of command.now) mutator.old mutator.new) }
-    ensures stops { OnFalse result (StopsBefore heap.now section.now (execution_of command.now) mutator.old mutator.new × (cache.new ≡ None)) }
+    requires { IsToCome heap.now section.now turn cache.old (execution_of command.now) mutator.old }
+    ensures { ComesOrStops result heap.now section.now turn cache.new (execution_of command.now) mutator.old mutator.new }
 {
-    let ready = is_ready(heap, &mut mutator.seat, cache, turn);
+    let ready = is_ready(heap, &mut mutator.seat, turn);
     if may_begin(ready, command, cache) {
         return true;
     }
     come_late(rt, heap, mutator, section, command, cache, turn)
 }
 
-/// Comes to a command, tells the gate, and does it. False if the heap is full; then no cache is left.
+/// Comes to a command, tells the gate, and does it. False if the heap is full.
 pub(crate) fn play_command<'a, R: Wait, G: Gate>(
     rt: &R,
     heap: &Heap,
@@ -230,9 +219,7 @@ pub(crate) fn play_command<'a, R: Wait, G: Gate>(
     turn: u64,
     gate: &G,
 ) -> bool
-    requires playing { IsPlaying heap.now section.now cache.old mutator.old }
-    requires turn { IsTurn section.now turn mutator.old }
-    requires left { IsNextOf section.now turn (execution_of command.now) mutator.old }
+    requires { IsToCome heap.now section.now turn cache.old (execution_of command.now) mutator.old }
     ensures plays { OnTrue result (PlaysOne heap.now section.now turn cache.new (execution_of command.now) mutator.old mutator.new) }
     ensures stops { OnFalse result (StopsBefore heap.now section.now (execution_of command.now) mutator.old mutator.new × (cache.new ≡ None)) }
 {

@@ -1,3 +1,4 @@
+//! What plays a section.
 ghost use Rattle.std.specs.Prelude.{◌≡◌, ◌≤◌, [], IfOk, IfErr};
 ghost use Rattle.gc_table.specs.Seats.{Sits, state_of, view_of};
 ghost use Rattle.plain_heap.specs.Sections.{joined};
@@ -19,20 +20,17 @@ use std::sync::Wait;
 /// A section's seat, with its lines so far and the cells of its objects. It goes from thread to thread.
 #[derive(Drop)]
 pub struct Mutator<'a> {
-    /// The section's seat.
     pub(crate) seat: HeapSeat,
-    /// The lines that it printed, in order.
     pub(crate) said: Vec<Said<'a>>,
     /// The cell of each object, by its number.
     pub(crate) places: Vec<u32>,
     /// How many stores went to objects of the catalogue.
     pub(crate) dropped: u32,
-    /// How many commands were done.
     pub(crate) count: u32,
 }
 
 impl<'a> Mutator<'a> {
-    /// Takes all the memory that the section needs. If there is none, the seat comes back.
+    /// Takes all the memory that the section needs. If that fails, the seat comes back.
     pub fn make(
         alloc: Global,
         seat: HeapSeat,
@@ -65,8 +63,7 @@ impl<'a> Mutator<'a> {
         self.seat.number()
     }
 
-    /// Moves the season on with the catalogue's seat between two turns: in a stop, once a cycle that was marking
-    /// has ended. Full if the heap was found full in the stop; the season then stays.
+    /// As [`turn_season`](crate::turn_season), with the catalogue's seat.
     pub fn next_turn<R: Wait>(&mut self, rt: &R, heap: &Heap) -> Played
         requires seat { Sits heap.now self.old.seat × IsOut (view_of self.old.seat) }
         requires turn { MayTurnSeason (view_of self.old.seat) }
@@ -79,8 +76,7 @@ impl<'a> Mutator<'a> {
         turn_season(rt, heap, &mut self.seat)
     }
 
-    /// Ends the last turn with the catalogue's seat: the season moves on, and the heap is collected precisely in
-    /// the same stop.
+    /// As [`end_play`](crate::end_play), with the catalogue's seat.
     pub fn end_play<R: Wait>(&mut self, rt: &R, heap: &Heap) -> Played
         requires seat { Sits heap.now self.old.seat × IsOut (view_of self.old.seat) }
         requires turn { MayTurnSeason (view_of self.old.seat) }

@@ -1,3 +1,4 @@
+//! One part of a section.
 ghost use Rattle.std.specs.Prelude.{◌≡◌, ◌≤◌, None, is_some, IsTrue};
 ghost use Rattle.gc_table.specs.Seats.{Across, Sits, state_of, view_of};
 ghost use Rattle.gc_cycle.specs.Standing.{IsOut};
@@ -18,7 +19,6 @@ use play_end::Played;
 use std::sync::Wait;
 use stop_world::leave;
 
-/// The season word in a section's turn.
 fn turn_of(section: u32, season: u32) -> u64
     requires { 1 ≤ season }
     ensures { result ≡ turn_word section season }
@@ -50,7 +50,6 @@ fn play_commands<'a, R: Wait, G: Gate>(
     Safe::Going(cache)
 }
 
-/// Counts the part, gives up the cache, and leaves with the position stored.
 fn end_part<'a>(heap: &Heap, mutator: &mut Mutator<'a>, section: &Section<'a>, cache: Option<Cache>)
     requires playing { IsPlaying heap.now section.now cache mutator.old }
     ensures { CountsPart 1 heap.now section.now mutator.old mutator.new }
@@ -61,7 +60,7 @@ fn end_part<'a>(heap: &Heap, mutator: &mut Mutator<'a>, section: &Section<'a>, c
     go_out(heap, &mut mutator.seat, mutator.count);
 }
 
-/// Plays one part of a section. Full if the heap was found full: the section then stands at its stored position.
+/// Plays one part of a section. Full if the heap was found full: then the section stands at its stored position.
 pub fn play_part<'a, R: Wait, G: Gate>(
     rt: &R,
     heap: &Heap,

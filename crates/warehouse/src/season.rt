@@ -1,3 +1,4 @@
+//! The season moves on between two turns.
 ghost use Rattle.std.specs.Prelude.{◌≡◌, IsTrue, IsFalse};
 ghost use Rattle.mark_core.specs.Seats.{phase_number};
 ghost use Rattle.mark_core.specs.Rules.WorldRules.{is_resting};
@@ -18,7 +19,7 @@ use play_end::Played;
 use std::sync::Wait;
 use stop_world::{Raised, await_stopped, leave, raise, resume};
 
-/// Stops the world. If another seat's stop comes first, the seat helps until that has ended, and tries again.
+/// If another seat's stop comes first, the seat helps until that has ended, and tries again.
 fn stop_at_last<R: Wait>(rt: &R, heap: &Heap, seat: &mut HeapSeat)
     requires seat { Sits heap.now seat.old × IsOut (view_of seat.old) }
     ensures seat { Sits heap.now seat.new }
@@ -37,7 +38,7 @@ fn stop_at_last<R: Wait>(rt: &R, heap: &Heap, seat: &mut HeapSeat)
     unreachable!()
 }
 
-/// Ends a cycle that is marking. Whether the heap is full.
+/// Answers whether the heap is full.
 fn end_cycle<R: Wait>(rt: &R, heap: &Heap, seat: &mut HeapSeat) -> bool
     requires seat { Sits heap.now seat.old }
     requires stopped { HasStopped (view_of seat.old) }
@@ -57,7 +58,6 @@ fn end_cycle<R: Wait>(rt: &R, heap: &Heap, seat: &mut HeapSeat) -> bool
     }
 }
 
-/// Ends the stop, and leaves the world.
 fn leave_stop(heap: &Heap, seat: &mut HeapSeat)
     requires seat { Sits heap.now seat.old }
     requires rest { IsAlone (view_of seat.old) }
@@ -71,8 +71,6 @@ fn leave_stop(heap: &Heap, seat: &mut HeapSeat)
     leave(heap, seat);
 }
 
-/// Ends a turn in a stop of this seat, which stays in it: the season moves on once no cycle is under way. Full if
-/// the heap was found full in the stop; the season then stays.
 fn end_turn<R: Wait>(rt: &R, heap: &Heap, seat: &mut HeapSeat) -> Played
     requires seat { Sits heap.now seat.old × IsOut (view_of seat.old) }
     requires turn { MayTurnSeason (view_of seat.old) }
@@ -88,8 +86,8 @@ fn end_turn<R: Wait>(rt: &R, heap: &Heap, seat: &mut HeapSeat) -> Played
     Played::Done
 }
 
-/// Moves the season on, in a stop in which no cycle is under way. Full if the heap was found full in it; the season
-/// then stays.
+/// Moves the season on, in a stop in which no cycle is under way any more. Full if the heap was found full in it: then
+/// the season stays.
 pub fn turn_season<R: Wait>(rt: &R, heap: &Heap, seat: &mut HeapSeat) -> Played
     requires seat { Sits heap.now seat.old × IsOut (view_of seat.old) }
     requires turn { MayTurnSeason (view_of seat.old) }
@@ -103,8 +101,8 @@ pub fn turn_season<R: Wait>(rt: &R, heap: &Heap, seat: &mut HeapSeat) -> Played
     played
 }
 
-/// Ends the last turn: `turn_season` with a precise collection in the same stop, after which the cells in use are
-/// exactly the reachable ones.
+/// Ends the last turn: as [`turn_season`], with a precise collection in the same stop, after which the cells in use are
+/// the reachable ones.
 pub fn end_play<R: Wait>(rt: &R, heap: &Heap, seat: &mut HeapSeat) -> Played
     requires seat { Sits heap.now seat.old × IsOut (view_of seat.old) }
     requires turn { MayTurnSeason (view_of seat.old) }

@@ -1,11 +1,12 @@
-ghost use Rattle.std.specs.Prelude.{◌≡◌, ◌⊎◌, Some, None, IsTrue, IsFalse};
+//! A mutator comes to its turn, and to a free cell.
+ghost use Rattle.std.specs.Prelude.{ℕ, ◌≡◌, ◌⊎◌, Some, None, IsTrue, IsFalse};
 ghost use Rattle.std.specs.Bool.{OnFalse, OnTrue};
 ghost use Rattle.mark_core.specs.Seats.{has_turn, saw};
 ghost use Rattle.mark_core.specs.declared.kinds.Phase.TheVariants.{Full};
 ghost use Rattle.gc_table.specs.Seats.{Across, did, Sits, state_of, view_of};
 ghost use Rattle.gc_cycle.specs.Answering.{GoesOn, HasCache};
-ghost use Rattle.seat_turns.specs.Turning.{SeesOther};
-ghost use Rattle.warehouse.specs.Playing.{FindsFull, GetsReady, Glances, HasFree, HasNoFree, ObjectsHaveCells, IsHindered, Stays, DoesNothing};
+ghost use Rattle.seat_turns.specs.SeasonLooks.{SeesOther};
+ghost use Rattle.warehouse.specs.Playing.{FindsFull, GetsReady, GetsReadyWithOwn, Glances, HasFree, HasNoFree, ObjectsHaveCells, IsHindered, Stays, DoesNothing};
 ghost use Rattle.gc_cycle.specs.Polling.{poll_found_stop};
 ghost use Rattle.gc_cycle.specs.Standing.{Mutates};
 
@@ -18,20 +19,19 @@ use seat_turns::is_turn;
 use std::sync::Wait;
 use stop_world::poll;
 
-/// Leaves and enters again, only if the season is another than this turn's.
+/// It is called only if the season is another than the turn's.
 #[cold]
 #[inline(never)]
-fn go_round<R: Wait>(
+fn leave_and_enter<R: Wait>(
     rt: &R,
     heap: &Heap,
     seat: &mut HeapSeat,
     cache: &mut Option<Cache>,
-    _turn: u64,
     done: u32,
 )
     requires seat { Sits heap.now seat.old × Mutates (view_of seat.old) }
     requires cache { HasCache cache.old (view_of seat.old) }
-    requires other { SeesOther _turn (view_of seat.old) }
+    requires other { (turn : ℕ) × SeesOther turn (view_of seat.old) }
     ensures seat { Sits heap.now seat.new × Mutates (view_of seat.new) }
     ensures cache { (state_of seat.new).cache ≡ None }
     ensures none { cache.new ≡ None }
@@ -52,8 +52,7 @@ fn is_full(phase: Phase) -> bool
     }
 }
 
-/// Whether no stop is under way and the heap isn't full. The mutator only looks: if not, it still has a safe point
-/// to pass.
+/// Whether no stop is under way and the heap isn't full. If not, the mutator still has a safe point to pass.
 #[inline(always)]
 fn sees_clear(heap: &Heap, seat: &mut HeapSeat) -> bool
     requires seat { Sits heap.now seat.old × Mutates (view_of seat.old) }
@@ -69,18 +68,16 @@ fn sees_clear(heap: &Heap, seat: &mut HeapSeat) -> bool
     !is_full(heap.read_phase(seat))
 }
 
-/// Whether a command may be done at once, as it nearly always may: no stop is under way, the heap is not full, and
-/// it is the turn. Otherwise the mutator only looked.
+/// Whether a command may be done at once, as it nearly always may. If not, the mutator only looked.
 #[inline(always)]
-pub(crate) fn is_ready(heap: &Heap, seat: &mut HeapSeat, _cache: &Option<Cache>, turn: u64) -> bool
+pub(crate) fn is_ready(heap: &Heap, seat: &mut HeapSeat, turn: u64) -> bool
     requires seat { Sits heap.now seat.old × Mutates (view_of seat.old) }
-    requires cache { HasCache _cache.now (view_of seat.old) }
     requires owned { IsFalse (view_of seat.old).shape.sharing }
     requires counted { ObjectsHaveCells (view_of seat.old) }
     requires turn { IsTrue (has_turn (state_of seat.old).section (Some turn)) }
     ensures seat { Sits heap.now seat.new × Mutates (view_of seat.new) }
-    ensures cache { HasCache _cache.now (view_of seat.new) }
-    ensures ready { IsTrue result → Across (GetsReady turn _cache.now) seat.old seat.new }
+    ensures cache { (state_of seat.new).cache ≡ (state_of seat.old).cache }
+    ensures ready { IsTrue result → Across (GetsReadyWithOwn turn) seat.old seat.new }
     ensures late { OnFalse result (Across IsHindered seat.old seat.new ⊎ SeesOther turn (view_of seat.new)) }
     ensures stays { Across Stays seat.old seat.new }
     ensures waits { Across DoesNothing seat.old seat.new }
@@ -91,9 +88,7 @@ pub(crate) fn is_ready(heap: &Heap, seat: &mut HeapSeat, _cache: &Option<Cache>,
     is_turn(heap, seat, turn)
 }
 
-/// A safe point, and the season after it: in a stop the seat was outside, and what it had read of the season is no
-/// longer known. If it isn't this turn, the seat goes out and in until it is. False if the heap is full; the cache
-/// is then given up.
+/// Safe points, until the season is this turn's. False if the heap is full: then the cache is given up.
 pub(crate) fn await_turn<R: Wait>(
     rt: &R,
     heap: &Heap,
@@ -119,7 +114,7 @@ pub(crate) fn await_turn<R: Wait>(
         if is_turn(heap, seat, turn) {
             return true;
         }
-        go_round(rt, heap, seat, cache, turn, done);
+        leave_and_enter(rt, heap, seat, cache, done);
     }
     unreachable!()
 }
@@ -134,7 +129,7 @@ pub(crate) fn has_free(cache: &Option<Cache>) -> bool
     }
 }
 
-/// Takes out a cache without a free cell, if there is one.
+/// A cache is given up only if it has no free cell.
 fn take_empty(cache: &mut Option<Cache>) -> Option<Cache>
     requires { HasNoFree cache.old }
     ensures value { result ≡ cache.old }
@@ -143,7 +138,6 @@ fn take_empty(cache: &mut Option<Cache>) -> Option<Cache>
     cache.take()
 }
 
-/// Keeps a cache if there was none.
 fn keep(place: &mut Option<Cache>, cache: Cache)
     requires { place.old ≡ None }
     ensures { place.new ≡ Some cache }
@@ -151,7 +145,7 @@ fn keep(place: &mut Option<Cache>, cache: Cache)
     spend_none(place.replace(cache));
 }
 
-/// Comes to the section's turn, with a cell to make an object in.
+/// As [`await_turn`], with a cell to make an object in.
 pub(crate) fn await_cell<R: Wait>(
     rt: &R,
     heap: &Heap,

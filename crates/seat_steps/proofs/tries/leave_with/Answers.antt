@@ -1,7 +1,6 @@
 use Rattle.seat_turns.proofs.Leaving.{leaves-join}
 use Rattle.gc_table.specs.Seats.{view_of}
 use Rattle.gc_table.proofs.Running.{ran-join}
-use Rattle.mutator_ops.proofs.Few.{at-most-join}
 use Rattle.seat_steps.proofs.tries.leave_with.Goals as goal
 
 pub returns-clause-ran : goal.returns-clause-ran
@@ -9,6 +8,3 @@ returns-clause-ran c = ran-join (view_of c.args.seat.now) (view_of c.retire_some
 
 pub returns-clause-leaves : goal.returns-clause-leaves
 returns-clause-leaves c = leaves-join (view_of c.args.seat.now) (view_of c.retire_some.new.seat) (view_of c.leave.new.seat) c.retire_some.ensures.leaves c.leave.ensures.leaves
-
-pub returns-clause-few : goal.returns-clause-few
-returns-clause-few c = at-most-join 3 2 (view_of c.args.seat.now) (view_of c.retire_some.new.seat) (view_of c.leave.new.seat) c.retire_some.ensures.ran c.leave.ensures.ran c.retire_some.ensures.few c.leave.ensures.few

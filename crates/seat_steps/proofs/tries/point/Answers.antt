@@ -1,11 +1,11 @@
 use Rattle.seat_turns.proofs.Leaving.{leaves-join}
 use Rattle.std.proofs.Common.{arith, inl}
-use Rattle.std.proofs.lemmas.Bool.{OnFalse_at}
+use Rattle.std.proofs.lemmas.Bool.{OnFalse_at, OnTrue_at}
 use Rattle.gc_table.specs.Seats.{view_of}
 use Rattle.gc_table.specs.declared.view.View.{View}
 use Rattle.gc_table.proofs.Running.{ran-join}
 use Rattle.mutator_ops.proofs.Few.{at-most-join, at-most-more}
-use Rattle.seat_turns.proofs.Seats.{looks-ran}
+use Rattle.seat_turns.proofs.Seats.{looks-cached, looks-ran}
 use Rattle.seat_steps.proofs.Found.{found-other, full-left, goes-freely}
 use Rattle.seat_steps.proofs.tries.point.Goals as goal
 
@@ -63,3 +63,15 @@ returns-then-comes_to_turn-clause-leaves c = leaves-join (view_of c.args.seat.no
 
 pub returns-else-comes_to_turn-clause-leaves : goal.returns-else-comes_to_turn-clause-leaves
 returns-else-comes_to_turn-clause-leaves c = leaves-join (view_of c.args.seat.now) (view_of c.try_pass.new.seat) (view_of c.leave_with.new.seat) c.try_pass.ensures.leaves (leaves-join (view_of c.try_pass.new.seat) (view_of c.comes_to_turn.new.seat) (view_of c.leave_with.new.seat) c.comes_to_turn.ensures.leaves c.leave_with.ensures.leaves)
+
+pub comes_to_turn-requires : goal.comes_to_turn-requires
+comes_to_turn-requires c = record { going = (c.try_pass.new.cache, c.in-Going.ensures.passes) }
+
+pub returns-then-comes_to_turn-clause-ok : goal.returns-then-comes_to_turn-clause-ok
+returns-then-comes_to_turn-clause-ok c =
+    let t = c.comes_to_turn.ensures in
+    (OnTrue_at c.if-comes_to_turn.true t.plays, looks-cached c.try_pass.new.cache (view_of c.try_pass.new.seat) (view_of c.comes_to_turn.new.seat) c.in-Going.ensures.passes.1 t.looks)
+
+pub leave_with-requires-clause-cache : goal.leave_with-requires-clause-cache
+leave_with-requires-clause-cache c =
+    looks-cached c.try_pass.new.cache (view_of c.try_pass.new.seat) (view_of c.comes_to_turn.new.seat) c.in-Going.ensures.passes.1 c.comes_to_turn.ensures.looks

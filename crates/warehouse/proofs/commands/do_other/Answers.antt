@@ -36,6 +36,7 @@ overflow_add-mutator-2 c = omega (arith, c.requires.may.next.room.count)
 
 pub returns : goal.returns
 returns c =
+    λ kept playing.
     let k = c.command-done.ensures.does in
     let v = view_of c.args.mutator.now.seat in
     let w = view_of c.command-done.new.seat in
@@ -45,8 +46,8 @@ returns c =
       playing =
           record {
             sits = c.command-done.ensures.seat.0;
-            mutates = mutates-other e.op _ v w k c.requires.playing.mutates;
-            cached = has-cache c.args._cache.now v w (ap (λ (s : SeatState). s.cache) k.state) c.requires.playing.cached;
+            mutates = mutates-other e.op _ v w k playing.mutates;
+            cached = has-cache kept v w (ap (λ (s : SeatState). s.cache) k.state) playing.cached;
             counted = c.command-done.ensures.seat.1.counted;
           };
       does =

@@ -9,10 +9,14 @@ loop-command-init g c =
     so-far-none c.args.heap.now c.args.section.now c.args.season c.turn_of-turn.result c.into_iter-command-iterator.result c.args.mutator.now c.requires.playing (c.turn_of-turn.ensures ∙ ap (λ w. turn_word w c.args.season) c.number.ensures)
     (sym c.commands_of.ensures.commands ∙ sym c.lent-command-items.ensures ∙ sym c.into_iter-command-iterator.ensures.into_iter_gives)
 
-pub play_command-requires-clause-left : goal.play_command-requires-clause-left
-play_command-requires-clause-left g c =
-    next-of c.args.heap.now c.args.section.now c.args.season c.turn_of-turn.result c.loop-command.cache (execution_of c.in-Some.command.now) c.loop-command.command-iterator c.next.new.self c.args.mutator.now c.loop-command.mutator
-    c.in-Some.ensures.steps c.loop-command.invariant c.commands_of.ensures.range c.requires.before
+pub play_command-requires : goal.play_command-requires
+play_command-requires g c =
+    record {
+      playing = c.loop-command.invariant.playing;
+      left =
+          next-of c.args.heap.now c.args.section.now c.args.season c.turn_of-turn.result c.loop-command.cache (execution_of c.in-Some.command.now) c.loop-command.command-iterator c.next.new.self c.args.mutator.now c.loop-command.mutator
+          c.in-Some.ensures.steps c.loop-command.invariant c.commands_of.ensures.range c.requires.before;
+    }
 
 pub spend_none-requires : goal.spend_none-requires
 spend_none-requires g c = c.if-not-play_command.ensures.stops.1

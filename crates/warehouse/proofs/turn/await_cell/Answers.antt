@@ -10,7 +10,7 @@ use Rattle.cache_refills.specs.Stops.{stops_with_cause}
 use Rattle.gc_cycle.specs.Answering.{HasCache}
 use Rattle.warehouse.proofs.Leavings.{waits-join, waits-ran}
 use Rattle.warehouse.proofs.Causes.{waits-caused}
-use Rattle.warehouse.proofs.Fulls.{counted-kept, finds-after, finds-later}
+use Rattle.warehouse.proofs.FullStops.{counted-kept, finds-after, finds-later}
 use Rattle.warehouse.proofs.Pacing.{paces-refilled}
 use Rattle.warehouse.proofs.Readying.{ready-after, ready-waits}
 use Rattle.warehouse.proofs.InTheStop.{retired-stays, retired-waits, stays-join, stays-none, stays-spared, waits-none}

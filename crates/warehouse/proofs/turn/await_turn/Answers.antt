@@ -6,8 +6,9 @@ use Rattle.gc_table.proofs.Running.{ran-section}
 use Rattle.mark_core.specs.Seats.{has_turn}
 use Rattle.mark_core.specs.declared.kinds.Shape.{Shape}
 use Rattle.std.specs.Prelude.{Some}
+use Rattle.std.proofs.lemmas.Bool.{OnFalse_at}
 use Rattle.warehouse.proofs.Leavings.{waits-join, waits-ran}
-use Rattle.warehouse.proofs.Fulls.{counted-kept, finds-after}
+use Rattle.warehouse.proofs.FullStops.{counted-kept, finds-after}
 use Rattle.warehouse.proofs.Pacing.{paces-passed}
 use Rattle.warehouse.proofs.Readying.{looks-cache, looks-stays, looks-waits, reads-ready, ready-after}
 use Rattle.warehouse.proofs.InTheStop.{stays-join, stays-none, stays-spared, waits-calm, waits-none}
@@ -48,11 +49,11 @@ loop-preserved g c =
     let v : View = view_of c.loop.seat in
     let w : View = view_of c.pass_safe_point.new.seat in
     let x : View = view_of c.is_turn.new.seat in
-    let y : View = view_of c.go_round.new.seat in
+    let y : View = view_of c.leave_and_enter.new.seat in
     let i = c.loop.invariant in
     let s = c.pass_safe_point.ensures in
     let looks = c.is_turn.ensures.looks in
-    let gone = c.go_round.ensures in
+    let gone = c.leave_and_enter.ensures in
     let paced = paces-passed c.loop.cache c.pass_safe_point.new.cache v w i.cached c.if-not-pass_safe_point.ensures.going.cached s.polled s.calm s.numbers s.unbegun in
     record {
       next = tt;
@@ -89,6 +90,9 @@ returns-then-is_turn-clause-unfilled g c =
     let looks = c.is_turn.ensures.looks in
     (looks-stays w x looks).still.full ∙ ((stays-spared v w s.ran s.spares s.keeps.0).still.full ∙ c.loop.invariant.stays.still.full)
 
-pub go_round-requires-clause-cache : goal.go_round-requires-clause-cache
-go_round-requires-clause-cache g c =
+pub leave_and_enter-requires-clause-cache : goal.leave_and_enter-requires-clause-cache
+leave_and_enter-requires-clause-cache g c =
     looks-cache (view_of c.pass_safe_point.new.seat) (view_of c.is_turn.new.seat) c.is_turn.ensures.looks c.pass_safe_point.new.cache c.if-not-pass_safe_point.ensures.going.cached
+
+pub leave_and_enter-requires-clause-other : goal.leave_and_enter-requires-clause-other
+leave_and_enter-requires-clause-other g c = (c.args.turn, OnFalse_at c.if-is_turn.false c.is_turn.ensures.other)

@@ -1,4 +1,4 @@
-use Rattle.std.proofs.Common.{inl, inr}
+use Rattle.std.proofs.Common.{◌∙◌, inl, inr}
 use Rattle.std.proofs.lemmas.Bool.{OnFalse_at, OnFalse_from}
 use Rattle.gc_table.specs.Seats.{view_of}
 use Rattle.gc_table.specs.declared.view.View.{View}
@@ -9,12 +9,12 @@ use Rattle.gc_cycle.proofs.Refills.Collected.{calm-spares}
 use Rattle.warehouse.proofs.Leavings.{waits-join}
 use Rattle.warehouse.proofs.Others.{has-cache}
 use Rattle.warehouse.proofs.Pacing.{paces-out}
-use Rattle.warehouse.proofs.Readying.{looks-cache, looks-mutates, looks-stays, looks-waits, reads-ready}
+use Rattle.warehouse.proofs.Readying.{looks-kept, looks-mutates, looks-stays, looks-waits, reads-ready}
 use Rattle.warehouse.proofs.InTheStop.{stays-join, stays-spared, waits-calm}
 use Rattle.warehouse.proofs.turn.is_ready.Goals as goal
 
 pub returns-then-not-sees_clear-clause-cache : goal.returns-then-not-sees_clear-clause-cache
-returns-then-not-sees_clear-clause-cache c = has-cache c.args._cache.now (view_of c.args.seat.now) (view_of c.sees_clear.new.seat) c.sees_clear.ensures.glances.cache c.requires.cache
+returns-then-not-sees_clear-clause-cache c = c.sees_clear.ensures.glances.cache
 
 pub returns-then-not-sees_clear-clause-stays : goal.returns-then-not-sees_clear-clause-stays
 returns-then-not-sees_clear-clause-stays c =
@@ -34,19 +34,16 @@ pub returns-clause-seat : goal.returns-clause-seat
 returns-clause-seat c = (c.is_turn.ensures.seat, looks-mutates (view_of c.sees_clear.new.seat) (view_of c.is_turn.new.seat) c.is_turn.ensures.looks c.sees_clear.ensures.seat.1)
 
 pub returns-clause-cache : goal.returns-clause-cache
-returns-clause-cache c =
-    let v : View = view_of c.args.seat.now in
-    let w : View = view_of c.sees_clear.new.seat in
-    looks-cache w (view_of c.is_turn.new.seat) c.is_turn.ensures.looks c.args._cache.now (has-cache c.args._cache.now v w c.sees_clear.ensures.glances.cache c.requires.cache)
+returns-clause-cache c = looks-kept (view_of c.sees_clear.new.seat) (view_of c.is_turn.new.seat) c.is_turn.ensures.looks ∙ c.sees_clear.ensures.glances.cache
 
 pub returns-clause-ready : goal.returns-clause-ready
 returns-clause-ready c =
     let v : View = view_of c.args.seat.now in
     let w : View = view_of c.sees_clear.new.seat in
     let g = c.sees_clear.ensures.glances in
-    λ is.
-    reads-ready c.args.turn c.args._cache.now v w (view_of c.is_turn.new.seat) c.requires.owned g.out.ran (only-more stays_calm spares_part calm-spares v w g.out.only) g.out.calm g.out.seat g.polled (paces-out v w g.out g.numbers)
-    (c.sees_clear.ensures.clear c.if-not-sees_clear.false) (has-cache c.args._cache.now v w g.cache c.requires.cache) c.requires.counted c.requires.turn c.is_turn.ensures.looks (c.is_turn.ensures.turn is)
+    λ is kept has.
+    reads-ready c.args.turn kept v w (view_of c.is_turn.new.seat) c.requires.owned g.out.ran (only-more stays_calm spares_part calm-spares v w g.out.only) g.out.calm g.out.seat g.polled (paces-out v w g.out g.numbers)
+    (c.sees_clear.ensures.clear c.if-not-sees_clear.false) (has-cache kept v w g.cache has) c.requires.counted c.requires.turn c.is_turn.ensures.looks (c.is_turn.ensures.turn is)
 
 pub returns-clause-stays : goal.returns-clause-stays
 returns-clause-stays c =

@@ -7,9 +7,10 @@ use Rattle.gc_table.specs.declared.seat.Heap.{Heap}
 use Rattle.gc_table.specs.declared.view.View.{View}
 use Rattle.packet_pools.specs.Counts.{count_of}
 use Rattle.sweeper.specs.Freeing.{freed_in}
+use Rattle.sweeper.proofs.SweptBlocks.{freed-join as freed-run}
 use Rattle.gc_cycle.specs.Finishing.{most as greatest}
 use Rattle.gc_cycle.specs.Sorts.{draws_block}
-use Rattle.gc_cycle.proofs.Ends.Completing.{freed-move, freed-run}
+use Rattle.gc_cycle.proofs.Ends.Completing.{freed-move}
 use Rattle.gc_cycle.proofs.Stops.Admitted.{count-run}
 use Rattle.gc_cycle.specs.Pieces.{stretches_in}
 use Rattle.gc_cycle.proofs.Changes.{part-unpopped}

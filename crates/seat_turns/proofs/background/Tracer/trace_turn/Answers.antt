@@ -1,7 +1,7 @@
 use Rattle.std.proofs.Common.{subst, sym}
 use Rattle.gc_table.specs.Seats.{Sits, view_of}
 use Rattle.gc_table.specs.declared.seat.Heap.{Heap}
-use Rattle.seat_turns.specs.Trying.{TriesTurn}
+use Rattle.seat_turns.specs.TracerTries.{TriesTurn}
 use Rattle.seat_turns.specs.declared.try_turns.TryTurn.{TryTurn}
 use Rattle.seat_turns.proofs.Tallying.{tallies-join, tallies-only}
 use Rattle.seat_turns.proofs.TracerTurns.{dismissed, full, helped, idle, marked}

@@ -11,7 +11,7 @@ use Rattle.gc_table.proofs.Running.{ran-join}
 use Rattle.mutator_ops.proofs.Few.{at-most-after, at-most-events, at-most-join}
 use Rattle.seat_turns.specs.Standing.{RestsOutside}
 use Rattle.seat_turns.specs.Tracing.{VisitsWorld, marking_steps}
-use Rattle.seat_turns.specs.Trying.{TriesTo, TriesTurn, tried_steps}
+use Rattle.seat_turns.specs.TracerTries.{TriesTo, TriesTurn, tried_steps}
 use Rattle.seat_turns.specs.declared.try_turns.TryTurn.{TryTurn}
 use Rattle.seat_turns.specs.declared.try_turns.TryTurn.TheVariants as tries
 use Rattle.seat_turns.proofs.Tallying.{tallies-back, tallies-read, tallies-went}

@@ -1,31 +1,14 @@
 -- A mutator that waits finds the heap full.
 use Rattle.std.proofs.Common.{ℕ, ◌≡◌, sym, ap, ◌∙◌, length}
 use Rattle.plain_heap.specs.PlainHeap.{Heap}
-use Rattle.gc_table.specs.Log.{events}
 use Rattle.gc_table.specs.Rule.{KnowsFull}
-use Rattle.gc_table.specs.Running.{Ran}
 use Rattle.gc_table.specs.declared.view.Meaning.{Meaning}
 use Rattle.gc_table.specs.declared.view.View.{View}
-use Rattle.gc_table.proofs.Running.{ran-events}
-use Rattle.packet_pools.proofs.Searches.{some-right}
-use Rattle.mark_core.specs.declared.kinds.Phase.TheVariants.{Full}
 use Rattle.gc_cycle.specs.Answering.{EndsFull}
 use Rattle.warehouse.specs.Playing.{FindsFull, ObjectsHaveCells, Stays, DoesNothing}
-use Rattle.gc_cycle.specs.Polling.{saw_full}
-use Rattle.gc_cycle.specs.Sorts.{reads_phase}
 use Rattle.gc_cycle.specs.Standing.{KeepsSeat, KeepsSection}
+use Rattle.gc_cycle.proofs.Refills.Answered.{full-later as ends-before}
 use Rattle.warehouse.proofs.Leavings.{waits-join, waits-ran}
-
--- a call before it makes no difference
-pub ends-before : (done : ℕ) (u v w : View) → Ran u v → Ran v w → EndsFull done v w → EndsFull done u w
-ends-before done u v w r s e =
-    record {
-      mutates = e.mutates;
-      read = ap saw_full (ran-events u v w r s) ∙ some-right (reads_phase Full) (events u v) (events v w) e.read;
-      seen = e.seen;
-      cache = e.cache;
-      position = e.position;
-    }
 
 -- the call that finds it leaves the section, after others that did
 pub finds-after : (done : ℕ) (u v w : View) → Stays u v → DoesNothing u v → KeepsSeat v w → KeepsSection v w → DoesNothing v w → EndsFull done v w → KnowsFull w → FindsFull done u w

@@ -3,7 +3,7 @@ use Rattle.std.specs.Prelude.{is_some}
 use Rattle.gc_table.specs.Seats.{view_of}
 use Rattle.alloc_cache.specs.declared.cache.Cache.{Cache}
 use Rattle.gc_cycle.specs.Answering.{HasCache}
-use Rattle.warehouse.proofs.turn.go_round.Goals as goal
+use Rattle.warehouse.proofs.turn.leave_and_enter.Goals as goal
 use Rattle.warehouse.proofs.Leavings.{waits-join}
 use Rattle.warehouse.proofs.Pacing.{paces-out}
 use Rattle.warehouse.proofs.InTheStop.{retired-stays, retired-waits, stays-join, stays-spared, waits-calm}
