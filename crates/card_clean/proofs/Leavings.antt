@@ -23,7 +23,7 @@ use Rattle.gc_table.specs.Log.{events, all_steps}
 use Rattle.packet_pools.specs.Seeking.{moves_packet, only_moves, output_pools}
 use Rattle.card_clean.specs.Leaving.{rescans, rescanned_in}
 use Rattle.mark_core.specs.Cards.{block_cells, block_of_card}
-use Rattle.mark_core.proofs.Hands.HandsCleaning.{left-dirtied as left-dirty, scan-left}
+use Rattle.mark_core.proofs.Hands.HandsCleaning.{left-dirtied as left-dirty}
 use Rattle.card_clean.specs.Drained.{sees_roots}
 
 total-join : (xs ys : List Entry) (v : View) → rescanned_in v (xs ++ ys) ≡ rescanned_in v xs + rescanned_in (after_all xs v) ys

@@ -17,7 +17,7 @@ use Rattle.plain_heap.specs.PlainStep.{assigned, heap_after, new_object, with_ne
 use Rattle.plain_heap.specs.declared.operation.Op.TheVariants as ops
 use Rattle.gc_table.specs.Seats.{Stored, Found}
 use Rattle.gc_table.specs.Sections.{named_by}
-use Rattle.gc_table.specs.Taking.{May, after}
+use Rattle.gc_table.specs.Taking.{May}
 use Rattle.gc_table.specs.Running.{Ran}
 use Rattle.gc_table.specs.declared.view.SectionState.{SectionState}
 use Rattle.gc_table.specs.declared.view.View.{View}

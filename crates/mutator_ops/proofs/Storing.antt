@@ -18,7 +18,7 @@ use Rattle.gc_table.specs.Log.{all_steps, steps_of, events, Only, event}
 use Rattle.gc_table.specs.Running.{Ran, after_all}
 use Rattle.gc_table.proofs.History.Log.{only-more}
 use Rattle.gc_table.proofs.Running.{ran-join, ran-only, ran-shape}
-use Rattle.card_clean.specs.Barrier.{barrier_steps, cell_in, record_stored, Exchanged, dirtied_after}
+use Rattle.card_clean.specs.Barrier.{barrier_steps, cell_in, record_stored, Exchanged}
 use Rattle.mutator_ops.specs.Doing.{belongs, plain_steps, reads_ident, spares_plain, Does, IsOneStep, IsStepped, Looks}
 use Rattle.mutator_ops.proofs.Stepping.{once-last, once-none}
 use Rattle.mark_core.specs.Cards.{card_of}

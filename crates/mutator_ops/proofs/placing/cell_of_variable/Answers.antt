@@ -1,4 +1,4 @@
-use Rattle.std.proofs.Common.{ℕ, ◌≡◌, ◌+◌, ◌-◌, ◌<◌, List, arith, sym, ap, ◌∙◌, subst, true, Some, Option, inl, inr}
+use Rattle.std.proofs.Common.{ℕ, ◌≡◌, ◌+◌, ◌-◌, ◌<◌, List, arith, sym, ap, ◌∙◌, subst, true, Some, inl, inr}
 use Rattle.std.specs.Prelude.{IsFalse, slice_get}
 use Rattle.std.specs.Option.{option_map}
 use Rattle.std.proofs.Math.Logic.{∥∥₁_elim}

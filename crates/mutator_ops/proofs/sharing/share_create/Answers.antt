@@ -1,8 +1,8 @@
-use Rattle.std.proofs.Common.{◌≡◌, ◌+◌, ◌∙◌, ap}
+use Rattle.std.proofs.Common.{◌+◌, ◌∙◌, ap}
 use Rattle.alloc_cache.specs.Making.{identity_word}
 use Rattle.gc_table.specs.Seats.{view_of}
 use Rattle.mutator_ops.specs.Sharing.{ShareCreates}
-use Rattle.mutator_ops.proofs.ShareCreating.{may-name, share-creates, share-ready}
+use Rattle.mutator_ops.proofs.ShareCreating.{share-creates, share-ready}
 use Rattle.mutator_ops.proofs.sharing.share_create.Goals as goal
 
 done : (c : goal.After-store_root) → ShareCreates c.args.v c.args.n c.in_ok-cell.cell (view_of c.args.seat.now) (view_of c.store_root.new.seat)

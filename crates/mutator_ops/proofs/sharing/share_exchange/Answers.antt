@@ -1,5 +1,4 @@
 use Rattle.gc_table.specs.Seats.{view_of}
-use Rattle.gc_table.specs.declared.view.View.{View}
 use Rattle.mutator_ops.proofs.Storing.{exchanged-ready, exchanged-same}
 use Rattle.mutator_ops.proofs.sharing.share_exchange.Goals as goal
 

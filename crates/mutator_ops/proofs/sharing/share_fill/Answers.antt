@@ -1,20 +1,15 @@
-use Rattle.std.proofs.Common.{ℕ, ◌≡◌, ◌<◌, ◌+◌, ◌-◌, ◌%◌, ◌∙◌, List, [], ◌∷◌, ◌++◌, ap, arith, refl, sym, subst, Option}
+use Rattle.std.proofs.Common.{◌≡◌, ◌<◌, ◌%◌, ◌∙◌, [], ◌∷◌, ◌++◌, ap, arith, refl, sym, subst}
 use Rattle.std.specs.Prelude.{length, slice_set}
-use Rattle.std.proofs.lemmas.Bool.{true≢false}
 use Rattle.mark_core.specs.Bits.{reference_in}
-use Rattle.mark_core.specs.Numbers.{section_variables, reference_bound}
-use Rattle.mark_core.specs.Steps.MutatorSteps.{seat_variable as word_in}
+use Rattle.mark_core.specs.Numbers.{reference_bound}
 use Rattle.mark_core.specs.declared.kinds.Shape.{Shape}
 use Rattle.mark_core.specs.declared.kinds.Step.TheVariants.{ReadSlot, StoreRoot}
 use Rattle.mark_core.specs.declared.seat.SeatState.{SeatState}
-use Rattle.plain_heap.specs.declared.operation.Op.TheVariants as ops
 use Rattle.gc_table.specs.Seats.{view_of}
 use Rattle.gc_table.specs.declared.view.View.{View}
-use Rattle.gc_table.specs.declared.view.Entry.{Entry}
-use Rattle.gc_table.specs.declared.view.SectionState.{SectionState}
-use Rattle.gc_table.specs.Log.{event, events}
+use Rattle.gc_table.specs.Log.{event}
 use Rattle.gc_table.proofs.History.Log.{events-after}
-use Rattle.gc_table.proofs.Running.{ran-events, ran-found, ran-join, ran-shape, ran-stored}
+use Rattle.gc_table.proofs.Running.{ran-events, ran-found, ran-join, ran-stored}
 use Rattle.mutator_ops.proofs.Storing.{count-read, may-read_slot, may-share_read, shares-on, state-read}
 use Rattle.mutator_ops.proofs.sharing.share_fill.Goals as goal
 

@@ -1,4 +1,4 @@
-use Rattle.std.proofs.Common.{ℕ, ◌≡◌, ◌∙◌, ◌%◌, List, [], ◌∷◌, ◌++◌, ap, arith, refl, sym}
+use Rattle.std.proofs.Common.{◌≡◌, ◌∙◌, ◌%◌, [], ◌∷◌, ◌++◌, ap, arith, refl, sym}
 use Rattle.std.specs.Prelude.{length, slice_set}
 use Rattle.mark_core.specs.Bits.{reference_in}
 use Rattle.mark_core.specs.Numbers.{reference_bound}
@@ -6,7 +6,7 @@ use Rattle.mark_core.specs.declared.kinds.Step.TheVariants.{ReadCat, StoreRoot}
 use Rattle.mark_core.specs.declared.seat.SeatState.{SeatState}
 use Rattle.gc_table.specs.Seats.{view_of}
 use Rattle.gc_table.specs.declared.view.View.{View}
-use Rattle.gc_table.specs.Log.{event, events}
+use Rattle.gc_table.specs.Log.{event}
 use Rattle.gc_table.proofs.History.Log.{events-after}
 use Rattle.gc_table.proofs.Running.{ran-events, ran-found, ran-join, ran-stored}
 use Rattle.mutator_ops.proofs.Storing.{count-read, may-share_read, shares-on, state-read}

@@ -1,4 +1,4 @@
-use Rattle.std.proofs.Common.{◌∙◌, ap, sym, Option, Some}
+use Rattle.std.proofs.Common.{◌∙◌, ap, sym, Some}
 use Rattle.std.specs.Prelude.{length}
 use Rattle.plain_heap.specs.PlainHeap.{variable}
 use Rattle.plain_heap.specs.PlainStep.{with_field}
