@@ -40,6 +40,7 @@ impl Mutator {
 
     /// Leaves the world, if it is inside. A thread leaves before it waits for anything, since a collection waits
     /// for it. What its variables refer to is kept.
+    #[tactic(auto, using(crate::proofs::Runs::runs))]
     pub fn leave(&mut self)
         ensures left { MutatorLeft self.old self.new }
         ensures tracers { Across (Only spares_tracers) self.old.seat self.new.seat }

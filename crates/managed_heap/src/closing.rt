@@ -24,6 +24,7 @@ impl Lent for Mutator {
         self.seat.number()
     }
 
+    #[tactic(auto, using(crate::proofs::Runs::runs))]
     fn hand_in(self) -> HeapSeat {
         let mut mutator = self;
         mutator.leave();

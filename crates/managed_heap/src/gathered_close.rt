@@ -1,7 +1,7 @@
 //! A world is closed with all that it lent.
 ghost use Rattle.std.specs.Arc.{arc_value};
 ghost use Rattle.std.specs.Bool.{OnFalse, OnTrue};
-ghost use Rattle.std.specs.Prelude.{◌≡◌, ◌<◌, ◌≤◌, ◌+◌, [], All, IfErr, IfOk, IfSome, length, vec_capacity, vec_len};
+ghost use Rattle.std.specs.Prelude.{[], ◌≡◌, ◌<◌, ◌≤◌, ◌+◌, All, IfErr, IfOk, IfSome, length, vec_capacity, vec_len};
 ghost use Rattle.gc_table.specs.Ends.{IsEnd};
 ghost use Rattle.seat_turns.specs.Standing.{RestsOutside};
 ghost use Rattle.managed_heap.specs.WorldClosing.{IsUnclosed};
@@ -83,8 +83,8 @@ fn close_all<W: Opened, M: Lent>(
     let (heap, zero) = world.into_heap();
     let mut first = room;
     first.push_reserved(zero);
-    let workers = gather(&heap, mutators, first);
-    let seats = gather(&heap, tracers, workers);
+    let workers = gather(mutators, first);
+    let seats = gather(tracers, workers);
     words_of(heap, alloc, seats)
 }
 

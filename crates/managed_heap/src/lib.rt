@@ -93,6 +93,7 @@ pub use world::World;
 
 /// Whatever the threads of a closed world did is one run of the core, in which each thread's steps come in their
 /// order and nobody else takes part. No event of it frees a cell that is reachable just before.
+#[tactic(auto, using(crate::proofs::Threads::threads))]
 pub fn threads_run()
     ensures { ThreadsRun }
 {}

@@ -68,6 +68,7 @@ fn raises(heap: &Heap, seat: &mut HeapSeat) -> bool
 }
 
 /// Whether the world has stopped with no cycle under way, by one look.
+#[tactic(auto, using(crate::proofs::Runs::runs))]
 fn stops_now(heap: &Heap, seat: &mut HeapSeat) -> bool
     requires { At heap.now flagged 0 seat.old × IsFalse (has_moved (view_of seat.old).log) }
     ensures stopped { OnTrue result (At heap.now stopped 0 seat.new × Alone Idle (view_of seat.new)) }
@@ -81,15 +82,7 @@ fn stops_now(heap: &Heap, seat: &mut HeapSeat) -> bool
     }
 }
 
-fn turn(heap: &Heap, seat: &mut HeapSeat)
-    requires { Opens heap.now stopped seat.old × (0 < heap.now.shape.sections) × Alone Idle (view_of seat.old) }
-    ensures alone { At heap.now stopped 0 seat.new × Alone Idle (view_of seat.new) }
-    ensures season { (view_of seat.new).own.seasons ≡ 1 }
-    ensures ran { Across Ran seat.old seat.new }
-{
-    heap.next_season(seat);
-}
-
+#[tactic(auto, using(crate::proofs::Runs::runs))]
 fn goes_on(heap: &Heap, seat: &mut HeapSeat)
     requires { At heap.now stopped 0 seat.old × Alone Idle (view_of seat.old) }
     ensures rests { At heap.now resting 0 seat.new }
@@ -111,7 +104,7 @@ pub fn open_turn(heap: &Heap, seat: &mut HeapSeat) -> bool
     if !raises(heap, seat) || !stops_now(heap, seat) {
         return false;
     }
-    turn(heap, seat);
+    heap.next_season(seat);
     goes_on(heap, seat);
     true
 }

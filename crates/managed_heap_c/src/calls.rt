@@ -15,6 +15,7 @@ use crate::statuses::{GIVEN_BACK, status};
 use crate::storing::{put_in, set_in};
 
 /// One try to enter the world.
+#[tactic(auto, using(crate::proofs::Answered::answered))]
 pub fn enter_by(hand: &mut Hand) -> u32
     ensures answers { Answers Entered result hand.old.stepper hand.new.stepper }
 {
@@ -25,6 +26,7 @@ pub fn enter_by(hand: &mut Hand) -> u32
 }
 
 /// Leaves the world.
+#[tactic(auto, using(crate::proofs::Answered::answered))]
 pub fn leave_by(hand: &mut Hand) -> u32
     ensures answers { Answers Left result hand.old.stepper hand.new.stepper }
 {
@@ -35,6 +37,7 @@ pub fn leave_by(hand: &mut Hand) -> u32
 }
 
 /// A safe point that waits for nobody.
+#[tactic(auto, using(crate::proofs::Answered::answered))]
 pub fn pass_by(hand: &mut Hand) -> u32
     ensures answers { Answers Passed result hand.old.stepper hand.new.stepper }
 {
@@ -45,6 +48,7 @@ pub fn pass_by(hand: &mut Hand) -> u32
 }
 
 /// One step of a collection, which does at most `most` roots, objects, cards or blocks.
+#[tactic(auto, using(crate::proofs::Answered::answered))]
 pub fn collect_by(hand: &mut Hand, most: u32) -> u32
     ensures answers { Answers (CollectsAtMost most) result hand.old.stepper hand.new.stepper }
 {
@@ -81,6 +85,7 @@ pub fn make_cached_by(hand: &mut Hand, v: u32, value: u32) -> u32
 }
 
 /// One step of a refill, which looks at no more than `most` blocks.
+#[tactic(auto, using(crate::proofs::Answered::answered))]
 pub fn refill_by(hand: &mut Hand, most: u32) -> u32
     ensures answers { Answers (StepperRefills most) result hand.old.stepper hand.new.stepper }
 {
@@ -91,6 +96,7 @@ pub fn refill_by(hand: &mut Hand, most: u32) -> u32
 }
 
 /// Makes an object of this value in variable v with these references, if a cell is free.
+#[tactic(auto, using(crate::proofs::Answered::answered))]
 pub fn make_with_by(hand: &mut Hand, v: u32, value: u32, fields: &[u32]) -> u32
     ensures answers { Answers (MakesWith v value fields.now) result hand.old.stepper hand.new.stepper }
 {

@@ -23,6 +23,7 @@ impl Lent for SharedMutator {
         self.seat.number()
     }
 
+    #[tactic(auto, using(managed_heap::proofs::Runs::runs))]
     fn hand_in(self) -> HeapSeat {
         let mut mutator = self;
         mutator.leave();

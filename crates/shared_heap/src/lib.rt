@@ -59,39 +59,46 @@ pub use world::SharedWorld;
 /// Whatever the threads of a closed world did is one run, in which each thread's steps come in their order and
 /// nobody else takes part. After each step the words agree with one plain heap that forgets nothing, each step
 /// found what this heap had, and no thread that asked for the root found nil.
+#[tactic(auto, using(crate::proofs::RootRead::reading))]
 pub fn threads_run()
     ensures { ThreadsRun }
 {}
 
 /// Whatever a mutator's call finds while the world is open is what one plain heap had at the moment of that step:
 /// the one that all events before it made, of which the mutator's log is its part.
+#[tactic(auto, using(crate::proofs::Finding::finding))]
 pub fn calls_find()
     ensures { CallsFind }
 {}
 
 /// So [`value`](SharedMutator::value) answers the value that the object had in this heap.
+#[tactic(auto, using(crate::proofs::Finding::finding))]
 pub fn value_found()
     ensures { ValueFound }
 {}
 
 /// And what [`get`](SharedMutator::get) found is the reference that the object's field had in it.
+#[tactic(auto, using(crate::proofs::Finding::finding))]
 pub fn field_found()
     ensures { FieldFound }
 {}
 
 /// If the mutators of a closed world made no object, and changed values only by exchanges of a number for the next,
 /// the root's value at the end is the number of exchanges won, whatever the schedule.
+#[tactic(auto, using(crate::proofs::Counting::counting))]
 pub fn counter_closed()
     ensures { CounterClosed }
 {}
 
 /// That is what [`root_value`] reads in the words of the closed world.
+#[tactic(auto, using(crate::proofs::RootRead::reading))]
 pub fn counter_read()
     ensures { CounterRead }
 {}
 
 /// If they made no object, and each exchanged a value only from 0 to 1 while it was outside and from 1 to 0 while
 /// it was inside, no two were inside at any moment, whatever the schedule.
+#[tactic(auto, using(crate::proofs::Counting::counting))]
 pub fn lock_closed()
     ensures { LockClosed }
 {}

@@ -1,5 +1,5 @@
 //! A heap with its seats, the root, and the mutators' turn. Nothing waits: in a new heap nobody is inside.
-ghost use Rattle.std.specs.Prelude.{◌≡◌, ◌+◌, ◌<◌, ◌∷◌, IfOk, IsTrue, Some, slice_get, vec_len};
+ghost use Rattle.std.specs.Prelude.{◌≡◌, ◌+◌, ◌<◌, IfOk, IsTrue, Some, slice_get, vec_len};
 ghost use Rattle.std.specs.Bool.{OnTrue};
 ghost use Rattle.mark_core.specs.Shapes.{IsShape};
 ghost use Rattle.gc_table.specs.Seats.{Across, view_of};
@@ -126,15 +126,6 @@ fn stops(heap: &Heap, seat: &mut HeapSeat) -> bool
     }
 }
 
-fn turn(heap: &Heap, seat: &mut HeapSeat)
-    requires { StopsWithRoot heap.now seat.old }
-    ensures alone { IsAloneInIdle heap.now seat.new }
-    ensures season { (view_of seat.new).own.seasons ≡ 1 }
-    ensures spares { Across Spares seat.old seat.new }
-{
-    heap.next_season(seat);
-}
-
 fn goes_on(heap: &Heap, seat: &mut HeapSeat)
     requires { IsAloneInIdle heap.now seat.old }
     ensures rests { RestsOutside heap.now seat.new }
@@ -158,7 +149,7 @@ pub fn open_turn(heap: &Heap, seat: &mut HeapSeat) -> bool
     if !goes_in(heap, seat) || !makes_root(heap, seat) || !stops(heap, seat) {
         return false;
     }
-    turn(heap, seat);
+    heap.next_season(seat);
     goes_on(heap, seat);
     true
 }

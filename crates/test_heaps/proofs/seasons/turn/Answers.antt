@@ -6,7 +6,7 @@ use Rattle.gc_table.specs.Seats.{view_of}
 use Rattle.gc_table.specs.Sections.{planned}
 use Rattle.gc_table.specs.declared.view.Meaning.{Meaning}
 use Rattle.gc_table.specs.declared.view.View.{View}
-use Rattle.test_heaps.proofs.Turning.{alone-turn, first-section, may-turn}
+use Rattle.test_heaps.proofs.FirstSeason.{alone-turn, first-section, may-turn}
 use Rattle.gc_table.proofs.RecordSteps.{state-after}
 use Rattle.test_heaps.proofs.seasons.turn.Goals as goal
 use Rattle.stop_world.specs.StopRecords.{stopped}
