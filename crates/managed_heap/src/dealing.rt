@@ -43,7 +43,6 @@ fn mutator_of(
     })
 }
 
-/// Deals the next seats out to mutators.
 fn deal_mutators(
     alloc: Global,
     heap: &Arc<Heap, Global>,
@@ -97,7 +96,7 @@ fn share(
     })
 }
 
-/// A world of these sizes, which fit. Refused only if there is no memory.
+/// A world of these sizes.
 pub fn open_fitting(alloc: Global, sizes: Sizes) -> Result<World, NotOpened>
     requires fits { Fits sizes }
     ensures opened { IfOk result (λ w. IsOpened sizes w) }

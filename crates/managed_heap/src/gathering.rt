@@ -26,7 +26,7 @@ pub fn gather<M: Lent>(all: Vec<M>, seats: Vec<HeapSeat>) -> Vec<HeapSeat>
     seats
 }
 
-/// Whether these are so many, in the order of their numbers, the first of which is this.
+/// Whether these are so many, in the order of their numbers from `first` on.
 pub fn are_all<M: Lent>(first: u32, count: u32, all: &[M]) -> bool
     ensures all { OnTrue result (AreAll M.seat_in first count all.now) }
     ensures missing { OnFalse result (AreAll M.seat_in first count all.now → ⊥) }

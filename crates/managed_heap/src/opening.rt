@@ -21,7 +21,7 @@ use seat_turns::NotOpened;
 use std::alloc::Global;
 use stop_world::{Raised, leave, raise, resume};
 
-/// A section for each mutator besides section 0, which is the catalogue's and has nothing to do.
+/// A section for each mutator besides section 0, whose seat has nothing to do with objects.
 fn shape_of(sizes: &Sizes) -> Shape
     requires fits { Fits sizes.now }
     ensures shape { IsShape result }
@@ -40,7 +40,7 @@ fn shape_of(sizes: &Sizes) -> Shape
     }
 }
 
-/// The heap, with a seat for each section and each tracer. All memory is taken now.
+/// The heap, with a seat for each section and each tracer.
 pub fn open(alloc: Global, sizes: &Sizes) -> Result<(Heap, Vec<HeapSeat>), NotOpened>
     requires fits { Fits sizes.now }
     ensures shape { IfOk result (λ r. r.0.shape ≡ shape_for sizes.now) }
@@ -93,8 +93,7 @@ fn goes_on(heap: &Heap, seat: &mut HeapSeat)
     leave(heap, seat);
 }
 
-/// Opens the mutators' turn with the seat of section 0. False if another seat is at work, which is not so in a new
-/// heap.
+/// Opens the mutators' turn with the seat of section 0. False if another seat is at work, as none is in a new heap.
 pub fn open_turn(heap: &Heap, seat: &mut HeapSeat) -> bool
     requires { Opens heap.now resting seat.old × (0 < heap.now.shape.sections) }
     ensures rests { OnTrue result (At heap.now resting 0 seat.new) }
