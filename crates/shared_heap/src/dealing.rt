@@ -37,7 +37,6 @@ fn mutator_of(
     })
 }
 
-/// Deals the next seats out to mutators.
 fn deal_mutators(
     alloc: Global,
     heap: &Arc<Heap, Global>,
@@ -92,7 +91,7 @@ fn share(
     })
 }
 
-/// A world of these sizes, which fit. Refused only if there is no memory.
+/// A world of these sizes.
 pub fn open_fitting(alloc: Global, sizes: Sizes) -> Result<SharedWorld, NotOpened>
     requires fits { Fits sizes }
     ensures opened { IfOk result (λ w. IsSharedOpened sizes w) }

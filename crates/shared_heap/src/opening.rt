@@ -65,7 +65,6 @@ pub fn open(alloc: Global, sizes: &Sizes) -> Result<(Heap, Vec<HeapSeat>), NotOp
     }
 }
 
-/// Goes in at the turn of section 0. False if the heap isn't new.
 fn goes_in(heap: &Heap, seat: &mut HeapSeat) -> bool
     requires new { IsNewSeat heap.now 0 seat.old × (0 < heap.now.shape.sections) }
     ensures turn { OnTrue result (IsAtFirstTurn heap.now seat.new) }
@@ -97,7 +96,6 @@ fn makes_in(heap: &Heap, seat: &mut HeapSeat, cache: Cache) -> bool
     }
 }
 
-/// Makes the root in variable 0 of section 0. False if no cell is free.
 fn makes_root(heap: &Heap, seat: &mut HeapSeat) -> bool
     requires turn { IsAtFirstTurn heap.now seat.old }
     requires shared { IsTrue heap.now.shape.sharing }
@@ -111,7 +109,7 @@ fn makes_root(heap: &Heap, seat: &mut HeapSeat) -> bool
     }
 }
 
-/// Stops the world, by one look. True if no cycle is under way.
+/// Stops the world, by one look.
 fn stops(heap: &Heap, seat: &mut HeapSeat) -> bool
     requires root { HasRoot heap.now seat.old }
     ensures stops { OnTrue result (StopsWithRoot heap.now seat.new) }
@@ -136,8 +134,8 @@ fn goes_on(heap: &Heap, seat: &mut HeapSeat)
     leave(heap, seat);
 }
 
-/// Makes the root and opens the mutators' turn with the seat of section 0. False if another seat is at work, which
-/// is not so in a new heap.
+/// Makes the root and opens the mutators' turn with the seat of section 0. False if another seat is at work, as none
+/// is in a new heap.
 pub fn open_turn(heap: &Heap, seat: &mut HeapSeat) -> bool
     requires new { IsNewSeat heap.now 0 seat.old × (0 < heap.now.shape.sections) }
     requires shared { IsTrue heap.now.shape.sharing }
