@@ -31,9 +31,9 @@ pub struct Sizes {
 }
 
 impl Sizes {
-    /// A heap of so many cells, 64 to 16,777,216, a multiple of 64: twice as many as objects are reachable at once
-    /// are ample. Unless other numbers are given, objects have two references, and there is one mutator, without
-    /// slots, and no tracer.
+    /// A heap of so many cells, 64 to 16,777,216, a multiple of 64. Twice as many as objects are reachable at once are
+    /// ample. Unless other numbers are given, objects have two references, and there is one mutator, without slots,
+    /// and no tracer.
     pub fn of_cells(cells: u32) -> Sizes
         ensures { result ≡ record { cells = cells; fields = 2; mutators = 1; tracers = 0; slots = 0; packets = 64; entries = usual cells; name = 0; in_stops = false } }
     {
