@@ -154,7 +154,7 @@ impl Mutator {
     }
 
     /// Reference i of variable v's object becomes what variable w refers to. Nothing happens if v refers to
-    /// nothing. This call and those below are refused only if a number is out of range, or the mutator is outside.
+    /// nothing. Refused if a number is out of range, or the mutator is outside.
     #[tactic(auto, using(seat_turns::proofs::Done::operating))]
     pub fn set(&mut self, v: u8, i: u8, w: u8) -> Result<(), Refused>
         ensures done { IfOk result (λ _. MutatorDoes (ops.Set v i w) self.old self.new) }
@@ -176,7 +176,8 @@ impl Mutator {
         }
     }
 
-    /// Variable w becomes what reference i of variable v's object refers to, or refers to nothing if v does.
+    /// Variable w becomes what reference i of variable v's object refers to, or refers to nothing if v does. Refused as
+    /// `set` is.
     #[tactic(auto, using(seat_turns::proofs::Done::operating))]
     pub fn get(&mut self, w: u8, v: u8, i: u8) -> Result<(), Refused>
         ensures done { IfOk result (λ _. MutatorDoes (ops.Get w v i) self.old self.new) }
@@ -198,7 +199,7 @@ impl Mutator {
         }
     }
 
-    /// Variable w becomes what variable v is.
+    /// Variable w becomes what variable v is. Refused as `set` is.
     #[tactic(auto, using(seat_turns::proofs::Done::operating))]
     pub fn copy(&mut self, w: u8, v: u8) -> Result<(), Refused>
         ensures done { IfOk result (λ _. MutatorDoes (ops.Let w v) self.old self.new) }
@@ -220,7 +221,7 @@ impl Mutator {
         }
     }
 
-    /// Variable v refers to nothing any more. What only it reached is garbage from then on.
+    /// Variable v refers to nothing any more. What only it reached is garbage from then on. Refused as `set` is.
     #[tactic(auto, using(seat_turns::proofs::Done::operating))]
     pub fn forget(&mut self, v: u8) -> Result<(), Refused>
         ensures done { IfOk result (λ _. MutatorDoes (ops.Nil v) self.old self.new) }
@@ -242,7 +243,7 @@ impl Mutator {
         }
     }
 
-    /// The value of variable v's object becomes this one. Nothing happens if v refers to nothing.
+    /// The value of variable v's object becomes this one. Nothing happens if v refers to nothing. Refused as `set` is.
     #[tactic(auto, using(seat_turns::proofs::Done::operating))]
     pub fn put(&mut self, v: u8, value: u32) -> Result<(), Refused>
         ensures done { IfOk result (λ _. MutatorDoes (ops.Put v value) self.old self.new) }
