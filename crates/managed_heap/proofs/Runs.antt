@@ -10,4 +10,4 @@ use Rattle.gc_table.proofs.Running.{ran-answered, ran-found, ran-join, ran-numbe
 pub ran-looking : (v u w : View) (n : ℕ) (P : ℕ → Type 0) → Found Observe n v u → Answered ReadPhase P u w → Ran v w
 ran-looking v u w n P a b = ran-join v u w (ran-found v u Observe n refl a) (ran-answered u w ReadPhase P refl b)
 
-pub ruleset runs = (ran-join, ran-looking, ran-number, ran-refl)
+pub ruleset runs = (ran-join, ran-number, ran-refl)

@@ -32,7 +32,6 @@ impl Mutator {
 
     /// The mutator that a stepper was, outside the world. The stepper is handed back if it collects, or its world
     /// shares objects.
-    #[tactic(auto, using(seat_steps::proofs::Few::stopping))]
     pub fn of_steps(stepper: Stepper) -> Result<Mutator, Stepper>
         ensures ok { IfOk result (λ m. (m.place ≡ places.Outside) × (heap_of m ≡ heap_of_stepper stepper) × (arc_value m.heap ≡ arc_value stepper.heap) × (m.name ≡ stepper.name)) }
         ensures err { IfErr result (λ s. (IsTrue (is_collecting stepper.stage) ⊎ IsTrue (shares stepper)) × (s ≡ stepper)) }

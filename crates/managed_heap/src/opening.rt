@@ -68,7 +68,6 @@ fn raises(heap: &Heap, seat: &mut HeapSeat) -> bool
 }
 
 /// Whether the world has stopped with no cycle under way, by one look.
-#[tactic(auto, using(crate::proofs::Runs::runs))]
 fn stops_now(heap: &Heap, seat: &mut HeapSeat) -> bool
     requires { At heap.now flagged 0 seat.old × IsFalse (has_moved (view_of seat.old).log) }
     ensures stopped { OnTrue result (At heap.now stopped 0 seat.new × Alone Idle (view_of seat.new)) }

@@ -33,17 +33,14 @@ loop-at-preserved c =
       count = grind (arith, common_steps);
     }
 
-pub mutator_of-requires-clause-seat : goal.mutator_of-requires-clause-seat
-mutator_of-requires-clause-seat c =
-    let h : Heap = arc_value c.args.heap.now in
-    let seat : HeapSeat = c.first_of-seat.result in
-    let new = first-new [] h (1 + c.loop-at._at) seat c.first_of-seat.new.all.items c.loop-at.seats.items c.first_of-seat.ensures.first c.loop-at.invariant.new in
-    subst (λ n. IsNewSeat h n seat) (sym (ap (λ (s : SeatState). s.number) new.1.state)) new
-
-pub mutator_of-requires-clause-section : goal.mutator_of-requires-clause-section
-mutator_of-requires-clause-section c =
+pub mutator_of-requires : goal.mutator_of-requires
+mutator_of-requires c =
     let h : Heap = arc_value c.args.heap.now in
     let seat : HeapSeat = c.first_of-seat.result in
     let new = first-new [] h (1 + c.loop-at._at) seat c.first_of-seat.new.all.items c.loop-at.seats.items c.first_of-seat.ensures.first c.loop-at.invariant.new in
     let number : (state_of seat).number ≡ 1 + c.loop-at._at = ap (λ (s : SeatState). s.number) new.1.state in
-    (omega (arith, number), omega (arith, number, c.requires.sections, c.loop-at-test.true))
+    record {
+      seat = subst (λ n. IsNewSeat h n seat) (sym number) new;
+      section = (omega (arith, number), omega (arith, number, c.requires.sections, c.loop-at-test.true));
+      owned = c.requires.owned;
+    }
