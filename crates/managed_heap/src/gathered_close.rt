@@ -17,8 +17,11 @@ use std::sync::Arc;
 /// A world that wasn't closed, with the mutators and tracers that were handed in, all as they were.
 #[derive(Drop)]
 pub struct Unclosed<W, M> {
+    /// The world.
     pub world: W,
+    /// The mutators.
     pub mutators: Vec<M>,
+    /// The tracers.
     pub tracers: Vec<Tracer>,
 }
 

@@ -14,8 +14,10 @@ use std::sync::Arc;
 
 /// A mutator or a tracer of a world.
 pub trait Lent: Drop {
+    /// The heap.
     ghost heap_in: { Self → Heap };
 
+    /// Its seat.
     ghost seat_in: { Self → HeapSeat };
 
     /// Whether this seat may be left of it.
@@ -50,11 +52,13 @@ impl Lent for Tracer {
 
 /// A world of either kind.
 pub trait Opened: Drop {
+    /// The heap.
     ghost heap_of: { Self → Heap };
 
     /// The seat of section 0.
     ghost zero_of: { Self → HeapSeat };
 
+    /// How many tracers it has.
     ghost tracers_of: { Self → ℕ };
 
     /// How many sections its heap has, section 0 among them.

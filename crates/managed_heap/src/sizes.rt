@@ -15,16 +15,21 @@ fn usual_entries(cells: u32) -> u32
 /// The sizes of a world. All memory is taken when it opens.
 #[derive(Clone, Copy, Debug, PartialEq, Eq, Drop)]
 pub struct Sizes {
+    /// How many cells the heap has.
     pub cells: u32,
     /// How many references an object has.
     pub fields: u32,
+    /// How many mutators there are.
     pub mutators: u32,
+    /// How many tracers there are.
     pub tracers: u32,
     /// How many slots a mutator has: none if mutators don't share their objects.
     pub slots: u32,
+    /// How many packets there are.
     pub packets: u32,
     /// How many cells a packet has room for.
     pub entries: u32,
+    /// The world's name.
     pub name: u32,
     /// Whether mutators collect only in stops. If they share their objects they don't.
     pub in_stops: bool,
