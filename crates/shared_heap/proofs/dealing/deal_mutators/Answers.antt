@@ -1,4 +1,4 @@
-use Rattle.std.proofs.Common.{[], ℕ, ◌≡◌, ◌+◌, ◌∙◌, ◌∷◌, List, ap, length, length-append, subst, sym, arith}
+use Rattle.std.proofs.Common.{[], ℕ, ◌≡◌, ◌<◌, ◌+◌, ◌∙◌, ◌∷◌, List, ap, length, length-append, subst, sym, arith}
 use Rattle.std.proofs.lemmas.Grind.{common_steps}
 use Rattle.std.specs.Arc.{arc_value}
 use Rattle.mark_core.specs.declared.seat.SeatState.{SeatState}
@@ -39,8 +39,6 @@ mutator_of-requires c =
     let seat : HeapSeat = c.first_of-seat.result in
     let new = first-new root_plan h (1 + c.loop-at._at) seat c.first_of-seat.new.all.items c.loop-at.seats.items c.first_of-seat.ensures.first c.loop-at.invariant.new in
     let number : (state_of seat).number ≡ 1 + c.loop-at._at = ap (λ (s : SeatState). s.number) new.1.state in
-    record {
-      seat = subst (λ n. IsNewSeat h n seat) (sym number) new;
-      section = (omega (arith, number), omega (arith, number, c.requires.sections, c.loop-at-test.true));
-      shared = c.requires.shared;
-    }
+    let above : 0 < (state_of seat).number = omega (arith, number) in
+    let below : (state_of seat).number < h.shape.sections = omega (arith, number, c.requires.sections, c.loop-at-test.true) in
+    (subst (λ n. IsNewSeat h n seat) (sym number) new, ((above, below), c.requires.shared))
