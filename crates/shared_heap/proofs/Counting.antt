@@ -14,7 +14,7 @@ use Rattle.gc_table.specs.declared.seat.HeapSeat.{HeapSeat}
 use Rattle.gc_table.specs.declared.view.Entry.{Entry}
 use Rattle.gc_table.specs.declared.view.View.{View}
 use Rattle.gc_table.specs.declared.words.Words.{Words}
-use Rattle.gc_table.proofs.History.Log.{events-of, all-join, all-more}
+use Rattle.gc_table.proofs.History.Log.{events-of}
 use Rattle.gc_table.proofs.Running.{ran-grows}
 use Rattle.gc_table.specs.Single.{HasOne, all_won, exchanges_value, leaves_values, made_count, raises, spares_values, takes_turn, takes_turns, turned, won_count}
 use Rattle.gc_table.proofs.Counted.{counter-told, won_join}
@@ -29,6 +29,7 @@ use Rattle.shared_heap.specs.declared.world.SharedWorld.{SharedWorld}
 use Rattle.managed_heap.specs.Gathering.{AreLeft, seats_of}
 use Rattle.managed_heap.proofs.Gathered.{left-at, left-long, got-past, split-at}
 use Rattle.shared_heap.proofs.Keeping.{made-more, spared-values}
+use Rattle.shared_heap.proofs.Rooted.{all-join, all-more}
 
 -- what leaves all values exchanges none
 value_leaves : (fields : ℕ) (step : Step) → spares_values fields step ≡ true → leaves_values fields step ≡ true

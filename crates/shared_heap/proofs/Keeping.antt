@@ -19,7 +19,7 @@ use Rattle.gc_table.specs.declared.seat.HeapSeat.{HeapSeat}
 use Rattle.gc_table.specs.declared.view.Entry.{Entry}
 use Rattle.gc_table.specs.declared.view.SectionState.{SectionState}
 use Rattle.gc_table.specs.declared.view.View.{View}
-use Rattle.gc_table.proofs.History.Log.{events-of, all-more}
+use Rattle.gc_table.proofs.History.Log.{events-of}
 use Rattle.gc_table.proofs.Running.{ran-grows, ran-keeps, ran-number, ran-section, ran-shape}
 use Rattle.gc_table.specs.Lending.{leaves_variable, stores_once}
 use Rattle.gc_table.specs.Rooted.{fills_first, fills_variable, moves_season, season_count}
@@ -31,7 +31,7 @@ use Rattle.seat_turns.specs.Sharing.{spares_heap}
 use Rattle.shared_heap.specs.Opening.{IsNewSeat}
 use Rattle.shared_heap.specs.Rooting.{IsRootSeat, MakesRoot, Spares, spares_season}
 use Rattle.shared_heap.proofs.Once.{once-then, root-log, root-once, season-spared, spared}
-use Rattle.shared_heap.proofs.Rooted.{makes-ran}
+use Rattle.shared_heap.proofs.Rooted.{all-more, makes-ran}
 use Rattle.shared_heap.proofs.Rooting.{first-start}
 
 -- what no plain heap sees, and leaves the season, doesn't move it on

@@ -12,11 +12,10 @@ use Rattle.gc_table.specs.Running.{Ran}
 use Rattle.gc_table.specs.Seats.{view_of}
 use Rattle.gc_table.specs.declared.view.Entry.{Entry}
 use Rattle.gc_table.specs.declared.view.View.{View}
-use Rattle.gc_table.proofs.History.Log.{events-of, all-join, all-more}
+use Rattle.gc_table.proofs.History.Log.{events-of}
 use Rattle.gc_table.proofs.Running.{ran-grows}
 use Rattle.gc_table.specs.Single.{exchanges_value, is_inside, leaves_values, made_count, makes_object, raises, takes_turn, takes_turns, turned, won_count}
 use Rattle.gc_table.proofs.Counted.{made_join, won_join}
-use Rattle.gc_table.proofs.Locked.{inside_join}
 use Rattle.mutator_ops.specs.Sharing.{LendsFound, SetsVariable, TakesSteps, setting_steps}
 use Rattle.seat_turns.specs.Exchanging.{ExchangesValue}
 use Rattle.seat_turns.specs.Sharing.{FollowsField, spares_heap}
@@ -24,6 +23,7 @@ use Rattle.shared_heap.specs.Calls.{FindsValue, IsSame, SharerActs, field_count_
 use Rattle.shared_heap.specs.Counting.{OnlyExchanges}
 use Rattle.shared_heap.specs.Logs.{Adds, AddsLocks, AddsQuiet, AddsRaises, Locks, Raises, is_quiet}
 use Rattle.shared_heap.specs.declared.mutator.SharedMutator.{SharedMutator}
+use Rattle.shared_heap.proofs.Rooted.{all-join, all-more}
 
 -- one thing after the other
 pub adds-join : (P Q R : List Entry → Type 0) → ((xs ys : List Entry) → P xs → Q ys → R (xs ++ ys)) → (x y z : SharedMutator) → Adds P x y → Adds Q y z → Adds R x z
@@ -118,6 +118,10 @@ raises-join fields m n xs ys a b =
       raises = all-join raises xs ys a.raises b.raises;
       won = let both = won_join xs ys in let x = a.won in let y = b.won in omega (arith, both, x, y);
     }
+
+inside_join : (b : Bool) (xs ys : List Entry) → is_inside b (xs ++ ys) ≡ is_inside (is_inside b xs) ys
+inside_join b [] ys = refl
+inside_join b (x ∷ xs) ys = inside_join (turned b x.step x.won) xs ys
 
 turns_join : (b : Bool) (xs ys : List Entry) → takes_turns b xs ≡ true → takes_turns (is_inside b xs) ys ≡ true → takes_turns b (xs ++ ys) ≡ true
 turns_join b [] ys s t = t

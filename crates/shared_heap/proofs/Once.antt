@@ -11,9 +11,9 @@ use Rattle.gc_table.specs.declared.view.Entry.{Entry}
 use Rattle.gc_table.specs.declared.view.View.{View}
 use Rattle.gc_table.proofs.Running.{ran-events, ran-join}
 use Rattle.gc_table.specs.Lending.{leaves_variable, stores_once}
-use Rattle.gc_table.proofs.History.Log.{all-more}
 use Rattle.seat_turns.specs.Sharing.{spares_heap}
 use Rattle.shared_heap.specs.Rooting.{MakesRoot, spares_season}
+use Rattle.shared_heap.proofs.Rooted.{all-more}
 
 pub spared : (step : Step) → spares_heap step ≡ true → leaves_variable 0 step ≡ true
 spared (StoreRoot v r) e = absurd (false≢true e)

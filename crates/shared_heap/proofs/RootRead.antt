@@ -39,8 +39,8 @@ use Rattle.gc_table.proofs.Frame.{mutates}
 use Rattle.gc_table.proofs.Lending.{Sound, later-sound}
 use Rattle.gc_table.proofs.Freeing.{allowed, stays}
 use Rattle.seat_turns.specs.Sharing.{spares_heap}
+use Rattle.shared_heap.proofs.Rooted.{all-join}
 use Rattle.gc_table.proofs.Rooted.{root-found}
-use Rattle.gc_table.proofs.History.Log.{all-join}
 use Rattle.shared_heap.specs.Closing.{all_seats}
 use Rattle.shared_heap.specs.Threads.{ThreadsRun}
 

@@ -1,6 +1,6 @@
 -- What the seat of section 0 does until the world is open.
-use Rattle.std.proofs.Common.{ℕ, ◌≡◌, ◌<◌, ◌∙◌, ◌∷◌, ◌++◌, ap, refl, subst, sym, true, ⊎_elim}
-use Rattle.std.proofs.lemmas.Bool.{false≢true}
+use Rattle.std.proofs.Common.{ℕ, ◌≡◌, ◌<◌, ◌∙◌, List, [], ◌∷◌, ◌++◌, ap, refl, subst, sym, Bool, true, ⊎_elim}
+use Rattle.std.proofs.lemmas.Bool.{and_from, and_parts, false≢true}
 use Rattle.mark_core.specs.declared.kinds.Step.{Step}
 use Rattle.mark_core.specs.declared.kinds.Step.TheVariants.{NextSeason, ReadSeason, ReadStat, StoreField, StoreValue, StoreRoot, StoreSlot, ExchangeField, ExchangeValue, StoreNew, StorePhase}
 use Rattle.alloc_cache.specs.Claiming.{Claims, claimed_by, seeks_block}
@@ -9,8 +9,9 @@ use Rattle.alloc_cache.specs.declared.cache.Cache.{Cache}
 use Rattle.gc_table.specs.Log.{Only, all_steps, events, steps_of}
 use Rattle.gc_table.specs.Running.{Ran}
 use Rattle.gc_table.specs.Seats.{Found, Took}
+use Rattle.gc_table.specs.declared.view.Entry.{Entry}
 use Rattle.gc_table.specs.declared.view.View.{View}
-use Rattle.gc_table.proofs.History.Log.{only-after, only-more, only-none, all-join, all-more}
+use Rattle.gc_table.proofs.History.Log.{only-after, only-more, only-none}
 use Rattle.gc_table.proofs.Running.{ran-found, ran-join, ran-only, ran-refl}
 use Rattle.gc_cycle.specs.Answering.{retires}
 use Rattle.gc_cycle.specs.Sparing.{spares_part}
@@ -18,7 +19,6 @@ use Rattle.gc_cycle.proofs.Refills.Retired.{retired-only}
 use Rattle.mutator_ops.specs.Sharing.{ShareCreates}
 use Rattle.seat_turns.specs.Sharing.{spares_heap}
 use Rattle.seat_turns.specs.Turning.{LooksAtSeason}
-use Rattle.seat_turns.proofs.Leaving.{retired}
 use Rattle.shared_heap.specs.Rooting.{MakesRoot, Spares, SparesSeason, spares_season}
 
 entered : (step : Step) → spares_part step ≡ true → spares_season step ≡ true
@@ -43,6 +43,24 @@ sought (ExchangeValue v m n) e = absurd (false≢true e)
 sought (StoreNew c part word) e = absurd (false≢true e)
 sought NextSeason e = absurd (false≢true e)
 sought step e = refl
+
+retired : (step : Step) → retires step ≡ true → spares_heap step ≡ true
+retired (StoreField v i w) e = absurd (false≢true e)
+retired (StoreValue v n) e = absurd (false≢true e)
+retired (StoreRoot v r) e = absurd (false≢true e)
+retired (StoreSlot k r) e = absurd (false≢true e)
+retired (ExchangeField v i x y) e = absurd (false≢true e)
+retired (ExchangeValue v m n) e = absurd (false≢true e)
+retired (StoreNew c part word) e = absurd (false≢true e)
+retired step e = refl
+
+pub all-join : (P : Step → Bool) (xs ys : List Entry) → all_steps P xs ≡ true → all_steps P ys ≡ true → all_steps P (xs ++ ys) ≡ true
+all-join P [] ys a b = b
+all-join P (x ∷ xs) ys a b = let p = and_parts (P x.step) (all_steps P xs) a in and_from (P x.step) (all_steps P (xs ++ ys)) p.0 (all-join P xs ys p.1 b)
+
+pub all-more : (P Q : Step → Bool) → ((step : Step) → P step ≡ true → Q step ≡ true) → (xs : List Entry) → all_steps P xs ≡ true → all_steps Q xs ≡ true
+all-more P Q h [] a = refl
+all-more P Q h (x ∷ xs) a = let p = and_parts (P x.step) (all_steps P xs) a in and_from (Q x.step) (all_steps Q xs) (h x.step p.0) (all-more P Q h xs p.1)
 
 -- one thing after the other
 pub spares-join : (u v w : View) → Spares u v → Spares v w → Spares u w
