@@ -1,5 +1,6 @@
 -- What a call came to by bytes, it came to by the numbers of C.
 use Rattle.std.proofs.Common.{ℕ, ◌≡◌, ◌≤◌, sym, ap, ◌∙◌, subst, arith}
+use Rattle.std.specs.Arc.{arc_value}
 use Rattle.plain_heap.specs.PlainStep.{IsInRange}
 use Rattle.plain_heap.specs.declared.operation.Op.{Op}
 use Rattle.plain_heap.specs.declared.operation.Op.TheVariants as ops
@@ -12,11 +13,13 @@ use Rattle.managed_heap_c.specs.Answering.{ReadsTo}
 use Rattle.managed_heap_c.specs.Asking.{IsNil, AreOne, TestsTo}
 use Rattle.managed_heap_c.specs.Bytes.{IsByteOf}
 use Rattle.managed_heap_c.specs.Storing.{Stores, StoresNothing}
-use Rattle.managed_heap_c.proofs.Numbered.{few}
 
 -- the operation by bytes and the one by the numbers of C are one, if one of them is in range
 abbrev pub AreSame : Stepper → Op → Op → Type 0
 AreSame x by op = (IsInRange (fields_in x) by → by ≡ op) × (IsInRange (fields_in x) op → by ≡ op)
+
+few : (x : Stepper) → fields_in x ≤ 16
+few x = (arc_value x.heap).shaped.fields.1
 
 pub new-one : (x : Stepper) (v b n : ℕ) → IsByteOf v b → AreSame x (ops.New b n) (ops.New v n)
 new-one x v b n i = (λ r. ap (λ k. ops.New k n) (i.1 (omega (arith, r.0))), λ r. ap (λ k. ops.New k n) (i.0 (omega (arith, r.0))))

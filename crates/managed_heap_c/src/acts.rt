@@ -77,7 +77,6 @@ pub fn fill_by(hand: &mut Hand, v: u32, k: u32) -> u32
     }
 }
 
-#[tactic(auto, using(crate::proofs::Answered::answered))]
 pub fn forget_slots_by(hand: &mut Hand, from: u32, to: u32) -> u32
     ensures answers { Answers (ForgetsSlots from to) result hand.old.stepper hand.new.stepper }
 {

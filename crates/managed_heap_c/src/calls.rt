@@ -14,7 +14,6 @@ use crate::making::make_with_in;
 use crate::statuses::{GIVEN_BACK, status};
 use crate::storing::{put_in, set_in};
 
-#[tactic(auto, using(crate::proofs::Answered::answered))]
 pub fn enter_by(hand: &mut Hand) -> u32
     ensures answers { Answers Entered result hand.old.stepper hand.new.stepper }
 {
@@ -24,7 +23,6 @@ pub fn enter_by(hand: &mut Hand) -> u32
     }
 }
 
-#[tactic(auto, using(crate::proofs::Answered::answered))]
 pub fn leave_by(hand: &mut Hand) -> u32
     ensures answers { Answers Left result hand.old.stepper hand.new.stepper }
 {
@@ -34,7 +32,6 @@ pub fn leave_by(hand: &mut Hand) -> u32
     }
 }
 
-#[tactic(auto, using(crate::proofs::Answered::answered))]
 pub fn pass_by(hand: &mut Hand) -> u32
     ensures answers { Answers Passed result hand.old.stepper hand.new.stepper }
 {
@@ -44,7 +41,6 @@ pub fn pass_by(hand: &mut Hand) -> u32
     }
 }
 
-#[tactic(auto, using(crate::proofs::Answered::answered))]
 pub fn collect_by(hand: &mut Hand, most: u32) -> u32
     ensures answers { Answers (CollectsAtMost most) result hand.old.stepper hand.new.stepper }
 {
@@ -78,7 +74,6 @@ pub fn make_cached_by(hand: &mut Hand, v: u32, value: u32) -> u32
     }
 }
 
-#[tactic(auto, using(crate::proofs::Answered::answered))]
 pub fn refill_by(hand: &mut Hand, most: u32) -> u32
     ensures answers { Answers (StepperRefills most) result hand.old.stepper hand.new.stepper }
 {
@@ -88,7 +83,6 @@ pub fn refill_by(hand: &mut Hand, most: u32) -> u32
     }
 }
 
-#[tactic(auto, using(crate::proofs::Answered::answered))]
 pub fn make_with_by(hand: &mut Hand, v: u32, value: u32, fields: &[u32]) -> u32
     ensures answers { Answers (MakesWith v value fields.now) result hand.old.stepper hand.new.stepper }
 {
