@@ -1,6 +1,7 @@
 mod Beginning
 mod Doing
-mod Threads
-mod Turning
+pub mod FirstSeason
+pub mod Runs
+pub mod Threads
 pub mod Starting
 pub mod Gathered

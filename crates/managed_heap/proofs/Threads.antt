@@ -9,3 +9,5 @@ pub threads-run : ThreadsRun
 threads-run world mutators tracers w end =
     let r = threads_free_none (arc_value world.heap).shape (all_seats world end.rest tracers) w end.ends in
     (r.0, record { run = r.1; no_others = r.1.no_others world.zero refl end.all; frees_none = r.2 })
+
+pub ruleset threads = (threads-run)

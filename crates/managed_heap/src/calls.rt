@@ -38,8 +38,8 @@ impl Mutator {
         }
     }
 
-    /// Leaves the world, if it is inside. A thread leaves before it waits for anything, since a collection waits
-    /// for it. What its variables refer to is kept.
+    /// Leaves the world, if it is inside. What its variables refer to is kept.
+    #[tactic(auto, using(crate::proofs::Runs::runs))]
     pub fn leave(&mut self)
         ensures left { MutatorLeft self.old self.new }
         ensures tracers { Across (Only spares_tracers) self.old.seat self.new.seat }
@@ -55,8 +55,8 @@ impl Mutator {
         }
     }
 
-    /// A safe point, for each loop that runs long and makes nothing. If a collection is under way the mutator
-    /// helps.
+    /// A safe point: if a collection is under way the mutator helps. Refused if the mutator is outside, or the heap
+    /// is full: then it is outside afterwards.
     pub fn safe_point<R: Wait>(&mut self, rt: &R) -> Result<(), Refused>
         ensures passed { IfOk result (λ _. HasPassed self.old self.new) }
         ensures refused { IfErr result (λ e. StaysOut e self.old self.new) }
@@ -77,9 +77,8 @@ impl Mutator {
         }
     }
 
-    /// A precise collection: afterwards the cells in use are those of the objects that were reachable while the
-    /// world stood still. It is a safe point too. Refused if the mutator is outside, or the heap is full: then it
-    /// is outside afterwards.
+    /// A precise collection, and a safe point: afterwards the cells in use are those of the objects that were
+    /// reachable while the world stood still. Refused as a safe point is.
     pub fn collect<R: Wait>(&mut self, rt: &R) -> Result<(), Refused>
         ensures passed { IfOk result (λ _. HasPassed self.old self.new) }
         ensures collected { IfOk result (λ _. MutatorCollected self.old self.new) }
@@ -102,7 +101,8 @@ impl Mutator {
     }
 
     /// Makes an object with this value, whose references refer to nothing, and lets variable v refer to it. It is a
-    /// safe point: if no cell is free the mutator collects, or waits until another has.
+    /// safe point: if no cell is free the mutator collects, or waits until another has. Refused also if v is out of
+    /// range, or the mutator is spent.
     pub fn make<R: Wait>(&mut self, rt: &R, v: u8, value: u32) -> Result<(), Refused>
         ensures made { IfOk result (λ _. MutatorDoes (ops.New v value) self.old self.new) }
         ensures refused { IfErr result (λ e. MakesNone e (ops.New v value) self.old self.new × IsSame self.old self.new) }
@@ -114,7 +114,7 @@ impl Mutator {
         self.make_watched(rt, v, value, &mut Unwatched)
     }
 
-    /// [`make`](Mutator::make), and `watch` is told of each stop that it makes, and of what it traces.
+    /// [`make`](Mutator::make) that tells `watch` of each stop that it makes, and of what it traces.
     pub fn make_watched<R: Wait, W: Watch>(
         &mut self,
         rt: &R,
@@ -154,7 +154,7 @@ impl Mutator {
     }
 
     /// Reference i of variable v's object becomes what variable w refers to. Nothing happens if v refers to
-    /// nothing.
+    /// nothing. Refused if a number is out of range, or the mutator is outside.
     #[tactic(auto, using(seat_turns::proofs::Done::operating))]
     pub fn set(&mut self, v: u8, i: u8, w: u8) -> Result<(), Refused>
         ensures done { IfOk result (λ _. MutatorDoes (ops.Set v i w) self.old self.new) }
@@ -176,7 +176,8 @@ impl Mutator {
         }
     }
 
-    /// Variable w becomes what reference i of variable v's object refers to, or refers to nothing if v does.
+    /// Variable w becomes what reference i of variable v's object refers to, or refers to nothing if v does. Refused as
+    /// `set` is.
     #[tactic(auto, using(seat_turns::proofs::Done::operating))]
     pub fn get(&mut self, w: u8, v: u8, i: u8) -> Result<(), Refused>
         ensures done { IfOk result (λ _. MutatorDoes (ops.Get w v i) self.old self.new) }
@@ -198,7 +199,7 @@ impl Mutator {
         }
     }
 
-    /// Variable w becomes what variable v is. Refused if a number is out of range, or the mutator is outside.
+    /// Variable w becomes what variable v is. Refused as `set` is.
     #[tactic(auto, using(seat_turns::proofs::Done::operating))]
     pub fn copy(&mut self, w: u8, v: u8) -> Result<(), Refused>
         ensures done { IfOk result (λ _. MutatorDoes (ops.Let w v) self.old self.new) }
@@ -220,8 +221,7 @@ impl Mutator {
         }
     }
 
-    /// Variable v refers to nothing any more. What only it reached is garbage from then on. Refused if v is out of
-    /// range, or the mutator is outside.
+    /// Variable v refers to nothing any more. What only it reached is garbage from then on. Refused as `set` is.
     #[tactic(auto, using(seat_turns::proofs::Done::operating))]
     pub fn forget(&mut self, v: u8) -> Result<(), Refused>
         ensures done { IfOk result (λ _. MutatorDoes (ops.Nil v) self.old self.new) }
@@ -243,7 +243,7 @@ impl Mutator {
         }
     }
 
-    /// The value of variable v's object becomes this one. Nothing happens if v refers to nothing.
+    /// The value of variable v's object becomes this one. Nothing happens if v refers to nothing. Refused as `set` is.
     #[tactic(auto, using(seat_turns::proofs::Done::operating))]
     pub fn put(&mut self, v: u8, value: u32) -> Result<(), Refused>
         ensures done { IfOk result (λ _. MutatorDoes (ops.Put v value) self.old self.new) }

@@ -24,6 +24,7 @@ impl Lent for Mutator {
         self.seat.number()
     }
 
+    #[tactic(auto, using(crate::proofs::Runs::runs))]
     fn hand_in(self) -> HeapSeat {
         let mut mutator = self;
         mutator.leave();
@@ -68,9 +69,9 @@ impl Opened for World {
 }
 
 impl World {
-    /// Closes the world with all its mutators and tracers, each in the order of their numbers, and hands out what
-    /// its words say: the end of one run, in which nobody else took part ([`threads_run`](crate::threads_run)). If
-    /// one is missing, or there is no memory for the list of seats, all is handed back.
+    /// Closes the world with all its mutators and tracers, each in the order of their numbers, and hands out its
+    /// words: the end of one run, in which nobody else took part ([`threads_run`](crate::threads_run)). If one is
+    /// missing, or there is no memory for the list of seats, all is handed back.
     pub fn into_words(
         self,
         alloc: Global,

@@ -1,5 +1,5 @@
 //! The seats of a new heap are dealt out, and a world is made of it.
-ghost use Rattle.std.specs.Prelude.{◌≡◌, ◌+◌, ◌<◌, ◌≤◌, IfErr, IfOk, IsFalse, IsTrue, is_some, vec_len};
+ghost use Rattle.std.specs.Prelude.{ℕ, ◌≡◌, ◌+◌, ◌<◌, ◌≤◌, IfErr, IfOk, IsFalse, IsTrue, is_some, vec_len};
 ghost use Rattle.std.specs.Arc.{arc_value};
 ghost use Rattle.gc_table.specs.SeatRecords.{At, resting};
 ghost use Rattle.gc_table.specs.Seats.{state_of, view_of};
@@ -18,7 +18,6 @@ use crate::sizes::Sizes;
 use crate::taking::first_of;
 use crate::world::World;
 use gc_table::{Heap, HeapSeat};
-use plain_heap::NoPlan;
 use seat_turns::NotOpened;
 use std::alloc::{AllocError, Global};
 use std::sync::Arc;
@@ -27,13 +26,13 @@ fn mutator_of(
     heap: &Arc<Heap, Global>,
     seat: HeapSeat,
     name: u32,
-    _k: u32,
     in_stops: bool,
 ) -> Result<Mutator, AllocError>
-    requires seat { IsNewSeat (arc_value heap.now) _k seat }
-    requires section { (0 < _k) × (_k < (arc_value heap.now).shape.sections) }
+    ghost k: { ℕ }
+    requires seat { IsNewSeat (arc_value heap.now) k seat }
+    requires section { (0 < k) × (k < (arc_value heap.now).shape.sections) }
     requires owned { IsFalse (arc_value heap.now).shape.sharing }
-    ensures fresh { IfOk result (IsFreshMutator (arc_value heap.now) name in_stops _k) }
+    ensures fresh { IfOk result (IsFreshMutator (arc_value heap.now) name in_stops k) }
 {
     Ok(Mutator {
         heap: Arc::try_clone(heap)?,
@@ -44,28 +43,25 @@ fn mutator_of(
     })
 }
 
-/// Deals the next seats out to mutators.
 fn deal_mutators(
     alloc: Global,
     heap: &Arc<Heap, Global>,
-    mutators: u32,
-    name: u32,
-    in_stops: bool,
+    sizes: Sizes,
     seats: &mut Vec<HeapSeat>,
 ) -> Result<Vec<Mutator>, AllocError>
     requires new { AreNew (arc_value heap.now) 1 seats.old.items }
-    requires enough { mutators ≤ vec_len seats.old }
-    requires sections { ((arc_value heap.now).shape.sections ≡ 1 + mutators) × (mutators ≤ 32) }
+    requires enough { sizes.mutators ≤ vec_len seats.old }
+    requires sections { (arc_value heap.now).shape.sections ≡ 1 + sizes.mutators }
     requires owned { IsFalse (arc_value heap.now).shape.sharing }
-    ensures fresh { IfOk result (λ r. AreNumbered (IsFreshMutator (arc_value heap.now) name in_stops) 1 r.items) }
-    ensures count { IfOk result (λ r. vec_len r ≡ mutators) }
-    ensures rest { IfOk result (λ _. AreNew (arc_value heap.now) (1 + mutators) seats.new.items) }
-    ensures left { IfOk result (λ _. vec_len seats.new + mutators ≡ vec_len seats.old) }
+    ensures fresh { IfOk result (λ r. AreNumbered (IsFreshMutator (arc_value heap.now) sizes.name sizes.in_stops) 1 r.items) }
+    ensures count { IfOk result (λ r. vec_len r ≡ sizes.mutators) }
+    ensures rest { IfOk result (λ _. AreNew (arc_value heap.now) (1 + sizes.mutators) seats.new.items) }
+    ensures left { IfOk result (λ _. vec_len seats.new + sizes.mutators ≡ vec_len seats.old) }
 {
     let mut all = Vec::new(alloc);
-    for at in 0..mutators {
+    for _at in 0..sizes.mutators {
         let seat = first_of(seats);
-        let mutator = mutator_of(heap, seat, name, 1 + at, in_stops)?;
+        let mutator = mutator_of(heap, seat, sizes.name, sizes.in_stops)?;
         all.push(mutator)?;
     }
     Ok(all)
@@ -89,17 +85,8 @@ fn share(
     ensures opened { IfOk result (λ w. IsOpened sizes w) }
 {
     let heap = Arc::new(alloc, heap)?;
-    let name = sizes.name;
-    let mutators = deal_mutators(alloc, &heap, sizes.mutators, name, sizes.in_stops, seats)?;
-    let tracers = deal_tracers(
-        alloc,
-        &heap,
-        &NoPlan,
-        1 + sizes.mutators,
-        sizes.tracers,
-        name,
-        seats,
-    )?;
+    let mutators = deal_mutators(alloc, &heap, sizes, seats)?;
+    let tracers = deal_tracers(alloc, &heap, sizes, seats)?;
     Ok(World {
         heap,
         zero,
@@ -109,7 +96,7 @@ fn share(
     })
 }
 
-/// A world of these sizes, which fit. Refused only if there is no memory.
+/// A world of these sizes.
 pub fn open_fitting(alloc: Global, sizes: Sizes) -> Result<World, NotOpened>
     requires fits { Fits sizes }
     ensures opened { IfOk result (λ w. IsOpened sizes w) }

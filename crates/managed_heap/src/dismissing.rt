@@ -18,8 +18,8 @@ impl World {
         tell_dismissed(rt, &self.heap, &mut self.zero);
     }
 
-    /// [`dismiss_tracers`](World::dismiss_tracers) without waiting. False if a stop is under way: then it is to be
-    /// called again. A tracer that sleeps isn't woken.
+    /// [`dismiss_tracers`](World::dismiss_tracers) without waiting: false if a stop is under way. A tracer that sleeps
+    /// isn't woken.
     pub fn try_dismiss_tracers(&mut self) -> bool
         ensures dismisses { OnTrue result (Across Dismisses self.old.zero self.new.zero) }
         ensures turns { OnFalse result (Across TurnsBack self.old.zero self.new.zero) }

@@ -1,7 +1,7 @@
 //! A world is closed with all that it lent.
 ghost use Rattle.std.specs.Arc.{arc_value};
 ghost use Rattle.std.specs.Bool.{OnFalse, OnTrue};
-ghost use Rattle.std.specs.Prelude.{◌≡◌, ◌<◌, ◌≤◌, ◌+◌, [], All, IfErr, IfOk, IfSome, length, vec_capacity, vec_len};
+ghost use Rattle.std.specs.Prelude.{[], ◌≡◌, ◌<◌, ◌≤◌, ◌+◌, All, IfErr, IfOk, IfSome, length, vec_capacity, vec_len};
 ghost use Rattle.gc_table.specs.Ends.{IsEnd};
 ghost use Rattle.seat_turns.specs.Standing.{RestsOutside};
 ghost use Rattle.managed_heap.specs.WorldClosing.{IsUnclosed};
@@ -14,30 +14,28 @@ use seat_turns::Tracer;
 use std::alloc::Global;
 use std::sync::Arc;
 
-/// A world that wasn't closed, and the mutators and tracers that were handed in.
+/// A world that wasn't closed, with the mutators and tracers that were handed in, all as they were.
 #[derive(Drop)]
 pub struct Unclosed<W, M> {
-    /// The world, as it was.
+    /// The world.
     pub world: W,
-    /// The mutators, as they were.
+    /// The mutators.
     pub mutators: Vec<M>,
-    /// The tracers, as they were.
+    /// The tracers.
     pub tracers: Vec<Tracer>,
 }
 
 /// Why a world gave no words when it was closed.
 #[derive(Drop)]
 pub enum NotClosed<W, M> {
-    /// A mutator or a tracer wasn't handed in, or they stand in another order than that of their numbers. All is
-    /// handed back.
+    /// A mutator or a tracer wasn't handed in, or they stand in another order than that of their numbers.
     Missing(Unclosed<W, M>),
-    /// There is no memory to gather them in. All is handed back.
+    /// There is no memory to gather them in.
     NoRoom(Unclosed<W, M>),
     /// There is no memory for the words. The world is gone.
     Gone,
 }
 
-/// Whether these are all mutators and tracers of the world, each in the order of their numbers.
 fn are_there<W: Opened, M: Lent>(world: &W, mutators: &[M], tracers: &[Tracer]) -> bool
     ensures there { OnTrue result (AreThere M.seat_in (W.heap_of world.now) (W.tracers_of world.now) mutators.now tracers.now) }
     ensures missing { OnFalse result (AreThere M.seat_in (W.heap_of world.now) (W.tracers_of world.now) mutators.now tracers.now → ⊥) }
@@ -50,7 +48,7 @@ fn are_there<W: Opened, M: Lent>(world: &W, mutators: &[M], tracers: &[Tracer]) 
     are_all(1, sections - 1, mutators) && are_all(sections, world.tracer_count(), tracers)
 }
 
-/// The words of a heap whose seats are these. None if there is no memory for them, or somebody else has the heap.
+/// None if there is no memory for the words, or somebody else has the heap.
 fn words_of(heap: Arc<Heap, Global>, alloc: Global, seats: Vec<HeapSeat>) -> Option<Words>
     requires some { 0 < vec_len seats }
     requires rest { All (RestsOutside (arc_value heap)) seats.items }
@@ -66,7 +64,6 @@ fn words_of(heap: Arc<Heap, Global>, alloc: Global, seats: Vec<HeapSeat>) -> Opt
     }
 }
 
-/// The words of a world all of whose mutators and tracers are there.
 fn close_all<W: Opened, M: Lent>(
     world: W,
     alloc: Global,
@@ -83,13 +80,12 @@ fn close_all<W: Opened, M: Lent>(
     let (heap, zero) = world.into_heap();
     let mut first = room;
     first.push_reserved(zero);
-    let workers = gather(&heap, mutators, first);
-    let seats = gather(&heap, tracers, workers);
+    let workers = gather(mutators, first);
+    let seats = gather(tracers, workers);
     words_of(heap, alloc, seats)
 }
 
-/// Closes a world with all its mutators and all its tracers, each in the order of their numbers, and hands out what
-/// its words say. If one is missing, or there is no memory to gather them in, all is handed back.
+/// Closes a world of either kind with all that it lent, each in the order of their numbers, and hands out its words.
 pub fn close_world<W: Opened, M: Lent>(
     world: W,
     alloc: Global,

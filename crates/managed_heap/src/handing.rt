@@ -12,7 +12,7 @@ use crate::mutator::{Mutator, Place};
 use seat_steps::{RestingSeat, Stepper};
 
 impl Mutator {
-    /// The mutator in steps, for a thread that may not wait. It is outside the world.
+    /// The mutator in steps, outside the world.
     pub fn into_steps(self) -> Stepper
         ensures outside { result.stage ≡ stages.Outside }
         ensures same { heap_of_stepper result ≡ heap_of self }

@@ -22,7 +22,6 @@ use mark_core::NAMED_SECTION;
 use seat_turns::{NotOpened, Tracer};
 use std::alloc::Global;
 
-/// Which section found the heap full, by one read.
 fn read_named(heap: &Heap, seat: &mut HeapSeat) -> u64
     requires rests { RestsOutside heap.now seat.old }
     ensures rests { RestsOutside heap.now seat.new }
@@ -34,8 +33,8 @@ fn read_named(heap: &Heap, seat: &mut HeapSeat) -> u64
 }
 
 impl World {
-    /// A world of these sizes, in which nothing has happened. It has all its mutators and tracers. It is refused
-    /// if a size is out of its range, slots are asked for, or there is no memory.
+    /// A world of these sizes, in which nothing has happened. Refused if a size is out of its range, slots are asked
+    /// for, or there is no memory.
     pub fn open(alloc: Global, sizes: Sizes) -> Result<World, NotOpened>
         ensures opened { IfOk result (λ w. IsOpened sizes w) }
         ensures refused { IfErr result (λ e. e ≡ OutOfRange → FitsWorld sizes → ⊥) }

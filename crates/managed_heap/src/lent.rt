@@ -12,15 +12,15 @@ use seat_turns::Tracer;
 use std::alloc::Global;
 use std::sync::Arc;
 
-/// A mutator or a tracer: it has a seat of a world's heap.
+/// A mutator or a tracer of a world.
 pub trait Lent: Drop {
     /// The heap.
     ghost heap_in: { Self → Heap };
 
-    /// Its seat, as it stands.
+    /// Its seat.
     ghost seat_in: { Self → HeapSeat };
 
-    /// The seat that is left of it.
+    /// Whether this seat may be left of it.
     ghost leaves: { Self → HeapSeat → Type 0 };
 
     /// The number of its seat among those of its heap.
@@ -50,7 +50,7 @@ impl Lent for Tracer {
     }
 }
 
-/// A world: it has a heap, and the seat of section 0.
+/// A world of either kind.
 pub trait Opened: Drop {
     /// The heap.
     ghost heap_of: { Self → Heap };

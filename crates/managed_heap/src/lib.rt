@@ -1,10 +1,9 @@
 //! A heap that collects its own garbage, for a runtime to stand on.
 //!
-//! A [`World`] is a heap that threads share. A thread acts on it through a [`Mutator`]: it makes objects, stores
-//! references in them, follows and forgets them. A [`Tracer`] marks beside the mutators, if a processor is free for
-//! it. Each of them owns what the collector asks of it, and keeps the facts that the crates below ask for inside
-//! its type. So each call here is total: it asks its caller for no proof, and answers what happened. Only
-//! [`World::into_words`], which hands out the run of all threads, asks that what is handed in is the world's.
+//! A [`World`] is a heap that threads share. A thread acts on it through a [`Mutator`]; a [`Tracer`] marks beside
+//! the mutators, if a processor is free for it. Each keeps the facts that the crates below ask for inside its type.
+//! So each call is total: it asks its caller for no proof, and answers what happened. Only [`World::into_words`],
+//! which hands out the run of all threads, asks that what is handed in is the world's.
 //!
 //!     let mut world = World::open(alloc, Sizes::of_cells(4096).fields(2).mutators(2))?;
 //!     let mut m = world.mutator()?;
@@ -16,23 +15,22 @@
 //! # Objects and variables
 //!
 //! An object has a value of 32 bits and as many references as the world's sizes say, 1 to 16. A mutator has 32
-//! *variables*, 0 to 31. They are its roots: what can be reached from them is kept, and all else is garbage. No
-//! call hands out a reference, so none can be missed by the collector. Each mutator has objects of its own, which
-//! no other mutator reads or changes.
+//! *variables*, 0 to 31. They are its roots: what they reach is kept, and all else is garbage. No call hands out a
+//! reference, so the collector misses none. Each mutator has objects of its own, which no other reads or changes.
 //!
 //! # What a mutator is told
 //!
 //! What a call does is told over a *plain heap*, which forgets nothing: its objects by their numbers, and what each
-//! variable refers to ([`heap_of`](specs/Standing.antt)). `set` is one operation of it, as are `make`, `get`,
-//! `put`, `copy` and `forget`; a safe point, a collection, entering and leaving change nothing of it. So a program
-//! is proved against a heap without a collector.
+//! variable refers to ([`heap_of`](specs/Calls.antt)). `make`, `set`, `get`, `put`, `copy` and `forget` are one
+//! operation of it each; the other calls change nothing of it. So a program is proved against a heap without a
+//! collector.
 //!
 //! # Inside and outside
 //!
 //! A mutator is *inside* the world or *outside* it. Objects are made, read and changed inside. A collection stops
-//! the world, for which it waits until each mutator that is inside comes to a safe point or leaves. So a loop that
-//! runs long has a safe point (`make` is one), and a thread that waits for anything, as input or another thread,
-//! leaves first. What it refers to is kept while it is outside.
+//! the world: it waits until each mutator that is inside comes to a safe point or leaves. So a loop that runs long
+//! has a safe point (`make` is one), and a thread that waits for anything, as input or another thread, leaves
+//! first. What it refers to is kept meanwhile.
 //!
 //! # What is final
 //!
@@ -42,19 +40,9 @@
 //!
 //! # Where things are
 //!
-//! `world` has the heap with those of its mutators and tracers that nobody has, `lending` how they are taken and
-//! given back, and `closing` how a world hands out the run of its threads; `mutator` has the type, `calls` what a
-//! mutator does, and `reading` what it reads. Below them `opening` makes a heap, and `dealing` deals its seats out.
-//! What a mutator does with its seat is in `seat_turns`, and so is why a call did nothing. A mutator that doesn't
-//! wait is in `seat_steps`, a tracer in `seat_turns`; `handing` turns a mutator into such a one and back, and
-//! `dismissing` ends the tracers.
-//!
-//! # What `shared_heap` takes of it
-//!
-//! A world of either kind lends what is [`Lent`]: a mutator or a tracer, which has a seat of the world's heap. The
-//! world is [`Opened`]: it has the heap and the seat of section 0. Both are in `lent`. `dealt_tracers` deals seats of
-//! a new heap out to tracers, `gathering` gathers the seats of what was handed in, and `gathered_close` closes the
-//! heap with them. `sizes` has a world's sizes, `numbers` reads its numbers, and `taking` takes the first of a list.
+//! `seat_turns` has tracers, what a mutator does with its seat, and why a call did nothing; `seat_steps` has mutators
+//! that don't wait. `shared_heap` takes from here what does not depend on the kind of mutator: [`Lent`] and
+//! [`Opened`], sizes and numbers, how tracers are dealt out, and how a world is closed with all that it lent.
 #![tactic(auto)]
 
 ghost use Rattle.managed_heap.specs.Threads.{ThreadsRun};
@@ -91,8 +79,9 @@ pub use sizes::Sizes;
 pub use taking::first_of;
 pub use world::World;
 
-/// Whatever the threads of a closed world did is one run of the core, in which each thread's steps come in their
-/// order and nobody else takes part. No event of it frees a cell that is reachable just before.
+/// What the threads of a closed world did is one run of the core: each thread's steps come in their order, and
+/// nobody else takes part. No event of it frees a cell that is reachable just before.
+#[tactic(auto, using(crate::proofs::Threads::threads))]
 pub fn threads_run()
     ensures { ThreadsRun }
 {}

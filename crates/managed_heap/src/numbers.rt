@@ -21,7 +21,7 @@ pub struct Statistics {
     pub marked: u64,
 }
 
-/// Reads the numbers of the heap.
+/// Reads the numbers of the heap, by one step each.
 pub fn read_statistics(heap: &Heap, seat: &mut HeapSeat) -> Statistics
     requires rests { RestsOutside heap.now seat.old }
     ensures rests { RestsOutside heap.now seat.new }

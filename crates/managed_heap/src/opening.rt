@@ -21,7 +21,7 @@ use seat_turns::NotOpened;
 use std::alloc::Global;
 use stop_world::{Raised, leave, raise, resume};
 
-/// A section for each mutator besides section 0, which is the catalogue's and has nothing to do.
+/// A section for each mutator besides section 0, whose seat has nothing to do with objects.
 fn shape_of(sizes: &Sizes) -> Shape
     requires fits { Fits sizes.now }
     ensures shape { IsShape result }
@@ -40,7 +40,7 @@ fn shape_of(sizes: &Sizes) -> Shape
     }
 }
 
-/// The heap, with a seat for each section and each tracer. All memory is taken now.
+/// The heap, with a seat for each section and each tracer.
 pub fn open(alloc: Global, sizes: &Sizes) -> Result<(Heap, Vec<HeapSeat>), NotOpened>
     requires fits { Fits sizes.now }
     ensures shape { IfOk result (λ r. r.0.shape ≡ shape_for sizes.now) }
@@ -81,15 +81,7 @@ fn stops_now(heap: &Heap, seat: &mut HeapSeat) -> bool
     }
 }
 
-fn turn(heap: &Heap, seat: &mut HeapSeat)
-    requires { Opens heap.now stopped seat.old × (0 < heap.now.shape.sections) × Alone Idle (view_of seat.old) }
-    ensures alone { At heap.now stopped 0 seat.new × Alone Idle (view_of seat.new) }
-    ensures season { (view_of seat.new).own.seasons ≡ 1 }
-    ensures ran { Across Ran seat.old seat.new }
-{
-    heap.next_season(seat);
-}
-
+#[tactic(auto, using(crate::proofs::Runs::runs))]
 fn goes_on(heap: &Heap, seat: &mut HeapSeat)
     requires { At heap.now stopped 0 seat.old × Alone Idle (view_of seat.old) }
     ensures rests { At heap.now resting 0 seat.new }
@@ -100,8 +92,7 @@ fn goes_on(heap: &Heap, seat: &mut HeapSeat)
     leave(heap, seat);
 }
 
-/// Opens the mutators' turn with the seat of section 0. False if another seat is at work, which is not so in a new
-/// heap.
+/// Opens the mutators' turn with the seat of section 0. False if another seat is at work, as none is in a new heap.
 pub fn open_turn(heap: &Heap, seat: &mut HeapSeat) -> bool
     requires { Opens heap.now resting seat.old × (0 < heap.now.shape.sections) }
     ensures rests { OnTrue result (At heap.now resting 0 seat.new) }
@@ -111,7 +102,7 @@ pub fn open_turn(heap: &Heap, seat: &mut HeapSeat) -> bool
     if !raises(heap, seat) || !stops_now(heap, seat) {
         return false;
     }
-    turn(heap, seat);
+    heap.next_season(seat);
     goes_on(heap, seat);
     true
 }

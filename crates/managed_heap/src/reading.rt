@@ -18,7 +18,7 @@ use mark_core::VARIABLES;
 use seat_turns::{Refused, read_value, refer_to_one, refers_to_nothing};
 
 impl Mutator {
-    /// The value of variable v's object. Refused as Nil if it refers to nothing.
+    /// The value of variable v's object. Refused if v refers to nothing or is out of range, or the mutator is outside.
     pub fn value(&mut self, v: u8) -> Result<u32, Refused>
         ensures value { IfOk result (λ value. (value_in (heap_of self.old) v ≡ Some value) × (v < section_variables) × HasPassed self.old self.new) }
         ensures refused { IfErr result (λ e. ReadsNone e v self.old × IsSame self.old self.new) }
@@ -56,7 +56,7 @@ impl Mutator {
         }
     }
 
-    /// Whether variables v and w refer to one object, or both to nothing.
+    /// Whether variables v and w refer to one object, or both to nothing. Refused as `is_nil` is.
     pub fn same(&self, v: u8, w: u8) -> Result<bool, Refused>
         ensures one { IfOk result (λ one. IsTrue one → variable (heap_of self.now) v ≡ variable (heap_of self.now) w) }
         ensures two { IfOk result (λ one. IsFalse one → variable (heap_of self.now) v ≡ variable (heap_of self.now) w → ⊥) }

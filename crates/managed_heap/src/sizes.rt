@@ -5,16 +5,14 @@ ghost use Rattle.managed_heap.specs.Sizing.{Fits, usual_entries as usual};
 
 use mark_core::BLOCK_CELLS;
 
-/// How many cells a packet has room for if no number is given: a 2,048th of the heap's cells, but 32 at least and
-/// 512 at most. So what waits to be scanned in a large heap fits the packets, and they take a 32nd of a word for
-/// each cell.
+/// So what waits to be scanned in a large heap fits the packets, and they take a 32nd of a word for each cell.
 fn usual_entries(cells: u32) -> u32
     ensures { result ≡ usual cells }
 {
     (cells / 2_048).max(32).min(512)
 }
 
-/// The sizes of a world, which is tested against them when it opens. All memory is taken then.
+/// The sizes of a world. All memory is taken when it opens.
 #[derive(Clone, Copy, Debug, PartialEq, Eq, Drop)]
 pub struct Sizes {
     /// How many cells the heap has.
@@ -25,7 +23,7 @@ pub struct Sizes {
     pub mutators: u32,
     /// How many tracers there are.
     pub tracers: u32,
-    /// How many slots a mutator has. Where mutators don't share their objects it has none.
+    /// How many slots a mutator has: none if mutators don't share their objects.
     pub slots: u32,
     /// How many packets there are.
     pub packets: u32,
@@ -38,9 +36,9 @@ pub struct Sizes {
 }
 
 impl Sizes {
-    /// A heap of so many cells, 64 to 16,777,216, a multiple of 64. Each cell holds one object. Objects have two
-    /// references, and there is one mutator, without slots, and no tracer, unless other numbers are given. Twice as
-    /// many cells as objects are reachable at once are ample.
+    /// A heap of so many cells, 64 to 16,777,216, a multiple of 64. Twice as many as objects are reachable at once are
+    /// ample. Unless other numbers are given, objects have two references, and there is one mutator, without slots,
+    /// and no tracer.
     pub fn of_cells(cells: u32) -> Sizes
         ensures { result ≡ record { cells = cells; fields = 2; mutators = 1; tracers = 0; slots = 0; packets = 64; entries = usual cells; name = 0; in_stops = false } }
     {
@@ -64,14 +62,14 @@ impl Sizes {
         Sizes { fields, ..self }
     }
 
-    /// With this many mutators, 1 to 32. Each is for one thread at a time.
+    /// With this many mutators, 1 to 32.
     pub fn mutators(self, mutators: u32) -> Sizes
         ensures { result ≡ record self { mutators = mutators } }
     {
         Sizes { mutators, ..self }
     }
 
-    /// With this many tracers, 0 to 8. Each helps if a processor is free for it: mutators trace, too.
+    /// With this many tracers, 0 to 8. Each helps only if a processor is free for it: mutators trace, too.
     pub fn tracers(self, tracers: u32) -> Sizes
         ensures { result ≡ record self { tracers = tracers } }
     {
@@ -85,9 +83,9 @@ impl Sizes {
         Sizes { slots, ..self }
     }
 
-    /// With this many packets, 2 to 1,024, each with room for this many cells, 2 to 512, that wait to be scanned.
-    /// If more wait, cards take the place of packets: too few cost time and nothing else. If none are given there
-    /// are 64, each with room for a 2,048th of the cells, but 32 at least and 512 at most.
+    /// With this many packets, 2 to 1,024, each with room for this many cells, 2 to 512, that wait to be scanned. If
+    /// more wait, cards take the place of packets: too few only cost time. If none are given there are 64, each with
+    /// room for a 2,048th of the cells, but 32 at least and 512 at most.
     pub fn packets(self, packets: u32, entries: u32) -> Sizes
         ensures { result ≡ record self { packets = packets; entries = entries } }
     {
@@ -98,16 +96,16 @@ impl Sizes {
         }
     }
 
-    /// With this name, which the world's mutators and tracers have too: if a program has several worlds, each with
-    /// a name of its own, none takes back what another lent. Any number will do; 0 if none is given.
+    /// With this name, any number, which the world's mutators and tracers have too: no world takes back what one of
+    /// another name lent. 0 if none is given.
     pub fn named(self, name: u32) -> Sizes
         ensures { result ≡ record self { name = name } }
     {
         Sizes { name, ..self }
     }
 
-    /// With mutators that collect only in stops, if that is asked for: nothing is marked beside them, so each stop
-    /// marks all. It is there to compare with.
+    /// With mutators that collect only in stops, if that is asked for: each stop marks all. It is there to compare
+    /// with.
     pub fn in_stops(self, in_stops: bool) -> Sizes
         ensures { result ≡ record self { in_stops = in_stops } }
     {

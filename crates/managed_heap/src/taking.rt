@@ -1,7 +1,7 @@
 //! The first of a list is taken from it.
 ghost use Rattle.std.specs.Prelude.{◌≡◌, ◌<◌, ◌+◌, ◌∷◌, vec_capacity, vec_len};
 
-/// The first of those that are left.
+/// Takes the first.
 pub fn first_of<T: Drop>(all: &mut Vec<T>) -> T
     requires some { 0 < vec_len all.old }
     ensures first { all.old.items ≡ result ∷ all.new.items }

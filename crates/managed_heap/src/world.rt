@@ -18,10 +18,9 @@ pub struct World {
     pub(crate) heap: Arc<Heap, Global>,
     /// The seat of section 0, which has nothing to do with objects: it reads and tells.
     pub(crate) zero: HeapSeat,
-    /// The mutators that nobody has taken, with room for all.
+    /// Those that nobody has taken, with room for all.
     pub(crate) mutators: Vec<Mutator>,
     pub(crate) tracers: Vec<Tracer>,
-    /// The sizes that it was opened with.
     pub(crate) sizes: Sizes,
     ghost rests: { RestsOutside (arc_value heap) zero },
     ghost section: { IsTrue (is_some (state_of zero).section) },

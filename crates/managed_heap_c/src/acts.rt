@@ -1,4 +1,4 @@
-//! What a call for a shared world does with the mutator behind a handle: it answers the call's status, or
+//! What a call for a shared world does with the mutator behind a handle: that of the export of its name, or it answers
 //! `GIVEN_BACK` if the handle is empty.
 ghost use Rattle.seat_steps.specs.Acting.{TakesRoot};
 ghost use Rattle.managed_heap_c.specs.Acting.{ExchangesTo, ExchangesValueTo, Fills, ForgetsSlots, NumbersTo, PlacesTo, Spills, WritesNumber, WritesPlace};
@@ -10,7 +10,6 @@ use crate::hands::Hand;
 use crate::statuses::{GIVEN_BACK, status};
 use seat_steps::Came;
 
-/// Variable v becomes the root.
 pub fn root_by(hand: &mut Hand, v: u32) -> u32
     ensures answers { Answers (λ came. TakesRoot came v) result hand.old.stepper hand.new.stepper }
 {
@@ -23,7 +22,6 @@ pub fn root_by(hand: &mut Hand, v: u32) -> u32
     }
 }
 
-/// If field i of variable v's object is variable `expected` it becomes variable `next`. Whether it was is written.
 pub fn exchange_by(hand: &mut Hand, v: u32, i: u32, expected: u32, next: u32, won: &mut u32) -> u32
     ensures answers { Answers (ExchangesTo v i expected next won.old won.new) result hand.old.stepper hand.new.stepper }
     ensures quiet { SparesGone hand.old.stepper won.old won.new }
@@ -40,7 +38,6 @@ pub fn exchange_by(hand: &mut Hand, v: u32, i: u32, expected: u32, next: u32, wo
     }
 }
 
-/// If the value of variable v's object is `expected` it becomes `next`. Whether it was is written.
 pub fn exchange_value_by(hand: &mut Hand, v: u32, expected: u32, next: u32, won: &mut u32) -> u32
     ensures answers { Answers (ExchangesValueTo v expected next won.old won.new) result hand.old.stepper hand.new.stepper }
     ensures quiet { SparesGone hand.old.stepper won.old won.new }
@@ -54,7 +51,6 @@ pub fn exchange_value_by(hand: &mut Hand, v: u32, expected: u32, next: u32, won:
     }
 }
 
-/// Slot k becomes what variable v is.
 pub fn spill_by(hand: &mut Hand, v: u32, k: u32) -> u32
     ensures answers { Answers (Spills v k) result hand.old.stepper hand.new.stepper }
 {
@@ -68,7 +64,6 @@ pub fn spill_by(hand: &mut Hand, v: u32, k: u32) -> u32
     }
 }
 
-/// Variable v becomes what slot k is.
 pub fn fill_by(hand: &mut Hand, v: u32, k: u32) -> u32
     ensures answers { Answers (Fills v k) result hand.old.stepper hand.new.stepper }
 {
@@ -82,7 +77,6 @@ pub fn fill_by(hand: &mut Hand, v: u32, k: u32) -> u32
     }
 }
 
-/// The slots from `from` on and below `to` become nil.
 pub fn forget_slots_by(hand: &mut Hand, from: u32, to: u32) -> u32
     ensures answers { Answers (ForgetsSlots from to) result hand.old.stepper hand.new.stepper }
 {
@@ -104,7 +98,6 @@ fn write_place(answer: Result<u32, Came>, out: &mut u32) -> Came
     }
 }
 
-/// Writes the place of variable v's object.
 pub fn place_by(hand: &mut Hand, v: u32, place: &mut u32) -> u32
     ensures answers { Answers (PlacesTo v place.old place.new) result hand.old.stepper hand.new.stepper }
     ensures quiet { SparesGone hand.old.stepper place.old place.new }
@@ -131,7 +124,6 @@ fn write_number(answer: Result<u64, Came>, section: &mut u32, number: &mut u32) 
     }
 }
 
-/// Writes which mutator made variable v's object, and how many that one had made before.
 pub fn number_by(hand: &mut Hand, v: u32, section: &mut u32, number: &mut u32) -> u32
     ensures answers { Answers (NumbersTo v section.old number.old section.new number.new) result hand.old.stepper hand.new.stepper }
     ensures quiet { SparesGone hand.old.stepper section.old section.new }

@@ -1,4 +1,4 @@
-//! What the mutator behind a handle is asked.
+//! What the mutator behind a handle is asked: the answer is written, or `GIVEN_BACK` answered if the handle is empty.
 ghost use Rattle.std.specs.Prelude.{◌≡◌};
 ghost use Rattle.plain_heap.specs.declared.operation.Op.TheVariants as ops;
 ghost use Rattle.managed_heap_c.specs.Answering.{Answers, SparesGone};
@@ -29,7 +29,6 @@ pub fn write_answer(answer: Result<bool, Came>, out: &mut u32) -> Came
     }
 }
 
-/// Writes whether v refers to nothing.
 pub fn is_nil_by(hand: &mut Hand, v: u32, out: &mut u32) -> u32
     ensures answers { Answers (TestsTo (IsNil v) (ops.Say v) out.old out.new) result hand.old.stepper hand.new.stepper }
     ensures quiet { SparesGone hand.old.stepper out.old out.new }
@@ -43,7 +42,6 @@ pub fn is_nil_by(hand: &mut Hand, v: u32, out: &mut u32) -> u32
     }
 }
 
-/// Writes whether v and w refer to one object, or both to nothing.
 pub fn same_by(hand: &mut Hand, v: u32, w: u32, out: &mut u32) -> u32
     ensures answers { Answers (TestsTo (AreOne v w) (ops.Let v w) out.old out.new) result hand.old.stepper hand.new.stepper }
     ensures quiet { SparesGone hand.old.stepper out.old out.new }
@@ -58,7 +56,6 @@ pub fn same_by(hand: &mut Hand, v: u32, w: u32, out: &mut u32) -> u32
     }
 }
 
-/// Writes whether the mutator waits for a stop that it asked for.
 pub fn stopping_by(hand: &mut Hand, out: &mut u32) -> u32
     ensures answers { Answers (TellsStopping out.new) result hand.old.stepper hand.new.stepper }
     ensures quiet { SparesGone hand.old.stepper out.old out.new }

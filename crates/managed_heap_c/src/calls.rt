@@ -1,5 +1,5 @@
-//! What a call does with the mutator behind a handle: it answers the call's status, or `GIVEN_BACK` if the handle
-//! is empty.
+//! What a call does with the mutator behind a handle: that of the export of its name, or it answers `GIVEN_BACK` if the
+//! handle is empty.
 ghost use Rattle.plain_heap.specs.declared.operation.Op.TheVariants as ops;
 ghost use Rattle.seat_steps.specs.Bounds.{CollectsAtMost};
 ghost use Rattle.seat_steps.specs.Refilling.{MakesCached, StepperRefills};
@@ -14,7 +14,6 @@ use crate::making::make_with_in;
 use crate::statuses::{GIVEN_BACK, status};
 use crate::storing::{put_in, set_in};
 
-/// One try to enter the world.
 pub fn enter_by(hand: &mut Hand) -> u32
     ensures answers { Answers Entered result hand.old.stepper hand.new.stepper }
 {
@@ -24,7 +23,6 @@ pub fn enter_by(hand: &mut Hand) -> u32
     }
 }
 
-/// Leaves the world.
 pub fn leave_by(hand: &mut Hand) -> u32
     ensures answers { Answers Left result hand.old.stepper hand.new.stepper }
 {
@@ -34,7 +32,6 @@ pub fn leave_by(hand: &mut Hand) -> u32
     }
 }
 
-/// A safe point that waits for nobody.
 pub fn pass_by(hand: &mut Hand) -> u32
     ensures answers { Answers Passed result hand.old.stepper hand.new.stepper }
 {
@@ -44,7 +41,6 @@ pub fn pass_by(hand: &mut Hand) -> u32
     }
 }
 
-/// One step of a collection, which does at most `most` roots, objects, cards or blocks.
 pub fn collect_by(hand: &mut Hand, most: u32) -> u32
     ensures answers { Answers (CollectsAtMost most) result hand.old.stepper hand.new.stepper }
 {
@@ -54,7 +50,6 @@ pub fn collect_by(hand: &mut Hand, most: u32) -> u32
     }
 }
 
-/// Makes an object of this value in variable v, if a cell is free.
 pub fn make_by(hand: &mut Hand, v: u32, value: u32) -> u32
     ensures answers { Answers (λ came. StepperMakes came (ops.New v value)) result hand.old.stepper hand.new.stepper }
 {
@@ -67,7 +62,6 @@ pub fn make_by(hand: &mut Hand, v: u32, value: u32) -> u32
     }
 }
 
-/// Makes an object of this value in variable v, if a cell of the mutator's cache is free.
 pub fn make_cached_by(hand: &mut Hand, v: u32, value: u32) -> u32
     ensures answers { Answers (λ came. MakesCached came (ops.New v value)) result hand.old.stepper hand.new.stepper }
 {
@@ -80,7 +74,6 @@ pub fn make_cached_by(hand: &mut Hand, v: u32, value: u32) -> u32
     }
 }
 
-/// One step of a refill, which looks at no more than `most` blocks.
 pub fn refill_by(hand: &mut Hand, most: u32) -> u32
     ensures answers { Answers (StepperRefills most) result hand.old.stepper hand.new.stepper }
 {
@@ -90,7 +83,6 @@ pub fn refill_by(hand: &mut Hand, most: u32) -> u32
     }
 }
 
-/// Makes an object of this value in variable v with these references, if a cell is free.
 pub fn make_with_by(hand: &mut Hand, v: u32, value: u32, fields: &[u32]) -> u32
     ensures answers { Answers (MakesWith v value fields.now) result hand.old.stepper hand.new.stepper }
 {
@@ -100,7 +92,6 @@ pub fn make_with_by(hand: &mut Hand, v: u32, value: u32, fields: &[u32]) -> u32
     }
 }
 
-/// Field i of variable v's object becomes what variable w is.
 pub fn set_by(hand: &mut Hand, v: u32, i: u32, w: u32) -> u32
     ensures answers { Answers (Stores v (ops.Set v i w)) result hand.old.stepper hand.new.stepper }
 {
@@ -115,7 +106,6 @@ pub fn set_by(hand: &mut Hand, v: u32, i: u32, w: u32) -> u32
     }
 }
 
-/// Variable w becomes what field i of variable v's object is.
 pub fn get_by(hand: &mut Hand, w: u32, v: u32, i: u32) -> u32
     ensures answers { Answers (λ came. Operates came (ops.Get w v i)) result hand.old.stepper hand.new.stepper }
 {
@@ -130,7 +120,6 @@ pub fn get_by(hand: &mut Hand, w: u32, v: u32, i: u32) -> u32
     }
 }
 
-/// Variable w becomes what variable v is.
 pub fn copy_by(hand: &mut Hand, w: u32, v: u32) -> u32
     ensures answers { Answers (λ came. Operates came (ops.Let w v)) result hand.old.stepper hand.new.stepper }
 {
@@ -144,7 +133,6 @@ pub fn copy_by(hand: &mut Hand, w: u32, v: u32) -> u32
     }
 }
 
-/// Variable v becomes nil.
 pub fn forget_by(hand: &mut Hand, v: u32) -> u32
     ensures answers { Answers (λ came. Operates came (ops.Nil v)) result hand.old.stepper hand.new.stepper }
 {
@@ -157,7 +145,6 @@ pub fn forget_by(hand: &mut Hand, v: u32) -> u32
     }
 }
 
-/// The value of variable v's object becomes this one.
 pub fn put_by(hand: &mut Hand, v: u32, value: u32) -> u32
     ensures answers { Answers (Stores v (ops.Put v value)) result hand.old.stepper hand.new.stepper }
 {
@@ -170,7 +157,6 @@ pub fn put_by(hand: &mut Hand, v: u32, value: u32) -> u32
     }
 }
 
-/// Writes the value of variable v's object if the mutator's call is done.
 pub fn value_by(hand: &mut Hand, v: u32, out: &mut u32) -> u32
     ensures answers { Answers (ReadsTo v out.old out.new) result hand.old.stepper hand.new.stepper }
     ensures quiet { SparesGone hand.old.stepper out.old out.new }

@@ -15,7 +15,6 @@ use seat_steps::{Stage, Stepper};
 #[derive(Drop)]
 #[repr(C)]
 pub struct CCourse {
-    /// Where it stands.
     pub stage: u32,
     /// 1 if it is to mark once more, otherwise 0.
     pub again: u32,

@@ -8,7 +8,6 @@ use shared_heap::SharedWorld;
 /// A mutator, or none if it was given back.
 #[derive(Drop)]
 pub struct Hand {
-    /// The mutator, which takes no handle of the runtime.
     pub stepper: Option<Stepper>,
     /// A call uses it.
     pub busy: bool,
@@ -17,7 +16,6 @@ pub struct Hand {
 /// A tracer, or none if it was given back.
 #[derive(Drop)]
 pub struct TracerHand {
-    /// The tracer.
     pub tracer: Option<Tracer>,
     /// A call uses it.
     pub busy: bool,

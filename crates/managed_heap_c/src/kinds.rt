@@ -38,7 +38,6 @@ fn open_shared(alloc: Global, sizes: &CSizes) -> Result<AnyWorld, NotOpened>
 }
 
 impl AnyWorld {
-    /// Opens a world of these sizes.
     pub fn open(alloc: Global, sizes: &CSizes) -> Result<AnyWorld, NotOpened>
         ensures opened { IfOk result (IsOpenedAs sizes.now) }
         ensures refused { IfErr result (λ e. e ≡ OutOfRange → FitEither sizes.now → ⊥) }
@@ -52,7 +51,7 @@ impl AnyWorld {
         Err(NotOpened::OutOfRange)
     }
 
-    /// One of the mutators that nobody has, in steps.
+    /// A mutator that nobody has, in steps.
     pub fn lend(&mut self) -> Option<Stepper>
         ensures some { IfSome result (λ s. LendsSteps s self.old self.new) }
         ensures none { IfNone result (LacksMutator self.old self.new) }
@@ -63,7 +62,6 @@ impl AnyWorld {
         }
     }
 
-    /// Takes a mutator back, or hands it back.
     pub fn take_back(&mut self, stepper: Stepper) -> Result<(), Stepper>
         ensures back { OnOk result (TakesBack stepper self.old self.new) }
         ensures refused { IfErr result (λ t. Refuses stepper t self.old self.new) }
@@ -74,7 +72,7 @@ impl AnyWorld {
         }
     }
 
-    /// One of the tracers that nobody has.
+    /// A tracer that nobody has.
     pub fn lend_tracer(&mut self) -> Option<Tracer>
         ensures some { IfSome result (λ t. LendsTracer t self.old self.new) }
         ensures none { IfNone result (LacksTracer self.old self.new) }
@@ -85,7 +83,6 @@ impl AnyWorld {
         }
     }
 
-    /// Takes a tracer back, or hands it back.
     pub fn take_tracer_back(&mut self, tracer: Tracer) -> Result<(), Tracer>
         ensures back { OnOk result (TakesTracer tracer self.old self.new) }
         ensures refused { IfErr result (λ t. (t ≡ tracer) × RefusesTracer self.old self.new) }
@@ -107,7 +104,6 @@ impl AnyWorld {
         }
     }
 
-    /// Reads the world's numbers.
     pub fn count(&mut self) -> CNumbers
         ensures counts { Counts self.old self.new result }
     {

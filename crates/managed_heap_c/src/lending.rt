@@ -6,7 +6,6 @@ ghost use Rattle.managed_heap_c.specs.Lent.{hand_follows, tracer_follows, whole_
 use crate::handles::{MutatorHandle, TracerHandle, WorldHandle};
 use crate::hands::{Hand, TracerHand, Whole};
 
-/// What lies behind a mutator's handle.
 pub fn lend_hand(h: &mut MutatorHandle) -> &mut Hand
     ensures* writes_back { sem 𝓛 (hand_follows h.entry result) }
     ensures value { result.now ≡ h.old.hand }
@@ -14,7 +13,6 @@ pub fn lend_hand(h: &mut MutatorHandle) -> &mut Hand
     unsafe { &mut *(h.at as *mut Hand) }
 }
 
-/// What lies behind a tracer's handle.
 pub fn lend_tracer(h: &mut TracerHandle) -> &mut TracerHand
     ensures* writes_back { sem 𝓛 (tracer_follows h.entry result) }
     ensures value { result.now ≡ h.old.hand }
@@ -22,7 +20,6 @@ pub fn lend_tracer(h: &mut TracerHandle) -> &mut TracerHand
     unsafe { &mut *(h.at as *mut TracerHand) }
 }
 
-/// What lies behind a world's handle.
 pub fn lend_whole(h: &mut WorldHandle) -> &mut Whole
     ensures* writes_back { sem 𝓛 (whole_follows h.entry result) }
     ensures value { result.now ≡ h.old.whole }

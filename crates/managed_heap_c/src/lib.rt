@@ -2,7 +2,8 @@
 //! (`c/include/managed_heap.h`).
 //!
 //! A handle is a struct of C with the address of what lies behind it. C gives it to one call at a time: a call marks
-//! what is behind it, and one that finds the mark is refused, unless the handle is given back meanwhile.
+//! what is behind it, and one that finds the mark is refused, unless the handle is given back meanwhile. The calls of
+//! a mutator are those of `Stepper` in `seat_steps`; `MH_` statuses are those of the header.
 #![tactic(auto)]
 
 mod acting;

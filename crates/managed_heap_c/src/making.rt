@@ -47,7 +47,6 @@ fn can_make_with(stepper: &Stepper, v: u32, fields: &[u32]) -> bool
     are_given(fields)
 }
 
-/// Field i becomes what this variable is, or stays nil.
 fn set_given(stepper: &mut Stepper, v: u8, i: u8, n: u32)
     requires inside { stepper.old.stage ≡ stages.Inside }
     requires range { (v < section_variables) × (i < fields_in stepper.old) × IsGiven n }
@@ -60,7 +59,6 @@ fn set_given(stepper: &mut Stepper, v: u8, i: u8, n: u32)
     }
 }
 
-/// The fields become what these variables are, one after the other.
 fn set_all(stepper: &mut Stepper, v: u8, fields: &[u32])
     requires inside { stepper.old.stage ≡ stages.Inside }
     requires can { CanMakeWith v fields.now stepper.old }
@@ -71,8 +69,7 @@ fn set_all(stepper: &mut Stepper, v: u8, fields: &[u32])
     }
 }
 
-/// Makes an object whose first fields become what these variables are. The numbers are looked at before anything is
-/// done.
+/// Makes an object whose first fields become what these variables are. All numbers are looked at first.
 pub fn make_with_in(stepper: &mut Stepper, v: u32, value: u32, fields: &[u32]) -> Came
     ensures makes { MakesWith v value fields.now result stepper.old stepper.new }
 {

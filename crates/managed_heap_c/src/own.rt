@@ -6,7 +6,7 @@ use crate::sizes::CNumbers;
 use managed_heap::{Mutator, World};
 use seat_steps::Stepper;
 
-/// One of the mutators that nobody has, in steps.
+/// A mutator that nobody has, in steps.
 pub fn lend_own(world: &mut World) -> Option<Stepper>
     ensures some { IfSome result (λ s. LendsSteps s world.old world.new) }
     ensures none { IfNone result (LacksMutator world.old world.new) }
@@ -27,7 +27,7 @@ fn give_own(world: &mut World, mutator: Mutator) -> Result<(), Stepper>
     }
 }
 
-/// Takes a mutator back, or hands it back: the world doesn't take it, or it is of a world that shares objects.
+/// Takes a mutator back. It is handed back also if it is of a world that shares objects.
 pub fn take_own(world: &mut World, stepper: Stepper) -> Result<(), Stepper>
     ensures back { OnOk result (TakesBack stepper world.old world.new) }
     ensures refused { IfErr result (λ t. Refuses stepper t world.old world.new) }
@@ -38,7 +38,6 @@ pub fn take_own(world: &mut World, stepper: Stepper) -> Result<(), Stepper>
     }
 }
 
-/// Reads the numbers of the world.
 pub fn count_own(world: &mut World) -> CNumbers
     ensures counts { Counts world.old world.new result }
 {

@@ -27,7 +27,7 @@ pub struct CNumbers {
     pub marked: u64,
 }
 
-/// The sizes of a world whose mutators have objects of their own.
+/// These without slots.
 pub fn own_sizes(sizes: &CSizes) -> Sizes
     ensures wanted { result ≡ sizes_of sizes.now }
 {
@@ -38,7 +38,6 @@ pub fn own_sizes(sizes: &CSizes) -> Sizes
         .named(sizes.name)
 }
 
-/// The sizes of a world whose mutators share all objects.
 pub fn shared_sizes(sizes: &CSizes) -> SharedSizes
     ensures wanted { result ≡ shared_sizes_of sizes.now }
 {

@@ -67,21 +67,18 @@ fn whole_sealed(loose: Loose<Whole, Global>) -> WorldSlot
     WorldSlot { at: at as *mut u8 }
 }
 
-/// A mutator's handle with what is in the box.
 pub fn hand_slot(hand: Box<Hand, Global>) -> MutatorSlot
     ensures filled { result.hand ≡ Some hand.value }
 {
     hand_sealed(Loose::of(hand))
 }
 
-/// A tracer's handle with what is in the box.
 pub fn tracer_slot(hand: Box<TracerHand, Global>) -> TracerSlot
     ensures filled { result.hand ≡ Some hand.value }
 {
     tracer_sealed(Loose::of(hand))
 }
 
-/// A world's handle with what is in the box.
 pub fn whole_slot(whole: Box<Whole, Global>) -> WorldSlot
     ensures filled { result.whole ≡ Some whole.value }
 {

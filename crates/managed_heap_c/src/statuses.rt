@@ -6,7 +6,6 @@ ghost use Rattle.managed_heap_c.specs.Tracers.{status_of_turn};
 use seat_steps::Came;
 use seat_turns::TryTurn;
 
-/// It is done.
 pub const OK: u32 = 0;
 
 /// A stop is under way.
@@ -15,13 +14,11 @@ pub const STOPPED: u32 = 2;
 /// The mutator is between two steps of a collection.
 pub const COLLECTING: u32 = 5;
 
-/// A size is out of its range.
 pub const OUT_OF_RANGE: u32 = 6;
 
-/// There is no memory.
 pub const OUT_OF_MEMORY: u32 = 10;
 
-/// The handle was given back.
+/// The handle was given back, or the world closed.
 pub const GIVEN_BACK: u32 = 11;
 
 /// A call of another thread uses the handle.
@@ -36,7 +33,7 @@ pub const REFUSED: u32 = 14;
 /// Not all mutators and tracers are back.
 pub const STILL_LENT: u32 = 17;
 
-/// The number of what a mutator's call came to, 0 to 9, 19 and 20, as the header has them.
+/// The number of what a mutator's call came to.
 pub fn status(came: Came) -> u32
     ensures number { result ≡ status_of_came came }
 {
@@ -56,7 +53,7 @@ pub fn status(came: Came) -> u32
     }
 }
 
-/// The number of what a tracer's turn came to, as the header has them.
+/// The number of what a tracer's turn came to.
 pub fn turn_status(tried: TryTurn) -> u32
     ensures number { result ≡ status_of_turn tried }
 {

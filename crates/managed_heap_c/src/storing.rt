@@ -4,7 +4,7 @@ ghost use Rattle.managed_heap_c.specs.Storing.{Stores, TellsNil};
 
 use seat_steps::{Came, Stepper};
 
-/// What a store came to: `Came::Nil` if it was done and the variable refers to nothing, so that nothing was stored.
+/// `Came::Nil` if the call was done and the variable refers to nothing, so that nothing was stored.
 fn unless_nil(came: Came, nil: Result<bool, Came>) -> Came
     ensures tells { TellsNil result came nil }
 {
@@ -14,7 +14,6 @@ fn unless_nil(came: Came, nil: Result<bool, Came>) -> Came
     }
 }
 
-/// Field i of variable v's object becomes what variable w is.
 pub fn set_in(stepper: &mut Stepper, v: u8, i: u8, w: u8) -> Came
     ensures stores { Stores v (ops.Set v i w) result stepper.old stepper.new }
 {
@@ -22,7 +21,6 @@ pub fn set_in(stepper: &mut Stepper, v: u8, i: u8, w: u8) -> Came
     unless_nil(stepper.set(v, i, w), nil)
 }
 
-/// The value of variable v's object becomes this one.
 pub fn put_in(stepper: &mut Stepper, v: u8, value: u32) -> Came
     ensures stores { Stores v (ops.Put v value) result stepper.old stepper.new }
 {

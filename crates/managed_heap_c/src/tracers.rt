@@ -42,8 +42,8 @@ fn slot_of(hand: Box<TracerHand, Global>, lent: Tracer) -> TracerSlot
     tracer_slot(hand)
 }
 
-/// Takes a tracer: done, `NONE_LEFT`, `OUT_OF_MEMORY`, or `GIVEN_BACK` if the world was closed. The box is made
-/// first, so that none is lost without memory.
+/// Done, `NONE_LEFT`, `OUT_OF_MEMORY`, or `GIVEN_BACK` if the world was closed. The box is made first, so that no
+/// tracer is lost without memory.
 pub fn take_tracer_at(alloc: Global, whole: &mut Whole, out: &mut TracerSlot) -> u32
     ensures takes { TakesTracer result whole.old.world whole.new.world out.old out.new }
 {
@@ -74,8 +74,7 @@ fn empty_into(world: &mut AnyWorld, hand: &mut TracerHand) -> u32
     }
 }
 
-/// Gives a tracer back: done, `REFUSED`, and then the handle keeps it, or `GIVEN_BACK` if the handle or the world
-/// is empty.
+/// Done, `REFUSED`, and then the handle keeps the tracer, or `GIVEN_BACK` if the handle or the world is empty.
 pub fn give_tracer_by(whole: &mut Whole, hand: &mut TracerHand) -> u32
     ensures gives { GivesTracer result whole.old.world whole.new.world hand.old.tracer hand.new.tracer }
 {
@@ -85,7 +84,7 @@ pub fn give_tracer_by(whole: &mut Whole, hand: &mut TracerHand) -> u32
     }
 }
 
-/// One turn of a tracer, which waits for nobody: how it ended. `GIVEN_BACK` if the handle is empty.
+/// How the turn ended, or `GIVEN_BACK` if the handle is empty.
 pub fn turn_by(hand: &mut TracerHand) -> u32
     ensures answers { AnswersTurn result hand.old.tracer hand.new.tracer }
 {
@@ -95,7 +94,7 @@ pub fn turn_by(hand: &mut TracerHand) -> u32
     }
 }
 
-/// One try to dismiss the tracers: done, `STOPPED` if a stop is under way, or `GIVEN_BACK` if the world was closed.
+/// Done, `STOPPED` if a stop is under way, or `GIVEN_BACK` if the world was closed.
 pub fn dismiss_by(whole: &mut Whole) -> u32
     ensures dismisses { Dismissing result whole.old.world whole.new.world }
 {

@@ -18,14 +18,13 @@ pub fn begins(hand: &mut Hand) -> bool
     true
 }
 
-/// Ends it.
 pub fn ends(hand: &mut Hand)
     ensures ended { hand.new ≡ record hand.old { busy = false } }
 {
     hand.busy = false;
 }
 
-/// Begins a tracer's call. False if another is under way; then nothing changed.
+/// [`begins`] for a tracer.
 pub fn begins_turn(hand: &mut TracerHand) -> bool
     ensures begun { OnTrue result (IsFalse hand.old.busy × (hand.new ≡ record hand.old { busy = true })) }
     ensures in_use { OnFalse result (IsTrue hand.old.busy × (hand.new ≡ hand.old)) }
@@ -37,7 +36,6 @@ pub fn begins_turn(hand: &mut TracerHand) -> bool
     true
 }
 
-/// Ends a tracer's call.
 pub fn ends_turn(hand: &mut TracerHand)
     ensures ended { hand.new ≡ record hand.old { busy = false } }
 {

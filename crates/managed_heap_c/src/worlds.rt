@@ -31,7 +31,7 @@ fn boxed_hand(alloc: Global) -> Result<Box<Hand, Global>, AllocError>
     )?)
 }
 
-/// Opens a world of these sizes: done, and the handle is filled; otherwise `OUT_OF_RANGE` or `OUT_OF_MEMORY`.
+/// Done, and the handle is filled; otherwise `OUT_OF_RANGE` or `OUT_OF_MEMORY`.
 pub fn open_at(alloc: Global, sizes: &CSizes, out: &mut WorldSlot) -> u32
     ensures opens { OpensWorld result sizes.now out.old out.new }
 {
@@ -70,8 +70,8 @@ fn slot_of(hand: Box<Hand, Global>, stepper: Stepper) -> MutatorSlot
     hand_slot(hand)
 }
 
-/// Takes a mutator: done, `NONE_LEFT`, `OUT_OF_MEMORY`, or `GIVEN_BACK` if the world was closed. The box is made
-/// first, so that none is lost without memory.
+/// Done, `NONE_LEFT`, `OUT_OF_MEMORY`, or `GIVEN_BACK` if the world was closed. The box is made first, so that no
+/// mutator is lost without memory.
 pub fn take_at(alloc: Global, whole: &mut Whole, out: &mut MutatorSlot) -> u32
     ensures takes { TakesMutator result whole.old.world whole.new.world out.old out.new }
 {
@@ -108,8 +108,8 @@ fn empty_into(world: &mut AnyWorld, hand: &mut Hand) -> u32
     }
 }
 
-/// Gives a mutator back: done, `COLLECTING` or `REFUSED`, and then the handle keeps it, or `GIVEN_BACK` if the
-/// handle or the world is empty.
+/// Done, `COLLECTING` or `REFUSED`, and then the handle keeps the mutator, or `GIVEN_BACK` if the handle or the world is
+/// empty.
 pub fn give_by(whole: &mut Whole, hand: &mut Hand) -> u32
     ensures gives { Gives result whole.old.world whole.new.world hand.old.stepper hand.new.stepper }
 {
@@ -119,8 +119,7 @@ pub fn give_by(whole: &mut Whole, hand: &mut Hand) -> u32
     }
 }
 
-/// Closes a world: done if all mutators and tracers are back, otherwise `STILL_LENT`, or `GIVEN_BACK` if it was
-/// closed before.
+/// Done if all mutators and tracers are back, otherwise `STILL_LENT`, or `GIVEN_BACK` if it was closed before.
 pub fn close_by(whole: &mut Whole) -> u32
     ensures closes { ClosesWorld result whole.old.world whole.new.world }
 {
@@ -136,7 +135,7 @@ pub fn close_by(whole: &mut Whole) -> u32
     }
 }
 
-/// Writes the world's numbers: done, or `GIVEN_BACK` if it was closed.
+/// Done, or `GIVEN_BACK` if the world was closed.
 pub fn read_by(whole: &mut Whole, out: &mut CNumbers) -> u32
     ensures reads { CountsWorld result whole.old.world whole.new.world out.old out.new }
 {

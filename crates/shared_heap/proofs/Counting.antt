@@ -1,5 +1,5 @@
 -- The logs of the threads of a closed world tell of its root what those of a heap with one object do.
-use Rattle.std.proofs.Common.{ℕ, zero, suc, ◌≡◌, ◌≤◌, ◌+◌, ◌==◌, ◌&&◌, ◌∙◌, ⊎_elim, List, [], ◌∷◌, ◌++◌, ap, arith, length, refl, subst, sym, Bool, true, false, Some}
+use Rattle.std.proofs.Common.{[], ℕ, zero, suc, ◌≡◌, ◌≤◌, ◌+◌, ◌==◌, ◌&&◌, ◌∙◌, ⊎_elim, List, ◌∷◌, ◌++◌, ap, arith, length, refl, subst, sym, Bool, true, false, Some}
 use Rattle.std.specs.Prelude.{if◌then◌else◌, slice_get}
 use Rattle.std.specs.Arc.{arc_value}
 use Rattle.std.proofs.lemmas.Bool.{and_from, and_parts, false≢true, ne_eqb}
@@ -190,3 +190,5 @@ lock-closed world mutators tracers w end es whole all turns =
     (each_left (λ l. takes_turns false l ≡ true) (λ xs ys a h. turns_more sh.fields false xs ys (spared-values sh.fields ys a) h) mutators end.rest end.left turns)
     (λ l a. turns_none sh.fields false l (spared-values sh.fields l a))
     (are_spared world mutators tracers w end es whole))
+
+pub ruleset counting = (counter-closed, lock-closed)

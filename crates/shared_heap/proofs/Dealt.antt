@@ -1,19 +1,15 @@
 -- Seats that have done nothing are dealt out to mutators.
-use Rattle.std.proofs.Common.{ℕ, ◌≡◌, ◌+◌, ◌<◌, ◌∙◌, List, [], ◌∷◌, ◌++◌, ap, cond, length, subst, sym, ⊎_elim, Bool, Option, None, Some}
-use Rattle.std.specs.Prelude.{nat_lt, slice_get}
+use Rattle.std.proofs.Common.{[], ℕ, ◌≡◌, ◌+◌, ◌<◌, ◌∙◌, List, ◌∷◌, ◌++◌, ap, length, subst, sym, ⊎_elim, Some}
+use Rattle.std.specs.Prelude.{slice_get}
 use Rattle.std.specs.Arc.{arc_value}
-use Rattle.std.proofs.lemmas.Bool.{lt-ltb}
-use Rattle.mark_core.specs.declared.kinds.Shape.{Shape}
 use Rattle.mark_core.specs.declared.seat.SeatState.{SeatState}
 use Rattle.gc_table.specs.declared.seat.Heap.{Heap}
 use Rattle.gc_table.proofs.Records.{got-snoc}
+use Rattle.managed_heap.proofs.Starting.{own-section}
 use Rattle.shared_heap.specs.Lending.{AreFresh, IsFreshSharer}
 use Rattle.shared_heap.specs.Opening.{IsNewSeat}
 use Rattle.shared_heap.specs.declared.mutator.Place.TheVariants.{Outside}
 use Rattle.shared_heap.specs.declared.mutator.SharedMutator.{SharedMutator}
-
-own_section : (sh : Shape) (k : ℕ) → k < sh.sections → cond {A = Option ℕ} (nat_lt k sh.sections) (Some k) None ≡ Some k
-own_section sh k l = ap (λ (b : Bool). cond {A = Option ℕ} b (Some k) None) (lt-ltb k sh.sections l)
 
 -- a mutator of such a seat has done nothing
 pub fresh-of : (h : Heap) (name k : ℕ) (m : SharedMutator) → IsNewSeat h k m.seat → k < h.shape.sections → arc_value m.heap ≡ h → m.place ≡ Outside → m.name ≡ name → IsFreshSharer h name k m
@@ -23,7 +19,7 @@ fresh-of h name k m new low heap place named =
       place = place;
       name_is = named;
       number = ap (λ (s : SeatState). s.number) new.1.state;
-      section = ap (λ (s : SeatState). s.section) new.1.state ∙ own_section h.shape k low;
+      section = ap (λ (s : SeatState). s.section) new.1.state ∙ own-section h.shape k low;
       variables = ap (λ (s : SeatState). s.env) new.1.state;
       made = ap (λ (s : SeatState). s.made) new.1.state;
       log = new.1.log;

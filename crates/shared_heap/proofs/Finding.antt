@@ -1,5 +1,5 @@
 -- What the calls of a mutator find is what one plain heap had at that moment.
-use Rattle.std.proofs.Common.{ℕ, ◌-◌, List, [], ◌∷◌, refl, subst}
+use Rattle.std.proofs.Common.{[], ℕ, ◌-◌, List, ◌∷◌, refl, subst}
 use Rattle.std.specs.Prelude.{IsFalse}
 use Rattle.mark_core.specs.Bits.{reference_in}
 use Rattle.mark_core.specs.Steps.MutatorSteps.{seat_variable as word_in}
@@ -34,3 +34,5 @@ pub field-found : FieldFound
 field-found w v i x y f =
     first-found (event (ReadOwn (word_in (state_of x.seat) v - 1) i) f.found) (event (StoreRoot w (reference_in f.found)) (reference_in f.found) ∷ []) (view_of x.seat)
     (subst (λ (es : List Entry). AllFindHeap es (view_of x.seat)) f.events_are (calls-find x y f.ran)) refl
+
+pub ruleset finding = (calls-find, value-found, field-found)

@@ -1,10 +1,10 @@
-mod Counting
+pub mod Counting
 mod Dealt
-mod Finding
+pub mod Finding
 mod Keeping
 pub mod Logs
 mod Once
-mod RootRead
+pub mod RootRead
 mod Rooted
 mod Rooting
 mod Telling

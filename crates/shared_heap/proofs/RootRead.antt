@@ -1,5 +1,5 @@
 -- The value that the words of a closed world have of its root is the one that the plain heap has.
-use Rattle.std.proofs.Common.{ℕ, zero, suc, ◌≡◌, ◌⊎◌, ⊎_elim, inl, inr, ◌<◌, ◌+◌, ◌∙◌, List, [], ◌∷◌, ap, arith, length, refl, subst, sym, Bool, true, false, None, Some, ◌≤◌, ◌==◌, Option, eqb-true}
+use Rattle.std.proofs.Common.{[], ℕ, zero, suc, ◌≡◌, ◌⊎◌, ⊎_elim, inl, inr, ◌<◌, ◌+◌, ◌∙◌, List, ◌∷◌, ap, arith, length, refl, subst, sym, Bool, true, false, None, Some, ◌≤◌, ◌==◌, Option, eqb-true}
 use Rattle.std.specs.Prelude.{if◌then◌else◌, is_none, slice_get, slice_index, take, ◌-◌}
 use Rattle.std.specs.Arc.{arc_value}
 use Rattle.std.proofs.lemmas.Bool.{ne_eqb, and_from, and_parts, true≢false}
@@ -172,3 +172,5 @@ counter-read world mutators tracers w end all raised n e =
     let kept = ⊎_elim (λ z. inl z.0) (λ z. inr z) (r.1.kept k) in
     let root = held d (heap_after_events sh es k) w r.1.root n (r.1.run.sound k) (r.1.agrees k) words kept e in
     sym root.2 ∙ counter-closed world mutators tracers w end es r.1 all raised root.0 root.1
+
+pub ruleset reading = (threads-run, counter-read)

@@ -1,47 +1,40 @@
 -- The seat of section 0 makes the root, and then the season moves on.
-use Rattle.std.proofs.Common.{ℕ, ◌≡◌, ◌+◌, ◌<◌, ◌==◌, ◌&&◌, ◌∙◌, length, ap, arith, refl, sym, subst, cond, Bool, true, false, not, Option, None, Some, eqb-true, ⊎_elim}
-use Rattle.std.specs.Prelude.{is_none, is_some, nat_lt}
-use Rattle.std.proofs.lemmas.Bool.{and_from, and_parts, eq-eqb, false≢true, lt-ltb, not-true}
-use Rattle.std.proofs.lemmas.Option.{get_or_from_slice_get}
-use Rattle.mark_core.specs.Places.{the_phase}
-use Rattle.mark_core.specs.Seats.{empty_handed, has_making, has_turn, may_mutate, work_in_hand}
+use Rattle.std.proofs.Common.{ℕ, ◌≡◌, ◌+◌, ◌<◌, ◌∙◌, length, ap, refl, sym, subst, true, Option, None, eqb-true, ⊎_elim}
+use Rattle.std.specs.Prelude.{is_some}
+use Rattle.std.proofs.lemmas.Bool.{and_from}
+use Rattle.mark_core.specs.Seats.{has_making, has_turn, may_mutate, work_in_hand}
 use Rattle.mark_core.specs.Steps.WorldSteps.{has_nothing}
-use Rattle.mark_core.specs.declared.kinds.Phase.TheVariants.{Idle}
 use Rattle.mark_core.specs.declared.kinds.Shape.{Shape}
 use Rattle.mark_core.specs.declared.kinds.Step.TheVariants.{NextSeason, ReadSeason}
 use Rattle.mark_core.specs.declared.seat.CacheState.{CacheState}
 use Rattle.mark_core.specs.declared.seat.SeatState.{SeatState}
-use Rattle.mark_core.proofs.Notes.NotesKept.{single-word}
 use Rattle.plain_heap.specs.PlainHeap.{Heap as PlainHeap}
 use Rattle.plain_heap.specs.PlainStep.{heap_after}
 use Rattle.plain_heap.specs.declared.operation.Op.TheVariants as ops
 use Rattle.alloc_cache.specs.Caching.{IsCached}
 use Rattle.alloc_cache.specs.Claiming.{Claims}
 use Rattle.alloc_cache.specs.declared.cache.Cache.{Cache}
-use Rattle.gc_table.specs.Running.{Alone, Ran}
+use Rattle.gc_table.specs.Running.{Ran}
 use Rattle.gc_table.specs.Seats.{Found, Sits, Took, view_of}
-use Rattle.gc_table.specs.TableState.{no_section}
-use Rattle.gc_table.specs.Taking.{May}
 use Rattle.gc_table.specs.declared.seat.Heap.{Heap}
 use Rattle.gc_table.specs.declared.seat.HeapSeat.{HeapSeat}
 use Rattle.gc_table.specs.declared.view.Meaning.{Meaning}
 use Rattle.gc_table.specs.declared.view.SectionState.{SectionState}
 use Rattle.gc_table.specs.declared.view.View.{View}
-use Rattle.gc_table.proofs.Noticing.{alone-step}
 use Rattle.gc_table.proofs.Running.{ran-join, ran-plan, ran-shape}
+use Rattle.gc_cycle.proofs.Idling.{rest-parts}
 use Rattle.gc_cycle.specs.Standing.{KeepsSeat, KeepsSection, Mutates, is_at_rest}
 use Rattle.mutator_ops.specs.Sharing.{ShareCreates}
 use Rattle.seat_turns.specs.SeasonLooks.{LooksAtSeason}
+use Rattle.managed_heap.proofs.FirstSeason.{alone-turn}
+use Rattle.managed_heap.proofs.Starting.{own-section}
 use Rattle.shared_heap.specs.Opening.{HasFirstCache, HasRoot, IsAloneInIdle, IsAtFirstTurn, IsFirst, IsNewSeat, empty_in}
-
-first_section : (sh : Shape) → 0 < sh.sections → cond {A = Option ℕ} (nat_lt 0 sh.sections) (Some 0) None ≡ Some 0
-first_section sh l = ap (λ (b : Bool). cond {A = Option ℕ} b (Some 0) None) (lt-ltb 0 sh.sections l)
 
 -- a seat that has done nothing
 pub first-start : (h : Heap) (x : HeapSeat) → IsNewSeat h 0 x → 0 < h.shape.sections → IsFirst (empty_in h.shape) (view_of x)
 first-start h x new l =
     record {
-      section = ap (λ (s : SeatState). s.section) new.1.state ∙ first_section h.shape l;
+      section = ap (λ (s : SeatState). s.section) new.1.state ∙ own-section h.shape 0 l;
       plan = new.1.plan_is;
       seasons = ap (λ (o : SectionState). o.seasons) new.1.own;
       heap = ap (λ (o : SectionState). o.meaning.heap) new.1.own;
@@ -75,25 +68,6 @@ pub cache-looked : (v w : View) → v.state.cache ≡ None → LooksAtSeason v w
 cache-looked v w e looks =
     ⊎_elim (λ (same : w ≡ v). ap (λ (y : View). y.state.cache) same ∙ e) (λ (read : (n : ℕ) × Found ReadSeason n v w). ap (λ (y : View). y.state.cache) read.1.0 ∙ e) looks
 
--- at rest, part by part
-record AtRest (sh : Shape) (s : SeatState) : Type 0 where
-  idle : work_in_hand sh.fields s ≡ false
-  owes : s.owes ≡ None
-  register : s.got ≡ 0
-
-at_rest : (sh : Shape) (s : SeatState) → is_at_rest sh s ≡ true → AtRest sh s
-at_rest sh s e =
-    let p5 = and_parts (empty_handed s && not (work_in_hand sh.fields s) && is_none s.owes && is_none s.block && (s.got == 0)) (not (has_making s.cache)) e in
-    let p4 = and_parts (empty_handed s && not (work_in_hand sh.fields s) && is_none s.owes && is_none s.block) (s.got == 0) p5.0 in
-    let p3 = and_parts (empty_handed s && not (work_in_hand sh.fields s) && is_none s.owes) (is_none s.block) p4.0 in
-    let p2 = and_parts (empty_handed s && not (work_in_hand sh.fields s)) (is_none s.owes) p3.0 in
-    let p1 = and_parts (empty_handed s) (not (work_in_hand sh.fields s)) p2.0 in
-    record { idle = not-true (work_in_hand sh.fields s) p1.1; owes = none_of s.owes p2.1; register = eqb-true s.got 0 p4.1 }
-  where
-    none_of : (o : Option ℕ) → is_none o ≡ true → o ≡ None
-    none_of None h = refl
-    none_of (Some x) h = absurd (false≢true h)
-
 -- a cache was claimed
 pub first-cached : (h : Heap) (cache : Cache) (x y : HeapSeat) → IsAtFirstTurn h x → h.shape.sharing ≡ true → Sits h y → Ran (view_of x) (view_of y) → Claims cache (view_of x) (view_of y) → HasFirstCache h cache y
 first-cached h cache x y t shared sits ran k =
@@ -101,7 +75,7 @@ first-cached h cache x y t shared sits ran k =
     let w : View = view_of y in
     let f = t.first in
     let m = t.mutates in
-    let rest = at_rest v.shape v.state m.rest in
+    let rest = rest-parts v.shape v.state m.rest in
     record {
       sits = sits;
       first =
@@ -122,9 +96,9 @@ first-cached h cache x y t shared sits ran k =
                   seen = (t.seen.0, ap (λ (s : SeatState). s.phase_seen) k.state ∙ t.seen.1, t.seen.2);
                   owes = ap (λ (s : SeatState). s.owes) k.state ∙ rest.owes;
                 };
-            idle = (λ i. work_in_hand (ran-shape v w ran i).fields (k.state i)) ∙ rest.idle;
+            idle = (λ i. work_in_hand (ran-shape v w ran i).fields (k.state i)) ∙ rest.work;
             whole = ap (λ (s : SeatState). has_making s.cache) k.state;
-            register = ap (λ (s : SeatState). s.got) k.state ∙ rest.register;
+            register = ap (λ (s : SeatState). s.got) k.state ∙ eqb-true v.state.got 0 rest.register;
             counted = ap (λ (o : SectionState). length o.meaning.heap.objects) k.own ∙ (ap (λ (p : PlainHeap). length p.objects) f.heap ∙ (f.counted ∙ sym (ap (λ (s : SeatState). s.made) k.state)));
           };
       mutates = λ z shape state.
@@ -162,13 +136,6 @@ rooted h cache cell x y z t sits later d state own =
       cache = ap (λ (q : SeatState). q.cache) s;
     }
 
--- the phase is Idle, and the season the first one
-pub may-turn : (v : View) → Alone Idle v → v.state.section ≡ Some 0 → v.own.seasons ≡ 0 → May NextSeason v
-may-turn v l first none x i st a =
-    let phase = sym (single-word x.core.shape x.core.words 1 (omega arith)) ∙ (a.noted the_phase 0 l.phase).1 in
-    let season = st.told.seasons.moved ∙ (ap (λ (s : SectionState). s.seasons) (get_or_from_slice_get x.sections 0 v.own no_section (a.own 0 first)) ∙ none) in
-    (l.knows, (eq-eqb _ 0 phase, (lt-ltb _ 128 (omega (arith, season)), tt)))
-
 -- the season moved on, and the seat is alone still
 pub turned : (h : Heap) (x y : HeapSeat) → IsAloneInIdle h x → Sits h y → Took NextSeason (view_of x) (view_of y) → IsAloneInIdle h y
 turned h x y k sits took =
@@ -178,5 +145,5 @@ turned h x y k sits took =
       sits = sits;
       rest = record { knows = ap (λ (q : View). q.state.knows) e ∙ k.rest.knows; alone = ap (λ (q : View). q.state.alone) e ∙ k.rest.alone; rest = subst (λ (q : View). has_nothing q.shape q.state ≡ true) (sym e) k.rest.rest };
       unhelping = ap (λ (q : View). q.state.helping) e ∙ k.unhelping;
-      alone = subst (Alone Idle) (sym e) (alone-step Idle v NextSeason took.0 refl (record { found = λ s. took.1.1; stored = λ s. absurd (false≢true s) }) k.alone);
+      alone = alone-turn v (view_of y) took.0 took.1 k.alone;
     }

@@ -42,8 +42,7 @@ impl SharedMutator {
         }
     }
 
-    /// Leaves the world, if it is inside. A thread leaves before it waits for anything, since a collection waits
-    /// for it. What its variables refer to is kept.
+    /// Leaves the world, if it is inside. What its variables and slots refer to is kept.
     pub fn leave(&mut self)
         ensures left { SharerLeft self.old self.new }
         ensures world { arc_value self.new.heap ≡ arc_value self.old.heap }
@@ -58,8 +57,8 @@ impl SharedMutator {
         }
     }
 
-    /// A safe point, for each loop that runs long and makes nothing. If a collection is under way the mutator
-    /// helps.
+    /// A safe point: if a collection is under way the mutator helps. Refused if the mutator is outside, or the heap
+    /// is full: then it is outside afterwards.
     pub fn safe_point<R: Wait>(&mut self, rt: &R) -> Result<(), Refused>
         ensures passed { IfOk result (λ _. HasPassed self.old self.new) }
         ensures refused { IfErr result (λ e. StaysOut e self.old self.new) }
@@ -79,8 +78,8 @@ impl SharedMutator {
         }
     }
 
-    /// A precise collection: afterwards the cells in use are those of the objects that were reachable while the
-    /// world stood still.
+    /// A precise collection, and a safe point: afterwards the cells in use are those of the objects that were
+    /// reachable while the world stood still. Refused as a safe point is.
     pub fn collect<R: Wait>(&mut self, rt: &R) -> Result<(), Refused>
         ensures passed { IfOk result (λ _. HasPassed self.old self.new) }
         ensures collected { IfOk result (λ _. SharerCollected self.old self.new) }
@@ -102,7 +101,8 @@ impl SharedMutator {
     }
 
     /// Makes an object with this value, whose references refer to nothing, and lets variable v refer to it. It is a
-    /// safe point. The answer is the cell in which the object lies for as long as it is reachable.
+    /// safe point. The answer is the object's cell, as of [`place`](SharedMutator::place). Refused as a safe point is,
+    /// if v is out of range, or if the mutator is spent.
     pub fn make<R: Wait>(&mut self, rt: &R, v: u8, value: u32) -> Result<u32, Refused>
         ensures made { IfOk result (λ c. SharerDoes (MakesSharedAfter v value) (ops.New v value) self.old self.new) }
         ensures place { IfOk result (λ c. word_in (state_of self.new.seat) v ≡ c + 1) }
@@ -134,8 +134,7 @@ impl SharedMutator {
         }
     }
 
-    /// Variable w becomes the root. Nil says that nothing was found: only the run of the closed world excludes
-    /// that.
+    /// Variable w becomes the root. Nil says that nothing was found, which only the run of the closed world excludes.
     pub fn root(&mut self, w: u8) -> Result<(), Refused>
         ensures done { IfOk result (λ _. SharerDoes (LendsFound w 0) (ops.Cat w 0) self.old self.new) }
         ensures some { IfOk result (λ _. 0 < word_in (state_of self.new.seat) w) }
@@ -158,8 +157,7 @@ impl SharedMutator {
         }
     }
 
-    /// Reference i of variable v's object, whoever made it, becomes what variable w refers to. Nothing happens if v
-    /// refers to nothing.
+    /// Reference i of variable v's object becomes what variable w refers to. Nothing happens if v refers to nothing.
     pub fn set(&mut self, v: u8, i: u8, w: u8) -> Result<(), Refused>
         ensures done { IfOk result (λ _. SharerDoes (TakesSteps (setting_steps (state_of self.old.seat) v i w)) (ops.Set v i w) self.old self.new) }
         ensures refused { IfErr result (λ e. SharerRefused e (ops.Set v i w) self.old self.new) }
@@ -178,8 +176,7 @@ impl SharedMutator {
         }
     }
 
-    /// Variable w becomes what reference i of variable v's object is found to refer to, or refers to nothing if v
-    /// does.
+    /// Variable w becomes what reference i of variable v's object is found to refer to, or nil if v is.
     pub fn get(&mut self, w: u8, v: u8, i: u8) -> Result<(), Refused>
         ensures done { IfOk result (λ _. SharerDoes (FollowsField w v i) (ops.Get w v i) self.old self.new) }
         ensures refused { IfErr result (λ e. SharerRefused e (ops.Get w v i) self.old self.new) }
@@ -236,7 +233,7 @@ impl SharedMutator {
         }
     }
 
-    /// The value of variable v's object, whoever made it, becomes this one. Nothing happens if v refers to nothing.
+    /// The value of variable v's object becomes this one. Nothing happens if v refers to nothing.
     pub fn put(&mut self, v: u8, value: u32) -> Result<(), Refused>
         ensures done { IfOk result (λ _. SharerDoes (TakesSteps (putting_steps (state_of self.old.seat) v value)) (ops.Put v value) self.old self.new) }
         ensures refused { IfErr result (λ e. SharerRefused e (ops.Put v value) self.old self.new) }

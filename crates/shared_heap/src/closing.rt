@@ -23,6 +23,7 @@ impl Lent for SharedMutator {
         self.seat.number()
     }
 
+    #[tactic(auto, using(managed_heap::proofs::Runs::runs))]
     fn hand_in(self) -> HeapSeat {
         let mut mutator = self;
         mutator.leave();
@@ -66,9 +67,9 @@ impl Opened for SharedWorld {
 }
 
 impl SharedWorld {
-    /// Closes the world with all its mutators and tracers, each in the order of their numbers, and hands out what
-    /// its words say: the end of one run, in which nobody else took part ([`threads_run`](crate::threads_run)). If
-    /// one is missing, or there is no memory for the list of seats, all is handed back.
+    /// Closes the world with all its mutators and tracers, each in the order of their numbers, and hands out its
+    /// words: the end of one run, in which nobody else took part ([`threads_run`](crate::threads_run)). If one is
+    /// missing, or there is no memory for the list of seats, all is handed back.
     pub fn close(
         self,
         alloc: Global,

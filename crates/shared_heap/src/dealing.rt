@@ -1,6 +1,6 @@
 //! The seats of a new heap are dealt out, and a shared world is made of it.
 ghost use Rattle.std.specs.Arc.{arc_value};
-ghost use Rattle.std.specs.Prelude.{◌≡◌, ◌+◌, ◌<◌, ◌≤◌, IfErr, IfOk, IsTrue, vec_len};
+ghost use Rattle.std.specs.Prelude.{ℕ, ◌≡◌, ◌+◌, ◌<◌, ◌≤◌, IfErr, IfOk, IsTrue, vec_len};
 ghost use Rattle.gc_table.specs.Seats.{view_of};
 ghost use Rattle.seat_turns.specs.Standing.{RestsOutside};
 ghost use Rattle.seat_turns.specs.declared.refused.NotOpened.TheVariants.{OutOfMemory};
@@ -11,7 +11,6 @@ ghost use Rattle.managed_heap.specs.Sizing.{Fits};
 
 use crate::mutator::{Place, SharedMutator};
 use crate::opening::{open, open_turn};
-use crate::planning::RootPlan;
 use crate::world::SharedWorld;
 use gc_table::{Heap, HeapSeat};
 use managed_heap::{Sizes, deal_tracers, first_of};
@@ -22,13 +21,13 @@ use std::sync::Arc;
 fn mutator_of(
     heap: &Arc<Heap, Global>,
     seat: HeapSeat,
-    _k: u32,
     name: u32,
 ) -> Result<SharedMutator, AllocError>
-    requires seat { IsNewSeat (arc_value heap.now) _k seat }
-    requires section { (0 < _k) × (_k < (arc_value heap.now).shape.sections) }
+    ghost k: { ℕ }
+    requires seat { IsNewSeat (arc_value heap.now) k seat }
+    requires section { (0 < k) × (k < (arc_value heap.now).shape.sections) }
     requires shared { IsTrue (arc_value heap.now).shape.sharing }
-    ensures fresh { IfOk result (IsFreshSharer (arc_value heap.now) name _k) }
+    ensures fresh { IfOk result (IsFreshSharer (arc_value heap.now) name k) }
 {
     Ok(SharedMutator {
         heap: Arc::try_clone(heap)?,
@@ -38,7 +37,6 @@ fn mutator_of(
     })
 }
 
-/// Deals the next seats out to mutators.
 fn deal_mutators(
     alloc: Global,
     heap: &Arc<Heap, Global>,
@@ -47,7 +45,7 @@ fn deal_mutators(
 ) -> Result<Vec<SharedMutator>, AllocError>
     requires new { AreNew (arc_value heap.now) 1 seats.old.items }
     requires enough { sizes.mutators ≤ vec_len seats.old }
-    requires sections { ((arc_value heap.now).shape.sections ≡ 1 + sizes.mutators) × (sizes.mutators ≤ 32) }
+    requires sections { (arc_value heap.now).shape.sections ≡ 1 + sizes.mutators }
     requires shared { IsTrue (arc_value heap.now).shape.sharing }
     ensures fresh { IfOk result (λ r. AreFresh (arc_value heap.now) sizes.name 1 r.items) }
     ensures count { IfOk result (λ r. vec_len r ≡ sizes.mutators) }
@@ -55,9 +53,9 @@ fn deal_mutators(
     ensures left { IfOk result (λ _. vec_len seats.new + sizes.mutators ≡ vec_len seats.old) }
 {
     let mut all = Vec::new(alloc);
-    for at in 0..sizes.mutators {
+    for _at in 0..sizes.mutators {
         let seat = first_of(seats);
-        let mutator = mutator_of(heap, seat, 1 + at, sizes.name)?;
+        let mutator = mutator_of(heap, seat, sizes.name)?;
         all.push(mutator)?;
     }
     Ok(all)
@@ -83,15 +81,7 @@ fn share(
 {
     let heap = Arc::new(alloc, heap)?;
     let mutators = deal_mutators(alloc, &heap, sizes, seats)?;
-    let tracers = deal_tracers(
-        alloc,
-        &heap,
-        &RootPlan,
-        1 + sizes.mutators,
-        sizes.tracers,
-        sizes.name,
-        seats,
-    )?;
+    let tracers = deal_tracers(alloc, &heap, sizes, seats)?;
     Ok(SharedWorld {
         heap,
         zero,
@@ -101,7 +91,7 @@ fn share(
     })
 }
 
-/// A world of these sizes, which fit. Refused only if there is no memory.
+/// A world of these sizes.
 pub fn open_fitting(alloc: Global, sizes: Sizes) -> Result<SharedWorld, NotOpened>
     requires fits { Fits sizes }
     ensures opened { IfOk result (λ w. IsSharedOpened sizes w) }

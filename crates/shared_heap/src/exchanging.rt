@@ -13,8 +13,8 @@ use mutator_ops::{share_count, share_exchange};
 use seat_turns::{Refused, word_of};
 
 impl SharedMutator {
-    /// If reference i of variable v's object is variable `expected`, it becomes variable `new`. True if it was.
-    /// Either variable may be nil.
+    /// If reference i of variable v's object is variable `expected`, it becomes variable `new`: true if it was. Either
+    /// variable may be nil.
     pub fn exchange(&mut self, v: u8, i: u8, expected: u8, new: u8) -> Result<bool, Refused>
         ensures done { IfOk result (λ won. SharerActs (CanExchange self.old v i expected new) (ExchangesField v i expected new won) self.old self.new) }
         ensures refused { IfErr result (λ e. WantsObject e (CanExchange self.old v i expected new) v self.old self.new) }
@@ -36,8 +36,7 @@ impl SharedMutator {
         }
     }
 
-    /// If the value of variable v's object is the expected one, it becomes the new one. True if it was. So threads
-    /// count together, and take and free locks.
+    /// If the value of variable v's object is the expected one, it becomes the new one: true if it was.
     pub fn exchange_value(&mut self, v: u8, expected: u32, new: u32) -> Result<bool, Refused>
         ensures done { IfOk result (λ won. SharerActs (IsVariable v) (ExchangesValue v expected new won) self.old self.new) }
         ensures refused { IfErr result (λ e. WantsObject e (IsVariable v) v self.old self.new) }

@@ -6,7 +6,7 @@ use crate::mutator::{Place, SharedMutator};
 use seat_steps::{RestingSeat, Stepper};
 
 impl SharedMutator {
-    /// The mutator in steps, for a thread that may not wait. It is outside the world.
+    /// The mutator in steps, outside the world.
     pub fn into_steps(self) -> Stepper
         ensures steps { IsInSteps self result }
     {

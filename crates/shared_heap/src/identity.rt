@@ -13,8 +13,8 @@ use mark_core::VARIABLES;
 use seat_turns::{Refused, identity_shared, word_of};
 
 impl SharedMutator {
-    /// The cell of variable v's object, by no step: a number below the world's number of cells. It stays the
-    /// object's as long as that is reachable, and so may be the place of something beside the heap.
+    /// The cell of variable v's object, by no step: a number below the world's number of cells. It is the object's as
+    /// long as that is reachable, and so may be the place of something beside the heap.
     pub fn place(&self, v: u8) -> Result<u32, Refused>
         ensures place { IfOk result (λ c. word_in (state_of self.now.seat) v ≡ c + 1) }
         ensures inside { IfOk result (λ c. c < (arc_value self.now.heap).shape.cells) }
@@ -35,9 +35,9 @@ impl SharedMutator {
         }
     }
 
-    /// The number of variable v's object, which no other object of the world ever has, by one read: 4,294,967,296
-    /// times the number of the mutator that made it, counted from 1, plus how many that one had made before. It
-    /// serves as a hash by identity.
+    /// The number of variable v's object, by one read, which no other object of the world ever has, so that it serves
+    /// as a hash by identity: 4,294,967,296 times the number of the mutator that made it, counted from 1, plus how many
+    /// that one had made before.
     pub fn number(&mut self, v: u8) -> Result<u64, Refused>
         ensures number { IfOk result (λ n. SharerActs (IsVariable v) (Found (ReadIdent (word_in (state_of self.old.seat) v - 1)) n) self.old self.new) }
         ensures refused { IfErr result (λ e. WantsObject e (IsVariable v) v self.old self.new) }

@@ -17,8 +17,8 @@ use seat_turns::NotOpened;
 use std::alloc::Global;
 
 impl SharedWorld {
-    /// A world of these sizes with its root, an object with value 0 whose references refer to nothing. It is
-    /// refused if a size is out of its range, stops are asked for, or there is no memory.
+    /// A world of these sizes with its root, an object with value 0 whose references refer to nothing. Refused if a
+    /// size is out of its range, stops are asked for, or there is no memory.
     pub fn open(alloc: Global, sizes: Sizes) -> Result<SharedWorld, NotOpened>
         ensures opened { IfOk result (λ w. IsSharedOpened sizes w) }
         ensures refused { IfErr result (λ e. e ≡ OutOfRange → FitsShared sizes → ⊥) }

@@ -19,13 +19,7 @@
 //! plain heap explains that forgets nothing: `gc_table` proves this of every run. It is sequential
 //! consistency: what a thread learns of another outside the heap says nothing about that order.
 //!
-//! # Where things are
-//!
-//! `world` and `mutator` have the two types. `opening` makes a heap with its root, `dealing` deals its seats out to
-//! mutators and tracers, `lending` lends these and takes them back, as `tracing` does with the tracers, and
-//! `closing` closes the world. What a mutator does is in `calls`, `comparing`, `exchanging`, `slots` and
-//! `identity`. A mutator that doesn't wait is in `seat_steps`, a tracer in `seat_turns`; `handing` turns a mutator
-//! into such a one and back.
+//! Inside and outside, and what is final, are as in `managed_heap`.
 #![tactic(auto)]
 
 ghost use Rattle.shared_heap.specs.Counting.{CounterClosed, CounterRead, LockClosed};
@@ -56,42 +50,49 @@ pub use seat_steps::{Came, Stage, Stepper};
 pub use seat_turns::{NotOpened, Refused, Tracer, TryTurn, Turn};
 pub use world::SharedWorld;
 
-/// Whatever the threads of a closed world did is one run, in which each thread's steps come in their order and
-/// nobody else takes part. After each step the words agree with one plain heap that forgets nothing, each step
-/// found what this heap had, and no thread that asked for the root found nil.
+/// What the threads of a closed world did is one run: each thread's steps come in their order, and nobody else takes
+/// part. After each step the words agree with one plain heap that forgets nothing, each step found what this heap had,
+/// and no thread that asked for the root found nil.
+#[tactic(auto, using(crate::proofs::RootRead::reading))]
 pub fn threads_run()
     ensures { ThreadsRun }
 {}
 
-/// Whatever a mutator's call finds while the world is open is what one plain heap had at the moment of that step:
-/// the one that all events before it made, of which the mutator's log is its part.
+/// What a mutator's call finds while the world is open is what one plain heap had at the moment of that step: the one
+/// that all events before it made, of which the mutator's log is its part.
+#[tactic(auto, using(crate::proofs::Finding::finding))]
 pub fn calls_find()
     ensures { CallsFind }
 {}
 
 /// So [`value`](SharedMutator::value) answers the value that the object had in this heap.
+#[tactic(auto, using(crate::proofs::Finding::finding))]
 pub fn value_found()
     ensures { ValueFound }
 {}
 
 /// And what [`get`](SharedMutator::get) found is the reference that the object's field had in it.
+#[tactic(auto, using(crate::proofs::Finding::finding))]
 pub fn field_found()
     ensures { FieldFound }
 {}
 
 /// If the mutators of a closed world made no object, and changed values only by exchanges of a number for the next,
-/// the root's value at the end is the number of exchanges won, whatever the schedule.
+/// the root's value at the end is the number of exchanges won.
+#[tactic(auto, using(crate::proofs::Counting::counting))]
 pub fn counter_closed()
     ensures { CounterClosed }
 {}
 
 /// That is what [`root_value`] reads in the words of the closed world.
+#[tactic(auto, using(crate::proofs::RootRead::reading))]
 pub fn counter_read()
     ensures { CounterRead }
 {}
 
 /// If they made no object, and each exchanged a value only from 0 to 1 while it was outside and from 1 to 0 while
-/// it was inside, no two were inside at any moment, whatever the schedule.
+/// it was inside, no two were inside at any moment.
+#[tactic(auto, using(crate::proofs::Counting::counting))]
 pub fn lock_closed()
     ensures { LockClosed }
 {}

@@ -11,18 +11,17 @@ use std::sync::Arc;
 /// Where a mutator stands.
 #[derive(Clone, Copy, Debug, PartialEq, Eq, Drop)]
 pub enum Place {
-    /// Outside the world: a stop doesn't wait for it.
+    /// A stop doesn't wait for it.
     Outside,
-    /// In the world, at its turn.
+    /// It is at its turn.
     Inside,
 }
 
-/// What one thread acts on the shared objects with: 32 variables, 0 to 31, which are its roots. It begins outside
-/// the world. It has to leave, or to be given back, before it is dropped: a stop waits for each that is inside.
+/// A mutator, for one thread at a time, with 32 variables, 0 to 31, which are its roots. It begins outside the world.
+/// It has to leave, or to be given back, before it is dropped: a stop waits for each that is inside.
 #[derive(Drop)]
 pub struct SharedMutator {
     pub(crate) heap: Arc<Heap, Global>,
-    /// The seat of its section, which has its variables.
     pub(crate) seat: HeapSeat,
     pub(crate) place: Place,
     pub(crate) name: u32,

@@ -1,5 +1,5 @@
 //! A heap with its seats, the root, and the mutators' turn. Nothing waits: in a new heap nobody is inside.
-ghost use Rattle.std.specs.Prelude.{◌≡◌, ◌+◌, ◌<◌, ◌∷◌, IfOk, IsTrue, Some, slice_get, vec_len};
+ghost use Rattle.std.specs.Prelude.{◌≡◌, ◌+◌, ◌<◌, IfOk, IsTrue, Some, slice_get, vec_len};
 ghost use Rattle.std.specs.Bool.{OnTrue};
 ghost use Rattle.mark_core.specs.Shapes.{IsShape};
 ghost use Rattle.gc_table.specs.Seats.{Across, view_of};
@@ -65,7 +65,6 @@ pub fn open(alloc: Global, sizes: &Sizes) -> Result<(Heap, Vec<HeapSeat>), NotOp
     }
 }
 
-/// Goes in at the turn of section 0. False if the heap isn't new.
 fn goes_in(heap: &Heap, seat: &mut HeapSeat) -> bool
     requires new { IsNewSeat heap.now 0 seat.old × (0 < heap.now.shape.sections) }
     ensures turn { OnTrue result (IsAtFirstTurn heap.now seat.new) }
@@ -97,7 +96,6 @@ fn makes_in(heap: &Heap, seat: &mut HeapSeat, cache: Cache) -> bool
     }
 }
 
-/// Makes the root in variable 0 of section 0. False if no cell is free.
 fn makes_root(heap: &Heap, seat: &mut HeapSeat) -> bool
     requires turn { IsAtFirstTurn heap.now seat.old }
     requires shared { IsTrue heap.now.shape.sharing }
@@ -111,7 +109,7 @@ fn makes_root(heap: &Heap, seat: &mut HeapSeat) -> bool
     }
 }
 
-/// Stops the world, by one look. True if no cycle is under way.
+/// Stops the world, by one look.
 fn stops(heap: &Heap, seat: &mut HeapSeat) -> bool
     requires root { HasRoot heap.now seat.old }
     ensures stops { OnTrue result (StopsWithRoot heap.now seat.new) }
@@ -126,15 +124,6 @@ fn stops(heap: &Heap, seat: &mut HeapSeat) -> bool
     }
 }
 
-fn turn(heap: &Heap, seat: &mut HeapSeat)
-    requires { StopsWithRoot heap.now seat.old }
-    ensures alone { IsAloneInIdle heap.now seat.new }
-    ensures season { (view_of seat.new).own.seasons ≡ 1 }
-    ensures spares { Across Spares seat.old seat.new }
-{
-    heap.next_season(seat);
-}
-
 fn goes_on(heap: &Heap, seat: &mut HeapSeat)
     requires { IsAloneInIdle heap.now seat.old }
     ensures rests { RestsOutside heap.now seat.new }
@@ -145,8 +134,8 @@ fn goes_on(heap: &Heap, seat: &mut HeapSeat)
     leave(heap, seat);
 }
 
-/// Makes the root and opens the mutators' turn with the seat of section 0. False if another seat is at work, which
-/// is not so in a new heap.
+/// Makes the root and opens the mutators' turn with the seat of section 0. False if another seat is at work, as none
+/// is in a new heap.
 pub fn open_turn(heap: &Heap, seat: &mut HeapSeat) -> bool
     requires new { IsNewSeat heap.now 0 seat.old × (0 < heap.now.shape.sections) }
     requires shared { IsTrue heap.now.shape.sharing }
@@ -158,7 +147,7 @@ pub fn open_turn(heap: &Heap, seat: &mut HeapSeat) -> bool
     if !goes_in(heap, seat) || !makes_root(heap, seat) || !stops(heap, seat) {
         return false;
     }
-    turn(heap, seat);
+    heap.next_season(seat);
     goes_on(heap, seat);
     true
 }

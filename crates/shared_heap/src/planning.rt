@@ -1,8 +1,8 @@
-//! What section 0 of a shared world does.
+//! What section 0 of a shared world does: it makes the root.
 
 use plain_heap::Plan;
 
-/// The plan of section 0, which makes the root.
+/// The plan of section 0.
 #[derive(Clone, Copy, Debug)]
 pub struct RootPlan;
 

@@ -52,8 +52,8 @@ impl SharedWorld {
         tell_dismissed(rt, &self.heap, &mut self.zero);
     }
 
-    /// [`dismiss_tracers`](SharedWorld::dismiss_tracers) without waiting. False if a stop is under way: then it is
-    /// to be called again. A tracer that sleeps isn't woken.
+    /// [`dismiss_tracers`](SharedWorld::dismiss_tracers) without waiting: false if a stop is under way. A tracer that
+    /// sleeps isn't woken.
     pub fn try_dismiss_tracers(&mut self) -> bool
         ensures dismisses { OnTrue result (Across Dismisses self.old.zero self.new.zero) }
         ensures turns { OnFalse result (Across TurnsBack self.old.zero self.new.zero) }
@@ -70,8 +70,7 @@ impl SharedWorld {
             && self.tracers.len() == self.sizes.tracers as usize
     }
 
-    /// Frees the heap, and hands out no words. The world is handed back exactly if a mutator or a tracer isn't
-    /// back.
+    /// Frees the heap, and hands out no words. The world is handed back exactly if a mutator or a tracer isn't back.
     pub fn free(self) -> Result<(), SharedWorld>
         ensures freed { OnOk result (AreAllBack self) }
         ensures refused { IfErr result (λ world. (world ≡ self) × (AreAllBack self → ⊥)) }

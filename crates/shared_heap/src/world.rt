@@ -17,10 +17,9 @@ pub struct SharedWorld {
     pub(crate) heap: Arc<Heap, Global>,
     /// The seat of section 0, which has the root in its variable 0. From then on it reads and tells.
     pub(crate) zero: HeapSeat,
-    /// The mutators that nobody has taken, with room for all.
+    /// Those that nobody has taken, with room for all.
     pub(crate) mutators: Vec<SharedMutator>,
     pub(crate) tracers: Vec<Tracer>,
-    /// The sizes that it was opened with.
     pub(crate) sizes: Sizes,
     ghost rests: { RestsOutside (arc_value heap) zero },
     ghost first: { IsRootSeat (arc_value heap) zero },

@@ -38,14 +38,6 @@ pub fn stops_idle<R: Wait>(rt: &R, heap: &Heap, seat: &mut HeapSeat, k: u32) -> 
     }
 }
 
-fn turn(heap: &Heap, seat: &mut HeapSeat)
-    requires { New heap.now stopped 0 seat.old × (0 < heap.now.shape.sections) × Alone Idle (view_of seat.old) }
-    ensures stopped { At heap.now stopped 0 seat.new × Alone Idle (view_of seat.new) }
-    ensures meaning { (view_of seat.new).own.meaning ≡ (view_of seat.old).own.meaning }
-{
-    heap.next_season(seat);
-}
-
 /// The world goes on without the seat.
 pub fn goes_on(heap: &Heap, seat: &mut HeapSeat, k: u32)
     requires { At heap.now stopped k seat.old × Alone Idle (view_of seat.old) }
@@ -65,7 +57,7 @@ pub fn next_turn<R: Wait>(rt: &R, heap: &Heap, seat: &mut HeapSeat) -> bool
     if !raises_own(heap, seat, 0) || !stops_idle(rt, heap, seat, 0) {
         return false;
     }
-    turn(heap, seat);
+    heap.next_season(seat);
     goes_on(heap, seat, 0);
     true
 }

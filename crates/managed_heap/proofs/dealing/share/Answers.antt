@@ -12,7 +12,7 @@ deal_mutators-requires-clause-new c = subst (λ (h : Heap). AreNew h 1 c.args.se
 pub deal_mutators-requires-clause-sections : goal.deal_mutators-requires-clause-sections
 deal_mutators-requires-clause-sections c =
     let shape : (arc_value c.in_ok-heap.heap).shape ≡ shape_for c.args.sizes = ap (λ (h : Heap). h.shape) c.in_ok-heap.ensures.ok ∙ c.requires.shape in
-    (ap (λ (sh : Shape). sh.sections) shape, c.requires.fits.mutators.1)
+    ap (λ (sh : Shape). sh.sections) shape
 
 pub deal_mutators-requires-clause-owned : goal.deal_mutators-requires-clause-owned
 deal_mutators-requires-clause-owned c = ap (λ (h : Heap). h.shape.sharing) c.in_ok-heap.ensures.ok ∙ ap (λ (sh : Shape). sh.sharing) c.requires.shape

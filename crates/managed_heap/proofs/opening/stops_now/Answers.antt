@@ -1,5 +1,5 @@
 use Rattle.gc_table.specs.Seats.{view_of}
-use Rattle.managed_heap.proofs.Turning.{ran-looking}
+use Rattle.managed_heap.proofs.Runs.{ran-looking}
 use Rattle.managed_heap.proofs.opening.stops_now.Goals as goal
 
 pub returns-in-Idle-clause-ran : goal.returns-in-Idle-clause-ran

@@ -1,5 +1,5 @@
 use Rattle.gc_table.specs.Seats.{view_of}
-use Rattle.test_heaps.proofs.Turning.{keeps-watching}
+use Rattle.test_heaps.proofs.FirstSeason.{keeps-watching}
 use Rattle.test_heaps.proofs.seasons.stops_idle.Goals as goal
 
 pub returns-in-Some-Idle-clause-keeps : goal.returns-in-Some-Idle-clause-keeps
