@@ -1,8 +1,8 @@
 //! What the structures do with a mutator that is inside.
 //!
-//! The variables are in range, and objects have as many references as are used, so most of it can't be refused.
-//! Each call says that it changed no object, and that the mutator's log still tells what variable `SEEN` refers to:
-//! by this an exchange that expects it says whether it was won.
+//! Variables and fields are in range, so most of it can't be refused. Each call says that it changed no object, and
+//! that the mutator's log still tells what variable `SEEN` refers to: by this an exchange that expects it says whether
+//! it was won.
 ghost use Rattle.std.specs.Arc.{arc_value};
 ghost use Rattle.std.specs.Prelude.{◌≡◌, ℕ, ◌<◌, ◌≢◌, IfErr, IfOk, IsFalse, IsTrue};
 ghost use Rattle.mark_core.specs.Steps.MutatorSteps.{seat_variable as word_in};
@@ -95,7 +95,6 @@ pub(crate) fn pass<R: Wait>(rt: &R, m: &mut SharedMutator) -> Result<(), Refused
     m.safe_point(rt)
 }
 
-/// The value of variable v's object.
 pub(crate) fn value(m: &mut SharedMutator, v: u8) -> Result<u64, Refused>
     requires inside { m.old.place ≡ Inside }
     requires range { v < 32 }

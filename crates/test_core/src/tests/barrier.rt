@@ -1,5 +1,4 @@
-//! A mutator stores a reference in an object, and then dirties the object's card, unless nobody else can know the
-//! object.
+//! A store in an object dirties the object's card, unless nobody else can know the object.
 ghost use Rattle.std.specs.Prelude.{◌≡◌, ◌<◌, is_none, true};
 ghost use Rattle.std.specs.Bool.{OnTrue};
 ghost use Rattle.gc_table.specs.Seats.{state_of};
@@ -25,8 +24,7 @@ fn may_link(shape: &Shape, seat: &HeapSeat, v: u8, i: u8, w: u8) -> bool
         && (s.owes.is_none() && !s.spent && !shape.sharing)
 }
 
-/// Stores variable w in field i of variable 0's object: true if the seat owed no card, and has read that marking is
-/// under way.
+/// Stores variable w in field i of variable 0's object, if the seat owes no card.
 fn link(heap: &Heap, seat: &mut HeapSeat, i: u8, w: u8) -> bool
     requires { Ready heap.now seat.old × SeatHasOwn seat.old 0 }
     ensures { Ready heap.now seat.new × SeatHasOwn seat.new 0 }
@@ -46,7 +44,7 @@ fn owed(seat: &HeapSeat) -> Option<u32>
     seat.state().owes
 }
 
-/// Dirties the card that the seat owes: true if it owed one, and owes none now.
+/// Dirties the card that the seat owes, if any.
 fn dirty_owed(heap: &Heap, seat: &mut HeapSeat) -> bool
     requires { Ready heap.now seat.old × SeatHasOwn seat.old 0 }
     ensures ready { Ready heap.now seat.new × SeatHasOwn seat.new 0 }
@@ -74,7 +72,7 @@ fn is_dirty(heap: &Heap, seat: &mut HeapSeat) -> Option<bool>
     }
 }
 
-/// The whole barrier: the field is stored, then its card is dirtied.
+/// The whole barrier.
 fn store(heap: &Heap, seat: &mut HeapSeat, i: u8, w: u8) -> bool
     requires { Ready heap.now seat.old × SeatHasOwn seat.old 0 }
     ensures ready { Ready heap.now seat.new × SeatHasOwn seat.new 0 }
@@ -83,7 +81,6 @@ fn store(heap: &Heap, seat: &mut HeapSeat, i: u8, w: u8) -> bool
     link(heap, seat, i, w) && dirty_owed(heap, seat)
 }
 
-/// An object that isn't published owes no card.
 fn links_new(heap: &Heap, seat: &mut HeapSeat) -> bool
     requires { Ready heap.now seat.old × SeatHasOwn seat.old 0 }
     ensures { Ready heap.now seat.new × SeatHasOwn seat.new 0 }
@@ -91,7 +88,6 @@ fn links_new(heap: &Heap, seat: &mut HeapSeat) -> bool
     link(heap, seat, 0, 1) && owed(seat).is_none() && is_dirty(heap, seat) == Some(false)
 }
 
-/// Publishes the two cells.
 fn publish_both(heap: &Heap, seat: &mut HeapSeat) -> bool
     requires { Ready heap.now seat.old × SeatHasOwn seat.old 0 }
     ensures { Ready heap.now seat.new × SeatHasOwn seat.new 0 }
@@ -110,7 +106,6 @@ fn links_published(heap: &Heap, seat: &mut HeapSeat) -> bool
         && is_dirty(heap, seat) == Some(true)
 }
 
-/// The barrier before and after two cells are published: what each store owes, and when a card is dirty.
 fn links(heap: &Heap, seat: &mut HeapSeat) -> bool
     requires { Ready heap.now seat.old × SeatHasOwn seat.old 0 }
     ensures { Ready heap.now seat.new }

@@ -14,7 +14,6 @@ use std::alloc::Global;
 use std::sync::Wait;
 use test_heaps::{SMALL, has_making};
 
-/// Makes cells 0 to 63, each with its number as its value, and stores each in variable 0.
 fn fill(heap: &Heap, seat: &mut HeapSeat) -> bool
     requires { Ready heap.now seat.old }
     ensures { OnTrue result (Ready heap.now seat.new) }
@@ -27,8 +26,7 @@ fn fill(heap: &Heap, seat: &mut HeapSeat) -> bool
     true
 }
 
-/// Publishes the cells that the seat made, and answers the allocation bits before; nothing if it has no block, owes
-/// a card, or has a cell half made.
+/// Publishes the cells that the seat made, and answers the allocation bits before.
 pub fn publish(heap: &Heap, seat: &mut HeapSeat) -> Option<u64>
     requires ready { Ready heap.now seat.old }
     ensures ready { Ready heap.now seat.new }
@@ -41,7 +39,7 @@ pub fn publish(heap: &Heap, seat: &mut HeapSeat) -> Option<u64>
     }
 }
 
-/// The first block is claimed and read.
+/// Claims and reads the first block.
 pub fn take_block(heap: &Heap, seat: &mut HeapSeat, bits: u64) -> bool
     requires { Ready heap.now seat.old }
     ensures { Ready heap.now seat.new }

@@ -1,7 +1,5 @@
-//! Threads that run side by side: a gate holds sections in their first command until other threads came so far.
-//!
-//! A play that starts no tracer, or plays its workers one after another, would not come out of such a gate before
-//! it gives up.
+//! Threads run side by side: a gate holds sections in their first command until others came so far, and would give up
+//! if they were played one after another.
 use crate::tests::signal::Signal;
 use gc_play::{Gate, play};
 use gc_script::{Section, read};
@@ -12,7 +10,7 @@ use std::sync::atomic::AtomicU64;
 use std::sync::atomic::Ordering::SeqCst;
 use std::thread::Threads;
 
-/// Holds sections in their first command, until commands of others were passed, and a tracer's seat has had a turn.
+/// Holds sections, until commands of others were passed, and a tracer's seat has had a turn.
 #[derive(Drop)]
 struct Holding<'a, R: Wait + Sync> {
     rt: &'a R,
@@ -69,7 +67,7 @@ new a 3
 say a a
 ";
 
-/// A script, how many commands it has, the workers, which sections are held, for which commands, and for how many
+/// A script, how many commands it has, the workers, the held sections, for which commands they wait, and for how many
 /// turns of the tracer.
 type Row = (
     &'static [u8],
@@ -90,7 +88,7 @@ const ROWS: [Row; 4] = [
     (THREE, 6, 3, &[1, 2, 3], &[(1, 0), (2, 0), (3, 0)], 1),
 ];
 
-/// Whether the script is played so, and nothing waited for was given up.
+/// Whether all was played, and nothing waited for was given up.
 fn meets<R: AllocGlobal + Threads + Wait + Sync>(rt: &R, row: &Row) -> Option<bool> {
     let (script, commands, workers, held, awaited, turns) = *row;
     if workers < 1 || 32 < workers {

@@ -11,7 +11,7 @@ pub const NOTHING: u32 = 0;
 /// What a field has in which nothing was stored.
 pub const NEVER: u32 = 4_294_967_295;
 
-/// A field of the object that stands for this, as one number.
+/// A field, as one number.
 fn field_of(object: u32, i: u8) -> u32 {
     object.wrapping_mul(FIELDS).wrapping_add(u32::from(i))
 }
@@ -19,21 +19,20 @@ fn field_of(object: u32, i: u8) -> u32 {
 /// A field, and what it was found or made to have.
 pub type Entry = (u32, u32);
 
-/// What one thread did.
 #[derive(Drop)]
 pub struct Log {
-    /// Its stores and its reads, and what it found at the end.
+    /// Its stores, its reads, and what it found at the end.
     pub stores: Vec<Entry>,
     pub reads: Vec<Entry>,
     pub ends: Vec<Entry>,
     /// What it stored in each field last.
     pub last: Vec<u32>,
-    /// What its exchanges of the root's fields leave there: what came and what went.
+    /// What its exchanges of the root's fields leave there: all that came, less what went.
     pub left: [u32; 3],
 }
 
 impl Log {
-    /// A log of nothing, with objects that stand for less than a number.
+    /// An empty log, for objects that stand for less than a number.
     pub fn new(alloc: Global, objects: u32) -> Option<Log> {
         let mut last = Vec::new(alloc);
         for _ in 0..objects.wrapping_mul(FIELDS) {
@@ -48,7 +47,7 @@ impl Log {
         })
     }
 
-    /// Begins anew.
+    /// Empties it.
     pub fn clear(&mut self) {
         self.stores.clear();
         self.reads.clear();

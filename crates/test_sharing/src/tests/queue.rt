@@ -1,4 +1,4 @@
-//! Four threads that put into one queue and take out of it.
+//! Four threads put into one queue and take out of it.
 
 use super::crew::{FOUND, MADE, ROOT, SHARED, Tally, Worker, come, gather, hire, trace};
 use example_structures::SharedQueue;
@@ -27,14 +27,13 @@ pub fn make_queue<R: Wait>(
     Ok(())
 }
 
-/// The least number of each thread that may come next: its numbers go in steps of four.
+/// A thread's numbers go in steps of four.
 #[derive(Drop)]
 pub struct Next {
     least: [u64; 4],
 }
 
 impl Next {
-    /// Nothing came yet.
     pub fn new() -> Next {
         Next { least: [0; 4] }
     }
@@ -52,7 +51,7 @@ impl Next {
     }
 }
 
-/// Puts in an object with this number as its value.
+/// Puts in a number, and an object with it as its value.
 pub fn give<R: Wait>(
     rt: &R,
     m: &mut SharedMutator,
@@ -64,7 +63,7 @@ pub fn give<R: Wait>(
     m.forget(MADE)
 }
 
-/// Takes one out, if any: its object has the number that came with it, behind its thread's earlier ones.
+/// Takes one out, if any, with its own object, behind its thread's earlier ones.
 pub fn take<R: Wait>(
     rt: &R,
     m: &mut SharedMutator,
@@ -82,8 +81,8 @@ pub fn take<R: Wait>(
     Ok(true)
 }
 
-/// What thread k does: it puts some in and takes as many out, again and again. There is always one to take, since
-/// no thread has taken more than it put in.
+/// Puts some in and takes as many out, again and again. There is always one to take: no thread has taken more than it
+/// put in.
 fn trades<R: Wait>(
     rt: &R,
     m: &mut SharedMutator,
@@ -127,8 +126,7 @@ fn trade_all<R: Threads + Wait + Sync>(
     world.dismiss_tracers(rt);
 }
 
-/// What four threads take out of a queue, with a tracer, in a heap of so many cells, and how many objects they
-/// made.
+/// What four threads take out of a queue, and how many objects they made.
 fn plays<R: Threads + Wait + Sync>(rt: &R, alloc: Global, cells: u32) -> Option<(Tally, u64)> {
     let sizes = SharedSizes::of_cells(cells)
         .fields(2)

@@ -28,7 +28,7 @@ pub enum Kind {
     Number,
     /// A script.
     Script,
-    /// A script whose first warehouse is played on a heap that forgets nothing.
+    /// A script, whose first warehouse is played.
     Heap,
     /// The size of a generated script, and a line of it.
     Generated,
@@ -38,9 +38,9 @@ pub enum Kind {
     Batch,
     /// A number of jobs of no bytes, and what comes behind them.
     Long,
-    /// The length of the dump of one object, and its bytes that are changed.
+    /// The length of the dump of one object, and its changed bytes.
     Dump,
-    /// A schedule, in which `; ` ends a line as a line's end does.
+    /// A schedule. In it `; ` ends a line, too.
     Schedule,
 }
 
