@@ -1,5 +1,6 @@
-//! Objects and their values, summed up.
+//! What was seen of objects.
 
+/// How many objects were seen, and the sum of their values.
 #[derive(Clone, Copy, Drop)]
 pub struct Seen {
     pub objects: u64,

@@ -94,7 +94,7 @@ impl OperationWork {
     }
 }
 
-/// What a heap holds when the world is stopped.
+/// What a heap holds when the world stops.
 #[derive(Clone, Copy, Drop)]
 pub enum Content {
     /// Nothing.

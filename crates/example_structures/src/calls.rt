@@ -95,6 +95,7 @@ pub(crate) fn pass<R: Wait>(rt: &R, m: &mut SharedMutator) -> Result<(), Refused
     m.safe_point(rt)
 }
 
+/// The value of variable v's object.
 pub(crate) fn value(m: &mut SharedMutator, v: u8) -> Result<u64, Refused>
     requires inside { m.old.place ≡ Inside }
     requires range { v < 32 }
@@ -116,7 +117,7 @@ pub(crate) fn is_nil(m: &SharedMutator, v: u8) -> bool
     m.is_nil(v).unwrap_or(true)
 }
 
-/// Whether variables v and w refer to one object, or both to nothing.
+/// Whether both refer to one object, or to nothing.
 pub(crate) fn same(m: &SharedMutator, v: u8, w: u8) -> bool
     requires inside { m.now.place ≡ Inside }
     requires range { (v < 32) × (w < 32) }
@@ -126,7 +127,7 @@ pub(crate) fn same(m: &SharedMutator, v: u8, w: u8) -> bool
     m.same(v, w).unwrap_or(true)
 }
 
-/// Reference i of variable v's object, made in this call, becomes what variable `OWN` refers to.
+/// Reference i of an object made in this call becomes what variable `OWN` refers to.
 pub(crate) fn lay(m: &mut SharedMutator, v: u8, i: u8)
     requires inside { m.old.place ≡ Inside }
     requires range { (v < 32) × (i < field_count_of m.old) }

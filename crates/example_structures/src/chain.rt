@@ -63,7 +63,7 @@ pub(crate) fn seek<R: Wait>(rt: &R, m: &mut SharedMutator, key: u32) -> Result<(
     Ok(())
 }
 
-/// Whether what was found is what is expected, if any is.
+/// Whether what is expected was found, if any is.
 pub(crate) fn is_expected(m: &SharedMutator, expected: Option<u8>) -> bool
     requires inside { m.now.place ≡ Inside }
     requires range { IfSome expected (λ v. v < 32) }

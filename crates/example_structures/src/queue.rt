@@ -39,10 +39,9 @@ const BEHIND: u8 = 23;
 
 const OBJECT: u8 = 24;
 
-/// What one look at the queue came to.
 #[derive(Drop)]
 enum Look {
-    /// The first was taken, with this number.
+    /// The first was taken, with its number.
     Taken(u64),
     /// There was none.
     Empty,
@@ -161,7 +160,6 @@ impl SharedQueue {
         Ok(won)
     }
 
-    /// Whether the one exchange was won. Nil if no last node was found.
     fn come_behind(self, m: &mut SharedMutator) -> Result<bool, Refused>
         requires inside { m.old.place ≡ Inside }
         requires wide { 2 ≤ field_count_of m.old }
@@ -258,7 +256,7 @@ impl SharedQueue {
         Ok(Look::Again)
     }
 
-    /// The node behind the first becomes the first, and lets go of its object.
+    /// The node behind the first becomes the first, if no other is faster, and lets go of its object.
     fn try_take(self, m: &mut SharedMutator, item: u8) -> Result<Look, Refused>
         requires inside { m.old.place ≡ Inside }
         requires wide { IsFor item 2 m.old }

@@ -31,7 +31,6 @@ fn key_of(drawn: u32, asked: Asked, k: u32) -> u32 {
     ((drawn >> 12) % keys).wrapping_mul(threads).wrapping_add(k)
 }
 
-/// The number drawn says what is done.
 fn act<R: Wait>(
     rt: &R,
     m: &mut SharedMutator,

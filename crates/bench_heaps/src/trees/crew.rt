@@ -7,6 +7,7 @@ use crate::trees::words::Asked;
 use managed_heap::{Sizes, Tracer, World};
 use std::alloc::{AllocError, Global};
 
+/// All mutators and tracers of a world.
 #[derive(Drop)]
 pub struct Crew {
     pub workers: Vec<Worker>,
@@ -38,7 +39,6 @@ fn hire_tracers(alloc: Global, world: &mut World) -> Result<Vec<Tracer>, AllocEr
     Ok(tracers)
 }
 
-/// Opens a world, with two references an object.
 fn open(alloc: Global, asked: &Asked) -> Result<World, AllocError>
     ensures waits { IfOk result (λ world. All WorkerWaits world.mutators.items) }
     ensures count { IfOk result (λ world. vec_len world.mutators ≡ asked.now.workers) }
@@ -65,7 +65,7 @@ pub fn prepare(alloc: Global, asked: &Asked) -> Result<(World, Crew), AllocError
     Ok((world, Crew { workers, tracers }))
 }
 
-/// None if one isn't the world's.
+/// Gives all back and closes the world. None if one isn't the world's.
 pub fn close(world: World, crew: Crew) -> Option<()> {
     let mut world = world;
     let Crew { workers, tracers } = crew;

@@ -37,7 +37,6 @@ fn play_one<R: Threads + Wait + Sync>(rt: &R, worker: &mut Worker, asked: &Asked
     worker.came = play(rt, &mut worker.mutator, asked, at);
 }
 
-/// Each worker in a thread of its own.
 fn play_all<R: Threads + Wait + Sync>(rt: &R, workers: &mut Vec<Worker>, asked: &Asked)
     requires range { AreWordsInRange asked.now }
     requires some { (0 < vec_len workers.old) × (vec_len workers.old ≡ asked.now.workers) }
@@ -111,7 +110,6 @@ fn work_to_end<R: Threads + Wait + Sync>(
     came
 }
 
-/// Until the tracers are dismissed or the heap is full.
 fn trace_all<R: Threads + Wait + Sync>(rt: &R, tracers: &mut Vec<Tracer>) {
     let threads = tracers.len();
     if threads > 0 {

@@ -17,7 +17,7 @@ pub const DEPTHS: u32 = 5;
 /// The nodes counted of the short-lived trees, by depth.
 pub type Checks = [u64; 5];
 
-/// 4, 6, 8, 10 and 12.
+/// The depth of short-lived trees with this number: 4, 6, 8, 10 or 12.
 pub fn depth_at(i: u32) -> u32
     requires { i < 5 }
     ensures { result ≡ depth_at i }
@@ -131,7 +131,7 @@ pub fn stretch<R: Wait>(rt: &R, m: &mut Mutator, depth: u8) -> Result<u64, Halt>
     came
 }
 
-/// It makes the kept tree, in variable 0, which stays reachable while its maker is outside.
+/// Then it makes the kept tree, in variable 0, which stays reachable while its maker is outside.
 pub fn keep<R: Wait>(rt: &R, m: &mut Mutator, depth: u8) -> Result<(), Halt>
     requires few { depth ≤ 13 }
     requires waits { WorkerWaits m.old }
@@ -144,7 +144,7 @@ pub fn keep<R: Wait>(rt: &R, m: &mut Mutator, depth: u8) -> Result<(), Halt>
     came
 }
 
-/// It counts the kept tree.
+/// At the end it counts the kept tree.
 pub fn count_kept<R: Wait>(rt: &R, m: &mut Mutator, depth: u8) -> Result<u64, Halt>
     requires few { depth ≤ 13 }
     requires waits { WorkerWaits m.old }

@@ -10,7 +10,6 @@ use std::sync::atomic::AtomicU64;
 use std::sync::atomic::Ordering::SeqCst;
 use std::thread::Threads;
 
-/// Holds sections, until commands of others were passed, and a tracer's seat has had a turn.
 #[derive(Drop)]
 struct Holding<'a, R: Wait + Sync> {
     rt: &'a R,
@@ -67,8 +66,8 @@ new a 3
 say a a
 ";
 
-/// A script, how many commands it has, the workers, the held sections, for which commands they wait, and for how many
-/// turns of the tracer.
+/// A script, its commands, the workers, the held sections, and for which commands and how many turns of the tracer they
+/// wait.
 type Row = (
     &'static [u8],
     u64,
@@ -82,9 +81,7 @@ const ROWS: [Row; 4] = [
     // Section 1 waits for the last command of section 2, and the other way round.
     (TWO, 6, 2, &[1], &[(2, 2)], 0),
     (TWO, 6, 2, &[2], &[(1, 2)], 0),
-    // Section 1 waits for the tracer.
     (TWO, 6, 1, &[1], &[], 1),
-    // All wait for each other and for the tracer.
     (THREE, 6, 3, &[1, 2, 3], &[(1, 0), (2, 0), (3, 0)], 1),
 ];
 

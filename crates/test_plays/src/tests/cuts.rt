@@ -2,7 +2,6 @@
 use crate::tests::written::all_hold;
 use std::alloc::Global;
 
-/// A warehouse stores into a catalogue's object, and refers to it.
 const WHOLE: &str = "gcscript 1
 catalogue
 new item 40
@@ -17,8 +16,8 @@ get j o 2
 say b j
 ";
 
-/// The first and the last cut, and the fault or the text that is written then. Line 3 may end in another number, line 5
-/// in a name that the catalogue doesn't have.
+/// The first and the last cut, and what is written then. Line 3 may end in another number, line 5 in a name that the
+/// catalogue doesn't have.
 const CUTS: &str = "$ 0 9; 2 BadHeader
 $ 10 11; survivors 0
 $ 12 19; 3 BadLine line 2

@@ -104,7 +104,6 @@ fn census_of(alloc: Global, graph: &Graph) -> Result<String, AllocError> {
     Ok(text)
 }
 
-/// Whether the words with this source write this text.
 fn writes<R: AllocGlobal + Threads + Wait + Sync>(
     rt: &R,
     words: &str,
@@ -137,7 +136,6 @@ const OPTIONS: &str = "
 --cells=256 --workers=32 --tracers=8 --packets=2 --entries=2
 ";
 
-/// Whether the three commands write what the heaps say.
 fn is_dumped<R: AllocGlobal + Threads + Wait + Sync>(rt: &R, source: &[u8]) -> Option<bool> {
     let alloc = rt.alloc();
     let graph = graph_of(alloc, &read(alloc, source).ok()?)?;
@@ -237,7 +235,6 @@ const LOADS: &str = "
 --cells=256 --packets=2 --entries=2
 ";
 
-/// Whether a load writes what the heaps say.
 fn loads<R: AllocGlobal + Threads + Wait + Sync>(rt: &R) -> Option<bool> {
     let alloc = rt.alloc();
     let generated = generate(alloc, 7, 20_000).ok()?;

@@ -6,8 +6,8 @@ use gc_script::{Script, Section};
 use plain_heap::{Op, PlainHeap, Ref};
 use std::alloc::{AllocError, Global};
 
-/// The places of what its fields refer to; and, if it is reached, the least number of references to it from a variable,
-/// and its place among the reached.
+/// With the places of what its fields refer to and, if it is reached, the least number of references to it from a
+/// variable and its place among the reached.
 #[derive(Drop)]
 pub struct Node {
     pub section: u32,
@@ -18,8 +18,7 @@ pub struct Node {
     pub record: u32,
 }
 
-/// The objects of all sections, how many are reached, and the places of what the variables refer to: 0, or an object's
-/// place and 1.
+/// The objects of all sections, how many are reached, and what the variables refer to: 0, or an object's place and 1.
 #[derive(Drop)]
 pub struct Graph {
     pub fields: u32,
@@ -55,7 +54,6 @@ fn step_once(heap: &mut PlainHeap, cat: Option<&PlainHeap>, op: Op) -> Option<()
     Some(())
 }
 
-/// The heap of a section, or of the catalogue if none is given, after all commands.
 fn heap_of(alloc: Global, script: &Script<'_>, section: Option<&Section<'_>>) -> Option<PlainHeap> {
     let fields = script.fields();
     let mut catalogue = PlainHeap::new(alloc, 0, fields).ok()?;

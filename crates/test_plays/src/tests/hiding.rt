@@ -17,7 +17,6 @@ use std::sync::atomic::AtomicU64;
 use std::sync::atomic::Ordering::SeqCst;
 use std::thread::Threads;
 
-/// After the chain was made and the heap collected.
 const HIDE: &str =
     "season; repeat 28; new g 5; end; let y a; repeat 889; get y y 0; end; get w y 0; set a 1 w; nil w
 set y 0 w; nil y; repeat 1200; new g 6; end; get w a 1; say found w; nil g; set a 0 g; warehouse; season; nil h
@@ -27,7 +26,7 @@ repeat 300; new h 7; end; say last h; nil h
 const TEXT: &str =
     "warehouse 1\nfound 9\ndropped 0\nwarehouse 2\nlast 7\ndropped 0\nsurvivors 2\n1 0 1\n1 1017 9\n";
 
-/// The first command of the walk: 2,803 make the chain and collect, and 28 more objects begin a cycle.
+/// The first command of the walk, behind 2,803 that make the chain and collect, and 28 that begin a cycle.
 const WALK: (u32, u64) = (1, 2_831);
 
 /// The command behind the stores.

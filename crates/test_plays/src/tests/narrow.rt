@@ -7,9 +7,8 @@ use std::process::Abort;
 use std::sync::Wait;
 use std::thread::Threads;
 
-/// Only one path leads to what was stored last, again and again; chains beside objects that are lost at once; objects
-/// with sixteen leaves; a collection after each object; a catalogue that makes its chain anew; and two chains that fill
-/// 64 cells between them.
+/// One path alone leads to what was stored last; chains beside garbage; objects with sixteen leaves; a collection after
+/// each object; a catalogue that makes its chain anew; two chains that fill 64 cells between them.
 const NARROW: &str =
     "$ run; gcscript 1; {3*warehouse; new a 1; new b 2; set b 0 a; repeat 100; new c 3; set a 0 c; set c 1 b; get d a 0
 put d 4; nil c; nil d; end; nil b; sum s a 0 5; get e a 0; get e e 1; say b e
@@ -41,7 +40,6 @@ const FULL: &str =
     "$ run; gcscript 1; warehouse; nil x; repeat 129; new y 1; set y 0 x; let x y; end
 => 3; full section 1; position 0 0; position 1 ";
 
-/// For each number of cells.
 const SHAPES: &str = "--workers 1 --tracers 0 --packets 2 --entries 2
 --workers 1 --tracers 1 --packets 3 --entries 2
 --workers 1 --tracers 8 --packets 2 --entries 3
@@ -74,8 +72,7 @@ fn narrow_heaps_change_nothing(rt: HostRuntime) {
     assert!(rt; is_done, "memory");
 }
 
-/// Two objects kept beside a thousand; a catalogue's old chain and its new one, to both of which objects refer; chains
-/// that only their last leaf keeps.
+/// Two objects beside a thousand; a catalogue's old and new chain; chains that only their last leaf keeps.
 const EXTREMES: &str =
     "$ run --cells=64; gcscript 1; {8*warehouse; new a 1; new b 2; set a 0 b; repeat 1000; new c 3; end; sum s a 0 9
 }=> 0; {1..9*warehouse %; s 2 3; dropped 0; }survivors 24; {1..9*% 0 1; % 1 2; % 1001 3

@@ -54,6 +54,7 @@ $ batch; gcbatch 1; {64*job 0
 $ batch; gcbatch 1
 => 0; ";
 
+/// Words that play nothing, or ask for nothing.
 pub const OTHERS: &str =
     "$ schedule; gcschedule 1; shape 64 2 2 2 4 2; 1 enter_step; 1 store_phase 1; 1 read_phase; 1 reserve; 1 read_count
 => 0; accepted 5; phase 1; empty 65; marked 0; used 0; closed no

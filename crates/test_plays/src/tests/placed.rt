@@ -5,7 +5,7 @@ use std::alloc::Global;
 use std::sync::Wait;
 use std::thread::Threads;
 
-/// How many objects stay reachable, a script that makes 130 objects in 64 cells, and the text before their cells.
+/// How many objects stay reachable, a script that makes 130 objects, and the text before their cells.
 const ROWS: &str = "$ 0; gcscript 1; warehouse; repeat 130; new x 1; end
 => warehouse 1; dropped 0; survivors 1; 1 129 1; placed 130
 $ 1; gcscript 1; warehouse; new k 2; repeat 129; new x 1; end

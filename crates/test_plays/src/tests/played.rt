@@ -1,5 +1,6 @@
 //! What a play writes.
 
+/// Small scripts.
 pub const PLAYED: &str = "$ run; gcscript 1; warehouse; new x 5; say a x
 => 0; warehouse 1; a 5; dropped 0; survivors 1; 1 0 5
 $ run; gcscript 1
@@ -41,7 +42,7 @@ $ load --number 1 --size 8; => 0; commands 32; objects 0; lines 0; survivors 0; 
 ";
 
 /// All cells are reachable; a chain grows among garbage; objects with three leaves, in the fewest and shortest packets;
-/// a chain of 65,000 objects; as many objects as a script may make.
+/// a chain of 65,000 objects; as many objects as may be.
 pub const LONG: &str =
     "$ run --cells 64; gcscript 1; warehouse; nil x; {64*new y 1; set y 0 x; let x y
 }=> 0; warehouse 1; dropped 0; survivors 64; {0..64*1 % 1

@@ -65,7 +65,7 @@ pub fn expanded(alloc: Global, text: &str) -> Option<String> {
     Some(whole)
 }
 
-/// `sizes` are those of pieces, if it tells some.
+/// A case, as it is told.
 #[derive(Drop)]
 pub struct Case<'a> {
     pub words: &'a str,

@@ -94,7 +94,7 @@ pub fn come<R: Wait>(rt: &R, m: &mut SharedMutator) -> Result<(), Refused> {
     m.get(SHARED, ROOT, 0)
 }
 
-/// Raises the value of a variable's object by one, once it is below a bound; false if it wasn't in all its looks.
+/// Raises the value of v's object by one, once it is below a bound; false if it wasn't in all looks.
 pub fn raise_below<R: Wait>(
     rt: &R,
     m: &mut SharedMutator,
@@ -112,7 +112,7 @@ pub fn raise_below<R: Wait>(
     Ok(false)
 }
 
-/// Lowers the value of a variable's object by one.
+/// Lowers the value of v's object by one.
 pub fn lower<R: Wait>(rt: &R, m: &mut SharedMutator, v: u8) -> Result<(), Refused> {
     for _ in rt.forever() {
         let found = u32::try_from(m.value(v)?).unwrap_or(0);

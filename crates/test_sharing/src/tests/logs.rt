@@ -11,14 +11,14 @@ pub const NOTHING: u32 = 0;
 /// What a field has in which nothing was stored.
 pub const NEVER: u32 = 4_294_967_295;
 
-/// A field, as one number.
 fn field_of(object: u32, i: u8) -> u32 {
     object.wrapping_mul(FIELDS).wrapping_add(u32::from(i))
 }
 
-/// A field, and what it was found or made to have.
+/// A field, and what it has.
 pub type Entry = (u32, u32);
 
+/// What one thread did.
 #[derive(Drop)]
 pub struct Log {
     /// Its stores, its reads, and what it found at the end.
@@ -32,7 +32,7 @@ pub struct Log {
 }
 
 impl Log {
-    /// An empty log, for objects that stand for less than a number.
+    /// Nothing done, with objects that stand for less than a number.
     pub fn new(alloc: Global, objects: u32) -> Option<Log> {
         let mut last = Vec::new(alloc);
         for _ in 0..objects.wrapping_mul(FIELDS) {
@@ -70,7 +70,7 @@ impl Log {
         self.stored(root, i, what)
     }
 
-    /// Notes a read. A field that has nothing may never have been stored in.
+    /// Notes a read, unless the field has nothing, as one in which nothing was stored.
     pub fn read(&mut self, object: u32, i: u8, what: u32) -> Option<()> {
         if what == NOTHING {
             return Some(());

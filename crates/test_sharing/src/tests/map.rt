@@ -1,5 +1,5 @@
 //! Three threads fill, change and empty one map. Each has keys of its own, in chains with those of the others; under
-//! keys in common all count together.
+//! common keys all count.
 
 use super::crew::{FOUND, MADE, ROOT, SHARED, Tally, Worker, come, gather, hire, trace};
 use example_structures::SharedMap;
@@ -205,7 +205,7 @@ fn play_all<R: Threads + Wait + Sync>(
     world.dismiss_tracers(rt);
 }
 
-/// What three threads leave in a map, and how many objects they made.
+/// What they leave in a map, and how many objects they made.
 fn leaves<R: Threads + Wait + Sync>(rt: &R, alloc: Global, cells: u32) -> Option<(Left, u64)> {
     let sizes = SharedSizes::of_cells(cells)
         .fields(4)
@@ -248,8 +248,7 @@ fn threads_fill_change_and_empty_one_map(rt: HostRuntime) {
         },
     };
     assert!(&rt; left == wanted);
-    // A round makes at least 54 objects, four for each own key and two for each common one: 648,000 in 12,000
-    // rounds. A cell is used again only once a collection has freed it, so there were at least 648,000 / 320 - 1 =
-    // 2,024 collections.
+    // A round makes at least 54 objects, four for each own key and two for each common one. A cell is used again only
+    // once a collection has freed it, so there were at least 648,000 / 320 - 1 = 2,024 collections.
     assert!(&rt; objects >= 648_000);
 }

@@ -12,10 +12,9 @@ pub const THREADS: u32 = 3;
 
 pub const MOST: u32 = 70;
 
-/// How many steps a thread takes in a round.
 const STEPS: u32 = 300;
 
-/// What stands for the root, whose value is 0.
+/// What stands for the root.
 pub const ROOTED: u32 = 1;
 
 /// The variables: the root, nothing, what the thread keeps, and what it finds.
@@ -37,12 +36,13 @@ pub const OBJECTS: u32 = THREADS * MOST + 2;
 
 pub const PLACES: u32 = 4 + OBJECTS;
 
+/// A thread of the torture.
 #[derive(Drop)]
 pub struct Player {
     /// It is outside before and after a round.
     pub mutator: SharedMutator,
     thread: u32,
-    /// How many objects it has made in this round, and each thread before.
+    /// How many it made in this round, and each thread before.
     pub made: u32,
     before: [u64; 3],
     /// The last number drawn.
@@ -180,7 +180,7 @@ impl Player {
         Some(())
     }
 
-    /// Hands variable v's object over in field i of the root, and takes what was there, if no other is faster.
+    /// Hands variable v's object over in field i of the root, for what was there, if no other is faster.
     fn hand_over(&mut self, w: u8, v: u8, i: u8) -> Option<()> {
         let (from, what) = (self.follow(FOUND, ROOT, i)?, self.kept(v));
         if self.mutator.exchange(ROOT, i, FOUND, v).ok()? {

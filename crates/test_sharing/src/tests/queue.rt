@@ -34,6 +34,7 @@ pub struct Next {
 }
 
 impl Next {
+    /// Any number may come.
     pub fn new() -> Next {
         Next { least: [0; 4] }
     }
@@ -81,8 +82,7 @@ pub fn take<R: Wait>(
     Ok(true)
 }
 
-/// Puts some in and takes as many out, again and again. There is always one to take: no thread has taken more than it
-/// put in.
+/// There is always one to take: no thread has taken more than it put in.
 fn trades<R: Wait>(
     rt: &R,
     m: &mut SharedMutator,
@@ -126,7 +126,7 @@ fn trade_all<R: Threads + Wait + Sync>(
     world.dismiss_tracers(rt);
 }
 
-/// What four threads take out of a queue, and how many objects they made.
+/// What they take out of a queue, and how many objects they made.
 fn plays<R: Threads + Wait + Sync>(rt: &R, alloc: Global, cells: u32) -> Option<(Tally, u64)> {
     let sizes = SharedSizes::of_cells(cells)
         .fields(2)
@@ -157,7 +157,6 @@ fn what_goes_into_a_queue_comes_out_once(rt: HostRuntime) {
         wrong: 0,
     };
     assert!(&rt; tally == wanted);
-    // A cell is used again only once a collection has freed it, so there were at least 3,200,000 / 128 - 1 = 24,999
-    // collections.
+    // So there were at least 3,200,000 / 128 - 1 = 24,999 collections: only a collection frees a cell.
     assert!(&rt; objects == 3_200_000);
 }

@@ -110,7 +110,6 @@ fn random_graphs_are_what_was_stored(rt: HostRuntime) {
         panic!(&rt; "refused")
     };
     assert!(&rt; wrong == 0);
-    // The draws say how many objects are made, whatever the schedule. A cell is used again only once a collection
-    // has freed it, so there were at least 826,678 / 256 - 1 = 3,228 collections.
+    // The draws say how many objects are made, so there were at least 826,678 / 256 - 1 = 3,228 collections.
     assert!(&rt; objects == 826_678);
 }

@@ -26,7 +26,6 @@ pub enum Kind {
     /// Words of the command line.
     Words,
     Number,
-    /// A script.
     Script,
     /// A script, whose first warehouse is played.
     Heap,
@@ -34,7 +33,6 @@ pub enum Kind {
     Generated,
     /// The name of a fault of scripts, and its place.
     Fault,
-    /// A batch.
     Batch,
     /// A number of jobs of no bytes, and what comes behind them.
     Long,

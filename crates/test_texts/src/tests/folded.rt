@@ -46,8 +46,7 @@ fn put(source: &mut Vec<u8>, seat: u32, words: &[u8]) -> Result<(), AllocError> 
     source.extend_from_slice(b"\n")
 }
 
-/// The schedule of the events that are allowed among 200, or of all up to the first that isn't, and the verdict by the
-/// core.
+/// The schedule of the events allowed among 200, or of all up to the first refused, and the core's verdict.
 fn folded(alloc: Global, number: u32, stops: bool) -> Option<(Vec<u8>, Verdict)> {
     let mut source = Vec::new(alloc);
     source
