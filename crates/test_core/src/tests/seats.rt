@@ -175,6 +175,13 @@ fn count_others(words: &[u64]) -> usize {
     others
 }
 
+/// Whether the word is as told, in `0=3`.
+fn is_word(list: &[u64], told: &str) -> Option<bool> {
+    let (i, n) = told.split_once('=')?;
+    let word = list.get(i.parse::<usize>().ok()?)?;
+    Some(*word == n.parse::<u64>().ok()?)
+}
+
 /// Whether a list has so many words, all 0 but those told, as in `alloc 1 0=3`.
 fn is_list(words: &Words, told: &str) -> Option<bool> {
     let mut told = told.split(' ');
@@ -182,8 +189,7 @@ fn is_list(words: &Words, told: &str) -> Option<bool> {
     let count = told.next()?.parse::<usize>().ok()?;
     let mut others = count_others(list);
     for other in told {
-        let (i, n) = other.split_once('=')?;
-        if *list.get(i.parse::<usize>().ok()?)? != n.parse::<u64>().ok()? {
+        if is_word(list, other) != Some(true) {
             return Some(false);
         }
         others = others.saturating_sub(1);
