@@ -3,6 +3,7 @@ mod barrier;
 mod blocks;
 mod cells;
 mod claims;
+mod ends;
 mod events;
 mod filled;
 mod first;

@@ -9,12 +9,11 @@ ghost use Rattle.test_heaps.specs.Seats.{New};
 use super::blocks::{publish, take_block};
 use super::cells::make_cell;
 use super::claims::release;
-use super::seats::{begin, close, leave, open_two, takes_part, unlike};
-use gc_table::{Heap, HeapSeat, Words};
-use mark_core::{CARD_CELLS, Phase, Shape, VARIABLES};
-use std::alloc::Global;
+use super::seats::{begin, leave, takes_part};
+use gc_table::{Heap, HeapSeat};
+use mark_core::{CARD_CELLS, Shape, VARIABLES};
 use std::sync::Wait;
-use test_heaps::{SMALL, is_marking, may_mutate};
+use test_heaps::{is_marking, may_mutate};
 
 fn may_link(shape: &Shape, seat: &HeapSeat, v: u8, i: u8, w: u8) -> bool
     ensures { result ≡ may_link_of shape.now (state_of seat.now) v i w }
@@ -117,7 +116,8 @@ fn links(heap: &Heap, seat: &mut HeapSeat) -> bool
         && release(heap, seat)
 }
 
-fn stores<R: Wait>(rt: &R, heap: &Heap, zero: &mut HeapSeat, one: &mut HeapSeat) -> bool
+/// Two cells are made and linked, before and after they are published.
+pub fn stores<R: Wait>(rt: &R, heap: &Heap, zero: &mut HeapSeat, one: &mut HeapSeat) -> bool
     requires zero { New heap.now resting 0 zero.old × (0 < heap.now.shape.sections) }
     requires one { Ready heap.now one.old }
     ensures { OnTrue result (Ready heap.now zero.new × Ready heap.now one.new) }
@@ -129,20 +129,4 @@ fn stores<R: Wait>(rt: &R, heap: &Heap, zero: &mut HeapSeat, one: &mut HeapSeat)
         return false;
     }
     links(heap, one) && leave(heap, zero) && leave(heap, one)
-}
-
-fn stored<R: Wait>(rt: &R, alloc: Global) -> Option<Words> {
-    let (heap, mut zero, mut one) = open_two(alloc, SMALL)?;
-    if stores(rt, &heap, &mut zero, &mut one) {
-        close(alloc, heap, zero, one)
-    } else {
-        None
-    }
-}
-
-#[test]
-fn owed_card(rt: HostRuntime) {
-    let words = stored(&rt, rt.alloc());
-    let told = "alloc 1 0=3, roots 64 32=1 33=2, values 64 0=7 1=8, fields 256 0=2";
-    assert_eq!(&rt; unlike(&words, Phase::Marking, told), None);
 }

@@ -7,12 +7,11 @@ ghost use Rattle.test_heaps.specs.Seats.{New};
 
 use super::cells::make_cell;
 use super::claims::{cached, claim, read_free, release};
-use super::seats::{begin, close, leave, open_two, unlike};
-use gc_table::{Heap, HeapSeat, Words};
-use mark_core::{BLOCK_CELLS, Phase, SECTION_SPAN};
-use std::alloc::Global;
+use super::seats::{begin, leave};
+use gc_table::{Heap, HeapSeat};
+use mark_core::BLOCK_CELLS;
 use std::sync::Wait;
-use test_heaps::{SMALL, has_making};
+use test_heaps::has_making;
 
 fn fill(heap: &Heap, seat: &mut HeapSeat) -> bool
     requires { Ready heap.now seat.old }
@@ -60,7 +59,8 @@ fn publishes(heap: &Heap, seat: &mut HeapSeat) -> bool
         && release(heap, seat)
 }
 
-fn fills<R: Wait>(rt: &R, heap: &Heap, zero: &mut HeapSeat, one: &mut HeapSeat) -> bool
+/// A whole block is filled, published and given up.
+pub fn fills<R: Wait>(rt: &R, heap: &Heap, zero: &mut HeapSeat, one: &mut HeapSeat) -> bool
     requires zero { New heap.now resting 0 zero.old × (0 < heap.now.shape.sections) }
     requires one { Ready heap.now one.old }
     ensures { OnTrue result (Ready heap.now zero.new × Ready heap.now one.new) }
@@ -69,36 +69,4 @@ fn fills<R: Wait>(rt: &R, heap: &Heap, zero: &mut HeapSeat, one: &mut HeapSeat) 
         return false;
     }
     publishes(heap, one) && leave(heap, zero) && leave(heap, one)
-}
-
-fn filled<R: Wait>(rt: &R, alloc: Global) -> Option<Words> {
-    let (heap, mut zero, mut one) = open_two(alloc, SMALL)?;
-    if fills(rt, &heap, &mut zero, &mut one) {
-        close(alloc, heap, zero, one)
-    } else {
-        None
-    }
-}
-
-fn count_from(words: &[u64], first: u64, count: usize) -> bool {
-    let mut next = first;
-    for word in words {
-        if *word != next || next == u64::MAX {
-            return false;
-        }
-        next += 1;
-    }
-    words.len() == count
-}
-
-#[test]
-fn whole_block(rt: HostRuntime) {
-    let words = filled(&rt, rt.alloc());
-    let told = "alloc 1 0=18446744073709551615, roots 64 32=64";
-    assert_eq!(&rt; unlike(&words, Phase::Marking, told), None);
-    let Some(words) = words else {
-        return;
-    };
-    let idents = count_from(words.idents.as_slice(), SECTION_SPAN, 64);
-    assert!(&rt; idents && count_from(words.values.as_slice(), 0, 64));
 }

@@ -9,12 +9,11 @@ ghost use Rattle.gc_table.specs.SeatRecords.{resting};
 ghost use Rattle.test_core.specs.Ready.{Ready};
 ghost use Rattle.test_heaps.specs.Seats.{New};
 
-use super::seats::{begin, close, is_running, leave, open_two, unlike};
-use gc_table::{Heap, HeapSeat, Words};
-use mark_core::{BLOCK_CELLS, Phase};
-use std::alloc::Global;
+use super::seats::{begin, is_running, leave};
+use gc_table::{Heap, HeapSeat};
+use mark_core::BLOCK_CELLS;
 use std::sync::Wait;
-use test_heaps::{SMALL, has_making};
+use test_heaps::has_making;
 
 /// Claims the first block: whether nobody had it. None if the seat may claim none.
 pub fn claim(heap: &Heap, seat: &mut HeapSeat) -> Option<bool>
@@ -83,7 +82,8 @@ pub fn cached(seat: &HeapSeat) -> Option<(u32, u64, u64)> {
     }
 }
 
-fn claims<R: Wait>(rt: &R, heap: &Heap, zero: &mut HeapSeat, one: &mut HeapSeat) -> bool
+/// The second seat claims the free block, and the first doesn't get it.
+pub fn claims<R: Wait>(rt: &R, heap: &Heap, zero: &mut HeapSeat, one: &mut HeapSeat) -> bool
     requires zero { New heap.now resting 0 zero.old × (0 < heap.now.shape.sections) }
     requires one { Ready heap.now one.old }
     ensures { OnTrue result (Ready heap.now zero.new × Ready heap.now one.new) }
@@ -97,20 +97,4 @@ fn claims<R: Wait>(rt: &R, heap: &Heap, zero: &mut HeapSeat, one: &mut HeapSeat)
         && release(heap, one)
         && leave(heap, zero)
         && leave(heap, one)
-}
-
-fn claimed<R: Wait>(rt: &R, alloc: Global) -> Option<Words> {
-    let (heap, mut zero, mut one) = open_two(alloc, SMALL)?;
-    if claims(rt, &heap, &mut zero, &mut one) {
-        close(alloc, heap, zero, one)
-    } else {
-        None
-    }
-}
-
-#[test]
-fn one_owner(rt: HostRuntime) {
-    let words = claimed(&rt, rt.alloc());
-    let told = "alloc 1, idents 64, values 64, roots 64";
-    assert_eq!(&rt; unlike(&words, Phase::Marking, told), None);
 }
