@@ -1,5 +1,5 @@
 //! The program `bench_heaps`: works that embed the collector, to be timed. The first word names one, and options say
-//! how large it is. A word `then` stands between two that are done one after another.
+//! how large it is. A word `then` stands between two.
 #![tactic(auto)]
 
 mod pauses;
@@ -18,7 +18,6 @@ use words::{Unasked, given_words, refuse};
 
 const USAGE: &str = "usage: bench_heaps trees|queue|map|pauses [OPTIONS] [then ..]";
 
-/// Does the work that the words name, and answers the status: 0 if it was done.
 fn does<R: Runtime + Threads + Wait + Clock + AllocGlobal + Sync>(
     rt: &R,
     words: &[String],

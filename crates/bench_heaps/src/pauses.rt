@@ -1,10 +1,8 @@
-//! A warehouse's heap, and how long its mutators stand still.
+//! How long the mutators of a warehouse's heap stand still.
 //!
-//! Each worker is a mutator that keeps orders: small trees and lists below a directory, which together fill a
-//! stated share of the heap. A transaction replaces one order by a new one and looks at another, so the heap is
-//! full of garbage again and again while the live set stays as it is. With `--stops` a collection marks only in
-//! stops; without, it marks beside the workers and stops them at its end. Stops and transactions are timed by the
-//! clock, in rounds with a rest before each.
+//! Each worker is a mutator that keeps orders: small trees and lists below a directory, which together fill a stated
+//! share of the heap. A transaction replaces one order and looks at another, so the heap is full of garbage again and
+//! again while the live set stays as it is. With `--stops` a collection marks only in stops.
 
 mod clock;
 mod crowd;

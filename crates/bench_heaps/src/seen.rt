@@ -1,21 +1,19 @@
-//! What objects have as values.
+//! What was seen of objects.
 
-/// Objects that were looked at.
+/// How many objects were seen, and the sum of their values.
 #[derive(Clone, Copy, Drop)]
 pub struct Seen {
-    /// How many there were.
     pub objects: u64,
-    /// The sum of their values.
     pub sum: u64,
 }
 
 impl Seen {
-    /// No object, and the sum 0.
+    /// No object.
     pub fn nothing() -> Seen {
         Seen { objects: 0, sum: 0 }
     }
 
-    /// The objects and the sums of both, modulo 2^64.
+    /// The sums of both, modulo 2^64.
     pub fn and(self, other: Seen) -> Seen {
         Seen {
             objects: self.objects.wrapping_add(other.objects),
@@ -23,7 +21,7 @@ impl Seen {
         }
     }
 
-    /// One object more, with this value.
+    /// One object more.
     pub fn object(self, value: u64) -> Seen {
         self.and(Seen {
             objects: 1,

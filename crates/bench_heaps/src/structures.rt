@@ -1,5 +1,4 @@
-//! Threads put into one queue and take out of it, or look up, put and take in one map, a stated number of times.
-//! `bench/sharing.sh` times it beside the same work over other collectors.
+//! Threads put into one queue and take out of it, or look up, put and take in one map.
 
 mod crowd;
 mod work;
@@ -16,27 +15,26 @@ use std::thread::Threads;
 const USAGE: &str =
     "usage: bench_heaps queue|map [--workers k] [--rounds n] [--cells n] [--tracers t]";
 
-/// Which structure the threads act on.
+/// What the threads act on.
 #[derive(Clone, Copy, Drop)]
 pub enum Structure {
-    /// A queue, of objects with two references.
+    /// Its objects have two references.
     Queue,
-    /// A map of 256 chains, of objects with 16 references.
+    /// A map of 256 chains, whose objects have 16 references.
     Map,
 }
 
 /// A run that is asked for.
 #[derive(Clone, Copy, Drop)]
 pub struct Asked {
-    /// Which structure.
     pub structure: Structure,
-    /// How many mutators there are, each in a thread of its own: 1 to 31. One more makes the structure.
+    /// 1 to 31, each in a thread of its own. One more makes the structure.
     pub workers: u32,
     /// How often each does what it does.
     pub rounds: u32,
-    /// How many cells the heap has: a multiple of 64, 64 to 16,777,216.
+    /// A multiple of 64, 64 to 16,777,216.
     pub cells: u32,
-    /// How many tracers mark beside them: none, or one.
+    /// None, or one.
     pub tracers: u32,
 }
 

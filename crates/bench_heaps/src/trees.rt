@@ -1,20 +1,11 @@
-//! The well-known workload of binary trees, on the collector as a library.
+//! The well-known workload of binary trees.
 //!
-//! A tree is made and thrown away, so that the heap is stretched; one tree is made and kept; and while it lives,
-//! many trees of growing depth are made, counted and thrown away. Each worker is a mutator in a thread of its own;
-//! tracers mark beside them; all share one heap.
+//! A tree is made and thrown away, so that the heap is stretched; one tree is made and kept; and while it lives, many
+//! trees of growing depth are made, counted and thrown away.
 //!
-//! # What takes the place of a native program's stack
-//!
-//! A mutator's 32 variables are its only roots. A tree of depth d is made in variable v with the 2 d variables
-//! behind it: the subtrees of a node wait in the next two until the node refers to them. It is counted with the d +
-//! 1 variables behind v, one for each node on the way down. So a tree of depth 15 fits, which is more than the
-//! cells of a heap allow.
-//!
-//! # Where a stop can come
-//!
-//! Before each node that is made there is a safe point. Counting makes nothing, and a stop waits for the walk of
-//! one tree.
+//! A mutator's 32 variables are its only roots. A tree of depth d is made in variable v with the 2 d variables behind
+//! it: the subtrees of a node wait in the next two. It is counted with the d + 1 variables behind v, one for each node
+//! on the way down. Before each node that is made there is a safe point; a stop waits for the count of one tree.
 
 mod crew;
 mod nodes;

@@ -1,4 +1,4 @@
-//! The words of the command line: options that have numbers, and flags.
+//! The words of the command line: options with numbers, and flags.
 ghost use Rattle.std.specs.Prelude.{◌≤◌, IfSome};
 
 use clap::error::ErrorKind;
@@ -22,7 +22,6 @@ pub fn given_words<R: Env + AllocGlobal>(rt: &R) -> io::Result<Vec<String>> {
     Ok(words)
 }
 
-/// The number of a text of digits.
 fn number_of(text: &str) -> Option<u32> {
     if text.starts_with('+') {
         return None;
@@ -30,7 +29,7 @@ fn number_of(text: &str) -> Option<u32> {
     text.parse::<u32>().ok()
 }
 
-/// The number given for an option, if in range, or the default.
+/// The number of an option, if in range, or the default.
 pub fn chosen(
     matches: &ArgMatches<'_>,
     name: &str,
@@ -52,7 +51,7 @@ pub fn chosen(
     }
 }
 
-/// The program with these options and flags. Help is off.
+/// Help is off.
 fn program<'a>(
     alloc: Global,
     options: &[&'a str],
@@ -74,7 +73,7 @@ fn program<'a>(
     Ok(program)
 }
 
-/// What words give for these options and flags: in any order, each at most once. Takes memory for the parse.
+/// What words give for these options and flags, in any order, each at most once.
 pub fn matches_of<'a>(
     alloc: Global,
     words: &'a [String],
@@ -94,7 +93,7 @@ pub fn matches_of<'a>(
     }
 }
 
-/// Tells how the words are used, if they ask for nothing, and answers the status.
+/// Answers the status, and tells how the words are used if they ask for nothing.
 pub fn refuse<R: Runtime>(rt: &R, why: Unasked, usage: &str) -> io::Result<u8> {
     match why {
         Unasked::OutOfMemory => Ok(6),

@@ -1,8 +1,7 @@
 //! Collections: how long the fastest takes.
 //!
-//! A collection here is a stop with its finish: the mutator leaves, stops the world, marks, sweeps, sets the
-//! numbers of the next cycle, and lets the world go on. Nobody else is there. The heap is empty, full of reached
-//! objects, or full of objects that aren't; it has 64 cells or 65,536.
+//! A collection is a stop with its finish: the mutator leaves, stops the world, marks, sweeps, and lets the world go
+//! on. Nobody else is there.
 mod checks;
 mod filling;
 mod opening;
@@ -16,7 +15,7 @@ use std::sync::Wait;
 
 const FEW: u64 = 2;
 
-/// Writes the nanoseconds of the fastest of this many collections.
+/// Writes the nanoseconds of the fastest.
 pub fn does<R: Runtime + AllocGlobal + Wait>(rt: &R, asked: Collections) -> io::Result<()> {
     match stops::run(rt, rt.alloc(), asked) {
         Some(nanoseconds) => println!(rt; "{nanoseconds}"),

@@ -1,5 +1,4 @@
-//! The program `bench_steps`: does a stated number of a heap's steps, a runtime's operations or collections, to be
-//! timed beside the same steps on bare words.
+//! The program `bench_steps`: steps, a runtime's operations, or collections, to be timed.
 #![tactic(auto)]
 
 mod cycles;

@@ -1,5 +1,4 @@
-//! A runtime's operations, by the calls that it makes, on a heap of 64 blocks of 64 cells with objects of four
-//! fields.
+//! A runtime's operations, on a heap of 64 blocks with objects of four fields.
 mod blocks;
 mod cards;
 mod cells;
@@ -30,7 +29,7 @@ fn is_done<R: Wait + AllocGlobal>(rt: &R, work: Work, rounds: u64) -> bool {
     }
 }
 
-/// Does this many rounds, and writes what was done.
+/// Does so many rounds, and writes what was done.
 pub fn does<R: Runtime + AllocGlobal + Wait>(rt: &R, work: Work, rounds: u64) -> io::Result<()> {
     report(rt, work.name(), rounds, is_done(rt, work, rounds))
 }

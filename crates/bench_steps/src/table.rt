@@ -1,4 +1,4 @@
-//! Typed steps of a heap of 64 blocks of 64 cells, with objects of two fields.
+//! Typed steps, on a heap of 64 blocks with objects of two fields.
 mod fetches;
 mod loads;
 mod making;
@@ -23,7 +23,7 @@ fn is_done(alloc: Global, work: Work, rounds: u64) -> bool {
     }
 }
 
-/// Does this many rounds, and writes what was done.
+/// Does so many rounds, and writes what was done.
 pub fn does<R: Runtime + AllocGlobal>(rt: &R, work: Work, rounds: u64) -> io::Result<()> {
     report(rt, work.name(), rounds, is_done(rt.alloc(), work, rounds))
 }

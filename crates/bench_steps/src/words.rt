@@ -1,19 +1,19 @@
 use test_heaps::{named_rounds, rounds_of};
 
-/// What is done many times by typed steps.
+/// Works of typed steps.
 #[derive(Clone, Copy, Drop)]
 pub enum TableWork {
-    /// One load.
+    /// A load.
     Load,
-    /// One load, of a word that is found by its number.
+    /// A load of a word that is found by its number.
     Look,
-    /// One store, into a word that is found by its number.
+    /// A store into such a word.
     Store,
     /// Two fetches: one from a counter is taken, and given back.
     Fetch,
-    /// A heap is made, cells are made in all its blocks, and it is closed.
+    /// A heap is made, filled with cells, and closed.
     Make,
-    /// A heap is made and closed, with no cell.
+    /// A heap is made and closed.
     Open,
 }
 
@@ -41,26 +41,26 @@ impl TableWork {
     }
 }
 
-/// What is done many times by a runtime's operations.
+/// Works of a runtime's operations.
 #[derive(Clone, Copy, Drop)]
 pub enum OperationWork {
     /// A heap is made and closed.
     Open,
-    /// A heap is made, an object is made in each of its cells, and it is closed.
+    /// A heap is made, filled with objects, and closed.
     Make,
     /// A store in a published object.
     Publish,
     /// A store in an object that isn't published.
     Hide,
-    /// A heap is made, filled with objects of four references each, and closed.
+    /// The same, with four references an object.
     Mesh,
-    /// A heap is made, filled with objects of four references each, traced, and closed.
+    /// The same, and the objects are traced.
     Trace,
     /// A pass over cards that are clean.
     Look,
     /// A look whether anything is left to trace.
     Drain,
-    /// A look whether anything is left to trace, and a sweep of all blocks.
+    /// The same, and a sweep of all blocks.
     Sweep,
 }
 
@@ -94,7 +94,7 @@ impl OperationWork {
     }
 }
 
-/// What a heap holds when the world is stopped.
+/// What a heap holds when the world stops.
 #[derive(Clone, Copy, Drop)]
 pub enum Content {
     /// Nothing.
@@ -200,7 +200,7 @@ fn cycles_by(words: &[String]) -> Option<Asked> {
     }))
 }
 
-/// What a kind of work and the words after it ask for, if anything.
+/// What the words ask for, if anything.
 pub fn asked_by(words: &[String]) -> Option<Asked> {
     let (kind, others) = words.split_first()?;
     match kind.as_str() {

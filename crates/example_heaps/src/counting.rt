@@ -1,4 +1,4 @@
-//! A counter: the value of the root, which two threads raise together.
+//! A counter, the value of the root, which two threads raise together.
 ghost use Rattle.std.specs.Prelude.{◌≡◌, ◌+◌, ◌≤◌, IfNone, IfSome, if◌then◌else◌};
 ghost use Rattle.std.specs.Bool.{OnTrue};
 ghost use Rattle.std.specs.Thread.{IsSync};
@@ -17,8 +17,8 @@ const ROOT: u8 = 0;
 /// How often each thread raises the counter.
 const TIMES: u32 = 2000;
 
-/// Raises the counter by one, if it is still what it was read to be: whether it was. None if a call was refused, or
-/// 32 bits are too few.
+/// Raises the counter by one, if it is still what it was read to be. None if a call was refused, or 32 bits are too
+/// few.
 fn raise_once(m: &mut SharedMutator) -> Option<bool>
     ensures raised { IfSome result (λ won. AddsRaises (if won then 1 else 0) m.old m.new) }
     ensures stopped { IfNone result (AddsQuiet m.old m.new) }
@@ -38,7 +38,6 @@ fn raise_once(m: &mut SharedMutator) -> Option<bool>
     }
 }
 
-/// Raises the counter once, and lets a collection go by: by how much it was raised.
 fn round<R: Wait>(rt: &R, m: &mut SharedMutator) -> Option<u32>
     ensures raised { IfSome result (λ n. (n ≤ 1) × AddsRaises n m.old m.new) }
 {
@@ -49,7 +48,7 @@ fn round<R: Wait>(rt: &R, m: &mut SharedMutator) -> Option<u32>
     }
 }
 
-/// Raises the counter so many times; false if refused.
+/// Raises the counter so many times.
 fn raise<R: Wait>(rt: &R, m: &mut SharedMutator, times: u32) -> bool
     ensures raised { OnTrue result (AddsRaises times m.old m.new) }
 {
@@ -76,7 +75,6 @@ fn act<R: Wait>(rt: &R, m: &mut SharedMutator, times: u32) -> bool
     true
 }
 
-/// What the two threads do.
 fn play<R: Wait + Threads + Sync>(
     rt: &R,
     first: &mut SharedMutator,
@@ -100,8 +98,8 @@ fn play<R: Wait + Threads + Sync>(
     one && two
 }
 
-/// Two threads raise a counter so many times each, by exchanges. The closed world's words have twice as many,
-/// whatever the schedule. None if a call was refused or there is no memory.
+/// The closed world's words have twice as many, whatever the schedule. None if a call was refused or there is no
+/// memory.
 fn count<R: Wait + Threads + AllocGlobal + Sync>(rt: &R, times: u32) -> Option<u64>
     ensures counted { IfSome result (λ n. n ≡ times + times) }
 {

@@ -1,5 +1,4 @@
-//! A hash table with chains for each of two threads, in one heap with a tracer beside them: it grows, is asked and is
-//! emptied again and again.
+//! A hash table with chains for each of two threads, in one heap: it grows, is asked and is emptied again and again.
 
 mod table;
 
@@ -16,18 +15,16 @@ const KEYS: u32 = 200;
 /// How often a table is filled and emptied.
 const ROUNDS: u32 = 40;
 
-/// What was found in tables.
 #[derive(Clone, Copy, Drop)]
 struct Tally {
-    /// How many keys were found.
+    /// Keys found.
     found: u64,
-    /// The sum of what was kept under these keys.
+    /// The sum of what was kept under them.
     sum: u64,
-    /// How many were found after every other key was taken out.
+    /// Keys found after every other one was taken out.
     left: u64,
 }
 
-/// Looks for all keys.
 fn count(m: &mut Mutator, tally: &mut Tally) -> Result<u64, Refused> {
     let mut found = 0u64;
     for key in 0..KEYS {
@@ -61,7 +58,6 @@ fn round<R: Wait>(m: &mut Mutator, rt: &R, tally: &mut Tally) -> Result<(), Refu
     Ok(())
 }
 
-/// The rounds of one thread: what it found.
 fn play<R: Wait>(rt: &R, m: &mut Mutator) -> Result<Tally, Refused> {
     let mut tally = Tally {
         found: 0,
@@ -76,7 +72,7 @@ fn play<R: Wait>(rt: &R, m: &mut Mutator) -> Result<Tally, Refused> {
     Ok(tally)
 }
 
-/// The rounds of both threads, and then the tracer is dismissed: what both found, if each came to its end.
+/// What both threads found, if each came to its end.
 fn play_both<R: Threads + Wait + Sync>(
     rt: &R,
     world: &mut World,
@@ -93,8 +89,7 @@ fn play_both<R: Threads + Wait + Sync>(
     })
 }
 
-/// Opens a world, plays in it, and closes it. None if there is no memory, or a mutator or the tracer could not be
-/// given back.
+/// None if there is no memory, or a mutator or the tracer could not be given back.
 fn run<R: Threads + Wait + AllocGlobal + Sync>(rt: &R) -> Option<Tally> {
     let sizes = Sizes::of_cells(2048).fields(16).mutators(2).tracers(1);
     let Pair {

@@ -1,4 +1,4 @@
-//! Two threads that make lists, all garbage but the last of each.
+//! Two threads make lists, all garbage but the last of each.
 ghost use Rattle.std.specs.Prelude.{◌≡◌, IfSome};
 ghost use Rattle.std.specs.Arc.{arc_value};
 ghost use Rattle.std.specs.Thread.{IsSync};
@@ -41,7 +41,7 @@ fn make_list<R: Wait>(rt: &R, m: &mut Mutator) -> Result<(), Refused>
     Ok(())
 }
 
-/// One thread: it makes so many lists, and collects.
+/// One thread.
 fn act<R: Wait>(rt: &R, m: &mut Mutator, lists: u32) -> Result<(), Refused>
     ensures world { arc_value m.new.heap ≡ arc_value m.old.heap }
 {
@@ -77,8 +77,8 @@ fn act_both<R: Wait + Threads + Sync>(
     one && two
 }
 
-/// Two threads make so many lists each, and their world is closed. Whatever the schedule, the words are the end of
-/// one run of the two, no event of which freed a reachable cell. None if a call was refused or there is no memory.
+/// Whatever the schedule, the closed world's words are the end of one run of the two threads, no event of which freed a
+/// reachable cell. None if a call was refused or there is no memory.
 fn play<R: Wait + Threads + AllocGlobal + Sync>(rt: &R, lists: u32) -> Option<Words>
     ensures ended { IfSome result (λ w. EndsWhole w) }
 {

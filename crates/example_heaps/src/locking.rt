@@ -1,4 +1,4 @@
-//! A lock: the value of the root, which two threads take by turns to flip a field.
+//! A lock, the value of the root, which two threads take by turns to flip a field.
 ghost use Rattle.std.specs.Prelude.{◌+◌, IfOk, IfSome, false, if◌then◌else◌, true};
 ghost use Rattle.std.specs.Bool.{OnTrue};
 ghost use Rattle.std.specs.Thread.{IsSync};
@@ -35,7 +35,7 @@ fn try_take<R: Wait>(rt: &R, m: &mut SharedMutator) -> Option<bool>
     }
 }
 
-/// Takes the lock as soon as nobody has it; false if refused.
+/// Takes the lock as soon as nobody has it.
 fn take<R: Wait>(rt: &R, m: &mut SharedMutator) -> bool
     ensures taken { OnTrue result (AddsLocks false true 1 m.old m.new) }
 {
@@ -52,7 +52,7 @@ fn take<R: Wait>(rt: &R, m: &mut SharedMutator) -> bool
     true
 }
 
-/// Leaves the lock. False if it wasn't held, or a call was refused.
+/// Leaves the lock. False if it wasn't held.
 fn leave(m: &mut SharedMutator) -> bool
     ensures left { OnTrue result (AddsLocks true false 1 m.old m.new) }
 {
@@ -62,7 +62,7 @@ fn leave(m: &mut SharedMutator) -> bool
     }
 }
 
-/// Flips the root's field 0 between nothing and the root: a look and then a store, between which nobody is to come.
+/// Flips the root's field 0 between nothing and the root, by a look and a store between which nobody is to come.
 fn flip(m: &mut SharedMutator) -> Result<(), Refused>
     ensures quiet { IfOk result (λ _. AddsQuiet m.old m.new) }
 {
@@ -109,7 +109,6 @@ fn act<R: Wait>(rt: &R, m: &mut SharedMutator, times: u32) -> bool
     true
 }
 
-/// What the two threads do.
 fn play<R: Wait + Threads + Sync>(
     rt: &R,
     first: &mut SharedMutator,
@@ -133,9 +132,8 @@ fn play<R: Wait + Threads + Sync>(
     one && two
 }
 
-/// Two threads take a lock so many times each, and flip a field while they have it. Whatever the schedule, at no
-/// moment of the run did both have it, and each had it so many times. None if a call was refused or there is no
-/// memory.
+/// Whatever the schedule, at no moment did both threads have the lock, and each had it so many times. None if a call
+/// was refused or there is no memory.
 fn visit<R: Wait + Threads + AllocGlobal + Sync>(rt: &R, times: u32) -> Option<Words>
     ensures alone { IfSome result (IsAlone times) }
 {
@@ -152,7 +150,6 @@ fn visit<R: Wait + Threads + AllocGlobal + Sync>(rt: &R, times: u32) -> Option<W
     close_shared(rt.alloc(), world, first, second)
 }
 
-/// Whether the root's field 0 refers to nothing in these words.
 fn is_even(words: &Words) -> bool {
     let root = match words.roots.first() {
         Some(word) => *word as usize,

@@ -1,5 +1,5 @@
-//! Examples over the libraries `managed_heap` and `shared_heap`, each in a file or a folder of its own. They run one
-//! after another, and each writes what it came to.
+//! Examples over the libraries `managed_heap` and `shared_heap`, each in a file or a folder of its own, and each with a
+//! line that it writes.
 #![tactic(auto)]
 
 mod counting;

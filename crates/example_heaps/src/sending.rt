@@ -1,5 +1,4 @@
-//! Two threads that pass lists to each other through the root's fields, in a heap of 128 cells that is collected many
-//! times.
+//! Two threads pass lists to each other through the root's fields.
 
 use crate::worlds::{SharedPair, open_shared};
 use shared_heap::{Refused, SharedMutator, SharedSizes};
@@ -43,7 +42,7 @@ fn send<R: Wait>(rt: &R, m: &mut SharedMutator, out: u8, n: u32) -> Result<(), R
     m.forget(NEXT)
 }
 
-/// Takes a list from field `from` of the root, as soon as there is one: the sum of its values.
+/// Takes a list from a field of the root, as soon as there is one: the sum of its values.
 fn receive<R: Wait>(rt: &R, m: &mut SharedMutator, from: u8) -> Result<u64, Refused> {
     m.forget(NONE)?;
     for _ in rt.forever() {
@@ -63,7 +62,7 @@ fn receive<R: Wait>(rt: &R, m: &mut SharedMutator, from: u8) -> Result<u64, Refu
     Ok(sum)
 }
 
-/// One thread: it sends and receives by turns. The sum of all that came.
+/// Sends and receives by turns: the sum of all that came.
 fn act<R: Wait>(rt: &R, m: &mut SharedMutator, out: u8, from: u8) -> Result<u64, Refused> {
     m.enter(rt)?;
     m.root(ROOT)?;
@@ -76,7 +75,7 @@ fn act<R: Wait>(rt: &R, m: &mut SharedMutator, out: u8, from: u8) -> Result<u64,
     Ok(sum)
 }
 
-/// What came to each of two threads. None if a call was refused or there is no memory.
+/// None if a call was refused or there is no memory.
 fn play<R: Wait + Threads + AllocGlobal + Sync>(rt: &R) -> Option<(u64, u64)> {
     let SharedPair {
         world: _world,

@@ -1,4 +1,4 @@
-//! A world whose mutator takes steps that don't wait, with a tracer beside it.
+//! A mutator takes steps that don't wait, with a tracer beside it.
 
 use shared_heap::{Came, SharedMutator, SharedSizes, SharedWorld, Stepper, Tracer, TryTurn};
 use std::alloc::AllocGlobal;
@@ -27,7 +27,6 @@ fn reads_back(s: &mut Stepper) -> bool {
         && value == 7
 }
 
-/// Whether a collection ends after some steps.
 fn collects(s: &mut Stepper) -> bool {
     for _ in 0..STEPS {
         match s.collect_step() {
@@ -54,7 +53,6 @@ fn frees(world: SharedWorld, s: Stepper, t: Tracer) -> bool {
     }
 }
 
-/// A world with one mutator and one tracer, in which nothing waits: whether all went well.
 fn step_and_free<R: AllocGlobal>(rt: &R) -> bool {
     let sizes = SharedSizes::of_cells(64).tracers(1).packets(8, 16);
     let Ok(mut world) = SharedWorld::open(rt.alloc(), sizes) else {

@@ -1,4 +1,4 @@
-//! Each call that the threads don't make, once, in a world with slots.
+//! Each call that the other examples don't make, once.
 ghost use Rattle.std.specs.Prelude.{◌≡◌, IfSome};
 ghost use Rattle.std.specs.Arc.{arc_value};
 
@@ -19,7 +19,7 @@ const NONE: u8 = 3;
 /// The name of the first object that mutator 1 makes.
 const FIRST: u64 = 4_294_967_296;
 
-/// Whether slot 2 still refers to the object that lay in this cell, with this number.
+/// Whether slot 2 still refers to the object of this cell and number.
 fn finds_again(m: &mut SharedMutator, cell: u32, number: u64) -> Result<bool, Refused>
     ensures world { arc_value m.new.heap ≡ arc_value m.old.heap }
 {
@@ -38,7 +38,7 @@ fn forgets(m: &mut SharedMutator) -> Result<bool, Refused>
     m.is_nil(NONE)
 }
 
-/// Keeps an object only in a slot while the heap is collected: whether it is found there again, where it was.
+/// Whether an object that only a slot keeps is there after a collection.
 fn keep_in_slot<R: Wait>(rt: &R, m: &mut SharedMutator) -> Result<bool, Refused>
     ensures world { arc_value m.new.heap ≡ arc_value m.old.heap }
 {
@@ -52,7 +52,7 @@ fn keep_in_slot<R: Wait>(rt: &R, m: &mut SharedMutator) -> Result<bool, Refused>
     Ok(same && forgotten && number == FIRST)
 }
 
-/// Lets the root's field 0 refer to an object by an exchange; a second one that expects the same loses.
+/// Of two exchanges that expect the same, one wins.
 fn exchange_twice(m: &mut SharedMutator) -> Result<bool, Refused>
     ensures world { arc_value m.new.heap ≡ arc_value m.old.heap }
 {
@@ -63,7 +63,6 @@ fn exchange_twice(m: &mut SharedMutator) -> Result<bool, Refused>
     Ok(first && !second && m.same(MADE, FOUND)?)
 }
 
-/// Both, and whether what is out of range is refused.
 fn try_all<R: Wait>(rt: &R, m: &mut SharedMutator) -> Result<bool, Refused>
     ensures world { arc_value m.new.heap ≡ arc_value m.old.heap }
 {
@@ -86,7 +85,7 @@ fn stays_open<R: AllocGlobal>(rt: &R, world: SharedWorld) -> Option<SharedWorld>
     }
 }
 
-/// Whether the world closes with this mutator and this tracer, with a value for each cell.
+/// Whether the world closes, with a value for each cell.
 fn closes<R: AllocGlobal>(rt: &R, world: SharedWorld, m: SharedMutator, t: Tracer) -> bool
     requires same { arc_value m.heap ≡ arc_value world.heap }
     requires same_tracer { arc_value t.heap ≡ arc_value world.heap }
@@ -103,8 +102,7 @@ fn closes<R: AllocGlobal>(rt: &R, world: SharedWorld, m: SharedMutator, t: Trace
     }
 }
 
-/// A world with one mutator, which makes each call, and one tracer: it isn't closed without them. Whether all went
-/// well.
+/// The world isn't closed without its mutator and its tracer.
 fn open_and_close<R: Wait + AllocGlobal>(rt: &R) -> bool {
     let sizes = SharedSizes::of_cells(64).slots(4).packets(8, 16).tracers(1);
     let Ok(mut world) = SharedWorld::open(rt.alloc(), sizes) else {

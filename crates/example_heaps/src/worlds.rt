@@ -1,5 +1,4 @@
-//! Worlds of two threads, which are opened and closed: one whose mutators keep to their own objects, and one whose
-//! mutators share them.
+//! Worlds of two threads, which keep to their own objects or share them.
 ghost use Rattle.std.specs.Prelude.{◌≡◌, [], ◌∷◌, IfSome};
 ghost use Rattle.std.specs.Arc.{arc_value};
 ghost use Rattle.managed_heap.specs.Closing.{IsWorldEnd};
@@ -13,11 +12,8 @@ use std::alloc::Global;
 /// A world and its two mutators.
 #[derive(Drop)]
 pub struct Pair {
-    /// The world.
     pub world: World,
-    /// Mutator 1.
     pub first: Mutator,
-    /// Mutator 2.
     pub second: Mutator,
 }
 
@@ -58,14 +54,11 @@ pub fn close(alloc: Global, world: World, first: Mutator, second: Mutator) -> Op
     }
 }
 
-/// A world whose mutators share objects, and its two mutators, which have done nothing.
+/// A world whose mutators share objects, and these, which have done nothing.
 #[derive(Drop)]
 pub struct SharedPair {
-    /// The world.
     pub world: SharedWorld,
-    /// Mutator 1.
     pub first: SharedMutator,
-    /// Mutator 2.
     pub second: SharedMutator,
 }
 
@@ -89,7 +82,7 @@ pub fn open_shared(alloc: Global, sizes: SharedSizes) -> Option<SharedPair>
     })
 }
 
-/// Closes a world with its two mutators, which shared objects.
+/// Closes a world whose mutators shared objects.
 pub fn close_shared(
     alloc: Global,
     world: SharedWorld,

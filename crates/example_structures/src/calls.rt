@@ -1,8 +1,8 @@
 //! What the structures do with a mutator that is inside.
 //!
-//! The variables are in range, and objects have as many references as are used, so most of it can't be refused.
-//! Each call says that it changed no object, and that the mutator's log still tells what variable `SEEN` refers to:
-//! by this an exchange that expects it says whether it was won.
+//! Variables and fields are in range, so most of it can't be refused. Each call says that it changed no object, and
+//! that the mutator's log still tells what variable `SEEN` refers to: by this an exchange that expects it says whether
+//! it was won.
 ghost use Rattle.std.specs.Arc.{arc_value};
 ghost use Rattle.std.specs.Prelude.{◌≡◌, ℕ, ◌<◌, ◌≢◌, IfErr, IfOk, IsFalse, IsTrue};
 ghost use Rattle.mark_core.specs.Steps.MutatorSteps.{seat_variable as word_in};
@@ -117,7 +117,7 @@ pub(crate) fn is_nil(m: &SharedMutator, v: u8) -> bool
     m.is_nil(v).unwrap_or(true)
 }
 
-/// Whether variables v and w refer to one object, or both to nothing.
+/// Whether both refer to one object, or to nothing.
 pub(crate) fn same(m: &SharedMutator, v: u8, w: u8) -> bool
     requires inside { m.now.place ≡ Inside }
     requires range { (v < 32) × (w < 32) }
@@ -127,7 +127,7 @@ pub(crate) fn same(m: &SharedMutator, v: u8, w: u8) -> bool
     m.same(v, w).unwrap_or(true)
 }
 
-/// Reference i of variable v's object, made in this call, becomes what variable `OWN` refers to.
+/// Reference i of an object made in this call becomes what variable `OWN` refers to.
 pub(crate) fn lay(m: &mut SharedMutator, v: u8, i: u8)
     requires inside { m.old.place ≡ Inside }
     requires range { (v < 32) × (i < field_count_of m.old) }

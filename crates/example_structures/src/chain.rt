@@ -18,7 +18,7 @@ const NEXT: u8 = 0;
 const KEPT: u8 = 1;
 
 /// Further variables: the entry of a key, what is kept there, the chain that is made, an entry that is copied, its
-/// copy, what it keeps, and one that is always nil.
+/// copy, and what that keeps. The last is always nil.
 const ENTRY: u8 = 22;
 
 pub(crate) const FOUND: u8 = 23;
@@ -38,7 +38,7 @@ pub(crate) const LOOKED: u8 = 4;
 
 pub(crate) const CHANGED: u8 = 8;
 
-/// Goes along the chain to the entry of a key, with what is kept there in hand, or to its end.
+/// Goes to the entry of a key, with what is kept there in hand, or to the end of the chain.
 pub(crate) fn seek<R: Wait>(rt: &R, m: &mut SharedMutator, key: u32) -> Result<(), Refused>
     requires inside { m.old.place ≡ Inside }
     requires wide { 2 ≤ field_count_of m.old }
@@ -63,7 +63,7 @@ pub(crate) fn seek<R: Wait>(rt: &R, m: &mut SharedMutator, key: u32) -> Result<(
     Ok(())
 }
 
-/// Whether what was found is what is expected, if any is.
+/// Whether what is expected was found, if any is.
 pub(crate) fn is_expected(m: &SharedMutator, expected: Option<u8>) -> bool
     requires inside { m.now.place ≡ Inside }
     requires range { IfSome expected (λ v. v < 32) }
@@ -75,7 +75,7 @@ pub(crate) fn is_expected(m: &SharedMutator, expected: Option<u8>) -> bool
     }
 }
 
-/// Makes the chain anew, with what variable `new` refers to under the key, or without the key.
+/// Makes the chain anew, with what variable `new` refers to under the key, if anything.
 pub(crate) fn renew<R: Wait>(
     rt: &R,
     m: &mut SharedMutator,
@@ -116,7 +116,7 @@ fn leave_out<R: Wait>(rt: &R, m: &mut SharedMutator) -> Result<(), Refused>
     Ok(())
 }
 
-/// Puts an entry with this key, which keeps what variable `kept` refers to, before the chain that is made.
+/// Puts an entry before the chain that is made.
 fn put_before<R: Wait>(rt: &R, m: &mut SharedMutator, key: u32, kept: u8) -> Result<(), Refused>
     requires inside { m.old.place ≡ Inside }
     requires wide { (kept < 32) × (2 ≤ field_count_of m.old) }
@@ -144,7 +144,7 @@ fn keep(m: &mut SharedMutator, i: u8, v: u8)
     let _done = m.set(COPY, i, v);
 }
 
-/// Copies the entries before the one in hand to the front of the chain that is made. Nil if the chain ends before.
+/// Copies the entries before the one in hand to the chain that is made. Nil if the chain ends before.
 fn copy_before<R: Wait>(rt: &R, m: &mut SharedMutator) -> Result<(), Refused>
     requires inside { m.old.place ≡ Inside }
     requires wide { 2 ≤ field_count_of m.old }

@@ -6,18 +6,18 @@ ghost use Rattle.example_structures.specs.Refusing.{IsFor, NotBegun};
 
 use shared_heap::{Refused, SharedMutator};
 
-/// How many variables are the caller's: 0 to 19. The structures work with the others, which refer to nothing
-/// between two calls, except after a call that was refused.
+/// How many variables are the caller's: 0 to 19. The others refer to nothing between two calls, except after a call
+/// that was refused.
 pub const CALLERS: u8 = 20;
 
-/// The variable of what is made: a node, or a row.
+/// What is made: a node, or a row.
 pub(crate) const OWN: u8 = 20;
 
-/// The variable of what was seen in a structure: what an exchange expects there.
+/// What was seen in a structure, and an exchange expects there.
 pub(crate) const SEEN: u8 = 21;
 
-/// Begins a call that uses this variable of the caller's, and so many references of an object. Refused, with
-/// nothing done, if the variable isn't the caller's, objects have fewer references, or the mutator is outside.
+/// Begins a call that uses this variable of the caller's, and so many references of an object. A refused one did
+/// nothing.
 pub(crate) fn begin(m: &mut SharedMutator, v: u8, least: u8) -> Result<(), Refused>
     requires least { 0 < least }
     ensures begun { IfOk result (λ _. (m.old.place ≡ Inside) × (m.new.place ≡ Inside) × IsFor v least m.new) }

@@ -1,10 +1,9 @@
-//! Structures that threads fill and empty together, in a heap whose objects they share: a queue of several
-//! producers and consumers, and a hash map.
+//! Structures that threads fill and empty together, in a heap whose objects they share: a queue of several producers
+//! and consumers, and a hash map.
 //!
-//! Both are made only of objects of the heap, and changed by exchanges of their references. There is no lock: a
-//! thread that loses an exchange looks again, and then another has won one. Whoever has a reference in a variable
-//! keeps its object, so no other is ever taken for it (no ABA): an exchange that expects the object finds that one
-//! or none.
+//! Both are changed by exchanges of references. There is no lock: a thread that loses an exchange looks again, and then
+//! another has won one. Whoever has a reference in a variable keeps its object, so no other is ever taken for it (no
+//! ABA).
 //!
 //! No call asks for a proof. Each answers by name why it was refused, as those of `shared_heap` do.
 #![tactic(auto)]

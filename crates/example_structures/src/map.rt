@@ -1,10 +1,10 @@
 //! A hash map with chains, whose every change is one exchange.
 //!
-//! The map is an object whose references are rows, and a row's references are chains of entries. An entry's value
-//! is its key; its reference 0 is the next entry, and its reference 1 the object kept under the key. An entry of a
-//! chain never changes: whoever changes a key makes anew what stands before its entry, ends it in what stands
-//! behind, and puts the new chain in the old one's place by an exchange. So each change happens at one moment, and
-//! a reader finds a chain as it was at one moment.
+//! The map is an object whose references are rows, and a row's references are chains of entries. An entry's value is
+//! its key; its reference 0 is the next entry, and its reference 1 the object kept under the key. An entry of a chain
+//! never changes: whoever changes a key makes anew what stands before its entry, and puts the new chain in the old
+//! one's place by an exchange. So each change happens at one moment, and a reader finds a chain as it was at one
+//! moment.
 ghost use Rattle.std.specs.Arc.{arc_value};
 ghost use Rattle.std.specs.Prelude.{◌≡◌, ◌<◌, ◌≤◌, IfErr, IfNone, IfOk, IfSome, IsFalse, IsTrue, is_none, if◌then◌else◌};
 ghost use Rattle.mark_core.specs.Steps.MutatorSteps.{seat_variable as word_in};
@@ -28,7 +28,7 @@ pub struct SharedMap {
     map: u8,
     rows: u8,
     chains: u8,
-    /// How many references an object needs: the greater number, at least two.
+    /// The greater number, at least two.
     width: u8,
     ghost some: { (map < 20) × (0 < rows) × (rows ≤ width) × (0 < chains) × (chains ≤ width) × (2 ≤ width) × (width ≤ 16) },
 }
@@ -208,7 +208,7 @@ impl SharedMap {
         Ok(false)
     }
 
-    /// Puts the chain that was made in the place of the one that was seen, if that is still there: whether it was.
+    /// Puts the chain that was made in the place of the one that was seen, if that is still there.
     fn publish(self, m: &mut SharedMutator, key: u32) -> Result<bool, Refused>
         requires inside { m.old.place ≡ Inside }
         requires wide { self.width ≤ field_count_of m.old }

@@ -1,13 +1,12 @@
 //! A queue of several producers and consumers: that of Michael and Scott (PODC 1996).
 //!
-//! The queue is an object with two references, to the first node and to the last. A node's value is the number put
-//! in; its reference 0 is the next node, and its reference 1 the object put in. The first node is one whose number
-//! was taken, or that the queue began with: so the queue always has a node, and producers and consumers work at its
-//! two ends.
+//! The queue is an object with two references, to the first node and to the last. A node's value is the number put in;
+//! its reference 0 is the next node, and its reference 1 the object put in. The first node is one whose number was
+//! taken, or that the queue began with: so the queue always has a node.
 //!
-//! A node is put in by one exchange of the last node's reference, which must be nil, and taken out by one exchange
-//! of the queue's first. The queue's last follows: if it lags behind, whoever finds it so moves it on. What a taken
-//! node had is read before the exchange: until that is won no other changes it.
+//! A node is put in by one exchange of the last node's reference, which must be nil, and taken out by one exchange of
+//! the queue's first. If the queue's last lags behind, whoever finds it so moves it on. What a taken node had is read
+//! before the exchange: until that is won no other changes it.
 ghost use Rattle.std.specs.Arc.{arc_value};
 ghost use Rattle.std.specs.Prelude.{◌≡◌, ◌<◌, ◌≤◌, IfErr, IfNone, IfOk, IfSome, ◌⊎◌, if◌then◌else◌};
 ghost use Rattle.shared_heap.specs.Calls.{field_count_of};
@@ -23,31 +22,30 @@ use crate::hands::{CALLERS, OWN, SEEN, begin};
 use shared_heap::{Refused, SharedMutator};
 use std::sync::Wait;
 
-/// The references of a queue: to its first node and to its last.
+/// A queue's first and last node.
 const FIRST: u8 = 0;
 
 const LAST: u8 = 1;
 
-/// The references of a node: to the next node, and to the object that was put in.
+/// A node's next node, and the object that was put in.
 const NEXT: u8 = 0;
 
 const ITEM: u8 = 1;
 
-/// Further variables: the last node, the one behind the first, and its object.
+/// Variables: the last node, the one behind the first, and its object.
 const TAIL: u8 = 22;
 
 const BEHIND: u8 = 23;
 
 const OBJECT: u8 = 24;
 
-/// What one look at the queue came to.
 #[derive(Drop)]
 enum Look {
-    /// The first was taken, with this number.
+    /// The first was taken, with its number.
     Taken(u64),
     /// There was none.
     Empty,
-    /// Another thread was faster, or the last node lagged behind.
+    /// Another thread was faster, or the queue's last lagged behind.
     Again,
 }
 
@@ -112,8 +110,7 @@ impl SharedQueue {
         Ok(())
     }
 
-    /// The node in hand comes behind the last, if that is found to be last: whether it was. Else it is a safe
-    /// point.
+    /// Whether the node in hand came behind the last. Else it is a safe point.
     fn try_put<R: Wait>(self, rt: &R, m: &mut SharedMutator) -> Result<bool, Refused>
         requires inside { m.old.place ≡ Inside }
         requires wide { 2 ≤ field_count_of m.old }
@@ -128,7 +125,7 @@ impl SharedQueue {
         Ok(false)
     }
 
-    /// The node in hand comes behind the last, if that is found to be last. Else the queue's last moves on.
+    /// The node in hand comes behind the last, or the queue's last, which lagged behind, moves on.
     fn append(self, m: &mut SharedMutator) -> Result<bool, Refused>
         requires inside { m.old.place ≡ Inside }
         requires wide { 2 ≤ field_count_of m.old }
@@ -147,8 +144,6 @@ impl SharedQueue {
         Ok(false)
     }
 
-    /// The node in hand comes behind the last, behind which nothing was seen, if no other does first; then the
-    /// queue's last moves on.
     fn link(self, m: &mut SharedMutator) -> Result<bool, Refused>
         requires inside { m.old.place ≡ Inside }
         requires wide { 2 ≤ field_count_of m.old }
@@ -165,7 +160,6 @@ impl SharedQueue {
         Ok(won)
     }
 
-    /// One exchange that puts the node in hand behind the last: whether it was won. Nil if no last one was found.
     fn come_behind(self, m: &mut SharedMutator) -> Result<bool, Refused>
         requires inside { m.old.place ≡ Inside }
         requires wide { 2 ≤ field_count_of m.old }
@@ -221,8 +215,7 @@ impl SharedQueue {
         Ok(None)
     }
 
-    /// One look at the queue, which takes the first out if it can. Afterwards no variable keeps a node, and with it
-    /// all that came behind it.
+    /// Takes the first out if it can. Then no variable keeps a node, and with it all that came behind it.
     fn look(self, m: &mut SharedMutator, item: u8) -> Result<Look, Refused>
         requires inside { m.old.place ≡ Inside }
         requires wide { IsFor item 2 m.old }
@@ -245,7 +238,7 @@ impl SharedQueue {
         Ok(look)
     }
 
-    /// The first node is the last one too: the queue is empty, or its last lags behind and moves on.
+    /// The queue is empty, or its last lags behind and moves on.
     fn look_behind(self, m: &mut SharedMutator) -> Result<Look, Refused>
         requires inside { m.old.place ≡ Inside }
         requires wide { 2 ≤ field_count_of m.old }
@@ -263,8 +256,7 @@ impl SharedQueue {
         Ok(Look::Again)
     }
 
-    /// The node behind the first becomes the first, if no other thread was faster; it lets go of its object, which
-    /// is taken with its number.
+    /// The node behind the first becomes the first, if no other is faster, and lets go of its object.
     fn try_take(self, m: &mut SharedMutator, item: u8) -> Result<Look, Refused>
         requires inside { m.old.place ≡ Inside }
         requires wide { IsFor item 2 m.old }
@@ -284,7 +276,6 @@ impl SharedQueue {
         Ok(Look::Taken(number))
     }
 
-    /// One exchange by which the node behind the first becomes the first: whether it was won.
     fn come_first(self, m: &mut SharedMutator) -> Result<bool, Refused>
         requires inside { m.old.place ≡ Inside }
         requires wide { 2 ≤ field_count_of m.old }

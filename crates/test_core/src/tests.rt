@@ -1,9 +1,9 @@
-//! Runs of events from the start, with what they are answered and what they leave, written down as texts (`runs`);
-//! and sequences of the table's typed steps: the seats 0 and 1 of a heap take steps in turn.
+//! Runs of events, written down as texts (`runs`), and sequences of the table's typed steps by seats 0 and 1 of a heap.
 mod barrier;
 mod blocks;
 mod cells;
 mod claims;
+mod ends;
 mod events;
 mod filled;
 mod first;

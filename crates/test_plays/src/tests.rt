@@ -1,5 +1,4 @@
-//! What no clause says: whole runs of the program, from the words and the bytes in to the bytes out, most of them
-//! written down as texts (`written`), and plays under gates.
+//! Whole runs, most of them written down as texts (`written`), and plays under gates.
 
 mod beside;
 mod commands;

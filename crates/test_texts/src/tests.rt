@@ -1,4 +1,4 @@
-//! By what is read and written. `cases` tells how most cases are written down as texts.
+//! `cases` tells how most cases are written down as texts.
 mod batches;
 mod cases;
 mod censuses;

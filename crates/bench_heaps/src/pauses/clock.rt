@@ -1,4 +1,4 @@
-//! What a worker's stops took by the clock, and what was done in them and beside them.
+//! What a worker's stops took, and what was done in them and beside them.
 
 use crate::pauses::timeline::{Doing, Timeline};
 use managed_heap::{Counts, Paid, Watch};
@@ -20,17 +20,15 @@ pub fn nanos_since<R: Clock>(rt: &R, start: Option<Instant>) -> Option<u64> {
 /// What was counted of cycles and collections.
 #[derive(Clone, Copy, Drop)]
 pub struct Tally {
-    /// How many ordinary cycles ended.
+    /// How many ordinary cycles ended, and how many cells were in use then in all.
     pub cycles: u64,
-    /// How many cells were in use at the ends of these cycles, added up.
     pub marked: u64,
-    /// How many precise collections there were.
+    /// How many precise collections there were, and how many cells were in use then in all.
     pub collections: u64,
-    /// How many cells were in use at the ends of these collections, added up.
     pub exact: u64,
-    /// How many objects were traced beside others.
+    /// Objects traced beside others.
     pub traced: u64,
-    /// How many objects were scanned again in stops, on dirty cards.
+    /// Objects scanned again in stops, on dirty cards.
     pub rescanned: u64,
 }
 
@@ -65,14 +63,12 @@ impl Tally {
 pub struct Log {
     /// The nanoseconds of each stop from raise to resume.
     pub lengths: Vec<u64>,
-    /// What it counted.
     pub tally: Tally,
-    /// What it did when.
     pub line: Timeline,
 }
 
 impl Log {
-    /// An empty log, with a timeline if the run's begin is given. It takes no memory.
+    /// An empty log, with a timeline if the run's begin is given.
     pub fn empty(alloc: Global, began: Option<Instant>) -> Log {
         Log {
             lengths: Vec::new(alloc),
@@ -82,7 +78,7 @@ impl Log {
     }
 }
 
-/// A watch with a clock.
+/// A watch with a clock, and when it was last asked for a stop.
 #[derive(Drop)]
 pub struct StopClock<'a, R: Clock> {
     pub rt: &'a R,
@@ -91,7 +87,7 @@ pub struct StopClock<'a, R: Clock> {
 }
 
 impl<'a, R: Clock> StopClock<'a, R> {
-    /// A watch with this clock and log, asked for no stop yet.
+    /// A watch with this clock and log.
     pub fn new(rt: &'a R, log: Log) -> StopClock<'a, R> {
         StopClock {
             rt,

@@ -12,8 +12,7 @@ use std::sync::Wait;
 use std::thread::{Threads, for_each_mut, join_mut, sleep};
 use std::time::{Duration, Instant};
 
-/// The milliseconds of rest before a round of transactions, in which a system that keeps a share of each second for
-/// others takes it.
+/// The milliseconds of rest before a round, in which a system that keeps a share of each second for others takes it.
 const REST: u64 = 100;
 
 /// How many rounds there are at most.
@@ -22,13 +21,12 @@ const ROUNDS: u32 = 100_000;
 /// What a run came to.
 #[derive(Drop)]
 pub struct Found {
-    /// The workers, as they ended.
+    /// All as they ended.
     pub workers: Vec<Worker>,
-    /// The tracers, as they ended.
     pub markers: Vec<Marker>,
-    /// How many objects the tracers traced beside the workers, while these replaced orders and before.
+    /// How many objects the tracers traced.
     pub traced: u64,
-    /// The nanoseconds in which the orders were replaced.
+    /// The nanoseconds of all rounds of transactions.
     pub took: u64,
 }
 
@@ -55,7 +53,6 @@ fn is_more(workers: &[Worker]) -> bool {
         .any(|worker| worker.ended.is_ok() && worker.ledger.is_open())
 }
 
-/// Rounds of transactions, each after a rest: the nanoseconds that they took.
 fn play_rounds<R: Threads + Wait + Sync + Clock>(
     rt: &R,
     alloc: Global,
@@ -74,7 +71,7 @@ fn play_rounds<R: Threads + Wait + Sync + Clock>(
     took
 }
 
-/// All parts, and then the tracers are dismissed. The nanoseconds in which orders were replaced.
+/// All parts: the nanoseconds of the rounds.
 fn play_all<R: Threads + Wait + Sync + Clock>(
     rt: &R,
     alloc: Global,
@@ -152,7 +149,6 @@ fn trace_all<R: Threads + Wait + Sync + Clock>(rt: &R, tracers: &mut Vec<Marker>
     }
 }
 
-/// What all came to, if each worker came to its end.
 fn gather(workers: Vec<Worker>, markers: Vec<Marker>, took: u64) -> Option<Found> {
     for worker in workers.iter() {
         worker.ended.ok()?;
@@ -169,7 +165,6 @@ fn gather(workers: Vec<Worker>, markers: Vec<Marker>, took: u64) -> Option<Found
     })
 }
 
-/// When the run begins, if the timeline is asked for.
 fn begin<R: Clock>(rt: &R, asked: Asked) -> Option<Instant> {
     if asked.timeline {
         Instant::now(rt).ok()
@@ -178,8 +173,7 @@ fn begin<R: Clock>(rt: &R, asked: Asked) -> Option<Instant> {
     }
 }
 
-/// Opens a world, and lets the workers play in it. None if there is no memory, or a mutator or a tracer could not
-/// be given back.
+/// What comes of a run. None if there is no memory, or a worker was refused.
 pub fn run<R: Threads + Wait + Sync + Clock>(rt: &R, alloc: Global, asked: Asked) -> Option<Found> {
     let sizes = Sizes::of_cells(asked.cells)
         .fields(4)

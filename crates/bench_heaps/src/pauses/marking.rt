@@ -11,17 +11,15 @@ use std::time::{Duration, Instant};
 /// A tracer, and what it did when.
 #[derive(Drop)]
 pub struct Marker {
-    /// Its tracer.
     pub tracer: Tracer,
-    /// What it did when.
     pub line: Timeline,
 }
 
-/// How long a tracer that found nothing sleeps, in microseconds, if its doings are noted.
+/// How many microseconds a tracer that found nothing sleeps, if its doings are noted.
 const SLEEP: u64 = 50;
 
 impl Marker {
-    /// A tracer that has done nothing, with a timeline if the run's begin is given.
+    /// A tracer, with a timeline if the run's begin is given.
     pub fn new(tracer: Tracer, began: Option<Instant>, alloc: Global) -> Marker {
         Marker {
             tracer,
@@ -43,7 +41,7 @@ impl Marker {
         turn
     }
 
-    /// Marks until it is dismissed: as the library has it, or turn by turn if its doings are noted.
+    /// Marks until it is dismissed, turn by turn if its doings are noted.
     pub fn run<R: Wait + Clock>(&mut self, rt: &R) {
         if self.line.began.is_none() {
             self.tracer.run(rt);

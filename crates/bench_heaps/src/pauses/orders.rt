@@ -1,8 +1,7 @@
 //! An order, and the directory of all orders of a worker.
 //!
 //! An order has 16 objects, whose value is its number. Reference 0 is a list of five lines, each with an item, and
-//! reference 1 a tree with four leaves. The directory is a tree with a fan-out of four, whose lowest nodes refer to
-//! the orders.
+//! reference 1 a tree with four leaves. The directory is a tree with a fan-out of four.
 
 use crate::pauses::clock::{Log, StopClock};
 use crate::seen::Seen;
@@ -18,8 +17,8 @@ const LINES: u32 = 5;
 
 const LEAVES: u8 = 4;
 
-/// The variables: the directory; a node of it, and the next below; an order, a line, what was made last, its item,
-/// and a tree.
+/// The variables: the directory, a node of it and the next below; an order, a line, what was made last, its item, and a
+/// tree.
 const DIRECTORY: u8 = 0;
 
 const NODE: u8 = 1;
@@ -36,7 +35,7 @@ const ITEM: u8 = 6;
 
 const TREE: u8 = 7;
 
-/// How many levels of nodes are above so many orders, four below each lowest node.
+/// How many levels of nodes are above so many orders.
 pub fn levels_for(orders: u32) -> u32 {
     for levels in 1..16u32 {
         if orders.wrapping_shr(2 * levels) == 0 {
@@ -87,7 +86,7 @@ pub struct Hand<'a, R: Clock> {
 }
 
 impl<'a, R: Wait + Clock> Hand<'a, R> {
-    /// A mutator in hand, whose clock goes on with this log.
+    /// A mutator, whose clock goes on with this log.
     pub fn new(rt: &'a R, mutator: &'a mut Mutator, log: Log) -> Hand<'a, R> {
         Hand {
             mutator,
@@ -115,7 +114,7 @@ impl<'a, R: Wait + Clock> Hand<'a, R> {
         self.make(DIRECTORY, 0)
     }
 
-    /// Goes one level down, to a node that is made if there is none: whether it was made.
+    /// Goes one level down, to a node that is made if there is none.
     fn step_down(&mut self, way: u8) -> Result<bool, Refused> {
         self.mutator.get(NEXT, NODE, way)?;
         let made = self.mutator.is_nil(NEXT)?;
@@ -127,7 +126,7 @@ impl<'a, R: Wait + Clock> Hand<'a, R> {
         Ok(made)
     }
 
-    /// Comes to the lowest node above an order: how many nodes were made on the way.
+    /// Comes to the lowest node above an order: how many nodes were made.
     fn come_to(&mut self, at: u32, levels: u32) -> Result<u32, Refused> {
         self.mutator.copy(NODE, DIRECTORY)?;
         let mut nodes: u32 = 0;
@@ -160,7 +159,7 @@ impl<'a, R: Wait + Clock> Hand<'a, R> {
         self.mutator.set(ORDER, 1, TREE)
     }
 
-    /// Puts a new order in the place of another, or of none: how many nodes of the directory were made for it.
+    /// Puts a new order in the place of another, or of none: how many nodes were made.
     pub fn replace(&mut self, at: u32, levels: u32, number: u32) -> Result<u32, Refused> {
         self.make(ORDER, number)?;
         self.make_lines(number)?;
@@ -171,7 +170,7 @@ impl<'a, R: Wait + Clock> Hand<'a, R> {
         Ok(nodes)
     }
 
-    /// Looks at all objects of an order, after a safe point.
+    /// Looks at all objects of an order.
     pub fn look_at(&mut self, at: u32, levels: u32) -> Result<Seen, Refused> {
         self.come_to_safe_point()?;
         self.come_to(at, levels)?;

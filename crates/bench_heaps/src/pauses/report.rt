@@ -33,7 +33,7 @@ fn summed(found: &Found) -> Sums {
     all
 }
 
-/// The nanoseconds of all stops, or of all transactions, from the shortest.
+/// The nanoseconds of all stops, or of all transactions, in order.
 fn sorted<R: AllocGlobal>(rt: &R, found: &Found, stops: bool) -> Vec<u64> {
     let mut all = Vec::new(rt.alloc());
     for worker in found.workers.iter() {
@@ -55,7 +55,7 @@ fn ratio(number: u64, by: u64) -> u64 {
     number.checked_div(by).unwrap_or(0)
 }
 
-/// The nanoseconds that so many of 10,000 times don't exceed; 0 if there is none.
+/// What so many of 10,000 times don't exceed; 0 if there is none.
 fn at_part(times: &[u64], part: usize) -> u64 {
     let last = times.len().saturating_sub(1);
     let at = (times.len().wrapping_mul(part) / 10_000).min(last);
@@ -65,7 +65,6 @@ fn at_part(times: &[u64], part: usize) -> u64 {
     }
 }
 
-/// Their mean.
 fn mean(times: &[u64]) -> u64 {
     let mut sum = 0u64;
     for took in times.iter() {
@@ -98,7 +97,6 @@ fn tell_times<R: Runtime>(rt: &R, asked: Asked, found: &Found, lengths: &[u64]) 
     )
 }
 
-/// How long the transactions took.
 fn tell_latencies<R: Runtime>(rt: &R, times: &[u64]) -> io::Result<()> {
     println!(rt;
         "latency p50 {} p99 {} p999 {} slowest {}",
@@ -109,7 +107,6 @@ fn tell_latencies<R: Runtime>(rt: &R, times: &[u64]) -> io::Result<()> {
     )
 }
 
-/// Who did what.
 fn tell_work<R: Runtime>(rt: &R, found: &Found, all: &Sums) -> io::Result<()> {
     let objects = all.objects;
     let all = all.tally;
@@ -131,7 +128,6 @@ fn tell_work<R: Runtime>(rt: &R, found: &Found, all: &Sums) -> io::Result<()> {
     )
 }
 
-/// Tells a line for each interval, with its begin and its end in nanoseconds.
 fn tell_line<R: Runtime>(rt: &R, name: &str, number: usize, line: &Timeline) -> io::Result<()> {
     for it in line.noted.iter() {
         println!(rt;

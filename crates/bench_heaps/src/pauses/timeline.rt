@@ -1,7 +1,7 @@
 //! What a thread did when, if that is asked for.
 //!
-//! In between it runs the program, or rests. While it waits for another's stop it helps as long as that lets it,
-//! which can't be told apart here.
+//! In between it runs the program, or rests. If it waits for another's stop it may help, which can't be told apart
+//! here.
 
 use crate::pauses::clock::nanos_since;
 use std::alloc::Global;
@@ -15,16 +15,15 @@ pub enum Doing {
     Paying,
     /// A mutator asked for a stop, and ended a cycle or collected in it.
     Collecting,
-    /// It waited for the stop of another, and helped.
+    /// It waited for the stop of another.
     Waiting,
     /// A tracer marked beside the mutators.
     Tracing,
-    /// A tracer found nothing to trace: it cleaned cards, or helped the stop of another.
+    /// A tracer found nothing to trace.
     Tending,
 }
 
 impl Doing {
-    /// The word for it.
     pub fn word(self) -> &'static str {
         match self {
             Doing::Paying => "paying",
@@ -36,7 +35,7 @@ impl Doing {
     }
 }
 
-/// What a thread did from one time to another, in nanoseconds since the run began.
+/// From one time to another, in nanoseconds since the run began.
 #[derive(Clone, Copy, Drop)]
 pub struct Interval {
     pub doing: Doing,
@@ -44,23 +43,20 @@ pub struct Interval {
     pub to: u64,
 }
 
-/// The intervals of one thread.
 #[derive(Drop)]
 pub struct Timeline {
-    /// When the run began; None if no intervals are asked for, and then no clock is read.
+    /// When the run began. None if no intervals are asked for, and then no clock is read.
     pub began: Option<Instant>,
     /// Where the next interval begins.
     pub from: u64,
-    /// What was noted, in order.
     pub noted: Vec<Interval>,
 }
 
-/// From how many nanoseconds on a call is noted of which nothing was told: one that gets a cache and owes nothing
-/// takes less.
+/// A shorter call of which nothing was told isn't noted: in it a cache was got for nothing.
 const LONG: u64 = 100_000;
 
 impl Timeline {
-    /// A line on which nothing is noted. It takes no memory.
+    /// A line on which nothing is noted.
     pub fn new(began: Option<Instant>, alloc: Global) -> Timeline {
         Timeline {
             began,
@@ -69,12 +65,12 @@ impl Timeline {
         }
     }
 
-    /// The nanoseconds since the run began; 0 if no intervals are asked for.
+    /// 0 if no intervals are asked for.
     fn now<R: Clock>(&self, rt: &R) -> u64 {
         nanos_since(rt, self.began).unwrap_or(0)
     }
 
-    /// Notes what was done since the last interval ended or a new one was begun.
+    /// Notes what was done since the last interval.
     fn note(&mut self, doing: Doing, to: u64) {
         let from = self.from;
         self.from = to;

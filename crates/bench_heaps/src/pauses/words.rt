@@ -11,15 +11,15 @@ pub const USAGE: &str =
 /// A run that is asked for.
 #[derive(Clone, Copy, Drop)]
 pub struct Asked {
-    /// How many cells the heap has: a multiple of 64, 4,096 to 16,777,216.
+    /// A multiple of 64, 4,096 to 16,777,216.
     pub cells: u32,
     /// How many of a hundred cells the live set takes: 1 to 90.
     pub live: u32,
-    /// How many mutators there are, each in a thread of its own: 1 to 32.
+    /// 1 to 32, each in a thread of its own.
     pub workers: u32,
-    /// How many threads mark beside them: 0 to 8.
+    /// 0 to 8.
     pub tracers: u32,
-    /// How many packets there are: 2 to 1,024.
+    /// 2 to 1,024.
     pub packets: u32,
     /// How many cells a packet has room for: 2 to 512.
     pub entries: u32,
@@ -27,9 +27,8 @@ pub struct Asked {
     pub transactions: u32,
     /// Collections mark only in stops.
     pub stops: bool,
-    /// Nothing is told that depends on how the threads run.
+    /// Nothing is told that depends on the schedule.
     pub counts_alone: bool,
-    /// What each thread did when is told, too.
     pub timeline: bool,
 }
 
@@ -45,7 +44,7 @@ const OPTIONS: [&str; 7] = [
 
 const FLAGS: [&str; 3] = ["stops", "counts-alone", "timeline"];
 
-/// The run that the options ask for, if each is in its range.
+/// The run, if each number is in its range.
 fn asked_of(matches: &ArgMatches<'_>) -> Option<Asked>
     ensures { IfSome result AreWordsInRange }
 {

@@ -1,4 +1,4 @@
-//! What a worker does: it fills its directory, replaces orders, and looks at all of them at the end.
+//! A worker fills its directory, replaces orders, and looks at all of them at the end.
 
 use crate::pauses::clock::{Log, nanos_between};
 use crate::pauses::orders::{Hand, OBJECTS, levels_for};
@@ -13,14 +13,13 @@ use std::time::Instant;
 /// The nanoseconds after which a round of transactions ends.
 const ROUND: u64 = 600_000_000;
 
-/// What each worker does in one part of a run.
 #[derive(Clone, Copy, Drop)]
 pub enum Part {
     /// It fills its directory.
     Fill,
-    /// It collects once, so that the collector knows how large the live set is.
+    /// It collects once: the collector then knows how large the live set is.
     Settle,
-    /// It plays a round of its transactions.
+    /// It plays a round of transactions.
     Play,
     /// It looks at all of its orders.
     Look,
@@ -29,9 +28,8 @@ pub enum Part {
 /// The transactions of a worker.
 #[derive(Drop)]
 pub struct Ledger {
-    /// How many it is to make.
+    /// How many it is to make, and has made.
     pub transactions: u32,
-    /// How many it has made.
     pub made: u32,
     /// Where its choice of orders goes on.
     pub number: u64,
@@ -40,8 +38,7 @@ pub struct Ledger {
 }
 
 impl Ledger {
-    /// So many transactions, none made. The places for their times are written, so that timing touches no fresh
-    /// page.
+    /// The places for times are written, so that timing touches no fresh page.
     pub fn new(alloc: Global, transactions: u32, number: u64) -> Result<Ledger, AllocError> {
         Ok(Ledger {
             transactions,
@@ -51,7 +48,7 @@ impl Ledger {
         })
     }
 
-    /// Notes a transaction that took this many nanoseconds.
+    /// Notes a transaction.
     pub fn note(&mut self, took: u64) {
         if let Some(place) = self.times.get_mut(self.made as usize) {
             *place = took;
@@ -59,28 +56,24 @@ impl Ledger {
         self.made = self.made.saturating_add(1);
     }
 
-    /// Whether transactions are to be made.
     pub fn is_open(&self) -> bool {
         self.made < self.transactions
     }
 }
 
-/// A mutator, what it is to do, what it found, and how it ended.
+/// A mutator, what it is to do, and what it found.
 #[derive(Drop)]
 pub struct Worker {
-    /// Its mutator.
     pub mutator: Mutator,
     /// How many orders it keeps.
     pub orders: u32,
-    /// Its transactions.
     pub ledger: Ledger,
     /// How many nodes its directory has.
     pub nodes: u64,
-    /// What was noted of its stops.
     pub log: Log,
-    /// The objects of all its orders at the end.
+    /// The objects that it looked at.
     pub seen: Seen,
-    /// Whether it came to its end, or why not.
+    /// Why it ended, if it was refused.
     pub ended: Result<(), Refused>,
 }
 
@@ -91,20 +84,19 @@ fn next(number: u64) -> u64 {
     b ^ (b << 17)
 }
 
-/// An order of so many; 0 if there is none.
+/// An order of so many.
 fn choose(number: u64, orders: u32) -> u32 {
     let chosen = (number >> 20).checked_rem(u64::from(orders)).unwrap_or(0);
     u32::try_from(chosen).unwrap_or(0)
 }
 
-/// How many orders take this many cells, with their share of the directory.
+/// How many orders take so many cells, with their share of the directory.
 pub fn orders_in(cells: u32) -> u32 {
     let orders = u64::from(cells).wrapping_mul(3) / u64::from(3 * OBJECTS + 1);
     u32::try_from(orders).unwrap_or(0)
 }
 
 impl<'a, R: Wait + Clock> Hand<'a, R> {
-    /// Fills the directory: how many nodes it has.
     fn fill(&mut self, orders: u32) -> Result<u64, Refused> {
         let levels = levels_for(orders);
         self.open()?;
@@ -140,7 +132,6 @@ impl<'a, R: Wait + Clock> Hand<'a, R> {
         Ok(seen)
     }
 
-    /// Plays a round of transactions, whose clock goes on with this log.
     fn churn_with(
         &mut self,
         orders: u32,
@@ -153,7 +144,6 @@ impl<'a, R: Wait + Clock> Hand<'a, R> {
         seen
     }
 
-    /// Looks at all orders.
     fn look_at_all(&mut self, orders: u32) -> Result<Seen, Refused> {
         let levels = levels_for(orders);
         let mut seen = Seen::nothing();

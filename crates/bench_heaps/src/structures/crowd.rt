@@ -1,4 +1,4 @@
-//! A world with a structure in the root's first field, and threads that act on it.
+//! A world with a structure in the root's first field.
 
 use crate::seen::Seen;
 use crate::structures::work::{fill, mix, pairs};
@@ -18,7 +18,7 @@ pub const MADE: u8 = 2;
 
 pub const FOUND: u8 = 3;
 
-/// A mutator, the number of its thread, and the objects that it found, or why it ended.
+/// A mutator, and the objects that it found, or why it ended.
 #[derive(Drop)]
 struct Worker {
     thread: u32,
@@ -51,7 +51,6 @@ fn make<R: Wait>(rt: &R, m: &mut SharedMutator, shared: Shared) -> Result<(), Re
     Ok(())
 }
 
-/// What thread number k does.
 fn act<R: Wait>(
     rt: &R,
     m: &mut SharedMutator,
@@ -68,7 +67,6 @@ fn act<R: Wait>(
     }
 }
 
-/// A mutator for each thread.
 fn hire(alloc: Global, world: &mut SharedWorld, threads: u32) -> Option<Vec<Worker>> {
     let mut workers = Vec::new(alloc);
     for thread in 0..threads {
@@ -82,7 +80,6 @@ fn hire(alloc: Global, world: &mut SharedWorld, threads: u32) -> Option<Vec<Work
     Some(workers)
 }
 
-/// What all found, if each did all that it was to do.
 fn gather(workers: Vec<Worker>) -> Option<Seen> {
     let mut all = Seen::nothing();
     for worker in workers {
@@ -115,14 +112,14 @@ fn act_all<R: Threads + Wait + Sync>(
     world.dismiss_tracers(rt);
 }
 
-/// Marks beside the others, until it is dismissed.
+/// Until it is dismissed.
 fn trace<R: Wait>(rt: &R, tracer: &mut Option<Tracer>) {
     if let Some(tracer) = tracer {
         tracer.run(rt);
     }
 }
 
-/// Lets threads act on a structure. None if a size is out of range, the heap is full, or memory ran out.
+/// What the threads find. None if a size is out of its range, the heap is full, or memory ran out.
 pub fn run<R: Threads + Wait + Sync>(rt: &R, alloc: Global, asked: Asked) -> Option<Seen> {
     let fields = match asked.structure {
         Structure::Queue => 2,

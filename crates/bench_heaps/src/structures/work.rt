@@ -1,5 +1,5 @@
-//! What a thread does: with a queue it puts a number in and takes one out, by turns; with a map, of ten keys it looks
-//! eight up, puts a new number under one, and takes one out.
+//! With a queue a thread puts a number in and takes one out, by turns; with a map, of ten keys it looks eight up, puts
+//! a new number under one, and takes one out.
 
 use crate::seen::Seen;
 use crate::structures::Asked;
@@ -8,8 +8,7 @@ use example_structures::{SharedMap, SharedQueue};
 use shared_heap::{Refused, SharedMutator};
 use std::sync::Wait;
 
-/// How many keys there are. A thread's keys are its own (its number, and so on in steps of the number of threads),
-/// so what it finds doesn't depend on the others; the chains have keys of all threads.
+/// A thread's keys are its own, so what it finds doesn't depend on the others; the chains have keys of all threads.
 const KEYS: u32 = 1024;
 
 /// Makes a map that keeps each key as its own number.
@@ -26,14 +25,12 @@ fn drawn_after(number: u32) -> u32 {
     number.wrapping_mul(1_664_525).wrapping_add(1_013_904_223)
 }
 
-/// One of the thread's keys.
 fn key_of(drawn: u32, asked: Asked, k: u32) -> u32 {
     let threads = asked.workers.max(1);
     let keys = (KEYS / threads).max(1);
     ((drawn >> 12) % keys).wrapping_mul(threads).wrapping_add(k)
 }
 
-/// One round: the number drawn says what is done, with which key. What was seen by then.
 fn act<R: Wait>(
     rt: &R,
     m: &mut SharedMutator,
@@ -59,7 +56,7 @@ fn act<R: Wait>(
     Ok(seen)
 }
 
-/// The rounds of thread number k.
+/// The rounds of thread k.
 pub fn mix<R: Wait>(
     rt: &R,
     m: &mut SharedMutator,
@@ -76,8 +73,7 @@ pub fn mix<R: Wait>(
     Ok(seen)
 }
 
-/// Puts the numbers below `rounds` in, and takes one out after each, which is there: no thread has taken more than
-/// it put in.
+/// There is a number to take out each time: no thread has taken more than it put in.
 pub fn pairs<R: Wait>(
     rt: &R,
     m: &mut SharedMutator,

@@ -14,7 +14,7 @@ pub struct Crew {
     pub tracers: Vec<Tracer>,
 }
 
-/// A worker for each mutator, in order: the world hands out the last one first.
+/// The world hands out the last mutator first.
 fn hire_workers(alloc: Global, world: &mut World) -> Result<Vec<Worker>, AllocError>
     requires waits { All WorkerWaits world.old.mutators.items }
     ensures waits { IfOk result (λ r. All (λ x. WorkerWaits x.mutator) r.items) }
@@ -39,7 +39,6 @@ fn hire_tracers(alloc: Global, world: &mut World) -> Result<Vec<Tracer>, AllocEr
     Ok(tracers)
 }
 
-/// Opens a world for so many workers and tracers, with two references an object.
 fn open(alloc: Global, asked: &Asked) -> Result<World, AllocError>
     ensures waits { IfOk result (λ world. All WorkerWaits world.mutators.items) }
     ensures count { IfOk result (λ world. vec_len world.mutators ≡ asked.now.workers) }
@@ -66,7 +65,7 @@ pub fn prepare(alloc: Global, asked: &Asked) -> Result<(World, Crew), AllocError
     Ok((world, Crew { workers, tracers }))
 }
 
-/// Gives all back, and closes the world. None if one isn't the world's.
+/// Gives all back and closes the world. None if one isn't the world's.
 pub fn close(world: World, crew: Crew) -> Option<()> {
     let mut world = world;
     let Crew { workers, tracers } = crew;

@@ -1,5 +1,5 @@
 //! One node of a tree. Its maker is inside the world, and objects have two references, so only a new node can be
-//! refused: if the heap is full, or its maker has used all numbers of objects.
+//! refused.
 ghost use Rattle.std.specs.Prelude.{◌≡◌, ◌<◌, IfErr, IfOk};
 ghost use Rattle.std.specs.Bool.{OnFalse, OnTrue};
 ghost use Rattle.plain_heap.specs.PlainHeap.{heap_variables, variable};
@@ -15,9 +15,9 @@ use std::sync::Wait;
 /// Why a mutator goes on no more.
 #[derive(Clone, Copy, Drop)]
 pub enum Halt {
-    /// Every cell of the heap is reachable.
+    /// Every cell is reachable.
     Full,
-    /// It has made all objects that have numbers.
+    /// No number of an object is left.
     Spent,
 }
 

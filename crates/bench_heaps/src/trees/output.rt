@@ -29,8 +29,7 @@ fn write_counts<R: Runtime + AllocGlobal>(
     println!(rt; "long lived tree of depth {depth}\t check: {kept}")
 }
 
-/// Writes what a run came to, and answers the program's status: 0 for counts, 3 for a full heap, 6 if memory ran
-/// out, 7 if a worker has used all numbers of objects.
+/// Writes what a run came to, and answers the program's status.
 pub fn report<R: Runtime + AllocGlobal>(
     rt: &R,
     asked: &Asked,

@@ -13,19 +13,18 @@ use std::alloc::Global;
 use std::sync::Wait;
 use std::thread::Threads;
 
-/// What was counted.
 #[derive(Clone, Copy, Drop)]
 pub struct Counted {
-    /// What one thread counted by itself.
+    /// What the first worker counted by itself.
     pub alone: Alone,
-    /// The nodes of all workers' short-lived trees, by their depths.
+    /// The nodes of all short-lived trees, by their depths.
     pub checks: Checks,
 }
 
 /// Why there are no counts.
 #[derive(Clone, Copy, Drop)]
 pub enum Failure {
-    /// The heap was full when this worker, counted from 1, was to make one more object.
+    /// The heap was full for this worker, counted from 1.
     Full(u64),
     /// A worker has used all numbers of objects.
     Spent,
@@ -33,7 +32,6 @@ pub enum Failure {
     OutOfMemory,
 }
 
-/// The counts of all workers, or why one has none.
 fn sum_up(workers: &[Worker]) -> Result<Checks, Halt> {
     let mut sums = [0u64; 5];
     for worker in workers {
@@ -45,7 +43,6 @@ fn sum_up(workers: &[Worker]) -> Result<Checks, Halt> {
     Ok(sums)
 }
 
-/// What all workers came to.
 fn put_together(alone: Result<Alone, Halt>, workers: &[Worker]) -> Result<Counted, Halt> {
     let alone = alone?;
     let checks = sum_up(workers)?;
@@ -77,7 +74,7 @@ fn run_in<R: Threads + Wait + Sync>(
     }
 }
 
-/// A whole run: the counts of all trees, or why there are none.
+/// The counts of a whole run, or why there are none.
 pub fn run<R: Threads + Wait + Sync>(
     rt: &R,
     alloc: Global,

@@ -12,7 +12,7 @@ use managed_heap::{Mutator, Tracer, World};
 use std::sync::Wait;
 use std::thread::{Threads, for_each_mut, join_mut};
 
-/// A mutator in the hand of one thread, with what it counted, or why it ended.
+/// A mutator, with what it counted, or why it ended.
 #[derive(Drop)]
 pub struct Worker {
     pub mutator: Mutator,
@@ -24,7 +24,7 @@ pub struct Worker {
 pub struct Alone {
     /// The nodes of the tree that stretched the heap.
     pub stretched: u64,
-    /// The nodes of the tree that was kept, when all others were done.
+    /// The nodes of the kept tree, when all others were done.
     pub kept: u64,
 }
 
@@ -37,7 +37,6 @@ fn play_one<R: Threads + Wait + Sync>(rt: &R, worker: &mut Worker, asked: &Asked
     worker.came = play(rt, &mut worker.mutator, asked, at);
 }
 
-/// All workers make their short-lived trees, each in a thread of its own.
 fn play_all<R: Threads + Wait + Sync>(rt: &R, workers: &mut Vec<Worker>, asked: &Asked)
     requires range { AreWordsInRange asked.now }
     requires some { (0 < vec_len workers.old) × (vec_len workers.old ≡ asked.now.workers) }
@@ -78,7 +77,6 @@ fn finish<R: Wait>(rt: &R, worker: &mut Worker, depth: u8) -> Result<u64, Halt>
     count_kept(rt, &mut worker.mutator, depth)
 }
 
-/// The whole work: the first worker, all workers, the first worker again.
 fn work<R: Threads + Wait + Sync>(
     rt: &R,
     workers: &mut Vec<Worker>,
@@ -112,7 +110,6 @@ fn work_to_end<R: Threads + Wait + Sync>(
     came
 }
 
-/// Marks beside the workers, until the tracers are dismissed or the heap is full.
 fn trace_all<R: Threads + Wait + Sync>(rt: &R, tracers: &mut Vec<Tracer>) {
     let threads = tracers.len();
     if threads > 0 {
@@ -127,8 +124,8 @@ fn trace_all<R: Threads + Wait + Sync>(rt: &R, tracers: &mut Vec<Tracer>) {
     }
 }
 
-/// Runs the work beside the tracers, until all threads have ended. If no thread can be made for the tracers, they
-/// come after the work, and read at once that they are dismissed.
+/// Runs the work beside the tracers. If no thread can be made for them, they come after the work, and read at once that
+/// they are dismissed.
 pub fn run_threads<R: Threads + Wait + Sync>(
     rt: &R,
     world: &mut World,

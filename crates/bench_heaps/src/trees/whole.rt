@@ -9,7 +9,6 @@ use crate::trees::nodes::{Halt, forget, is_nil, join, look, make};
 use managed_heap::Mutator;
 use std::sync::Wait;
 
-/// Makes a node without subtrees in variable v.
 fn leaf<R: Wait>(rt: &R, m: &mut Mutator, v: u8) -> Result<(), Halt>
     requires plays { WorkerPlays m.old }
     requires fits { v < heap_variables }
@@ -49,7 +48,7 @@ pub fn build<R: Wait>(rt: &R, m: &mut Mutator, v: u8, depth: u8) -> Result<(), H
     node(rt, m, v)
 }
 
-/// How many nodes of variable v's tree are at most so many steps below its root. The variables behind v change.
+/// How many nodes of variable v's tree are at most so many steps below its root.
 fn count(m: &mut Mutator, v: u8, steps: u8) -> u64
     requires plays { WorkerPlays m.old }
     requires fits { v + steps < heap_variables }
@@ -70,8 +69,8 @@ fn count(m: &mut Mutator, v: u8, steps: u8) -> u64
     1 + left + right
 }
 
-/// How many nodes variable v's tree has. One step more is looked for than its depth says, so a deeper tree would
-/// have more.
+/// How many nodes variable v's tree has. It goes one step further than the depth says, so a deeper tree would have
+/// more.
 pub fn check(m: &mut Mutator, v: u8, depth: u8) -> u64
     requires plays { WorkerPlays m.old }
     requires fits { v + depth + 1 < heap_variables }
@@ -82,7 +81,7 @@ pub fn check(m: &mut Mutator, v: u8, depth: u8) -> u64
     count(m, v, depth + 1)
 }
 
-/// Variable v and those behind it refer to nothing, so that no part of a tree stays reachable.
+/// No part of a tree stays reachable.
 fn drop_from(m: &mut Mutator, v: u8)
     requires plays { WorkerPlays m.old }
     ensures plays { WorkerPlays m.new }
@@ -93,7 +92,7 @@ fn drop_from(m: &mut Mutator, v: u8)
     }
 }
 
-/// Makes a tree of this depth in variable 1, counts it, and forgets it: how many nodes it had.
+/// Makes a tree in variable 1, counts it, and forgets it.
 pub fn short_lived<R: Wait>(rt: &R, m: &mut Mutator, depth: u8) -> Result<u64, Halt>
     requires plays { WorkerPlays m.old }
     requires fits { depth ≤ 14 }

@@ -13,11 +13,11 @@ pub const USAGE: &str =
 pub struct Asked {
     /// The depth of the tree that is kept, 4 to 13. A tree of depth 0 is one node.
     pub depth: u32,
-    /// How many cells the heap has: a multiple of 64, 64 to 65,536. Each node takes one.
+    /// A multiple of 64, 64 to 65,536. Each node takes one.
     pub cells: u32,
-    /// How many mutators there are, each in a thread of its own: 1 to 32.
+    /// 1 to 32, each in a thread of its own.
     pub workers: u32,
-    /// How many threads mark beside them: 0 to 8.
+    /// 0 to 8.
     pub tracers: u32,
 }
 

@@ -11,13 +11,13 @@ use crate::trees::words::Asked;
 use managed_heap::Mutator;
 use std::sync::Wait;
 
-/// How many depths of short-lived trees there are at most: 4, 6, 8, 10 and 12.
+/// How many depths of short-lived trees there are at most.
 pub const DEPTHS: u32 = 5;
 
 /// The nodes counted of the short-lived trees, by depth.
 pub type Checks = [u64; 5];
 
-/// The depth of short-lived trees, by its number.
+/// The depth of short-lived trees with this number: 4, 6, 8, 10 or 12.
 pub fn depth_at(i: u32) -> u32
     requires { i < 5 }
     ensures { result ≡ depth_at i }
@@ -25,8 +25,8 @@ pub fn depth_at(i: u32) -> u32
     4 + 2 * i
 }
 
-/// How many short-lived trees there are of the depth with this number, if the kept tree has depth `depth`: four
-/// times fewer than of the one before, so that each depth has about as many nodes.
+/// How many short-lived trees there are of that depth: four times fewer than of the one before, so that each depth has
+/// about as many nodes.
 pub fn trees_at(depth: u32, i: u32) -> u32
     requires { (depth ≤ 13) × (2 * i ≤ depth) }
     ensures exact { result ≡ trees_at depth i }
@@ -35,7 +35,7 @@ pub fn trees_at(depth: u32, i: u32) -> u32
     1 << (depth - 2 * i)
 }
 
-/// Worker `at`'s share of these trees: those whose numbers leave `at` when divided by the number of workers.
+/// Worker `at`'s share of so many trees.
 fn share(trees: u32, workers: u32, at: u32) -> u32
     requires few { (trees ≤ 8192) × (workers ≤ 32) }
     requires one { at < workers }
@@ -65,7 +65,6 @@ fn leave(m: &mut Mutator)
     m.leave();
 }
 
-/// Makes so many trees of this depth: how many nodes were counted in all.
 fn many<R: Wait>(rt: &R, m: &mut Mutator, trees: u32, depth: u8) -> Result<u64, Halt>
     requires plays { WorkerPlays m.old }
     requires few { (depth ≤ 14) × (trees ≤ 8223) }
@@ -119,7 +118,7 @@ pub fn play<R: Wait>(rt: &R, m: &mut Mutator, asked: &Asked, at: u32) -> Result<
     came
 }
 
-/// What the first worker does before: it makes a tree one level deeper than the kept one, counts it and forgets it.
+/// The first worker makes a tree one level deeper than the kept one, counts it and forgets it.
 pub fn stretch<R: Wait>(rt: &R, m: &mut Mutator, depth: u8) -> Result<u64, Halt>
     requires few { depth ≤ 13 }
     requires waits { WorkerWaits m.old }
@@ -132,7 +131,7 @@ pub fn stretch<R: Wait>(rt: &R, m: &mut Mutator, depth: u8) -> Result<u64, Halt>
     came
 }
 
-/// The first worker then makes the kept tree, in variable 0. It stays reachable while its maker is outside.
+/// Then it makes the kept tree, in variable 0, which stays reachable while its maker is outside.
 pub fn keep<R: Wait>(rt: &R, m: &mut Mutator, depth: u8) -> Result<(), Halt>
     requires few { depth ≤ 13 }
     requires waits { WorkerWaits m.old }
@@ -145,7 +144,7 @@ pub fn keep<R: Wait>(rt: &R, m: &mut Mutator, depth: u8) -> Result<(), Halt>
     came
 }
 
-/// When all others are done, the first worker counts the kept tree.
+/// At the end it counts the kept tree.
 pub fn count_kept<R: Wait>(rt: &R, m: &mut Mutator, depth: u8) -> Result<u64, Halt>
     requires few { depth ≤ 13 }
     requires waits { WorkerWaits m.old }

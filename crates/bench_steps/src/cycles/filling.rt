@@ -31,7 +31,7 @@ fn knot(heap: &Heap, seat: &mut HeapSeat, cache: &mut Cache, n: u32) -> bool
     made
 }
 
-/// Fills a block, whose first object has number `first`: whether all its cells were free.
+/// Fills a block: whether all its cells were free.
 fn fill(heap: &Heap, seat: &mut HeapSeat, cache: &mut Cache, first: u32) -> bool
     requires { IsReadyWithCache heap.now seat.old cache.old }
     ensures { IsReadyWithCache heap.now seat.new cache.new }
@@ -55,7 +55,7 @@ fn fill_block(heap: &Heap, seat: &mut HeapSeat, first: u32) -> bool
     filled
 }
 
-/// Fills all blocks with objects that are reached: whether all cells were free.
+/// Fills all blocks with reachable objects: whether all cells were free.
 pub fn fill_all(heap: &Heap, seat: &mut HeapSeat) -> bool
     requires { HasEachObject heap.now seat.old }
     ensures { HasEachObject heap.now seat.new }
@@ -68,8 +68,7 @@ pub fn fill_all(heap: &Heap, seat: &mut HeapSeat) -> bool
     true
 }
 
-/// Makes the variables nil that [`fill_all`] stored in, so that no object is reached. False if the seat is no
-/// mutator between two commands.
+/// Makes the variables nil that [`fill_all`] stored in. False if the seat is no mutator between two commands.
 pub fn forget_all(heap: &Heap, seat: &mut HeapSeat) -> bool
     requires { HasEachObject heap.now seat.old }
     ensures { HasEachObject heap.now seat.new }

@@ -36,7 +36,7 @@ pub fn sizes_of(size: Size) -> Shape
     }
 }
 
-/// The seat enters: true if no stop is under way.
+/// The seat enters, if no stop is under way.
 pub fn begin(heap: &Heap, seat: &mut HeapSeat) -> bool
     requires { HasEachObject heap.now seat.old }
     ensures { HasEachObject heap.now seat.new }

@@ -14,7 +14,7 @@ use std::sync::Wait;
 use std::time::Instant;
 use test_heaps::{leaves, open_one, try_close};
 
-/// A collection of a mutator without a cache: true if it goes on.
+/// True if the mutator goes on.
 #[inline(never)]
 fn collects<R: Wait>(rt: &R, heap: &Heap, seat: &mut HeapSeat) -> bool
     requires { HasEachObject heap.now seat.old }
@@ -33,7 +33,6 @@ fn collects<R: Wait>(rt: &R, heap: &Heap, seat: &mut HeapSeat) -> bool
     }
 }
 
-/// The nanoseconds of a collection.
 fn timed<R: Wait + Clock>(rt: &R, heap: &Heap, seat: &mut HeapSeat) -> Option<u64>
     requires { HasEachObject heap.now seat.old }
     ensures { HasEachObject heap.now seat.new }
@@ -113,7 +112,7 @@ fn works<R: Wait + Clock>(
     }
 }
 
-/// The nanoseconds of the fastest of so many collections in a new heap. None if one didn't end as it should.
+/// The nanoseconds of the fastest collection in a new heap. None if one didn't end as it should.
 pub fn run<R: Wait + Clock>(rt: &R, alloc: Global, asked: Collections) -> Option<u64> {
     let (heap, mut seat) = open_one(alloc, sizes_of(asked.size))?;
     if !begin(&heap, &mut seat) {

@@ -6,7 +6,7 @@ use alloc_cache::{Cache, claim, publish, retire};
 use gc_table::{Heap, HeapSeat};
 use mutator_ops::create;
 
-/// Takes a block. None if each block was seen claimed or full.
+/// None if each block was seen claimed or full.
 pub fn take(heap: &Heap, seat: &mut HeapSeat, n: u32) -> Option<Cache>
     requires { Waiting heap.now n seat.old }
     ensures seat { Sits heap.now seat.new }
@@ -33,7 +33,7 @@ pub fn show(heap: &Heap, seat: &mut HeapSeat, cache: &mut Cache, n: u32)
     publish(heap, seat, cache);
 }
 
-/// Publishes what was made, and gives up the block.
+/// Publishes them, and gives up the block.
 pub fn give_up(heap: &Heap, seat: &mut HeapSeat, cache: Cache, n: u32)
     requires { Filling heap.now n cache seat.old }
     ensures { Waiting heap.now n seat.new }

@@ -8,7 +8,7 @@ use gc_table::{Heap, HeapSeat};
 use std::alloc::Global;
 use test_heaps::{leaves, marks_as_mutator, try_close};
 
-/// This many passes, one after another: whether each found all cards clean.
+/// Whether each pass found all cards clean.
 #[inline(never)]
 fn passes(heap: &Heap, seat: &mut HeapSeat, rounds: u64) -> bool
     requires { Tracing heap.now seat.old }
@@ -32,7 +32,7 @@ fn look(heap: &Heap, seat: &mut HeapSeat, rounds: u64) -> bool
     passes(heap, seat, rounds)
 }
 
-/// Passes over the cards of a new heap. False if there is no memory or a step could not be taken.
+/// Passes in a new heap. False if there is no memory or a step could not be taken.
 pub fn run(alloc: Global, rounds: u64) -> bool {
     let Some((heap, mut seat)) = open(alloc) else {
         return false;

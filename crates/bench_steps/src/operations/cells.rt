@@ -22,7 +22,6 @@ fn fill(heap: &Heap, seat: &mut HeapSeat, cache: &mut Cache, first: u32)
     }
 }
 
-/// Takes a block, fills it and gives it up: false if there was none.
 fn fill_block(heap: &Heap, seat: &mut HeapSeat, first: u32) -> bool
     requires few { first < sizes.cells }
     requires waits { Waiting heap.now first seat.old }
@@ -37,7 +36,6 @@ fn fill_block(heap: &Heap, seat: &mut HeapSeat, first: u32) -> bool
     true
 }
 
-/// Fills all blocks.
 #[inline(never)]
 fn fill_all(heap: &Heap, seat: &mut HeapSeat) -> bool
     requires { Waiting heap.now 0 seat.old }

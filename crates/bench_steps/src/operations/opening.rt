@@ -27,14 +27,14 @@ pub const SIZES: Shape = Shape {
     stretch: 1,
 };
 
-/// A heap in which nothing has happened, and its seat, the catalogue's.
+/// A new heap, and its seat, the catalogue's.
 pub fn open(alloc: Global) -> Option<(Heap, HeapSeat)>
     ensures { IfSome result (λ r. Blank r.0 resting r.1) }
 {
     open_one(alloc, SIZES)
 }
 
-/// Reads the season: true if the seat is in its turn, and may make cells and store in them.
+/// Reads the season: whether the seat may make cells and store in them.
 fn sees_turn(heap: &Heap, seat: &mut HeapSeat) -> bool
     requires { Blank heap.now inside seat.old }
     ensures { OnTrue result (Waiting heap.now 0 seat.new) }
@@ -42,7 +42,7 @@ fn sees_turn(heap: &Heap, seat: &mut HeapSeat) -> bool
     heap.read_season(seat) % 2 == 0
 }
 
-/// The seat enters, and marking begins: true if the seat may make cells, and trace.
+/// The seat enters, and marking begins.
 pub fn begin(heap: &Heap, seat: &mut HeapSeat) -> bool
     requires { Blank heap.now resting seat.old }
     ensures { OnTrue result (Waiting heap.now 0 seat.new) }

@@ -56,7 +56,7 @@ fn show_some(heap: &Heap, seat: &mut HeapSeat, cache: &mut Cache, published: boo
     }
 }
 
-/// Stores so often in objects that are published, or in objects that aren't: false if no block was to be had.
+/// Stores in objects that are published, or aren't.
 fn store(heap: &Heap, seat: &mut HeapSeat, rounds: u64, published: bool) -> bool
     requires { Waiting heap.now 0 seat.old }
     ensures { Sits heap.now seat.new }
@@ -71,7 +71,7 @@ fn store(heap: &Heap, seat: &mut HeapSeat, rounds: u64, published: bool) -> bool
     true
 }
 
-/// Stores in the objects of a new heap. False if there is no memory or a step could not be taken.
+/// Stores in a new heap. False if there is no memory or a step could not be taken.
 pub fn run(alloc: Global, rounds: u64, published: bool) -> bool {
     let Some((heap, mut seat)) = open(alloc) else {
         return false;

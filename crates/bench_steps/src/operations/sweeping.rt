@@ -1,4 +1,4 @@
-//! The world is stopped, nothing is left to trace, and all blocks are swept, again and again.
+//! In a stopped world nothing is left to trace, and all blocks are swept, again and again.
 ghost use Rattle.std.specs.Prelude.{◌≡◌, None};
 ghost use Rattle.std.specs.Bool.{OnTrue};
 ghost use Rattle.mark_core.specs.declared.kinds.Phase.TheVariants.{Idle};
@@ -32,7 +32,6 @@ fn stands_alone(heap: &Heap, seat: &HeapSeat) -> bool
         && s.block.is_none()
 }
 
-/// Stops the world: true if no cycle is under way.
 fn stops<R: Wait>(rt: &R, heap: &Heap, seat: &mut HeapSeat) -> bool
     requires { Blank heap.now resting seat.old }
     ensures { OnTrue result (Sits heap.now seat.new × Alone Idle (view_of seat.new)) }
@@ -78,7 +77,7 @@ fn sweep_all(heap: &Heap, seat: &mut HeapSeat)
     end_sweep(heap, seat);
 }
 
-/// Ends the drain if nothing is left to trace, and sweeps.
+/// Ends the drain, if nothing is left to trace, and sweeps.
 fn end(heap: &Heap, seat: &mut HeapSeat) -> bool
     requires seat { Sits heap.now seat.old }
     requires ready { IsBeforeSweep (view_of seat.old) }
@@ -107,7 +106,7 @@ fn sweeps(heap: &Heap, seat: &mut HeapSeat, rounds: u64) -> bool
     true
 }
 
-/// One cycle that looks so often whether anything is left to trace.
+/// One cycle, which looks so often whether anything is left to trace.
 fn settles(heap: &Heap, seat: &mut HeapSeat, rounds: u64) -> bool
     requires seat { Sits heap.now seat.old }
     requires alone { Alone Idle (view_of seat.old) }
@@ -123,7 +122,6 @@ fn settles(heap: &Heap, seat: &mut HeapSeat, rounds: u64) -> bool
     end(heap, seat)
 }
 
-/// Lets the world go on, and leaves it.
 fn finish(heap: &Heap, seat: &mut HeapSeat) -> bool
     requires seat { Sits heap.now seat.old }
     requires alone { Alone Idle (view_of seat.old) }
@@ -136,7 +134,7 @@ fn finish(heap: &Heap, seat: &mut HeapSeat) -> bool
     leaves(heap, seat)
 }
 
-/// This many cycles in a stopped new heap, or one that looks so often whether it is at its end.
+/// So many cycles, or one that looks so often whether it is at its end.
 fn cycles<R: Wait>(rt: &R, heap: &Heap, seat: &mut HeapSeat, rounds: u64, swept: bool) -> bool
     requires { Blank heap.now resting seat.old }
     ensures { OnTrue result (Sits heap.now seat.new) }
@@ -152,7 +150,7 @@ fn cycles<R: Wait>(rt: &R, heap: &Heap, seat: &mut HeapSeat, rounds: u64, swept:
     if ended { finish(heap, seat) } else { false }
 }
 
-/// Cycles in a new heap, with a sweep each or one in all. False if there is no memory or a step could not be taken.
+/// Cycles in a new heap. False if there is no memory or a step could not be taken.
 pub fn run<R: Wait>(rt: &R, alloc: Global, rounds: u64, swept: bool) -> bool {
     let Some((heap, mut seat)) = open(alloc) else {
         return false;

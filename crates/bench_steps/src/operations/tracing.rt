@@ -51,7 +51,6 @@ fn fill_block(heap: &Heap, seat: &mut HeapSeat, first: u32) -> bool
     true
 }
 
-/// Fills all blocks.
 #[inline(never)]
 fn fill_all(heap: &Heap, seat: &mut HeapSeat) -> bool
     requires { Waiting heap.now 0 seat.old }
@@ -77,7 +76,6 @@ fn trace_all(heap: &Heap, seat: &mut HeapSeat) -> u32
     trace(heap, seat, 10_000).done
 }
 
-/// Whether a new heap was filled and, if it was to be, traced.
 fn one(alloc: Global, traces: bool) -> bool {
     let Some((heap, mut seat)) = open(alloc) else {
         return false;
@@ -93,7 +91,7 @@ fn one(alloc: Global, traces: bool) -> bool {
     leaves(&heap, &mut seat) && try_close(alloc, heap, seat) && done == CELLS
 }
 
-/// Heaps that are filled and, if asked, traced. False if there is no memory or a step could not be taken.
+/// Fills heaps and, if asked, traces them. False if there is no memory or a step could not be taken.
 pub fn run(alloc: Global, rounds: u64, traces: bool) -> bool {
     for _round in 0..rounds {
         if !one(alloc, traces) {

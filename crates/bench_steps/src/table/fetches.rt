@@ -24,7 +24,6 @@ fn credit(heap: &Heap, seat: &mut HeapSeat)
     heap.credit(seat);
 }
 
-/// Takes one from the count, and gives it back.
 #[inline(never)]
 fn fetches(heap: &Heap, seat: &mut HeapSeat, rounds: u64)
     requires { SitsWithRecord heap.now marking seat.old }

@@ -46,7 +46,7 @@ pub fn run(alloc: Global, rounds: u64) -> bool {
         && sum == rounds.wrapping_mul(EMPTY_OFFSET + u64::from(SIZES.packets))
 }
 
-/// Loads of cards. False if there is no memory, or a load found another word than a new heap has.
+/// Loads of cards, with the same answers.
 pub fn run_looks(alloc: Global, rounds: u64) -> bool {
     let Some((heap, mut seat)) = open(alloc) else {
         return false;

@@ -33,7 +33,6 @@ fn claim(heap: &Heap, seat: &mut HeapSeat, b: u32) -> bool
     heap.claim_block(seat, b)
 }
 
-/// Reads the free cells of the block.
 fn read_free(heap: &Heap, seat: &mut HeapSeat)
     requires { MayMakeCells heap.now seat.old × IsTrue (is_unread (block_of_maker seat.old)) }
     ensures { MayMakeCells heap.now seat.new × IsTrue (is_some (block_of_maker seat.new)) × (cells_made seat.new ≡ cells_made seat.old) }

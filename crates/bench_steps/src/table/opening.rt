@@ -29,7 +29,7 @@ pub const SIZES: Shape = Shape {
     stretch: 1,
 };
 
-/// A heap in which nothing has happened, and its seat.
+/// A new heap, and its seat.
 pub fn open(alloc: Global) -> Option<(Heap, HeapSeat)>
     ensures rests { IfSome result (λ r. SitsWithRecord r.0 resting r.1) }
     ensures objects { IfSome result (λ r. objects_of r.1 ≡ 0) }
@@ -37,7 +37,7 @@ pub fn open(alloc: Global) -> Option<(Heap, HeapSeat)>
     open_one(alloc, SIZES)
 }
 
-/// A new heap whose seat is in the world.
+/// A new heap, and its seat, which entered.
 pub fn open_entered(alloc: Global) -> Option<(Heap, HeapSeat)>
     ensures enters { IfSome result (λ r. SitsWithRecord r.0 entered r.1) }
     ensures objects { IfSome result (λ r. objects_of r.1 ≡ 0) }

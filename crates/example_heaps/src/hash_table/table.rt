@@ -22,7 +22,7 @@ const OLD: u8 = 5;
 /// How many entries a chain has at most.
 const ENTRIES: u32 = 1000;
 
-/// The row of a key, and its bucket there, in a table of 1 or 16 rows. Of one row it is the first.
+/// The row of a key, and its bucket there, in a table of 1 or 16 rows.
 fn place_of(key: u32, rows: u8) -> (u8, u8)
     ensures row { (result.0 < 16) × (rows ≡ 1 → result.0 ≡ 0) }
     ensures bucket { result.1 < 16 }
@@ -89,7 +89,7 @@ pub fn grow<R: Wait>(m: &mut Mutator, rt: &R) -> Result<(), Refused> {
     m.forget(OLD)
 }
 
-/// Comes to the entry of a key, with the one before it in hand too; false if there is none.
+/// Comes to the entry of a key, with the one before it in hand too. False if there is none.
 fn seek(m: &mut Mutator, rows: u8, key: u32) -> Result<bool, Refused> {
     let (row, bucket) = place_of(key, rows);
     m.get(ROW, TABLE, row)?;

@@ -36,7 +36,7 @@ fn has_nothing(heap: &Heap, seat: &HeapSeat) -> bool
         && s.got == 0
 }
 
-/// The seat is a mutator's between two commands.
+/// Whether the seat is a mutator's between two commands.
 pub fn may_call(heap: &Heap, seat: &HeapSeat) -> bool
     requires { Sits heap.now seat.now }
     ensures { OnTrue result (Mutates (view_of seat.now)) }
@@ -45,7 +45,7 @@ pub fn may_call(heap: &Heap, seat: &HeapSeat) -> bool
     s.active && !s.helping && s.section.is_some() && is_at_rest(heap, seat)
 }
 
-/// The seat is outside with nothing in hand.
+/// Whether the seat is outside with nothing in hand.
 pub fn is_out(heap: &Heap, seat: &HeapSeat) -> bool
     requires { Sits heap.now seat.now }
     ensures { OnTrue result (IsOut (view_of seat.now)) }
@@ -53,7 +53,7 @@ pub fn is_out(heap: &Heap, seat: &HeapSeat) -> bool
     is_bare(seat) && has_nothing(heap, seat)
 }
 
-/// The seat was let in to help, in a phase in which it can.
+/// Whether the seat was let in to help, in a phase in which it can.
 pub fn may_help(heap: &Heap, seat: &HeapSeat) -> bool
     requires { Sits heap.now seat.now }
     ensures { OnTrue result (Helps (view_of seat.now)) }
@@ -68,7 +68,7 @@ pub fn may_help(heap: &Heap, seat: &HeapSeat) -> bool
         && has_nothing(heap, seat)
 }
 
-/// The seat has nothing that it must finish before it leaves the helpers.
+/// Whether the seat may leave the helpers.
 pub fn is_done(heap: &Heap, seat: &HeapSeat) -> bool
     requires { Sits heap.now seat.now }
     ensures { OnTrue result (IsDone (view_of seat.now)) }

@@ -1,4 +1,4 @@
-//! A mutator that finds no block collects: what it doesn't reach is freed, and if it reaches all, the heap is full.
+//! A mutator that finds no block collects; if it reaches all, the heap is full.
 ghost use Rattle.std.specs.Prelude.{IfNone, IfSome};
 ghost use Rattle.test_heaps.specs.Seats.{HasEachObject, IsReadyWithCache};
 
@@ -13,7 +13,7 @@ use mark_core::{BLOCK_CELLS, FIRST_POSITION, NAMED_SECTION, Phase};
 use std::sync::Wait;
 use test_heaps::{SMALL, forget, is_ready, make, take};
 
-/// A cache and what was paid for it, for a mutator that has done `done` commands.
+/// A cache, and what was paid for it after `done` commands.
 pub fn refills<R: Wait>(
     rt: &R,
     heap: &Heap,
@@ -87,7 +87,6 @@ fn fill(heap: &Heap, seat: &mut HeapSeat, cache: &mut Cache) -> u32
     made
 }
 
-/// The free cells of the next cache when all but one object of the block are garbage.
 fn refills_after_garbage<R: Wait>(rt: &R, heap: &Heap, seat: &mut HeapSeat) -> Option<u32>
     requires { HasEachObject heap.now seat.old }
 {
@@ -103,7 +102,6 @@ fn refills_after_garbage<R: Wait>(rt: &R, heap: &Heap, seat: &mut HeapSeat) -> O
     Some(free)
 }
 
-/// The phase, the named section and its position, once a chain of 64 objects fills the heap.
 fn fills_up<R: Wait>(rt: &R, heap: &Heap, seat: &mut HeapSeat) -> Option<(Phase, u64, u64)>
     requires { HasEachObject heap.now seat.old }
 {
@@ -119,7 +117,7 @@ fn fills_up<R: Wait>(rt: &R, heap: &Heap, seat: &mut HeapSeat) -> Option<(Phase,
     Some((phase, named, position))
 }
 
-/// Makes two objects that refer to each other, which no variable names.
+/// Makes two objects that refer to each other, and forgets them.
 pub fn make_ring(heap: &Heap, seat: &mut HeapSeat) -> bool
     requires { HasEachObject heap.now seat.old }
     ensures { HasEachObject heap.now seat.new }
@@ -137,7 +135,6 @@ pub fn make_ring(heap: &Heap, seat: &mut HeapSeat) -> bool
     first && second
 }
 
-/// The free cells before a collection and after it.
 fn frees_ring<R: Wait>(rt: &R, heap: &Heap, seat: &mut HeapSeat) -> Option<(u32, u32)>
     requires { HasEachObject heap.now seat.old }
 {

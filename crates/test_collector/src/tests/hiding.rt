@@ -1,4 +1,4 @@
-//! A store hides an unmarked object behind a clean card while a cycle is marking: the end of the cycle keeps it.
+//! During marking, a store hides an unmarked object behind a clean card.
 ghost use Rattle.test_heaps.specs.Seats.{HasEachObject, IsReadyWithCache};
 
 use super::collecting::refills;
@@ -49,7 +49,7 @@ fn draws(heap: &Heap, seat: &mut HeapSeat) -> Option<u32>
     next_card(heap, seat)
 }
 
-/// The pass over the four cards ends: whether each was given out.
+/// Whether a pass gives out each of the four cards once.
 pub fn passes(heap: &Heap, seat: &mut HeapSeat) -> bool
     requires { HasEachObject heap.now seat.old }
     ensures { HasEachObject heap.now seat.new }
@@ -68,7 +68,7 @@ fn is_dirty(heap: &Heap, seat: &mut HeapSeat) -> bool
     heap.shape().cells >= 64 && seat.state().active && heap.read_card(seat, 0)
 }
 
-/// Makes a garbage object, and one with value 9 that only a field of the first object leads to.
+/// Makes a garbage object, and one that only a field of the first object leads to.
 fn hide(heap: &Heap, seat: &mut HeapSeat, cache: &mut Cache) -> bool
     requires { IsReadyWithCache heap.now seat.old cache.old }
     ensures { IsReadyWithCache heap.now seat.new cache.new }
@@ -80,7 +80,6 @@ fn hide(heap: &Heap, seat: &mut HeapSeat, cache: &mut Cache) -> bool
     garbage && hidden
 }
 
-/// Does so in a block of its own.
 fn hides(heap: &Heap, seat: &mut HeapSeat) -> bool
     requires { HasEachObject heap.now seat.old }
     ensures { HasEachObject heap.now seat.new }
@@ -93,7 +92,6 @@ fn hides(heap: &Heap, seat: &mut HeapSeat) -> bool
     hidden
 }
 
-/// Whether the first object was scanned, no card was dirty then, and the store of the second dirtied its card.
 fn hides_behind(heap: &Heap, seat: &mut HeapSeat) -> bool
     requires { HasEachObject heap.now seat.old }
     ensures { HasEachObject heap.now seat.new }
@@ -107,8 +105,6 @@ fn hides_behind(heap: &Heap, seat: &mut HeapSeat) -> bool
         && is_dirty(heap, seat)
 }
 
-/// The free cells of the cache with which the cycle ends, the phase then, and the objects that are left with the
-/// sum of their values.
 fn keeps<R: Wait>(rt: &R, heap: &Heap, seat: &mut HeapSeat) -> Option<(u32, Phase, u32, u64)>
     requires { HasEachObject heap.now seat.old }
 {

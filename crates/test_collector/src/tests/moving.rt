@@ -1,18 +1,4 @@
-//! While one thread marks, another moves the only reference to an object from one that waits for its scan to one
-//! that was scanned. This is the order in which a collector without a barrier loses an object:
-//!
-//! ```text
-//! a thread marks                    a thread stores
-//! scans the roots, A and B
-//! scans B
-//!                                   stores C, which A alone refers to, in B
-//!                                   stores nil in A
-//! scans A
-//! ends the cycle
-//! ```
-//!
-//! Now only B refers to C, and was scanned before it did. The store dirtied the card of B, so that it is scanned
-//! once more before the cycle ends.
+//! The store dirtied the card of B, so that B is scanned once more before the cycle ends.
 ghost use Rattle.std.specs.Prelude.{◌<◌, IsTrue};
 ghost use Rattle.test_collector.specs.Seats.{IsSharerWithCache};
 ghost use Rattle.test_heaps.specs.Seats.{HasEachObject};
@@ -50,7 +36,7 @@ const C: u8 = 2;
 
 const NIL: u8 = 3;
 
-/// Waits until this many steps were done: whether they were. It gives up after some seconds.
+/// Waits until so many steps were done; false after some seconds.
 fn comes_to(done: &AtomicU64, steps: u64) -> bool {
     for _look in 0..10_000_000u32 {
         if done.load(Ordering::SeqCst) >= steps {
@@ -61,8 +47,7 @@ fn comes_to(done: &AtomicU64, steps: u64) -> bool {
     false
 }
 
-/// Makes A with value 7, B with value 8, and C with value 9, to which only A's field 0 refers. None is published,
-/// so no card is dirtied.
+/// Makes A, B, and C, to which only A's field 0 refers. None is published, so no card is dirtied.
 fn make_three(heap: &Heap, seat: &mut HeapSeat, cache: &mut Cache) -> bool
     requires cache { IsSharerWithCache heap.now seat.old cache.old }
     requires fields { 0 < heap.now.shape.fields }
@@ -112,7 +97,6 @@ fn traces(heap: &Heap, seat: &mut HeapSeat, most: u32) -> u32
     trace(heap, seat, most).done
 }
 
-/// Finds C in A, stores it in B, and lets A and the variable go of it.
 fn move_reference(heap: &Heap, seat: &mut HeapSeat) -> bool
     requires { HasEachObject heap.now seat.old }
     ensures { HasEachObject heap.now seat.new }
@@ -127,7 +111,6 @@ fn move_reference(heap: &Heap, seat: &mut HeapSeat) -> bool
     true
 }
 
-/// Once the other thread has scanned B, moves the reference, and leaves.
 fn stores(heap: &Heap, seat: &mut HeapSeat, done: &AtomicU64) -> bool
     requires { HasEachObject heap.now seat.old }
     ensures { HasEachObject heap.now seat.new }
@@ -140,7 +123,6 @@ fn stores(heap: &Heap, seat: &mut HeapSeat, done: &AtomicU64) -> bool
     moved
 }
 
-/// Begins a cycle, passes over the clean cards, and scans the roots and one object.
 fn scans_one(heap: &Heap, seat: &mut HeapSeat) -> bool
     requires { HasEachObject heap.now seat.old }
     ensures { HasEachObject heap.now seat.new }
@@ -161,7 +143,6 @@ fn fill(heap: &Heap, seat: &mut HeapSeat, cache: &mut Cache) -> u32
     made
 }
 
-/// Ends the cycle, and fills all cells that are free then: how many these are.
 fn ends_cycle<R: Wait>(rt: &R, heap: &Heap, seat: &mut HeapSeat) -> Option<u32>
     requires { HasEachObject heap.now seat.old }
     ensures { HasEachObject heap.now seat.new }
@@ -176,8 +157,6 @@ fn ends_cycle<R: Wait>(rt: &R, heap: &Heap, seat: &mut HeapSeat) -> Option<u32>
     }
 }
 
-/// Scans B, waits until the other thread has moved the reference, scans A, and ends the cycle: how many cells were
-/// free then.
 fn marks_beside<R: Wait>(rt: &R, heap: &Heap, seat: &mut HeapSeat, done: &AtomicU64) -> Option<u32>
     requires { HasEachObject heap.now seat.old }
     ensures { HasEachObject heap.now seat.new }
@@ -205,7 +184,6 @@ fn finds_moved<R: Wait>(rt: &R, heap: &Heap, seat: &mut HeapSeat) -> Option<u64>
     share_value_of(heap, seat, C)
 }
 
-/// How many cells were free at the end of the cycle, and the value of C then.
 fn keeps_moved<R: Threads + Wait + Sync>(
     rt: &R,
     heap: &Heap,

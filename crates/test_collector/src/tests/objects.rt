@@ -28,7 +28,7 @@ pub fn assign_to(heap: &Heap, seat: &mut HeapSeat, cache: &Cache, v: u8, w: u8)
     assign(heap, seat, v, w);
 }
 
-/// Puts a new object with value n before the chain from variable 0 along field 0: whether the block had a free cell.
+/// Puts a new object before the chain from variable 0 along field 0: whether the block had a free cell.
 pub fn put_before(heap: &Heap, seat: &mut HeapSeat, cache: &mut Cache, n: u32) -> bool
     requires { IsReadyWithCache heap.now seat.old cache.old }
     ensures { IsReadyWithCache heap.now seat.new cache.new }
@@ -41,7 +41,7 @@ pub fn put_before(heap: &Heap, seat: &mut HeapSeat, cache: &mut Cache, n: u32) -
     true
 }
 
-/// Puts this many objects before the chain: how many were made.
+/// Puts so many objects before the chain: how many were made.
 pub fn lengthen(heap: &Heap, seat: &mut HeapSeat, cache: &mut Cache, count: u32) -> u32
     requires { IsReadyWithCache heap.now seat.old cache.old }
     ensures { IsReadyWithCache heap.now seat.new cache.new }
@@ -55,7 +55,7 @@ pub fn lengthen(heap: &Heap, seat: &mut HeapSeat, cache: &mut Cache, count: u32)
     made
 }
 
-/// Makes this many objects of the chain in a block of its own: how many were made.
+/// Does so in a block of its own.
 pub fn chain(heap: &Heap, seat: &mut HeapSeat, count: u32) -> u32
     requires { HasEachObject heap.now seat.old }
     ensures { HasEachObject heap.now seat.new }

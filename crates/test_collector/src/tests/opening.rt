@@ -10,7 +10,7 @@ use std::process::Abort;
 use std::sync::Wait;
 use test_heaps::{next_seat, open};
 
-/// A heap, the catalogue's seat outside, a warehouse's active one, and one more that has done nothing.
+/// A heap; the catalogue's seat outside, a warehouse's active one, and one that has done nothing.
 pub fn begun<R: Abort + AllocGlobal + Wait>(
     rt: &R,
     shape: Shape,

@@ -11,7 +11,6 @@ use mark_core::{FREE, Phase};
 use std::sync::Wait;
 use tracer::Stopped;
 
-/// What a refill comes to.
 #[derive(PartialEq, Drop)]
 struct Came {
     cells: u32,
@@ -20,7 +19,7 @@ struct Came {
     free: u64,
 }
 
-/// Makes a chain of 576 objects in nine blocks: whether all were made.
+/// Makes a chain of 576 objects, which fills nine blocks: whether all were made.
 pub fn make_chain(heap: &Heap, seat: &mut HeapSeat) -> bool
     requires { HasEachObject heap.now seat.old }
     ensures { HasEachObject heap.now seat.new }

@@ -1,4 +1,4 @@
-//! A thread that rests while no cycle marks is woken when one begins.
+//! A thread that rests is woken as a cycle begins.
 ghost use Rattle.test_heaps.specs.Seats.{HasEachObject};
 
 use super::LARGE;
@@ -13,10 +13,10 @@ use std::sync::atomic::Ordering::SeqCst;
 use std::thread::{Threads, join_mut};
 use std::time::Duration;
 
-/// How many times a thread looks for a sign. Between two looks it sleeps, for a millisecond at most.
+/// How often a thread looks for a sign, after each look asleep for a millisecond at most.
 const LOOKS: u32 = 5_000;
 
-/// What the two threads tell each other: each is 1 once it is so.
+/// Each is 1 once it is so.
 #[derive(Drop)]
 struct Signs {
     rests: AtomicU64,
@@ -34,7 +34,7 @@ fn sees<R: Wait>(rt: &R, sign: &AtomicU64, looks: u32) -> bool {
     false
 }
 
-/// Rests until the other thread begins a cycle, ten seconds if nobody wakes it.
+/// Rests ten seconds at a time, until the other thread has begun a cycle.
 fn rests_until_then<R: Wait>(rt: &R, heap: &Heap, signs: &Signs) {
     signs.rests.store(1, SeqCst);
     for _turn in 0..LOOKS {
@@ -46,8 +46,8 @@ fn rests_until_then<R: Wait>(rt: &R, heap: &Heap, signs: &Signs) {
     signs.is_woken.store(1, SeqCst);
 }
 
-/// Begins a cycle a tenth of a second after the other thread came to rest: whether that is woken within five
-/// seconds, not by its own end.
+/// Begins a cycle a tenth of a second after the other thread came to rest: whether that is woken within five seconds,
+/// and so not by its own end.
 fn begins_and_sees<R: Wait>(rt: &R, heap: &Heap, seat: &mut HeapSeat, signs: &Signs) -> bool
     requires { HasEachObject heap.now seat.old }
 {

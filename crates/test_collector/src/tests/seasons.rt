@@ -38,7 +38,7 @@ pub fn joins(heap: &Heap, seat: &mut HeapSeat, k: u32) -> bool
     enters(heap, seat, k) && sees_idle(heap, seat, k) && sees_turn(heap, seat, k)
 }
 
-/// Ends the catalogue's turn: a warehouse's seat is active in the first season, the catalogue's outside.
+/// A warehouse's seat is active in the first season, the catalogue's outside.
 pub fn begin<R: Wait>(rt: &R, heap: &Heap, zero: &mut HeapSeat, one: &mut HeapSeat) -> bool
     requires shape { 1 < heap.now.shape.sections }
     requires seats { New heap.now resting 0 zero.old × New heap.now resting 1 one.old }
@@ -47,7 +47,6 @@ pub fn begin<R: Wait>(rt: &R, heap: &Heap, zero: &mut HeapSeat, one: &mut HeapSe
     next_turn(rt, heap, zero) && joins(heap, one, 1)
 }
 
-/// Tries to begin a cycle.
 fn try_marking(heap: &Heap, seat: &mut HeapSeat)
     requires seat { HasEachObject heap.now seat.old }
     requires active { IsTrue (state_of seat.old).active }
@@ -56,7 +55,7 @@ fn try_marking(heap: &Heap, seat: &mut HeapSeat)
     heap.store_phase(seat, Phase::Marking);
 }
 
-/// Begins a cycle: whether the seat is active, and finds that marking is under way.
+/// Begins a cycle: whether the seat then finds that marking is under way.
 pub fn marks(heap: &Heap, seat: &mut HeapSeat) -> bool
     requires { HasEachObject heap.now seat.old }
     ensures { HasEachObject heap.now seat.new }

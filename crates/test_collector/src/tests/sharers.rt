@@ -53,7 +53,7 @@ pub fn takes_block(heap: &Heap, seat: &mut HeapSeat) -> Option<Cache>
     claim(heap, seat)
 }
 
-/// A cache for a mutator that has done nothing that counts.
+/// A cache for a mutator that has done no command.
 pub fn refills_sharer<R: Wait>(rt: &R, heap: &Heap, seat: &mut HeapSeat) -> Option<Cache>
     requires { HasEachObject heap.now seat.old }
     ensures some { IfSome result (λ cache. IsSharerWithCache heap.now seat.new cache) }

@@ -1,4 +1,4 @@
-//! A thread that waits for the stops of another helps in them: it traces, and it sweeps.
+//! A thread that waits for the stops of another traces and sweeps in them.
 ghost use Rattle.std.specs.Prelude.{◌<◌};
 ghost use Rattle.mark_core.specs.Numbers.{section_variables};
 ghost use Rattle.gc_table.specs.Seats.{Sits};
@@ -82,7 +82,6 @@ fn collects_on<R: Wait>(rt: &R, heap: &Heap, seat: &mut HeapSeat, over: &AtomicB
     goes_on
 }
 
-/// `collects_on`, then tells the other threads that it is over.
 fn collects_last<R: Wait>(rt: &R, heap: &Heap, seat: &mut HeapSeat, over: &AtomicBool) -> bool
     requires { HasEachObject heap.now seat.old }
     ensures { HasEachObject heap.now seat.new }
@@ -92,7 +91,7 @@ fn collects_last<R: Wait>(rt: &R, heap: &Heap, seat: &mut HeapSeat, over: &Atomi
     goes_on
 }
 
-/// Helps until it has traced and swept, or it is over: whether it has done both.
+/// Helps until it has traced and swept, or it is over.
 fn helps_on(heap: &Heap, seat: &mut HeapSeat, over: &AtomicBool) -> bool
     requires { Sits heap.now seat.old }
     ensures { Sits heap.now seat.new }
@@ -112,7 +111,6 @@ fn helps_on(heap: &Heap, seat: &mut HeapSeat, over: &AtomicBool) -> bool
     false
 }
 
-/// `helps_on`, then tells the other threads that it is over.
 fn helps_last(heap: &Heap, seat: &mut HeapSeat, over: &AtomicBool) -> bool
     requires { Sits heap.now seat.old }
     ensures { Sits heap.now seat.new }

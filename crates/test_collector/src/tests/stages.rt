@@ -1,5 +1,5 @@
-//! The stages of a collection in steps, in pieces of so many. A stage tells how many of its pieces were full,
-//! before one that was less.
+//! The stages of a collection in steps, in pieces of `most`. A stage tells how many of its pieces were full, before one
+//! that was less.
 ghost use Rattle.std.specs.Prelude.{◌≢◌, ◌+◌, IfNone, IfSome};
 ghost use Rattle.std.specs.Bool.{OnFalse, OnTrue};
 ghost use Rattle.gc_table.specs.Seats.{view_of};
@@ -65,7 +65,7 @@ fn traces(heap: &Heap, seat: &mut HeapSeat, most: u32) -> u32
     popped
 }
 
-/// Looks at most at so many cards from this one on: how many. None if one is dirty.
+/// Looks at cards from this one on: how many were clean. None if one is dirty.
 fn looks_at_some(heap: &Heap, seat: &mut HeapSeat, from: u32, most: u32) -> Option<u32>
     requires { HasEachObject heap.now seat.old × LooksFrom from (view_of seat.old) }
     ensures some { IfSome result (λ n. HasEachObject heap.now seat.new × LooksFrom (from + n) (view_of seat.new)) }
@@ -94,7 +94,7 @@ fn looks_at_all(heap: &Heap, seat: &mut HeapSeat, most: u32) -> Option<u32>
     None
 }
 
-/// Cleans the cards, this many at a time: how many were dirty.
+/// How many cards were dirty.
 fn cleans(heap: &Heap, seat: &mut HeapSeat, most: u32) -> u32
     requires { HasEachObject heap.now seat.old × Drains (view_of seat.old) }
     ensures { HasEachObject heap.now seat.new × Drains (view_of seat.new) }
@@ -114,7 +114,7 @@ fn cleans(heap: &Heap, seat: &mut HeapSeat, most: u32) -> u32
     cleaned
 }
 
-/// Traces what there is and looks at all cards: whether all is marked. If a card is dirty, it cleans.
+/// Whether all is marked. If a card is dirty, it cleans.
 fn makes_round(heap: &Heap, seat: &mut HeapSeat, most: u32, drained: &mut Drained) -> bool
     requires { HasEachObject heap.now seat.old × Drains (view_of seat.old) }
     ensures yes { OnTrue result (HasEachObject heap.now seat.new × HasMarkedAll (view_of seat.new)) }
@@ -152,7 +152,6 @@ fn drains(heap: &Heap, seat: &mut HeapSeat, most: u32) -> Option<Drained>
     None
 }
 
-/// Takes all marks away, to mark once more.
 fn clears(heap: &Heap, seat: &mut HeapSeat, most: u32) -> Option<u32>
     requires { HasEachObject heap.now seat.old × HasMarkedAll (view_of seat.old) }
     ensures { IfSome result (λ _. HasEachObject heap.now seat.new × IsAtRoots (view_of seat.new)) }
@@ -183,7 +182,7 @@ fn sweeps(heap: &Heap, seat: &mut HeapSeat, most: u32) -> Option<Swept>
     None
 }
 
-/// Ends the cycle and counts the cells in use; then the seat runs again.
+/// Ends the cycle and counts the cells in use.
 fn counts(heap: &Heap, seat: &mut HeapSeat, most: u32, freed: u32) -> Option<(u32, Counts)>
     requires { HasEachObject heap.now seat.old × HasSwept (view_of seat.old) }
     ensures { IfSome result (λ _. HasEachObject heap.now seat.new) }
@@ -209,7 +208,7 @@ fn begins(heap: &Heap, seat: &mut HeapSeat) -> bool
     begin_collection(heap, seat)
 }
 
-/// How many pieces that saw to roots were full, and what the drain did after them.
+/// How many pieces that saw to roots were full, and what the drain did.
 #[derive(PartialEq, Drop)]
 pub struct Marked {
     pub roots: u32,
@@ -225,8 +224,8 @@ fn marks(heap: &Heap, seat: &mut HeapSeat, most: u32) -> Option<Marked>
     Some(Marked { roots, drained })
 }
 
-/// What a collection in steps did: what was marked, twice; how many full pieces cleared, swept and counted; and
-/// what was found.
+/// What a collection in steps did: what was marked, twice; how many full pieces cleared, swept and counted; what was
+/// found.
 #[derive(PartialEq, Drop)]
 pub struct Collected {
     pub first: Marked,
@@ -237,7 +236,7 @@ pub struct Collected {
     pub found: Counts,
 }
 
-/// Collects in the stop, in pieces of this many, and marks twice.
+/// Collects in the stop, and marks twice.
 pub fn collects_in_steps(heap: &Heap, seat: &mut HeapSeat, most: u32) -> Option<Collected>
     requires { HasEachObject heap.now seat.old × HoldsWorld (view_of seat.old) }
     ensures { IfSome result (λ _. HasEachObject heap.now seat.new) }

@@ -1,5 +1,4 @@
-//! A mutator collects in steps, beside another, and neither waits. What the first doesn't reach is freed, and what
-//! it reaches is kept, whatever the size of a piece.
+//! A mutator collects in steps, beside another, and neither waits.
 ghost use Rattle.std.specs.Prelude.{◌≡◌, None};
 ghost use Rattle.std.specs.Bool.{OnFalse, OnTrue};
 ghost use Rattle.gc_table.specs.Seats.{Sits, view_of};
@@ -62,7 +61,6 @@ fn asks(heap: &Heap, seat: &mut HeapSeat) -> bool
     ask_to_stop(heap, seat, 0)
 }
 
-/// Whether the world has stopped.
 fn stops(heap: &Heap, seat: &mut HeapSeat) -> bool
     requires { HasEachObject heap.now seat.old × AwaitsStop (view_of seat.old) }
     ensures yes { OnTrue result (HasEachObject heap.now seat.new × HoldsWorld (view_of seat.new)) }
@@ -87,8 +85,7 @@ fn ties_head(heap: &Heap, seat: &mut HeapSeat, cache: &Cache)
     }
 }
 
-/// Makes a ring that no variable names and a chain of three objects, whose first was stored in last, so its card is
-/// dirty.
+/// Makes a ring that no variable names, and a chain of three objects with a dirty card.
 fn makes_objects(heap: &Heap, seat: &mut HeapSeat) -> bool
     requires { HasEachObject heap.now seat.old }
     ensures { HasEachObject heap.now seat.new }
@@ -116,7 +113,7 @@ struct Told {
     free: u32,
 }
 
-/// One seat collects in pieces of this many, while the other comes to a safe point, and tries to enter.
+/// One seat collects, while the other comes to a safe point and tries to enter.
 fn collects_beside(heap: &Heap, zero: &mut HeapSeat, one: &mut HeapSeat, most: u32) -> Option<Told>
     requires { Sits heap.now zero.old × HasEachObject heap.now one.old }
 {
@@ -148,9 +145,8 @@ fn collects_beside(heap: &Heap, zero: &mut HeapSeat, one: &mut HeapSeat, most: u
     })
 }
 
-/// What a collection in pieces of so many did: the full pieces that saw to roots, of each last look at the cards,
-/// and that cleared; as many swept, and as many counted. Each of three objects was popped once, the first one's
-/// card was dirty, and two cells were freed.
+/// What came of it: the full pieces that saw to roots, that looked at the cards at last, and that cleared, swept and
+/// counted. Each of three objects was popped once, and two cells were freed.
 fn wanted(roots: u32, looks: u32, full: u32) -> Collected {
     let drained = Drained {
         popped: 3,

@@ -1,4 +1,4 @@
-//! Two mutators play in two threads: each makes objects and garbage, and collects if it finds no block.
+//! Two mutators make objects and garbage in two threads, and collect if they find no block.
 ghost use Rattle.test_heaps.specs.Seats.{HasEachObject, IsReadyWithCache};
 
 use super::THREE;
@@ -52,7 +52,6 @@ fn end_chain(heap: &Heap, seat: &mut HeapSeat, cache: &Cache, round: u32)
     forget(heap, seat, cache, 1);
 }
 
-/// Puts 16 objects before the chain, and makes garbage.
 fn plays_round<R: Wait>(rt: &R, heap: &Heap, seat: &mut HeapSeat, round: u32) -> bool
     requires { HasEachObject heap.now seat.old }
     ensures { HasEachObject heap.now seat.new }
@@ -80,7 +79,7 @@ fn plays_on<R: Wait>(rt: &R, heap: &Heap, seat: &mut HeapSeat) -> u32
     done
 }
 
-/// Plays 120 rounds, then leaves, so that the other thread isn't kept waiting: how many rounds went well.
+/// How many of 120 rounds went well. Then it leaves, so that the other thread isn't kept waiting.
 fn plays_and_leaves<R: Wait>(rt: &R, heap: &Heap, seat: &mut HeapSeat) -> u32
     requires { HasEachObject heap.now seat.old }
     ensures { HasEachObject heap.now seat.new }

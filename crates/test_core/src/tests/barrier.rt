@@ -1,5 +1,4 @@
-//! A mutator stores a reference in an object, and then dirties the object's card, unless nobody else can know the
-//! object.
+//! A store in an object dirties the object's card, unless nobody else can know the object.
 ghost use Rattle.std.specs.Prelude.{◌≡◌, ◌<◌, is_none, true};
 ghost use Rattle.std.specs.Bool.{OnTrue};
 ghost use Rattle.gc_table.specs.Seats.{state_of};
@@ -10,12 +9,11 @@ ghost use Rattle.test_heaps.specs.Seats.{New};
 use super::blocks::{publish, take_block};
 use super::cells::make_cell;
 use super::claims::release;
-use super::seats::{begin, close, leave, open_two, takes_part, unlike};
-use gc_table::{Heap, HeapSeat, Words};
-use mark_core::{CARD_CELLS, Phase, Shape, VARIABLES};
-use std::alloc::Global;
+use super::seats::{begin, leave, takes_part};
+use gc_table::{Heap, HeapSeat};
+use mark_core::{CARD_CELLS, Shape, VARIABLES};
 use std::sync::Wait;
-use test_heaps::{SMALL, is_marking, may_mutate};
+use test_heaps::{is_marking, may_mutate};
 
 fn may_link(shape: &Shape, seat: &HeapSeat, v: u8, i: u8, w: u8) -> bool
     ensures { result ≡ may_link_of shape.now (state_of seat.now) v i w }
@@ -25,8 +23,7 @@ fn may_link(shape: &Shape, seat: &HeapSeat, v: u8, i: u8, w: u8) -> bool
         && (s.owes.is_none() && !s.spent && !shape.sharing)
 }
 
-/// Stores variable w in field i of variable 0's object: true if the seat owed no card, and has read that marking is
-/// under way.
+/// Stores variable w in field i of variable 0's object, if the seat owes no card.
 fn link(heap: &Heap, seat: &mut HeapSeat, i: u8, w: u8) -> bool
     requires { Ready heap.now seat.old × SeatHasOwn seat.old 0 }
     ensures { Ready heap.now seat.new × SeatHasOwn seat.new 0 }
@@ -46,7 +43,7 @@ fn owed(seat: &HeapSeat) -> Option<u32>
     seat.state().owes
 }
 
-/// Dirties the card that the seat owes: true if it owed one, and owes none now.
+/// Dirties the card that the seat owes, if any.
 fn dirty_owed(heap: &Heap, seat: &mut HeapSeat) -> bool
     requires { Ready heap.now seat.old × SeatHasOwn seat.old 0 }
     ensures ready { Ready heap.now seat.new × SeatHasOwn seat.new 0 }
@@ -74,7 +71,7 @@ fn is_dirty(heap: &Heap, seat: &mut HeapSeat) -> Option<bool>
     }
 }
 
-/// The whole barrier: the field is stored, then its card is dirtied.
+/// The whole barrier.
 fn store(heap: &Heap, seat: &mut HeapSeat, i: u8, w: u8) -> bool
     requires { Ready heap.now seat.old × SeatHasOwn seat.old 0 }
     ensures ready { Ready heap.now seat.new × SeatHasOwn seat.new 0 }
@@ -83,7 +80,6 @@ fn store(heap: &Heap, seat: &mut HeapSeat, i: u8, w: u8) -> bool
     link(heap, seat, i, w) && dirty_owed(heap, seat)
 }
 
-/// An object that isn't published owes no card.
 fn links_new(heap: &Heap, seat: &mut HeapSeat) -> bool
     requires { Ready heap.now seat.old × SeatHasOwn seat.old 0 }
     ensures { Ready heap.now seat.new × SeatHasOwn seat.new 0 }
@@ -91,7 +87,6 @@ fn links_new(heap: &Heap, seat: &mut HeapSeat) -> bool
     link(heap, seat, 0, 1) && owed(seat).is_none() && is_dirty(heap, seat) == Some(false)
 }
 
-/// Publishes the two cells.
 fn publish_both(heap: &Heap, seat: &mut HeapSeat) -> bool
     requires { Ready heap.now seat.old × SeatHasOwn seat.old 0 }
     ensures { Ready heap.now seat.new × SeatHasOwn seat.new 0 }
@@ -110,7 +105,6 @@ fn links_published(heap: &Heap, seat: &mut HeapSeat) -> bool
         && is_dirty(heap, seat) == Some(true)
 }
 
-/// The barrier before and after two cells are published: what each store owes, and when a card is dirty.
 fn links(heap: &Heap, seat: &mut HeapSeat) -> bool
     requires { Ready heap.now seat.old × SeatHasOwn seat.old 0 }
     ensures { Ready heap.now seat.new }
@@ -122,7 +116,8 @@ fn links(heap: &Heap, seat: &mut HeapSeat) -> bool
         && release(heap, seat)
 }
 
-fn stores<R: Wait>(rt: &R, heap: &Heap, zero: &mut HeapSeat, one: &mut HeapSeat) -> bool
+/// Two cells are made and linked, before and after they are published.
+pub fn stores<R: Wait>(rt: &R, heap: &Heap, zero: &mut HeapSeat, one: &mut HeapSeat) -> bool
     requires zero { New heap.now resting 0 zero.old × (0 < heap.now.shape.sections) }
     requires one { Ready heap.now one.old }
     ensures { OnTrue result (Ready heap.now zero.new × Ready heap.now one.new) }
@@ -134,20 +129,4 @@ fn stores<R: Wait>(rt: &R, heap: &Heap, zero: &mut HeapSeat, one: &mut HeapSeat)
         return false;
     }
     links(heap, one) && leave(heap, zero) && leave(heap, one)
-}
-
-fn stored<R: Wait>(rt: &R, alloc: Global) -> Option<Words> {
-    let (heap, mut zero, mut one) = open_two(alloc, SMALL)?;
-    if stores(rt, &heap, &mut zero, &mut one) {
-        close(alloc, heap, zero, one)
-    } else {
-        None
-    }
-}
-
-#[test]
-fn owed_card(rt: HostRuntime) {
-    let words = stored(&rt, rt.alloc());
-    let told = "alloc 1 0=3, roots 64 32=1 33=2, values 64 0=7 1=8, fields 256 0=2";
-    assert_eq!(&rt; unlike(&words, Phase::Marking, told), None);
 }

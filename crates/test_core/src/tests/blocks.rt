@@ -7,14 +7,12 @@ ghost use Rattle.test_heaps.specs.Seats.{New};
 
 use super::cells::make_cell;
 use super::claims::{cached, claim, read_free, release};
-use super::seats::{begin, close, leave, open_two, unlike};
-use gc_table::{Heap, HeapSeat, Words};
-use mark_core::{BLOCK_CELLS, Phase, SECTION_SPAN};
-use std::alloc::Global;
+use super::seats::{begin, leave};
+use gc_table::{Heap, HeapSeat};
+use mark_core::BLOCK_CELLS;
 use std::sync::Wait;
-use test_heaps::{SMALL, has_making};
+use test_heaps::has_making;
 
-/// Makes cells 0 to 63, each with its number as its value, and stores each in variable 0.
 fn fill(heap: &Heap, seat: &mut HeapSeat) -> bool
     requires { Ready heap.now seat.old }
     ensures { OnTrue result (Ready heap.now seat.new) }
@@ -27,8 +25,7 @@ fn fill(heap: &Heap, seat: &mut HeapSeat) -> bool
     true
 }
 
-/// Publishes the cells that the seat made, and answers the allocation bits before; nothing if it has no block, owes
-/// a card, or has a cell half made.
+/// Publishes the cells that the seat made, and answers the allocation bits before.
 pub fn publish(heap: &Heap, seat: &mut HeapSeat) -> Option<u64>
     requires ready { Ready heap.now seat.old }
     ensures ready { Ready heap.now seat.new }
@@ -41,7 +38,7 @@ pub fn publish(heap: &Heap, seat: &mut HeapSeat) -> Option<u64>
     }
 }
 
-/// The first block is claimed and read.
+/// Claims and reads the first block.
 pub fn take_block(heap: &Heap, seat: &mut HeapSeat, bits: u64) -> bool
     requires { Ready heap.now seat.old }
     ensures { Ready heap.now seat.new }
@@ -62,7 +59,8 @@ fn publishes(heap: &Heap, seat: &mut HeapSeat) -> bool
         && release(heap, seat)
 }
 
-fn fills<R: Wait>(rt: &R, heap: &Heap, zero: &mut HeapSeat, one: &mut HeapSeat) -> bool
+/// A whole block is filled, published and given up.
+pub fn fills<R: Wait>(rt: &R, heap: &Heap, zero: &mut HeapSeat, one: &mut HeapSeat) -> bool
     requires zero { New heap.now resting 0 zero.old × (0 < heap.now.shape.sections) }
     requires one { Ready heap.now one.old }
     ensures { OnTrue result (Ready heap.now zero.new × Ready heap.now one.new) }
@@ -71,36 +69,4 @@ fn fills<R: Wait>(rt: &R, heap: &Heap, zero: &mut HeapSeat, one: &mut HeapSeat) 
         return false;
     }
     publishes(heap, one) && leave(heap, zero) && leave(heap, one)
-}
-
-fn filled<R: Wait>(rt: &R, alloc: Global) -> Option<Words> {
-    let (heap, mut zero, mut one) = open_two(alloc, SMALL)?;
-    if fills(rt, &heap, &mut zero, &mut one) {
-        close(alloc, heap, zero, one)
-    } else {
-        None
-    }
-}
-
-fn count_from(words: &[u64], first: u64, count: usize) -> bool {
-    let mut next = first;
-    for word in words {
-        if *word != next || next == u64::MAX {
-            return false;
-        }
-        next += 1;
-    }
-    words.len() == count
-}
-
-#[test]
-fn whole_block(rt: HostRuntime) {
-    let words = filled(&rt, rt.alloc());
-    let told = "alloc 1 0=18446744073709551615, roots 64 32=64";
-    assert_eq!(&rt; unlike(&words, Phase::Marking, told), None);
-    let Some(words) = words else {
-        return;
-    };
-    let idents = count_from(words.idents.as_slice(), SECTION_SPAN, 64);
-    assert!(&rt; idents && count_from(words.values.as_slice(), 0, 64));
 }

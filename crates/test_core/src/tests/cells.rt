@@ -62,7 +62,7 @@ fn may_store(shape: &Shape, seat: &HeapSeat, c: Cell, part: u8, word: u64) -> bo
         && fits_part(shape, seat, part, word)
 }
 
-/// Stores a word of a new cell before its last one: whether it is the next.
+/// Stores a word of a new cell before its last one.
 fn store_part(heap: &Heap, seat: &mut HeapSeat, c: Cell, part: u8, word: u64) -> bool
     requires { Ready heap.now seat.old }
     ensures { Ready heap.now seat.new }
@@ -76,7 +76,7 @@ fn store_part(heap: &Heap, seat: &mut HeapSeat, c: Cell, part: u8, word: u64) ->
     }
 }
 
-/// Stores the identity of a new cell: true if all its other words are stored.
+/// Stores the last, the identity.
 fn store_identity(heap: &Heap, seat: &mut HeapSeat, c: Cell, part: u8, word: u64) -> bool
     requires { Ready heap.now seat.old }
     ensures made { OnTrue result (Unnamed heap.now seat.new) }
@@ -110,7 +110,7 @@ fn may_name(seat: &HeapSeat, v: u8, r: u64) -> bool
         && (seat.state().owes.is_none() && !has_making(seat))
 }
 
-/// Stores the cell made last in a variable: true if the seat has read that marking is under way.
+/// Stores the cell made last in a variable.
 fn name(heap: &Heap, seat: &mut HeapSeat, v: u8, r: u64) -> bool
     requires { Unnamed heap.now seat.old }
     ensures { OnTrue result (Ready heap.now seat.new × SeatHasOwn seat.new v) }

@@ -1,4 +1,6 @@
-//! Blocks are claimed, each by one seat at a time.
+//! Each block has one owner at a time.
+//! Each block has one owner at a time.
+//! Each block has one owner at a time.
 ghost use Rattle.std.specs.Prelude.{◌≡◌, ◌<◌};
 ghost use Rattle.std.specs.Bool.{OnTrue};
 ghost use Rattle.mark_core.specs.Seats.{is_unread as is_unread_cache, has_used as has_used_cell};
@@ -7,14 +9,13 @@ ghost use Rattle.gc_table.specs.SeatRecords.{resting};
 ghost use Rattle.test_core.specs.Ready.{Ready};
 ghost use Rattle.test_heaps.specs.Seats.{New};
 
-use super::seats::{begin, close, is_running, leave, open_two, unlike};
-use gc_table::{Heap, HeapSeat, Words};
-use mark_core::{BLOCK_CELLS, Phase};
-use std::alloc::Global;
+use super::seats::{begin, is_running, leave};
+use gc_table::{Heap, HeapSeat};
+use mark_core::BLOCK_CELLS;
 use std::sync::Wait;
-use test_heaps::{SMALL, has_making};
+use test_heaps::has_making;
 
-/// Claims the first block, if the seat may claim one: whether nobody had it.
+/// Claims the first block: whether nobody had it. None if the seat may claim none.
 pub fn claim(heap: &Heap, seat: &mut HeapSeat) -> Option<bool>
     requires { Ready heap.now seat.old }
     ensures { Ready heap.now seat.new }
@@ -60,7 +61,7 @@ fn has_used(seat: &HeapSeat) -> bool
     }
 }
 
-/// Gives the block up: true if the seat had one, and no unpublished cell.
+/// Gives the block up, if there is no unpublished cell.
 pub fn release(heap: &Heap, seat: &mut HeapSeat) -> bool
     requires { Ready heap.now seat.old }
     ensures { Ready heap.now seat.new }
@@ -73,7 +74,7 @@ pub fn release(heap: &Heap, seat: &mut HeapSeat) -> bool
     }
 }
 
-/// The seat's block, its free cells and its used cells, if it has one.
+/// The seat's block, its free and its used cells.
 pub fn cached(seat: &HeapSeat) -> Option<(u32, u64, u64)> {
     match seat.state().cache {
         None => None,
@@ -82,7 +83,7 @@ pub fn cached(seat: &HeapSeat) -> Option<(u32, u64, u64)> {
 }
 
 /// The second seat claims the free block, and the first doesn't get it.
-fn claims<R: Wait>(rt: &R, heap: &Heap, zero: &mut HeapSeat, one: &mut HeapSeat) -> bool
+pub fn claims<R: Wait>(rt: &R, heap: &Heap, zero: &mut HeapSeat, one: &mut HeapSeat) -> bool
     requires zero { New heap.now resting 0 zero.old × (0 < heap.now.shape.sections) }
     requires one { Ready heap.now one.old }
     ensures { OnTrue result (Ready heap.now zero.new × Ready heap.now one.new) }
@@ -96,20 +97,4 @@ fn claims<R: Wait>(rt: &R, heap: &Heap, zero: &mut HeapSeat, one: &mut HeapSeat)
         && release(heap, one)
         && leave(heap, zero)
         && leave(heap, one)
-}
-
-fn claimed<R: Wait>(rt: &R, alloc: Global) -> Option<Words> {
-    let (heap, mut zero, mut one) = open_two(alloc, SMALL)?;
-    if claims(rt, &heap, &mut zero, &mut one) {
-        close(alloc, heap, zero, one)
-    } else {
-        None
-    }
-}
-
-#[test]
-fn one_owner(rt: HostRuntime) {
-    let words = claimed(&rt, rt.alloc());
-    let told = "alloc 1, idents 64, values 64, roots 64";
-    assert_eq!(&rt; unlike(&words, Phase::Marking, told), None);
 }

@@ -1,10 +1,9 @@
-//! An event of a run, by its words: a seat, the name of a step, and its parameters, as in a schedule. The steps of
-//! shared objects and of slots stand beside the others.
+//! An event of a run, by its words: a seat, the name of a step, and its parameters, as in a schedule, with the steps of
+//! shared objects and of slots.
 use mark_core::{Cell, CoreState, Event, Rule, Step, phase_of};
 use std::str::SplitWhitespace;
 
-/// The parameters of a step in order. One that is no number is as great as may be, and so is one that is left out:
-/// no allowed step has it.
+/// The parameters of a step. One that is no number or left out is as great as may be: no allowed step has it.
 #[derive(Clone, Copy)]
 struct Parameters {
     words: [u64; 4],
@@ -200,8 +199,7 @@ fn step_of(name: &str, told: Parameters) -> Option<Step> {
         .or(of_blocks(name, told))
 }
 
-/// Applies the event of these words: whether it is allowed, or the rule by which it is refused. None if there is
-/// no such event.
+/// Applies the event of these words: the rule by which it is refused, if it is. None if there is no such event.
 pub fn applied(core: &mut CoreState, told: &str) -> Option<Result<(), Rule>> {
     let mut words = told.split_whitespace();
     let seat = words.next()?.parse::<u32>().ok()?;

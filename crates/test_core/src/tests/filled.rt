@@ -1,7 +1,7 @@
 use mark_core::SECTION_SPAN;
 use std::alloc::{AllocError, Global};
 
-/// In the line `chain` all cells are made, and in the lines `traced` they are scanned.
+/// A line `chain` makes all cells, and a line `traced` scans them.
 const FILLED: &str = "
 $ all cells are reachable, and a precise collection finds the heap full
 heap one 3
@@ -35,7 +35,6 @@ words alloc 18446744073709551615, mark 0, empty 66
 seat 1 saw_full 1
 ";
 
-/// Makes each cell, whose field names the one before it.
 fn chain(alloc: Global) -> Result<String, AllocError> {
     let mut lines = String::new(alloc);
     for c in 0..64u32 {
@@ -60,7 +59,7 @@ fn traced(alloc: Global) -> Result<String, AllocError> {
     Ok(lines)
 }
 
-/// The run with all its lines.
+/// The run.
 pub fn filled(alloc: Global) -> Result<String, AllocError> {
     let (chain, traced) = (chain(alloc)?, traced(alloc)?);
     let mut whole = String::new(alloc);

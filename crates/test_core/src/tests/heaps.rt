@@ -60,9 +60,9 @@ pub fn shape_of(name: &str) -> Option<Shape>
     }
 }
 
-/// The index of the word of that name: of each heap, and behind `named` of the heap `one`. There 11 single words
-/// come before 2 positions, 64 roots, then a word each time for the one block, four cards, two heads, four entries,
-/// 64 identities, 64 values, 64 fields, four pools, the word of help and the season.
+/// The index of the word of that name; behind `named` only in the heap `one`. There 11 single words come before 2
+/// positions, 64 roots, then a word each time for the one block, four cards, two heads, four entries, 64 identities, 64
+/// values, 64 fields, four pools, the word of help and the season.
 pub fn index_of(name: &str) -> Option<u32> {
     match name {
         "world" => Some(0),

@@ -1,6 +1,6 @@
 //! What marking comes upon: hidden cells, unpublished ones, full packets, helpers.
 
-/// A mutator stores while a tracer marks, and what it hid is found by cleaning the card.
+/// A store hides a cell from a tracer, and cleaning its card finds it.
 pub const BARRIER: &str = "
 $ a store hides a cell, and cleaning its card finds it
 heap one 3
@@ -46,7 +46,7 @@ words mark 3, card 0, empty 66
 words phase 0, world 1, alloc 3, mark 0, empty 66
 ";
 
-/// A cell that isn't published when it is traced waits in a deferred packet, and is scanned after its publication.
+/// An unpublished cell waits in a deferred packet.
 pub const DEFERRED: &str = "
 $ a cell that isn't published is put off, and scanned after its publication
 heap one 3
@@ -143,8 +143,8 @@ words mark 196623, next_card 0, empty 66
 words phase 0, world 1, alloc 196623, mark 0
 ";
 
-/// A cell that lost its last name after it was marked floats through an ordinary cycle, but not through a precise
-/// one, which clears all marks in the stop and marks once more.
+/// An unreachable marked cell floats through an ordinary cycle, but not through a precise one, which marks once more in
+/// the stop.
 pub const PRECISE: &str = "
 $ an ordinary cycle keeps what floats
 heap one 3
@@ -205,7 +205,7 @@ words mark 2, empty 66
 words phase 0, world 1, alloc 2, mark 0
 ";
 
-/// A stop in which two seats without a section help: they trace and sweep, each a block of its own.
+/// Two seats without a section help in a stop: each sweeps a block.
 ///
 /// Words 79 and 80 are allocation bits, 81 and 82 mark bits; 483 is the high pool and 485 the word of help:
 /// 4,294,967,296 and how many help, if it is open.

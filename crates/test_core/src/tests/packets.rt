@@ -23,7 +23,7 @@ fn second_word(heap: &Heap, seat: &mut HeapSeat) -> Option<u64>
     }
 }
 
-/// Reserves an empty packet: true if the seat marks.
+/// Reserves an empty packet, if the seat marks.
 fn reserve(heap: &Heap, seat: &mut HeapSeat) -> bool
     requires { Ready heap.now seat.old }
     ensures { Ready heap.now seat.new }
@@ -63,7 +63,7 @@ fn is_empty(heap: &Heap, seat: &mut HeapSeat) -> bool
         && heap.read_length(seat, 64) == 0
 }
 
-/// Gives the last packet back, and counts it: true if the seat had it, and no work in hand.
+/// Gives the last packet back, if no work is in hand.
 fn give_last(heap: &Heap, seat: &mut HeapSeat) -> bool
     requires { Ready heap.now seat.old }
     ensures { Ready heap.now seat.new }

@@ -1,18 +1,5 @@
-//! Runs, written down as texts, and how they are judged.
-//!
-//! A run is `$ ` and what it shows; in the next line `heap`, the name of a shape and how many seats there are; and
-//! lines of these forms:
-//!
-//! ```text
-//! # a comment
-//! 1 set_mark 0, 1 push 0 0
-//! 1 leave_step => 26 2
-//! words empty 65, mark 1
-//! seat 1 owes -
-//! ```
-//!
-//! The first events are allowed, each in its turn, and the next is refused by that part of that rule, and changes
-//! nothing. Then the words have these values, and this stands in the seat's record: a number, 1 for yes, or `-` for
+//! All events are allowed but the one before ` => `, which is refused by that part of that rule and changes nothing.
+//! `words` and `seat` tell the values of words, and what stands in a seat's record: a number, 1 for yes, or `-` for
 //! nothing.
 use super::events::applied;
 use super::heaps::{index_of, shape_of};
@@ -20,7 +7,6 @@ use mark_core::{Cell, CoreState, Phase, SEATS, SeatState};
 use std::alloc::Global;
 use std::process::Abort;
 
-/// The state in which nothing has happened, on the heap of that name with so many seats.
 fn start(alloc: Global, heap: &str) -> Option<CoreState> {
     let (name, seats) = heap.split_once(' ')?;
     let shape = shape_of(name)?;
@@ -50,7 +36,6 @@ fn refuses(core: &mut CoreState, told: &str, broken: &str) -> Option<bool> {
     }
 }
 
-/// Whether the word has this value.
 fn has_word(core: &CoreState, told: &str) -> Option<bool> {
     let (name, value) = told.split_once(' ')?;
     let value = value.parse::<u64>().ok()?;
@@ -102,7 +87,7 @@ fn in_record(s: &SeatState, what: &str) -> Option<Option<u32>> {
     }
 }
 
-/// Whether this stands in the seat's record; nothing also stands for no such seat.
+/// Whether the seat's record says this. `-` also stands for no such seat.
 fn has_record(core: &CoreState, told: &str) -> Option<bool> {
     let (seat, rest) = told.split_once(' ')?;
     let (what, wanted) = rest.split_once(' ')?;
@@ -116,7 +101,7 @@ fn has_record(core: &CoreState, told: &str) -> Option<bool> {
     }
 }
 
-/// Whether the line holds; None if it has no such form.
+/// Whether the line holds. None if it has no such form.
 fn holds(core: &mut CoreState, line: &str) -> Option<bool> {
     if line.is_empty() || line.starts_with('#') {
         return Some(true);
@@ -133,7 +118,6 @@ fn holds(core: &mut CoreState, line: &str) -> Option<bool> {
     }
 }
 
-/// The first line of the run that doesn't hold, or its head if it has no such form; nothing if all hold.
 fn first_wrong<'a>(alloc: Global, run: &'a str) -> Option<&'a str> {
     let Some((head, lines)) = run.split_once("\nheap ") else {
         return Some(run);

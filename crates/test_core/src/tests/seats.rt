@@ -1,4 +1,4 @@
-//! Two seats of a heap: how it is opened and closed, and how they come and go.
+//! Two seats of a heap come and go.
 ghost use Rattle.std.specs.Prelude.{◌≡◌, ◌<◌, ◌&&◌, not, IfSome};
 ghost use Rattle.std.specs.Bool.{OnTrue};
 ghost use Rattle.gc_table.specs.SeatRecords.{resting};
@@ -15,7 +15,7 @@ use std::alloc::Global;
 use std::sync::Wait;
 use test_heaps::{is_bare, leaves, next_seat, next_turn, open};
 
-/// A heap in which nothing has happened, with its seats 0 and 1.
+/// A new heap with its seats 0 and 1.
 pub fn open_two(alloc: Global, shape: Shape) -> Option<(Heap, HeapSeat, HeapSeat)>
     requires { IsShape shape }
     ensures { IfSome result (λ r. (r.0.shape ≡ shape) × New r.0 resting 0 r.1 × Ready r.0 r.1 × Ready r.0 r.2) }
@@ -28,7 +28,7 @@ pub fn open_two(alloc: Global, shape: Shape) -> Option<(Heap, HeapSeat, HeapSeat
     Some((heap, zero, one))
 }
 
-/// Closes the heap with its seats, if both are outside.
+/// Closes the heap, if both seats are outside.
 pub fn close(alloc: Global, heap: Heap, zero: HeapSeat, one: HeapSeat) -> Option<Words>
     requires zero { Ready heap zero }
     requires one { Ready heap one }
@@ -44,7 +44,7 @@ pub fn close(alloc: Global, heap: Heap, zero: HeapSeat, one: HeapSeat) -> Option
     heap.close(alloc, seats).ok()
 }
 
-/// The seat is active, and stops nobody.
+/// Whether the seat is active, and stops nobody.
 pub fn is_running(seat: &HeapSeat) -> bool
     ensures { result ≡ ((state_of seat.now).active && not (state_of seat.now).knows) }
 {
@@ -52,14 +52,14 @@ pub fn is_running(seat: &HeapSeat) -> bool
     s.active && !s.knows
 }
 
-/// The seat runs, or it stopped the world, or it helps.
+/// Whether the seat runs, stopped the world, or helps.
 pub fn takes_part(seat: &HeapSeat) -> bool
     ensures { result ≡ takes_part_of (state_of seat.now) }
 {
     seat.state().takes_part()
 }
 
-/// Enters: true if the seat was outside, and is active now.
+/// Enters: whether the seat was outside, and is active now.
 pub fn enter(heap: &Heap, seat: &mut HeapSeat) -> bool
     requires { Ready heap.now seat.old }
     ensures { Ready heap.now seat.new }
@@ -67,7 +67,7 @@ pub fn enter(heap: &Heap, seat: &mut HeapSeat) -> bool
     is_bare(seat) && heap.enter_step(seat)
 }
 
-/// Leaves: true if the seat had nothing in hand.
+/// Leaves, if the seat has nothing in hand.
 pub fn leave(heap: &Heap, seat: &mut HeapSeat) -> bool
     requires { Ready heap.now seat.old }
     ensures { Ready heap.now seat.new }
@@ -91,7 +91,7 @@ pub fn sees_season(heap: &Heap, seat: &mut HeapSeat, season: u64) -> bool
     is_running(seat) && heap.read_season(seat) == season
 }
 
-/// Begins marking: true if the seat is active, and the phase was idle.
+/// Begins marking: whether the seat is active, and the phase was idle.
 pub fn try_marking(heap: &Heap, seat: &mut HeapSeat) -> bool
     requires { Ready heap.now seat.old }
     ensures { Ready heap.now seat.new }
@@ -113,7 +113,6 @@ pub fn both_mark(heap: &Heap, zero: &mut HeapSeat, one: &mut HeapSeat) -> bool
         && sees_phase(heap, one, Phase::Marking)
 }
 
-/// The season turns: whether the catalogue's seat made that stop.
 fn turns<R: Wait>(rt: &R, heap: &Heap, seat: &mut HeapSeat) -> bool
     requires { New heap.now resting 0 seat.old × (0 < heap.now.shape.sections) }
     ensures { OnTrue result (Ready heap.now seat.new) }
@@ -124,8 +123,7 @@ fn turns<R: Wait>(rt: &R, heap: &Heap, seat: &mut HeapSeat) -> bool
     true
 }
 
-/// The first season begins, and marking in it: both seats are active, and the warehouse's knows that it has its
-/// turn.
+/// The first season begins, and marking in it; both seats are active, and the warehouse's has its turn.
 pub fn begin<R: Wait>(rt: &R, heap: &Heap, zero: &mut HeapSeat, one: &mut HeapSeat) -> bool
     requires zero { New heap.now resting 0 zero.old × (0 < heap.now.shape.sections) }
     requires one { Ready heap.now one.old }
@@ -134,7 +132,6 @@ pub fn begin<R: Wait>(rt: &R, heap: &Heap, zero: &mut HeapSeat, one: &mut HeapSe
     turns(rt, heap, zero) && both_mark(heap, zero, one) && sees_season(heap, one, 1)
 }
 
-/// What the largest heap hands out when it is closed at once.
 fn words_of_largest(alloc: Global) -> Option<Words> {
     let shape = Shape {
         cells: 65536,
@@ -156,7 +153,6 @@ fn words_of_largest(alloc: Global) -> Option<Words> {
     }
 }
 
-/// The words of a list by its name.
 fn list_of<'a>(words: &'a Words, name: &str) -> Option<&'a [u64]> {
     match name {
         "idents" => Some(words.idents.as_slice()),
@@ -179,15 +175,21 @@ fn count_others(words: &[u64]) -> usize {
     others
 }
 
-/// Whether a list has so many words, which are 0 but for those that are told, as `alloc 1 0=3` says.
+/// Whether the word is as told, in `0=3`.
+fn is_word(list: &[u64], told: &str) -> Option<bool> {
+    let (i, n) = told.split_once('=')?;
+    let word = list.get(i.parse::<usize>().ok()?)?;
+    Some(*word == n.parse::<u64>().ok()?)
+}
+
+/// Whether a list has so many words, all 0 but those told, as in `alloc 1 0=3`.
 fn is_list(words: &Words, told: &str) -> Option<bool> {
     let mut told = told.split(' ');
     let list = list_of(words, told.next()?)?;
     let count = told.next()?.parse::<usize>().ok()?;
     let mut others = count_others(list);
     for other in told {
-        let (i, n) = other.split_once('=')?;
-        if *list.get(i.parse::<usize>().ok()?)? != n.parse::<u64>().ok()? {
+        if is_word(list, other) != Some(true) {
             return Some(false);
         }
         others = others.saturating_sub(1);

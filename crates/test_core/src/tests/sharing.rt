@@ -1,7 +1,6 @@
 //! Seats that share objects, and slots.
 
-/// Steps on a heap that sections share, and on slots: each part of their conditions is broken once. A section makes
-/// two objects at most.
+/// Each part of the conditions of steps on shared objects and slots, broken once. A section makes two objects at most.
 pub const SHARED: &str = "
 $ each part of a step on shared objects is told
 heap few 3
@@ -67,8 +66,7 @@ heap one 3
 1 exchange_value 0 5 6 => 51 2
 ";
 
-/// Three seats store in each other's objects: seat 0 has the catalogue, seats 1 and 2 a section each. Words 258 and
-/// 322 are the values of cells 0 and 64.
+/// Seat 0 has the catalogue, seats 1 and 2 a section each. Words 258 and 322 are the values of cells 0 and 64.
 pub const STORING: &str = "
 $ seats store in each other's objects
 heap shared 3
@@ -114,7 +112,7 @@ heap apart 3
 1 store_field 0 0 - => 18 2
 ";
 
-/// Seats exchange a field or the value of one object: words 386 and 258 of cell 0.
+/// Words 386 and 258 are the field and the value of cell 0.
 pub const EXCHANGING: &str = "
 $ one of two exchanges wins
 heap shared 3
@@ -186,7 +184,7 @@ heap apart 3
 1 exchange_field 0 0 - 0 => 50 2
 ";
 
-/// What seats keep in their slots. The slots begin with word 110, two for each of three sections.
+/// The slots begin with word 110, two for each of three sections.
 pub const SLOTS: &str = "
 $ what is in a slot comes back
 heap slots 3

@@ -10,7 +10,6 @@ use alloc_cache::{Cache, claim, retire};
 use gc_table::{Heap, HeapSeat};
 use test_heaps::{SMALL, make};
 
-/// Whether the catalogue's seat finds no block.
 fn finds_none(heap: &Heap, seat: &mut HeapSeat) -> bool
     requires { At heap.now inside 0 seat.old }
 {
@@ -26,7 +25,7 @@ fn finds_none(heap: &Heap, seat: &mut HeapSeat) -> bool
     }
 }
 
-/// The block that one seat claims, its free cells, and whether the other then finds none.
+/// The block that one seat claims, its free cells, and whether another seat then finds none.
 fn claims(heap: &Heap, zero: &mut HeapSeat, one: &mut HeapSeat) -> Option<(u32, u32, bool)>
     requires { At heap.now inside 0 zero.old × IsReadyMutator heap.now one.old }
 {

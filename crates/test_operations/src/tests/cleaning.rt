@@ -1,5 +1,4 @@
-//! Clean cards stay clean, the pass gives out each card once, and the marked objects of a dirty card are scanned
-//! again.
+//! A pass gives out each card once, and the marked objects of a dirty card are scanned again.
 ghost use Rattle.std.specs.Prelude.{◌<◌};
 ghost use Rattle.std.specs.Bool.{OnTrue};
 ghost use Rattle.gc_table.specs.SeatRecords.{At};
@@ -43,7 +42,7 @@ fn clean_third(heap: &Heap, seat: &mut HeapSeat) -> Option<Cleaned>
     Some(cleaned)
 }
 
-/// Three objects on card 0 are marked, then one is stored in.
+/// Three objects are marked, then one of them is stored in.
 fn dirties(heap: &Heap, seat: &mut HeapSeat) -> bool
     requires { IsReadyMutator heap.now seat.old × (1 < heap.now.shape.fields) }
     ensures { OnTrue result (IsReadyMutator heap.now seat.new) }

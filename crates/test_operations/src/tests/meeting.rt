@@ -1,10 +1,10 @@
-//! Threads that wait for each other, so that they run at the same time; in vain, they give up after some seconds.
+//! Threads that wait for each other, so that they run at the same time. In vain, they give up after some seconds.
 use std::sync::Wait;
 use std::sync::atomic::AtomicU64;
 use std::sync::atomic::Ordering::SeqCst;
 use std::time::Duration;
 
-/// How many times a thread looks whether the others came. In between it sleeps, for a millisecond at most.
+/// How often a thread looks, after each look asleep for a millisecond at most.
 const LOOKS: u32 = 5_000;
 
 /// Where this many threads meet.
@@ -41,7 +41,7 @@ impl Meeting {
         self.missed.fetch_add(1, SeqCst);
     }
 
-    /// Whether all came while the first ones waited.
+    /// Whether all came before one gave up.
     pub fn is_met(&self) -> bool {
         self.come.load(SeqCst) >= self.wanted && self.missed.load(SeqCst) == 0
     }

@@ -20,7 +20,7 @@ fn is_warehouse(seat: &HeapSeat) -> bool
     }
 }
 
-/// An object of value 7 in variable 0, whose field 0 leads to one of value 8 in variable 1.
+/// Variable 0's object has value 7, and its field 0 refers to that of variable 1, with value 8.
 fn makes_two(heap: &Heap, seat: &mut HeapSeat) -> bool
     requires { IsReadyMutator heap.now seat.old × (0 < heap.now.shape.fields) }
     ensures { OnTrue result (IsReadyMutator heap.now seat.new) }
@@ -35,7 +35,6 @@ fn makes_two(heap: &Heap, seat: &mut HeapSeat) -> bool
     !dropped
 }
 
-/// A value stored by one variable is read by another that leads to the same object.
 fn stores_by_another_way(heap: &Heap, seat: &mut HeapSeat) -> bool
     requires { IsReadyMutator heap.now seat.old × (0 < heap.now.shape.fields) }
     ensures { IsReadyMutator heap.now seat.new }
@@ -46,7 +45,7 @@ fn stores_by_another_way(heap: &Heap, seat: &mut HeapSeat) -> bool
     !dropped && say(heap, seat, 1) == Line::Value(9)
 }
 
-/// A walk visits both objects, or as many as it may; a catalogue's variable that is nil is nil here.
+/// A whole walk, and one that is cut; a catalogue's variable that is nil, and a cleared one.
 fn reads(heap: &Heap, seat: &mut HeapSeat) -> [Line; 4]
     requires { IsReadyMutator heap.now seat.old × (0 < heap.now.shape.fields) × ((state_of seat.old).section ≢ Some 0) }
 {
@@ -72,7 +71,6 @@ fn plays(heap: &Heap, seat: &mut HeapSeat) -> Option<[Line; 4]>
     }
 }
 
-/// A store and a walk, as commands of a script: whether the store was dropped, and what the walk printed.
 fn commands(heap: &Heap, seat: &mut HeapSeat) -> Option<(bool, Option<Line>)>
     requires { IsReadyMutator heap.now seat.old }
 {

@@ -37,7 +37,7 @@ pub fn publish(heap: &Heap, seat: &mut HeapSeat, cache: &mut Cache)
     publish_cells(heap, seat, cache);
 }
 
-/// Publishes what was made, and gives the block up.
+/// Publishes them, and gives the block up.
 pub fn gives_up(heap: &Heap, seat: &mut HeapSeat, cache: Cache)
     requires { IsReadyWithCache heap.now seat.old cache }
     ensures { IsReadyMutator heap.now seat.new }
@@ -45,7 +45,7 @@ pub fn gives_up(heap: &Heap, seat: &mut HeapSeat, cache: Cache)
     retire(heap, seat, cache);
 }
 
-/// An object in variable 0, whose fields 0 and 1 lead to two more that no variable names.
+/// An object in variable 0, whose fields 0 and 1 refer to two more that no variable names.
 pub fn make_three(heap: &Heap, seat: &mut HeapSeat, cache: &mut Cache)
     requires fields { 1 < heap.now.shape.fields }
     requires fills { IsReadyWithCache heap.now seat.old cache.old }

@@ -29,7 +29,7 @@ pub fn opened<R: Abort + AllocGlobal>(rt: &R, shape: Shape) -> Opened
     (heap, zero, one, two)
 }
 
-/// A heap in which the catalogue's seat marks, and the warehouse's does so as a mutator in its first season.
+/// A heap in whose first season the catalogue's seat marks, and the warehouse's marks as a mutator.
 pub fn begun<R: Abort + AllocGlobal + Wait>(rt: &R, shape: Shape) -> Opened
     requires { IsShape shape × (1 < shape.sections) }
     ensures tracers { At result.0 inside 0 result.1 × At result.0 resting 2 result.3 }

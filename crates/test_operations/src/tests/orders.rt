@@ -1,4 +1,4 @@
-//! Packets of four entries lie in two pools: one with a single object is low, one with two is high.
+//! A packet of four entries with one object is in the low pool, one with two in the high pool.
 ghost use Rattle.std.specs.Prelude.{◌<◌};
 ghost use Rattle.std.specs.Bool.{OnTrue};
 ghost use Rattle.gc_table.specs.SeatRecords.{At, inside};
@@ -29,7 +29,6 @@ fn fills_both(heap: &Heap, seat: &mut HeapSeat) -> bool
     true
 }
 
-/// The lengths of the two packets, in the order in which they are taken to be read.
 fn read_in_order(heap: &Heap, seat: &mut HeapSeat, k: u32) -> Option<(u32, u32)>
     requires { At heap.now inside k seat.old }
 {
@@ -44,7 +43,6 @@ fn read_in_order(heap: &Heap, seat: &mut HeapSeat, k: u32) -> Option<(u32, u32)>
     Some(lengths)
 }
 
-/// The lengths of the two packets, in the order in which they are taken to be filled.
 fn filled_in_order(heap: &Heap, seat: &mut HeapSeat, k: u32) -> Option<(u32, u32)>
     requires { At heap.now inside k seat.old }
 {
@@ -59,7 +57,7 @@ fn filled_in_order(heap: &Heap, seat: &mut HeapSeat, k: u32) -> Option<(u32, u32
     Some(lengths)
 }
 
-/// The lengths of the two packets, in the order in which they are taken, either way.
+/// The lengths of the two packets, in the order in which they are taken.
 fn taken_in_order(
     heap: &Heap,
     zero: &mut HeapSeat,

@@ -14,7 +14,6 @@ use std::sync::Wait;
 use std::thread::{Threads, join_mut};
 use test_heaps::{SMALL, enters, sees_marking, try_marking};
 
-/// The seat begins to mark.
 fn begin(heap: &Heap, seat: &mut HeapSeat, k: u32) -> bool
     requires { At heap.now resting k seat.old }
     ensures { OnTrue result (At heap.now inside k seat.new) }
@@ -26,7 +25,7 @@ fn begin(heap: &Heap, seat: &mut HeapSeat, k: u32) -> bool
     sees_marking(heap, seat, k)
 }
 
-/// The length of the first packet, and whether all are empty while a seat has it and after it is given back.
+/// The length of a packet, and whether all are empty while a seat has it, and then.
 fn one_packet(heap: &Heap, seat: &mut HeapSeat, k: u32) -> Option<(u32, bool, bool)>
     requires { At heap.now resting k seat.old }
 {
@@ -41,7 +40,6 @@ fn one_packet(heap: &Heap, seat: &mut HeapSeat, k: u32) -> Option<(u32, bool, bo
     Some((length, before, after))
 }
 
-/// Takes a packet with room and gives it back.
 fn exchange(heap: &Heap, seat: &mut HeapSeat) -> bool
     requires seat { IsTracer heap.now seat.old }
     requires free { IsTrue (has_free_slot (state_of seat.old).held) }
@@ -76,7 +74,6 @@ fn third_packet(heap: &Heap, seat: &mut HeapSeat, k: u32) -> Option<bool>
     Some(found)
 }
 
-/// Whether a packet with cells is found.
 fn finds_work(heap: &Heap, seat: &mut HeapSeat, k: u32) -> bool
     requires { At heap.now inside k seat.old }
     ensures { At heap.now inside k seat.new }
@@ -105,7 +102,6 @@ fn pops_nothing(heap: &Heap, seat: &mut HeapSeat, k: u32) -> Option<bool>
     Some(popped.is_none())
 }
 
-/// Takes a packet and gives it back: whether there was one.
 fn round(heap: &Heap, seat: &mut HeapSeat, k: u32) -> bool
     requires { At heap.now inside k seat.old }
     ensures { At heap.now inside k seat.new }
@@ -131,7 +127,7 @@ fn rounds(heap: &Heap, seat: &mut HeapSeat, k: u32, count: u32) -> u32
     done
 }
 
-/// Takes and gives 1,000 packets, once the other thread is there: how many it got.
+/// How many of 1,000 packets it got, once the other thread was there.
 fn meets_and_exchanges<R: Wait>(
     rt: &R,
     heap: &Heap,
@@ -145,7 +141,6 @@ fn meets_and_exchanges<R: Wait>(
     rounds(heap, seat, k, 1000)
 }
 
-/// The rounds of two seats in two threads, which begin together.
 fn both<R: Threads + Wait + Sync>(
     rt: &R,
     heap: &Heap,

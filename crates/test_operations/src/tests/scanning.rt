@@ -1,4 +1,4 @@
-//! What is left of an object in scan is marked, and goes into packets while one has room.
+//! What is left of an object in scan is marked, and goes into the packet while that has room.
 ghost use Rattle.std.specs.Prelude.{◌<◌, None, false, IsFalse, IsTrue};
 ghost use Rattle.std.specs.Bool.{OnTrue};
 ghost use Rattle.mark_core.specs.Held.{has_free_slot};
@@ -24,11 +24,9 @@ use test_heaps::{SMALL, forget, make};
 /// What a scan came to, and how many cells were in the packet after it.
 type Filled = (Scanned, u32);
 
-/// Two packets of two entries, and objects of six fields.
 const WIDE: Shape = Shape { fields: 6, ..SMALL };
 
-/// An object in variable 0, whose first fields lead to so many others, and the field behind them to the last of
-/// these.
+/// An object in variable 0, whose first fields refer to so many others, and the next field to the last of these.
 fn make_star(heap: &Heap, seat: &mut HeapSeat, cache: &mut Cache, others: u8)
     requires fields { others < heap.now.shape.fields }
     requires fills { IsReadyWithCache heap.now seat.old cache.old }
@@ -57,7 +55,7 @@ fn marks_root(heap: &Heap, seat: &mut HeapSeat, others: u8) -> bool
     true
 }
 
-/// Reads the allocation bit of the object that was popped; it is published, so it is then in scan.
+/// Reads the allocation bit of the object that was popped, which then is in scan.
 fn begins_scan<R: Abort>(rt: &R, heap: &Heap, seat: &mut HeapSeat, held: &Held, cell: Cell)
     requires seat { IsTracer heap.now seat.old }
     requires held { HoldsPacket held.now (view_of seat.old) × IsTrue (has_free_slot (state_of seat.old).held) }
@@ -72,7 +70,7 @@ fn begins_scan<R: Abort>(rt: &R, heap: &Heap, seat: &mut HeapSeat, held: &Held, 
     }
 }
 
-/// Scans what is left of the object in scan, and again when nothing is left.
+/// Scans it, and again when nothing is left.
 fn scans_twice(heap: &Heap, seat: &mut HeapSeat, held: &mut Held) -> (Filled, Filled)
     requires seat { IsTracer heap.now seat.old }
     requires held { HoldsPacket held.old (view_of seat.old) × IsTrue (has_free_slot (state_of seat.old).held) }
@@ -87,7 +85,6 @@ fn scans_twice(heap: &Heap, seat: &mut HeapSeat, held: &mut Held) -> (Filled, Fi
     ((first, length), (second, held.length()))
 }
 
-/// What is marked if the object is popped and scanned into the same packet.
 fn scans_popped<R: Abort>(rt: &R, heap: &Heap, seat: &mut HeapSeat) -> Option<(Filled, Filled)>
     requires { IsReadyMutator heap.now seat.old }
 {
@@ -119,8 +116,7 @@ fn answers<R: Abort>(
     scans_popped(rt, heap, seat)
 }
 
-/// To how many others an object leads, how many of them find no room, and how many cells are in the packet held
-/// then.
+/// To how many others an object refers, how many of them find no room, and how many cells are in the packet then.
 const ROWS: [(u8, u32, u32); 4] = [(1, 0, 1), (2, 0, 2), (3, 0, 1), (5, 1, 2)];
 
 #[test]

@@ -38,7 +38,7 @@ fn sees_idle(heap: &Heap, seat: &mut HeapSeat, k: u32) -> bool
     }
 }
 
-/// The warehouse's seat enters, if no cycle is under way.
+/// A warehouse's seat enters, if no cycle is under way.
 pub fn joins(heap: &Heap, seat: &mut HeapSeat) -> bool
     requires { New heap.now resting 1 seat.old }
     ensures { OnTrue result (HasEachObject heap.now seat.new) }

@@ -1,4 +1,4 @@
-//! A stop that one seat asks for is seen by another, which helps in it.
+//! One seat stops the world, and another sees it and helps.
 ghost use Rattle.std.specs.Prelude.{IsTrue};
 ghost use Rattle.mark_core.specs.Seats.{is_bare};
 ghost use Rattle.mark_core.specs.declared.kinds.Phase.TheVariants.{Idle};
@@ -17,7 +17,7 @@ use stop_world::{
 };
 use test_heaps::{SMALL, drains, goes_on, next_turn, raises_own, stops_idle};
 
-/// What becomes of the flag when a seat finds it free.
+/// Whether a seat finds the flag free.
 fn raises(heap: &Heap, seat: &mut HeapSeat) -> bool
     requires { Sits heap.now seat.old × IsTrue (is_bare (state_of seat.old)) }
 {

@@ -1,4 +1,4 @@
-//! A stop in which a drain ends, and then every block is swept, or cleared of its marks.
+//! A drain ends in a stop, and then every block is swept, or cleared of its marks.
 ghost use Rattle.std.specs.Prelude.{◌<◌};
 ghost use Rattle.std.specs.Bool.{OnTrue};
 ghost use Rattle.mark_core.specs.Shapes.{IsShape};
@@ -41,7 +41,7 @@ fn told(swept: Option<Swept>) -> Option<(u32, u32, u32)> {
     }
 }
 
-/// The next stretch of the sweep, so told.
+/// The next stretch: its first block, how many it has, and the cells freed.
 fn sweeps(heap: &Heap, seat: &mut HeapSeat) -> Option<(u32, u32, u32)>
     requires { Sits heap.now seat.old × Sweeps (view_of seat.old) × Alone Sweep (view_of seat.old) }
     ensures { Sits heap.now seat.new × Sweeps (view_of seat.new) × Alone Sweep (view_of seat.new) }
@@ -73,7 +73,7 @@ fn clears(heap: &Heap, seat: &mut HeapSeat) -> Option<u32>
     clear_marks_next(heap, seat)
 }
 
-/// The first blocks of two calls.
+/// The first blocks of two stretches.
 fn clears_all(heap: &Heap, seat: &mut HeapSeat) -> Option<(Option<u32>, Option<u32>)>
     requires { Sits heap.now seat.old × Alone Clear (view_of seat.old) }
 {
@@ -87,7 +87,7 @@ fn clears_all(heap: &Heap, seat: &mut HeapSeat) -> Option<(Option<u32>, Option<u
     Some((first, second))
 }
 
-/// Makes an object that leads to two more, and two that become garbage.
+/// An object that refers to two more, and two that become garbage.
 fn make_five(heap: &Heap, seat: &mut HeapSeat, cache: &mut Cache)
     requires fields { 1 < heap.now.shape.fields }
     requires fills { IsReadyWithCache heap.now seat.old cache.old }
@@ -124,8 +124,7 @@ fn traces_in_stop(heap: &Heap, seat: &mut HeapSeat) -> bool
     true
 }
 
-/// Whether the drain ends: nothing is in hand, all roots are seen to, every card is clean, and every packet is
-/// empty.
+/// Whether the drain ends: `drained` of `test_heaps`, after a trace.
 fn drained_after_tracing(heap: &Heap, seat: &mut HeapSeat) -> bool
     requires { Sits heap.now seat.old × IsBeforeSweep (view_of seat.old) }
     ensures { OnTrue result (Sits heap.now seat.new × IsDrained (view_of seat.new)) }

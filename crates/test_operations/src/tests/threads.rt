@@ -28,7 +28,7 @@ fn joins(heap: &Heap, seat: &mut HeapSeat, k: u32) -> bool
     enters(heap, seat, k) && sees_marking(heap, seat, k)
 }
 
-/// Traces in 200 turns of at most 4 objects each: how many.
+/// How many objects 200 turns trace, of four at most each.
 fn traces_on(heap: &Heap, seat: &mut HeapSeat) -> u32
     requires { Sits heap.now seat.old × Traces (view_of seat.old) × IsIdle (view_of seat.old) }
     ensures { Sits heap.now seat.new × Traces (view_of seat.new) × IsIdle (view_of seat.new) }
@@ -40,7 +40,7 @@ fn traces_on(heap: &Heap, seat: &mut HeapSeat) -> u32
     done
 }
 
-/// Traces so by a seat that has just begun, once the other threads are there: how many objects.
+/// They begin once the other threads are there.
 fn begins_tracing<R: Wait>(
     rt: &R,
     heap: &Heap,
@@ -65,7 +65,6 @@ fn stores_on(heap: &Heap, seat: &mut HeapSeat, cache: &Cache)
     }
 }
 
-/// `stores_on`, once the other threads are there.
 fn meets_and_stores<R: Wait>(
     rt: &R,
     heap: &Heap,
@@ -97,7 +96,7 @@ fn both_trace<R: Threads + Wait + Sync>(
     );
 }
 
-/// One thread stores while two others trace: all begin together.
+/// One thread stores while two others trace.
 fn three_threads<R: Threads + Wait + Sync>(
     rt: &R,
     heap: &Heap,
@@ -130,7 +129,7 @@ fn settles(heap: &Heap, seat: &mut HeapSeat, cache: &Cache)
     traces(heap, seat, cache, 100);
 }
 
-/// Whether each seat finds all packets empty, once what the threads left was traced.
+/// Whether each seat finds all packets empty, once what the threads left is traced.
 fn ends_empty<R: Threads + Wait + Sync>(
     rt: &R,
     heap: &Heap,
@@ -160,7 +159,6 @@ fn ends_empty<R: Threads + Wait + Sync>(
     Some(answers)
 }
 
-/// Scans the roots, and stays until another thread has traced what they lead to.
 fn scans_and_waits<R: Wait>(
     rt: &R,
     heap: &Heap,
@@ -177,7 +175,6 @@ fn scans_and_waits<R: Wait>(
     traced.come(rt);
 }
 
-/// Traces once another thread has scanned the roots: how many objects.
 fn waits_and_traces<R: Wait>(
     rt: &R,
     heap: &Heap,
@@ -192,7 +189,7 @@ fn waits_and_traces<R: Wait>(
     done
 }
 
-/// One thread scans the roots and another traces while the first still runs: how many objects.
+/// How many objects another thread traces, while the one that scanned the roots still runs.
 fn hands_over<R: Threads + Wait + Sync>(
     rt: &R,
     heap: &Heap,

@@ -20,7 +20,7 @@ pub fn is_idle(seat: &HeapSeat) -> bool
     is_marking(seat) && (!s.reserved && !s.credit) && are_bare(s.held) && s.block.is_none()
 }
 
-/// What a scan of the roots of section 1 came to.
+/// Scans the roots of section 1.
 pub fn scans(heap: &Heap, seat: &mut HeapSeat, cache: &Cache) -> Option<RootScan>
     requires { IsReadyWithCache heap.now seat.old cache.now }
     ensures { IsReadyWithCache heap.now seat.new cache.now }
@@ -31,7 +31,7 @@ pub fn scans(heap: &Heap, seat: &mut HeapSeat, cache: &Cache) -> Option<RootScan
     Some(scan_roots(heap, seat, 1))
 }
 
-/// What a trace of this many objects came to.
+/// Traces so many objects.
 pub fn traces(heap: &Heap, seat: &mut HeapSeat, cache: &Cache, quota: u32) -> Option<Traced>
     requires { IsReadyWithCache heap.now seat.old cache.now }
     ensures { IsReadyWithCache heap.now seat.new cache.now }
@@ -42,7 +42,7 @@ pub fn traces(heap: &Heap, seat: &mut HeapSeat, cache: &Cache, quota: u32) -> Op
     Some(trace(heap, seat, quota))
 }
 
-/// How many packets were moved out of the deferred pool.
+/// Moves the packets out of the deferred pool.
 pub fn recycles(heap: &Heap, seat: &mut HeapSeat, cache: &Cache) -> Option<u32>
     requires { IsReadyWithCache heap.now seat.old cache.now }
     ensures { IsReadyWithCache heap.now seat.new cache.now }
@@ -53,7 +53,7 @@ pub fn recycles(heap: &Heap, seat: &mut HeapSeat, cache: &Cache) -> Option<u32>
     Some(recycle_deferred(heap, seat))
 }
 
-/// The number and the length of the packet that was put off, which goes back.
+/// The number and the length of a packet that was put off, which goes back.
 fn finds_deferred(heap: &Heap, seat: &mut HeapSeat, cache: &Cache) -> Option<(u32, u32)>
     requires { IsReadyWithCache heap.now seat.old cache.now }
     ensures { IsReadyWithCache heap.now seat.new cache.now }
@@ -76,7 +76,6 @@ fn done(done: u32, deferred: u32, stopped: Stopped) -> Option<Traced> {
     })
 }
 
-/// All objects are published: three are traced.
 fn traces_all(heap: &Heap, seat: &mut HeapSeat, cache: &mut Cache) -> bool
     requires { IsReadyWithCache heap.now seat.old cache.old }
     ensures { IsReadyWithCache heap.now seat.new cache.new }
@@ -106,7 +105,6 @@ fn puts_off(heap: &Heap, seat: &mut HeapSeat, cache: &mut Cache) -> bool
         && second == done(3, 0, Stopped::NoWork)
 }
 
-/// The quota is spent before the work is.
 fn spends(heap: &Heap, seat: &mut HeapSeat, cache: &mut Cache) -> bool
     requires { IsReadyWithCache heap.now seat.old cache.old }
     ensures { IsReadyWithCache heap.now seat.new cache.new }
@@ -124,7 +122,7 @@ fn spends(heap: &Heap, seat: &mut HeapSeat, cache: &mut Cache) -> bool
         && last == done(0, 0, Stopped::NoWork)
 }
 
-/// The three answers: of one heap each.
+/// Whether one of the three goes well, in a heap of its own.
 fn answers(heap: &Heap, seat: &mut HeapSeat, which: u32) -> Option<bool>
     requires { IsReadyMutator heap.now seat.old }
 {

@@ -1,4 +1,4 @@
-//! Two threads take and give the first packet of one heap, step by step.
+//! Two threads take and give one packet, step by step.
 ghost use Rattle.std.specs.Bool.{OnTrue, OnFalse};
 ghost use Rattle.gc_table.specs.SeatRecords.{At, inside, reserved, holding, measured, returned, resting};
 
@@ -60,8 +60,7 @@ fn leave(heap: &Heap, seat: &mut HeapSeat, k: u32)
     heap.leave_step(seat);
 }
 
-/// Takes packet 0 and gives it back, or finds it taken. False if the world is stopped, marking isn't under way or
-/// the packet isn't empty.
+/// Takes packet 0 and gives it back, or finds it taken. False if it can do neither.
 fn round(heap: &Heap, seat: &mut HeapSeat, k: u32) -> bool
     requires { At heap.now resting k seat.old }
     ensures { OnTrue result (At heap.now resting k seat.new) }
@@ -98,7 +97,6 @@ fn rounds(heap: &Heap, seat: &mut HeapSeat, k: u32, count: u32) -> u32
     count
 }
 
-/// How many of 1,000 rounds were done, once the other thread was there.
 fn meets_and_trades<R: Wait>(
     rt: &R,
     heap: &Heap,
@@ -112,7 +110,6 @@ fn meets_and_trades<R: Wait>(
     rounds(heap, seat, k, 1000)
 }
 
-/// The rounds of two seats in two threads, which begin together.
 fn both<R: Threads + Wait + Sync>(
     rt: &R,
     heap: &Heap,

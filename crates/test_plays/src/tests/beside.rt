@@ -1,7 +1,5 @@
-//! Threads that run side by side: a gate holds sections in their first command until other threads came so far.
-//!
-//! A play that starts no tracer, or plays its workers one after another, would not come out of such a gate before
-//! it gives up.
+//! Threads run side by side: a gate holds sections in their first command until others came so far, and would give up
+//! if they were played one after another.
 use crate::tests::signal::Signal;
 use gc_play::{Gate, play};
 use gc_script::{Section, read};
@@ -12,7 +10,6 @@ use std::sync::atomic::AtomicU64;
 use std::sync::atomic::Ordering::SeqCst;
 use std::thread::Threads;
 
-/// Holds sections in their first command, until commands of others were passed, and a tracer's seat has had a turn.
 #[derive(Drop)]
 struct Holding<'a, R: Wait + Sync> {
     rt: &'a R,
@@ -69,8 +66,8 @@ new a 3
 say a a
 ";
 
-/// A script, how many commands it has, the workers, which sections are held, for which commands, and for how many
-/// turns of the tracer.
+/// A script, its commands, the workers, the held sections, and for which commands and how many turns of the tracer they
+/// wait.
 type Row = (
     &'static [u8],
     u64,
@@ -84,13 +81,11 @@ const ROWS: [Row; 4] = [
     // Section 1 waits for the last command of section 2, and the other way round.
     (TWO, 6, 2, &[1], &[(2, 2)], 0),
     (TWO, 6, 2, &[2], &[(1, 2)], 0),
-    // Section 1 waits for the tracer.
     (TWO, 6, 1, &[1], &[], 1),
-    // All wait for each other and for the tracer.
     (THREE, 6, 3, &[1, 2, 3], &[(1, 0), (2, 0), (3, 0)], 1),
 ];
 
-/// Whether the script is played so, and nothing waited for was given up.
+/// Whether all was played, and nothing waited for was given up.
 fn meets<R: AllocGlobal + Threads + Wait + Sync>(rt: &R, row: &Row) -> Option<bool> {
     let (script, commands, workers, held, awaited, turns) = *row;
     if workers < 1 || 32 < workers {

@@ -2,7 +2,6 @@
 use crate::tests::written::all_hold;
 use std::alloc::Global;
 
-/// A catalogue with an object, and a warehouse that stores into it and refers to it.
 const WHOLE: &str = "gcscript 1
 catalogue
 new item 40
@@ -17,8 +16,8 @@ get j o 2
 say b j
 ";
 
-/// The first and the last cut, and the fault of the script so cut, or what its play writes. Line 3 may end in
-/// another number, line 5 in a name that the catalogue doesn't have.
+/// The first and the last cut, and what is written then. Line 3 may end in another number, line 5 in a name that the
+/// catalogue doesn't have.
 const CUTS: &str = "$ 0 9; 2 BadHeader
 $ 10 11; survivors 0
 $ 12 19; 3 BadLine line 2
@@ -47,7 +46,6 @@ $ 109 114; 3 BadLine line 12
 $ 115 116; warehouse 1; a 40; b 40; dropped 2; survivors 2; 0 0 40; 1 0 1
 ";
 
-/// The cases of the script that ends there.
 fn cases_of(alloc: Global, end: usize, text: &str) -> Option<String> {
     let script = WHOLE.get(..end)?;
     let rest = WHOLE.get(11..end).unwrap_or("");
@@ -60,7 +58,6 @@ fn cases_of(alloc: Global, end: usize, text: &str) -> Option<String> {
     }
 }
 
-/// The first and the last cut of a row, and its text.
 fn row_of(row: &str) -> Option<(usize, usize, &str)> {
     let (cuts, text) = row.split_once("; ")?;
     let (first, last) = cuts.split_once(' ')?;

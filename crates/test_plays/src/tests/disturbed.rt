@@ -1,5 +1,4 @@
-//! Each command under every disturbance: each read and each write that fails, reads and writes in parts, sinks with
-//! every room.
+//! Each command, if a read or a write fails, reads and writes come in parts, or a sink has too little room.
 use crate::tests::commands::COMMANDS;
 use crate::tests::faults::FAULTS;
 use crate::tests::outside::{Outside, answer_of, sure};
@@ -39,7 +38,7 @@ fn ends_of(alloc: Global, case: &Case<'_>, part: usize) -> Option<Vec<usize>> {
     Some(ends)
 }
 
-/// Fails if the case so disturbed doesn't end with this status and this prefix of its text.
+/// Fails if the case doesn't end with this status and this prefix of its text.
 fn ends_with<R: Abort + AllocGlobal + Threads + Wait + Sync>(
     rt: &R,
     case: &Case<'_>,
@@ -56,7 +55,7 @@ fn ends_with<R: Abort + AllocGlobal + Threads + Wait + Sync>(
     assert!(rt; is_so, "{}: {status} {end}", case.words);
 }
 
-/// A read that fails is told, and nothing is written. One read more than there are fails nowhere.
+/// If a read fails, nothing is written. One read more than there are fails nowhere.
 fn fails_to_read<R: Abort + AllocGlobal + Threads + Wait + Sync>(
     rt: &R,
     case: &Case<'_>,
@@ -86,7 +85,7 @@ fn fails_to_read<R: Abort + AllocGlobal + Threads + Wait + Sync>(
     }
 }
 
-/// A write that fails is told, and what came before it is written. One write more than there are fails nowhere.
+/// If a write fails, what came before it is written. One write more than there are fails nowhere.
 fn fails_to_write<R: Abort + AllocGlobal + Threads + Wait + Sync>(
     rt: &R,
     case: &Case<'_>,
@@ -113,7 +112,7 @@ fn fails_to_write<R: Abort + AllocGlobal + Threads + Wait + Sync>(
     }
 }
 
-/// A sink with too little room has as much of the text as fits.
+/// As much of the text as fits is written.
 fn lacks_room<R: Abort + AllocGlobal + Threads + Wait + Sync>(rt: &R, case: &Case<'_>) {
     for room in 0..=case.text.len() {
         let outside = Outside {
@@ -140,7 +139,6 @@ fn is_disturbed<R: Abort + AllocGlobal + Threads + Wait + Sync>(rt: &R, told: &s
     lacks_room(rt, &case);
 }
 
-/// The case of a script with its fault.
 fn faulty(alloc: Global, row: &str) -> Option<String> {
     let (script, fault) = row.split_once("=> ")?;
     format!(in alloc; "run; {script}=> 2; {fault}").ok()

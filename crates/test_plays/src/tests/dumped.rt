@@ -14,7 +14,7 @@ fn push_numbers(dump: &mut Vec<u8>, numbers: &[u32]) -> Result<(), AllocError> {
     Ok(())
 }
 
-/// References as in a dump: the numbers of records, from 1 on.
+/// References as in a dump: numbers of records, from 1 on.
 fn push_references(dump: &mut Vec<u8>, graph: &Graph, places: &[usize]) -> Result<(), AllocError> {
     for place in places {
         let record = match graph.nodes.get(place.wrapping_sub(1)) {
@@ -51,7 +51,7 @@ fn undump_of(alloc: Global, graph: &Graph) -> Result<String, AllocError> {
     Ok(text)
 }
 
-/// How many of this level, section and value, if named, are reached, and the sum of their values.
+/// How many of this level, section and value are reached, and the sum of their values.
 fn count_of(
     graph: &Graph,
     level: Option<u32>,
@@ -71,7 +71,6 @@ fn count_of(
     (count, total)
 }
 
-/// The lines of the levels.
 fn levels_of(alloc: Global, graph: &Graph) -> Result<String, AllocError> {
     let mut lines = String::new(alloc);
     let mut depth = 0u32;
@@ -105,7 +104,6 @@ fn census_of(alloc: Global, graph: &Graph) -> Result<String, AllocError> {
     Ok(text)
 }
 
-/// Whether the words with this source write this text.
 fn writes<R: AllocGlobal + Threads + Wait + Sync>(
     rt: &R,
     words: &str,
@@ -116,7 +114,7 @@ fn writes<R: AllocGlobal + Threads + Wait + Sync>(
     Some(status == 0 && written.as_slice() == text)
 }
 
-/// Whether the command with each of these options, a line each, writes this text.
+/// Does so with each of these options, a line each.
 fn writes_always<R: AllocGlobal + Threads + Wait + Sync>(
     rt: &R,
     command: &str,
@@ -138,7 +136,6 @@ const OPTIONS: &str = "
 --cells=256 --workers=32 --tracers=8 --packets=2 --entries=2
 ";
 
-/// Whether the three commands write what the heaps say of a script.
 fn is_dumped<R: AllocGlobal + Threads + Wait + Sync>(rt: &R, source: &[u8]) -> Option<bool> {
     let alloc = rt.alloc();
     let graph = graph_of(alloc, &read(alloc, source).ok()?)?;
@@ -151,7 +148,7 @@ fn is_dumped<R: AllocGlobal + Threads + Wait + Sync>(rt: &R, source: &[u8]) -> O
     Some(is_whole)
 }
 
-/// The scripts of the folder `examples`, each behind `$ `.
+/// The scripts of the folder `examples`.
 const EXAMPLES: &str = "$ gcscript 1
 # A warehouse reads the shared catalogue, and cannot change it.
 catalogue
@@ -238,7 +235,6 @@ const LOADS: &str = "
 --cells=256 --packets=2 --entries=2
 ";
 
-/// Whether a load of number 7 with 20,000 lines a warehouse writes what the heaps say.
 fn loads<R: AllocGlobal + Threads + Wait + Sync>(rt: &R) -> Option<bool> {
     let alloc = rt.alloc();
     let generated = generate(alloc, 7, 20_000).ok()?;

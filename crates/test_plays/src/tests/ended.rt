@@ -12,7 +12,6 @@ fn at(words: &[u64], place: usize) -> u64 {
     words.get(place).copied().unwrap_or(0)
 }
 
-/// The cell that a word refers to.
 fn cell_of(word: u64) -> usize {
     word.saturating_sub(1) as usize
 }

@@ -1,13 +1,12 @@
-//! Scripts with a fault, which `run` and `convert` both tell, and scripts at the limits of the language and just past
-//! them. One of version 2 or 3 without a fault converts to itself.
+//! `run` and `convert` both tell a script's fault. One of version 2 or 3 without a fault converts to itself.
 use crate::tests::written::all_hold;
 use std::alloc::Global;
 use std::process::Abort;
 use std::sync::Wait;
 use std::thread::Threads;
 
-/// Scripts, each with its fault. A number too large comes before an unknown name in the same line, an open `repeat`
-/// before everything else of a section line.
+/// A number too large comes before an unknown name in the same line, an open `repeat` before everything else of a
+/// section line.
 pub const FAULTS: &str = "$ => 2 BadHeader
 $ ; => 2 BadHeader
 $  gcscript  4=> 2 BadHeader
@@ -50,7 +49,7 @@ $ gcscript 1; warehouse; set x 4 y; => 6 NumberTooLarge line 3
 $ gcscript 1; warehouse; repeat 1; catalogue; => 7 RepeatOpen line 3
 ";
 
-/// Lines of a warehouse, from line 3 on, and its fault, if any.
+/// Lines of a warehouse, from line 3 on.
 const LINES: &str = "$ nil abcdefghijklmno_; => itself
 $ nil abcdefghijklmno_7; => 3 BadLine line 4
 $ nil x; say 12345678901234567890123456789012 x; => itself
@@ -86,8 +85,7 @@ $ get x x 0; => 4 UnknownName line 4
 $ let x x; => 4 UnknownName line 4
 ";
 
-/// Lines of a script, from the third on. In the script with 2,148 lines in a `repeat`, 2,000,000 times 2,148 is
-/// past 2^32.
+/// Lines of a script, from line 3 on. 2,000,000 times 2,148 is past 2^32.
 const SECTIONS: &str = "$ {32*warehouse
 }=> itself
 $ {33*warehouse
@@ -111,7 +109,7 @@ $ warehouse; {32*nil a%; }get b c 0; => 4 UnknownName line 36
 $ warehouse; {32*nil a%; }get b a0 0; => 5 TooManyNames line 36
 ";
 
-/// The cases of a script behind this head: its fault is told, or, as `itself` says, it converts to itself.
+/// The cases of a script behind this head, whose fault is told or, as `itself` says, which converts to itself.
 fn cases_of(alloc: Global, head: &str, row: &str) -> Option<String> {
     let (lines, fault) = row.split_once("=> ")?;
     let script = format!(in alloc; "{head}{lines}").ok()?;
@@ -122,7 +120,6 @@ fn cases_of(alloc: Global, head: &str, row: &str) -> Option<String> {
     }
 }
 
-/// Fails if a script behind this head isn't judged so.
 fn all_are_judged<R: Abort + AllocGlobal + Threads + Wait + Sync>(rt: &R, rows: &str, head: &str) {
     for row in rows.split("$ ").skip(1) {
         let Some(cases) = cases_of(rt.alloc(), head, row) else {

@@ -1,4 +1,4 @@
-//! Runs through a sink that gathers what is written, as the program's own does, over one that fails.
+//! Runs through a sink that gathers what is written, over one that fails.
 ghost use Rattle.std.specs.Prelude.{◌≡◌, IfSome};
 
 use crate::tests::written::expanded;
@@ -10,7 +10,7 @@ use std::sync::Wait;
 use std::test::Fail;
 use std::thread::Threads;
 
-/// A gathering sink over one that has room, takes so many bytes a call and fails in this call.
+/// A gathering sink over one that takes so many bytes a call and fails in this call.
 fn gathering(alloc: Global, per_call: usize, failing: u32) -> Option<GatheredSink<MemorySink>>
     ensures { IfSome result (λ sink. sink.faults ≡ 0) }
 {
@@ -43,7 +43,6 @@ fn what_is_left_is_handed_on_at_the_end(rt: HostRuntime) -> Result<(), Fail> {
     Ok(())
 }
 
-/// More is printed than is gathered at a time.
 const SCRIPT: &[u8] = b"gcscript 1
 warehouse
 new x 4294967295
@@ -57,7 +56,7 @@ const TEXT: &str =
 1 0 4294967295
 ";
 
-/// The status of a run over a sink that takes 30,000 bytes a call and fails in this call, and what the sink has.
+/// The status of a run over a sink that takes 30,000 bytes a call and fails in this call.
 fn ends<R: AllocGlobal + Threads + Wait + Sync>(rt: &R, failing: u32) -> Option<(u8, MemorySink)> {
     let words = ["run".to_string(rt.alloc()).ok()?];
     let mut source = SureSource::make(rt.alloc(), SCRIPT).ok()?;

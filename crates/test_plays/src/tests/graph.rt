@@ -1,4 +1,4 @@
-//! All objects of a script's sections on heaps that forget nothing, and how far they are from a variable.
+//! A script's objects on heaps that forget nothing, and how far each is from a variable.
 ghost use Rattle.std.specs.Prelude.{IsTrue};
 ghost use Rattle.plain_heap.specs.PlainStep.{IsInRange};
 
@@ -6,8 +6,8 @@ use gc_script::{Script, Section};
 use plain_heap::{Op, PlainHeap, Ref};
 use std::alloc::{AllocError, Global};
 
-/// An object: its section, number and value, the places of what its fields refer to, and if it is reached, the
-/// least number of references to it from a variable and its place among the reached.
+/// With the places of what its fields refer to and, if it is reached, the least number of references to it from a
+/// variable and its place among the reached.
 #[derive(Drop)]
 pub struct Node {
     pub section: u32,
@@ -18,8 +18,7 @@ pub struct Node {
     pub record: u32,
 }
 
-/// The objects of all sections, how many are reached, and the places of what the variables refer to: 0, or an
-/// object's place and 1.
+/// The objects of all sections, how many are reached, and what the variables refer to: 0, or an object's place and 1.
 #[derive(Drop)]
 pub struct Graph {
     pub fields: u32,
@@ -55,7 +54,6 @@ fn step_once(heap: &mut PlainHeap, cat: Option<&PlainHeap>, op: Op) -> Option<()
     Some(())
 }
 
-/// The heap of a section, or of the catalogue if none is given, after all commands of a script.
 fn heap_of(alloc: Global, script: &Script<'_>, section: Option<&Section<'_>>) -> Option<PlainHeap> {
     let fields = script.fields();
     let mut catalogue = PlainHeap::new(alloc, 0, fields).ok()?;
@@ -79,8 +77,7 @@ fn heap_of(alloc: Global, script: &Script<'_>, section: Option<&Section<'_>>) ->
     Some(if section.is_some() { heap } else { catalogue })
 }
 
-/// The place of what a reference names, if the section's objects begin at this place and the catalogue's at the
-/// first.
+/// The place of what a reference names, if the section's objects begin at this place.
 fn place_of(reference: Ref, start: usize) -> usize {
     match reference {
         Ref::Nil => 0,
@@ -134,7 +131,6 @@ fn find_levels(alloc: Global, graph: &mut Graph) -> Result<(), AllocError> {
     Ok(())
 }
 
-/// Numbers what is reached.
 fn number_records(graph: &mut Graph) {
     let mut count = 0u32;
     for node in graph.nodes.iter_mut() {
@@ -146,7 +142,7 @@ fn number_records(graph: &mut Graph) {
     graph.records = count;
 }
 
-/// The objects that the script leaves, reached or not. None if there is no memory.
+/// The objects that the script leaves. None if there is no memory.
 pub fn graph_of(alloc: Global, script: &Script<'_>) -> Option<Graph> {
     let mut graph = Graph {
         fields: script.fields(),

@@ -1,11 +1,10 @@
-//! An object that a store hides from a tracer, in a play whose threads are held around that store.
+//! A store hides an object from a tracer, in a play whose threads are held around that store.
 //!
-//! The first warehouse has a chain of 890 objects, and behind the last an object that nothing else leads to. It
-//! leaves 8 cells of a block of 64 free, so it traces fewer than 128 objects for the cache with which a cycle
-//! begins. Then it is held until the tracer, held until then, has had two turns of 64 objects, and the tracer is
-//! held in its third: the head of the chain was scanned, and its end wasn't. Now the warehouse walks to the end,
-//! stores the last object in the head, and takes it off the end. So nothing leads to it but a field that was
-//! scanned before the store: only the card that the store dirtied keeps it.
+//! The first warehouse has a chain of 890 objects, and behind the last an object that nothing else refers to. It leaves
+//! 8 cells of a block free, so it traces fewer than 128 objects for the cache with which a cycle begins. It is held
+//! until the tracer, held until then, has had two turns of 64 objects and is held in its third: the head of the chain
+//! was scanned, and its end wasn't. Now the warehouse stores the last object in the head, and takes it off the end:
+//! only the card that the store dirtied keeps it.
 use crate::tests::marking::{behind_chain, is_marking};
 use crate::tests::signal::Signal;
 use gc_play::{Gate, OpenGate, play};
@@ -18,7 +17,6 @@ use std::sync::atomic::AtomicU64;
 use std::sync::atomic::Ordering::SeqCst;
 use std::thread::Threads;
 
-/// What the warehouses do after the chain was made and the heap collected.
 const HIDE: &str =
     "season; repeat 28; new g 5; end; let y a; repeat 889; get y y 0; end; get w y 0; set a 1 w; nil w
 set y 0 w; nil y; repeat 1200; new g 6; end; get w a 1; say found w; nil g; set a 0 g; warehouse; season; nil h
@@ -28,14 +26,13 @@ repeat 300; new h 7; end; say last h; nil h
 const TEXT: &str =
     "warehouse 1\nfound 9\ndropped 0\nwarehouse 2\nlast 7\ndropped 0\nsurvivors 2\n1 0 1\n1 1017 9\n";
 
-/// The first command of the walk, by section and number: 2,803 make the chain and collect, and 28 more objects
-/// begin a cycle.
+/// The first command of the walk, behind 2,803 that make the chain and collect, and 28 that begin a cycle.
 const WALK: (u32, u64) = (1, 2_831);
 
 /// The command behind the stores.
 const HIDDEN: (u32, u64) = (1, 3_725);
 
-/// The first command of the other warehouse, which is held until then.
+/// The other warehouse is held until then.
 const OTHER: (u32, u64) = (2, 0);
 
 #[derive(Drop)]

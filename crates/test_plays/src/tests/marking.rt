@@ -1,10 +1,9 @@
-//! A tracer that traces while a warehouse is held: the chain of the warehouse is traced without it.
+//! A tracer traces while a warehouse is held.
 //!
 //! A warehouse makes a chain of 890 objects, which leaves 8 cells of a block of 64 free, and collects. Four caches
-//! later a cycle begins, and for the fourth the warehouse traces fewer than 128 objects. It is held at the next
-//! command until the tracer, held until then, has had twenty turns, each of 64 objects or of the cards. So nothing
-//! is left to trace when it takes its fifth cache, and the cycle ends there. If the tracer traced nothing, the
-//! warehouse would go on in the cycle for some nine caches.
+//! later a cycle begins, and for the fourth it traces fewer than 128 objects. It is held at the next command until the
+//! tracer, held until then, has had twenty turns. So nothing is left to trace when it takes its fifth cache, and the
+//! cycle ends there; without a tracer the cycle would go on for some nine caches.
 use crate::tests::signal::Signal;
 use crate::tests::written::expanded;
 use gc_play::{Gate, play};
@@ -24,11 +23,10 @@ const CHAIN: &str =
 }new g 4; end; new w 9; set t 0 w; nil w; nil t; nil n; nil g; collect
 ";
 
-/// Twelve caches of eight cells.
 const MORE: &str = "repeat 96; new g 5; end
 ";
 
-/// The script of the chain with these lines behind it.
+/// The script of the chain, and these lines.
 pub fn behind_chain(alloc: Global, lines: &str) -> Option<String> {
     let whole = format!(in alloc; "{CHAIN}{lines}").ok()?;
     expanded(alloc, whole.as_str())
@@ -39,7 +37,7 @@ pub fn is_marking(seat: &HeapSeat) -> bool {
     matches!(seat.state().phase_seen, Some(Phase::Marking))
 }
 
-/// Holds the warehouse in a cycle until the tracer has had some turns in it, and the tracer until then.
+/// Holds the warehouse in a cycle until the tracer has had its turns, and the tracer until then.
 #[derive(Drop)]
 struct Tracing<'a, R: Wait + Sync> {
     rt: &'a R,
@@ -69,7 +67,7 @@ impl<R: Wait + Sync> Gate for Tracing<'_, R> {
     }
 }
 
-/// The warehouse passes only the eight commands of its fourth cache in the cycle.
+/// The warehouse passes the eight commands of its fourth cache in the cycle.
 #[test]
 fn a_tracer_traces_while_a_warehouse_is_held(rt: HostRuntime) -> Result<(), Fail> {
     let options = Options {

@@ -1,17 +1,14 @@
-//! The narrowest heaps: few cells, few and short packets, many workers and tracers, on scripts that are hard on
-//! marking; and options at their extremes. They change nothing that is written.
+//! The narrowest heaps, on scripts that are hard on marking, and options at their extremes change nothing that is
+//! written.
 //!
-//! Of the 72 shapes with 64 or 128 cells, 2 or 3 packets, 2 or 3 entries, 1, 2 or 32 workers, and no, one or 8
-//! tracers, 18 are played, so that any two of these values come together.
+//! Of 72 shapes 18 are played, so that any two of their values come together.
 use crate::tests::written::all_hold;
 use std::process::Abort;
 use std::sync::Wait;
 use std::thread::Threads;
 
-/// Objects stored again and again while marking runs, so that only one path leads to what was stored last; chains
-/// beside objects that are lost at once; objects with sixteen leaves; a collection after each object of a chain; a
-/// catalogue that makes its chain anew in its second season; and two chains that fill 64 cells between them, each
-/// made anew once it is dropped.
+/// One path alone leads to what was stored last; chains beside garbage; objects with sixteen leaves; a collection after
+/// each object; a catalogue that makes its chain anew; two chains that fill 64 cells between them.
 const NARROW: &str =
     "$ run; gcscript 1; {3*warehouse; new a 1; new b 2; set b 0 a; repeat 100; new c 3; set a 0 c; set c 1 b; get d a 0
 put d 4; nil c; nil d; end; nil b; sum s a 0 5; get e a 0; get e e 1; say b e
@@ -43,7 +40,6 @@ const FULL: &str =
     "$ run; gcscript 1; warehouse; nil x; repeat 129; new y 1; set y 0 x; let x y; end
 => 3; full section 1; position 0 0; position 1 ";
 
-/// The shapes for each number of cells, a line each.
 const SHAPES: &str = "--workers 1 --tracers 0 --packets 2 --entries 2
 --workers 1 --tracers 1 --packets 3 --entries 2
 --workers 1 --tracers 8 --packets 2 --entries 3
@@ -55,8 +51,7 @@ const SHAPES: &str = "--workers 1 --tracers 0 --packets 2 --entries 2
 --workers 32 --tracers 8 --packets 2 --entries 2
 ";
 
-/// Fails if a shape of a heap with so many cells changes what is written, or that heap isn't full after so many
-/// commands. None if there is no memory.
+/// Fails if a shape changes what is written, or the heap isn't full after so many commands. None if there is no memory.
 fn is_narrow<R: Abort + AllocGlobal + Threads + Wait + Sync>(
     rt: &R,
     cells: &str,
@@ -77,8 +72,7 @@ fn narrow_heaps_change_nothing(rt: HostRuntime) {
     assert!(rt; is_done, "memory");
 }
 
-/// Warehouses that keep two objects beside a thousand of which the last stays; a catalogue's old chain and its new
-/// one, to both of which objects refer; and chains that are kept only by their last leaf.
+/// Two objects beside a thousand; a catalogue's old and new chain; chains that only their last leaf keeps.
 const EXTREMES: &str =
     "$ run --cells=64; gcscript 1; {8*warehouse; new a 1; new b 2; set a 0 b; repeat 1000; new c 3; end; sum s a 0 9
 }=> 0; {1..9*warehouse %; s 2 3; dropped 0; }survivors 24; {1..9*% 0 1; % 1 2; % 1001 3

@@ -1,6 +1,6 @@
 //! Commands that play nothing, batches, and words that ask for nothing.
 
-/// The longest source, too: a conversion adds 9 bytes, and may be as long as a source.
+/// The longest source, too: a conversion adds 9 bytes, and what comes of it may be as long as a source.
 pub const CONVERTS: &str = "$ convert; gcscript 1; warehouse; new x 5; say a x
 => 0; gcscript 2; fields 4; warehouse; new x 5; say a x
 $ convert; gcscript 1=> 0; gcscript 2; fields 4
@@ -20,7 +20,7 @@ $ convert; gcscript 1; #{1048564*a}=> 2; 14 ConvertedTooLong
 $ convert; gcscript 1; #{1048565*a}=> 2; 11 TooLong
 ";
 
-/// One batch has a job too many, behind 64 lines of jobs. The last has no job.
+/// One batch has a job too many.
 pub const BATCHES: &str =
     "$ batch; gcbatch 1; job 37; gcscript 1; warehouse; new x 5; say a x; job 11; gcscript 1; job 0
 => 0; job 0 status 0 bytes 44; warehouse 1; a 5; dropped 0; survivors 1; 1 0 5; job 1 status 0 bytes 12; survivors 0
@@ -54,7 +54,7 @@ $ batch; gcbatch 1; {64*job 0
 $ batch; gcbatch 1
 => 0; ";
 
-/// The second schedule marks an entry's cell, and pops it before its field may be read.
+/// Words that play nothing, or ask for nothing.
 pub const OTHERS: &str =
     "$ schedule; gcschedule 1; shape 64 2 2 2 4 2; 1 enter_step; 1 store_phase 1; 1 read_phase; 1 reserve; 1 read_count
 => 0; accepted 5; phase 1; empty 65; marked 0; used 0; closed no

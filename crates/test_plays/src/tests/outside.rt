@@ -7,8 +7,8 @@ use std::alloc::Global;
 use std::sync::Wait;
 use std::thread::Threads;
 
-/// A source that gives `per_read` bytes in a call and a sink that takes `per_write` and has room for `room`; the
-/// listed reads and writes fail.
+/// A source that gives `per_read` bytes a call, and a sink that takes `per_write` and has this room; the listed reads
+/// and writes fail.
 #[derive(Drop)]
 pub struct Outside<'a> {
     pub bytes: &'a [u8],
@@ -31,7 +31,6 @@ pub fn sure(bytes: &[u8]) -> Outside<'_> {
     }
 }
 
-/// The words, one after another.
 fn words_of(alloc: Global, words: &str) -> Option<Vec<String>> {
     let mut given = Vec::new(alloc);
     for word in words.split_whitespace() {
@@ -40,8 +39,7 @@ fn words_of(alloc: Global, words: &str) -> Option<Vec<String>> {
     Some(given)
 }
 
-/// The status of a run with these words, and what it writes. None if there is no memory, or a call gives or takes
-/// no byte.
+/// The status of a run, and what it writes. None if there is no memory, or a call gives or takes no byte.
 pub fn answer_of<R: AllocGlobal + Threads + Wait + Sync>(
     rt: &R,
     words: &str,

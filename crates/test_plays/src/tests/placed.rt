@@ -1,11 +1,11 @@
-//! Where objects lie: cells are used again, but not while their object is reachable.
+//! Cells are used again, but not while their object is reachable.
 use crate::tests::outside::{answer_of, sure};
 use crate::tests::written::expanded;
 use std::alloc::Global;
 use std::sync::Wait;
 use std::thread::Threads;
 
-/// How many objects stay reachable, a script that makes 130 objects in 64 cells, and the text before their cells.
+/// How many objects stay reachable, a script that makes 130 objects, and the text before their cells.
 const ROWS: &str = "$ 0; gcscript 1; warehouse; repeat 130; new x 1; end
 => warehouse 1; dropped 0; survivors 1; 1 129 1; placed 130
 $ 1; gcscript 1; warehouse; new k 2; repeat 129; new x 1; end
@@ -14,7 +14,6 @@ $ 2; gcscript 1; warehouse; new k 2; new l 3; set k 0 l; nil l; repeat 128; new 
 => warehouse 1; dropped 0; survivors 3; 1 0 2; 1 1 3; 1 129 1; placed 130
 ";
 
-/// The cells of the objects, in order.
 fn cells_of(alloc: Global, lines: &str) -> Option<Vec<u32>> {
     let mut cells = Vec::new(alloc);
     for line in lines.lines() {
@@ -25,7 +24,7 @@ fn cells_of(alloc: Global, lines: &str) -> Option<Vec<u32>> {
     Some(cells)
 }
 
-/// Whether no cell lies past the heap, is used twice in a row, or is that of one of the first `kept` objects.
+/// Whether no cell is past the heap, used twice in a row, or that of one of the first `kept` objects.
 fn may_lie(cells: &[u32], kept: usize) -> bool {
     let mut last = 64;
     let mut may = cells.len() == 130;
@@ -37,7 +36,6 @@ fn may_lie(cells: &[u32], kept: usize) -> bool {
     may
 }
 
-/// Whether the objects of a row lie as they may.
 fn reuses<R: AllocGlobal + Threads + Wait + Sync>(rt: &R, row: &str) -> Option<bool> {
     let whole = expanded(rt.alloc(), row)?;
     let (kept, rest) = whole.as_str().split_once('\n')?;

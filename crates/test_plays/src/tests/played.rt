@@ -1,6 +1,6 @@
 //! What a play writes.
 
-/// Words of `run` and its like with their source, and the text and status that must come.
+/// Small scripts.
 pub const PLAYED: &str = "$ run; gcscript 1; warehouse; new x 5; say a x
 => 0; warehouse 1; a 5; dropped 0; survivors 1; 1 0 5
 $ run; gcscript 1
@@ -41,9 +41,8 @@ cat y a; say r y; nil x
 $ load --number 1 --size 8; => 0; commands 32; objects 0; lines 0; survivors 0; total 0
 ";
 
-/// All cells are reachable, in two ways; a chain grows among objects that nothing reaches, nine or two a turn; each
-/// of 1,000 objects of a chain has three leaves, and packets are as few and short as may be; a chain of 65,000
-/// objects; and as many objects as a script may make.
+/// All cells are reachable; a chain grows among garbage; objects with three leaves, in the fewest and shortest packets;
+/// a chain of 65,000 objects; as many objects as may be.
 pub const LONG: &str =
     "$ run --cells 64; gcscript 1; warehouse; nil x; {64*new y 1; set y 0 x; let x y
 }=> 0; warehouse 1; dropped 0; survivors 64; {0..64*1 % 1
@@ -68,9 +67,8 @@ set n 1 l; new l 2; set n 2 l; new l 2; set n 3 l; let spine n; end; collect; su
 => 0; warehouse 1; dropped 0; survivors 1; 1 1999999 1
 ";
 
-/// The catalogue grows anew in each of three seasons; each of 31 warehouses has a worker, and all share one block
-/// of cells, few more than may be reachable; and eight warehouses, each with 5,000 orders of ten lines, beside a
-/// catalogue of 200 items.
+/// A catalogue grows anew in each of three seasons; 31 warehouses share one block; eight warehouses, each with 5,000
+/// orders of ten lines, beside a catalogue of 200 items.
 pub const BROAD: &str =
     "$ run --cells 64; gcscript 3; fields 4; catalogue; nil s; nil n; repeat 40; new n 1; set n 0 s; let s n; end
 {2*season; nil s; nil n; repeat 40; new n 1; set n 0 s; let s n; end; }warehouse; season; season; cat x s

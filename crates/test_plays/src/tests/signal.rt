@@ -4,13 +4,13 @@ use std::sync::atomic::AtomicU64;
 use std::sync::atomic::Ordering::SeqCst;
 use std::time::Duration;
 
-/// How many times a thread looks before it gives up: after five seconds or more.
+/// After so many looks a thread gives up: five seconds or more.
 const LOOKS: u32 = 5_000;
 
-/// How many microseconds a thread sleeps between two looks.
+/// In microseconds, between two looks.
 const SLEEP: u64 = 1_000;
 
-/// Comes when it was told often enough. Once one thread gave it up, no other waits for it.
+/// Comes when it was told often enough. If one thread gave it up, no other waits for it.
 #[derive(Drop)]
 pub struct Signal {
     wanted: u64,
@@ -19,7 +19,7 @@ pub struct Signal {
 }
 
 impl Signal {
-    /// A signal that comes once it was told this many times.
+    /// Comes once it was told so many times.
     pub fn of(wanted: u64) -> Signal {
         Signal {
             wanted,
@@ -38,7 +38,7 @@ impl Signal {
         self.told.load(SeqCst) >= self.wanted
     }
 
-    /// Waits until it was told often enough, or given up; gives it up after many looks.
+    /// Waits until it has come, or was given up.
     pub fn wait<R: Wait>(&self, rt: &R) {
         for _ in 0..LOOKS {
             if self.has_come() || self.was_given_up() {

@@ -7,7 +7,7 @@ use std::sync::atomic::AtomicUsize;
 use std::sync::atomic::Ordering::SeqCst;
 use std::test::Fail;
 
-/// Compares each command passed with the next one expected, by section and number.
+/// Compares each command with the next one expected, by section and number.
 #[derive(Drop)]
 struct Watch<'a> {
     expected: &'a [(u32, u64)],
@@ -26,12 +26,11 @@ impl Gate for Watch<'_> {
     fn turn(&self, _seat: &HeapSeat) {}
 }
 
-/// A catalogue and two warehouses, with two seasons.
 const SCRIPT: &[u8] =
     b"gcscript 3\nfields 4\ncatalogue\nnew a 1\nseason\nnew a 2\nlet b a\nwarehouse\ncat x a\nrepeat 2\nsay p x\nend\nseason\ncat x a\nwarehouse\nnil y\nseason\nsay q y\nnil y\n";
 
-/// One worker plays the warehouses in order, in each season after the catalogue. A command of `repeat` counts each
-/// time.
+/// One worker plays the catalogue's part of a season, and then the warehouses' in order. A command of `repeat` counts
+/// each time.
 const COMMANDS: [(u32, u64); 10] = [
     (0, 0),
     (1, 0),

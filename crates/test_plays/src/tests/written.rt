@@ -1,16 +1,16 @@
 //! Whole runs, written down as texts.
 //!
-//! A case is `$ ` and the words, then the source, `=> ` and the status, and the text that is to be written. The text is
-//! handed to the sink line by line, or in pieces of the sizes that stand behind the status.
+//! A case is `$ ` and the words, then the source, `=> ` and the status, and the text that is to be written, line by
+//! line, or in pieces of the sizes that stand behind the status.
 //!
 //! ```text
 //! $ run --cells 64; gcscript 1
 //! => 0; survivors 0
 //! ```
 //!
-//! In a source or a text `; ` ends a line as a line's end does, and braces enclose what is repeated: `{3*ab}` stands
-//! for ababab, `{0*x}` for nothing, and `{1..4*a%}` for a1a2a3: the last number is left out. In `{2*a&b&}`, which
-//! stands for a0b1a2b3, each `&` counts on.
+//! In a source or a text `; ` ends a line, too, and braces enclose what is repeated: `{3*ab}` stands for ababab,
+//! `{0*x}` for nothing, and `{1..4*a%}` for a1a2a3: the last number is left out. In `{2*a&b&}`, which stands for
+//! a0b1a2b3, each `&` counts on.
 use crate::tests::outside::{answer_of, sure};
 use std::alloc::{AllocError, Global};
 use std::process::Abort;
@@ -42,7 +42,6 @@ fn push_body(
     Ok(count)
 }
 
-/// Adds what stands in braces, as often as it says.
 fn push_repeated(alloc: Global, whole: &mut String, piece: &str) -> Option<()> {
     let (range, body) = piece.split_once('*')?;
     let (first, end) = range.split_once("..").unwrap_or(("0", range));
@@ -54,7 +53,7 @@ fn push_repeated(alloc: Global, whole: &mut String, piece: &str) -> Option<()> {
     Some(())
 }
 
-/// The text that is meant. None if there is no memory, or what stands in braces can't be repeated.
+/// The text that is meant. None if there is no memory, or it has no such form.
 pub fn expanded(alloc: Global, text: &str) -> Option<String> {
     let lines = text.replace(alloc, "; ", "\n").ok()?;
     let mut whole = String::new(alloc);
@@ -66,7 +65,7 @@ pub fn expanded(alloc: Global, text: &str) -> Option<String> {
     Some(whole)
 }
 
-/// A case, and the sizes of pieces, if it tells some.
+/// A case, as it is told.
 #[derive(Drop)]
 pub struct Case<'a> {
     pub words: &'a str,
@@ -91,7 +90,6 @@ pub fn case_of(alloc: Global, told: &str) -> Option<Case<'_>> {
     })
 }
 
-/// None if there is no memory, or it is no case.
 fn is_answered<R: AllocGlobal + Threads + Wait + Sync>(
     rt: &R,
     told: &str,

@@ -1,10 +1,10 @@
-//! Whether what the threads of the torture read and left agrees with what they stored.
+//! Whether what the threads of the torture read and left is what they stored.
 
 use super::logs::{Entry, FIELDS, NEVER, NOTHING};
 use super::players::{Player, ROOTED};
 use std::alloc::Global;
 
-/// How many of the threads' reads found what no thread had stored there.
+/// How many reads found what no thread had stored there.
 fn not_stored(alloc: Global, players: &[Player]) -> Option<u64> {
     let mut all = Vec::new(alloc);
     for player in players {
@@ -24,8 +24,8 @@ fn not_stored(alloc: Global, players: &[Player]) -> Option<u64> {
     Some(wrong)
 }
 
-/// What the exchanges of a field of the root leave in it. Each goes on from what another left, so all that came
-/// went again, but the last.
+/// What a field of the root has at the end. Each exchange goes on from what another left, so all that came went again,
+/// but the last.
 fn left_in_root(players: &[Player], i: u32) -> u32 {
     let mut left = NOTHING;
     for player in players {
@@ -34,8 +34,7 @@ fn left_in_root(players: &[Player], i: u32) -> u32 {
     left
 }
 
-/// Whether a field may have this at the end: what some thread stored there last, or nothing. A field of the root
-/// has what the exchanges left.
+/// Whether a field may have this at the end: what some thread stored there last, or nothing.
 fn may_have(players: &[Player], entry: Entry) -> bool {
     let (field, what) = entry;
     if field / FIELDS == ROOTED {

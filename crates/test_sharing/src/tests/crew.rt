@@ -16,19 +16,17 @@ pub const FOUND: u8 = 3;
 /// How often a thread looks before it gives up.
 pub const LOOKS: u32 = 4_000_000;
 
-/// What came of what a thread did.
+/// What a thread counted.
 #[derive(PartialEq, Drop)]
 pub struct Tally {
-    /// How many it counted.
     pub count: u64,
-    /// The sum of what it counted.
     pub sum: u64,
     /// How many answers were wrong.
     pub wrong: u64,
 }
 
 impl Tally {
-    /// Nothing was counted.
+    /// Nothing counted.
     pub fn new() -> Tally {
         Tally {
             count: 0,
@@ -50,7 +48,7 @@ impl Tally {
         }
     }
 
-    /// Counts what another has.
+    /// Adds what another counted.
     fn add(&mut self, other: &Tally) {
         self.count = self.count.wrapping_add(other.count);
         self.sum = self.sum.wrapping_add(other.sum);
@@ -61,23 +59,21 @@ impl Tally {
 /// A mutator, and what came of it.
 #[derive(Drop)]
 pub struct Worker {
-    /// Which thread it is.
     pub thread: u32,
-    /// The mutator, which is outside before and after.
+    /// It is outside before and after.
     pub mutator: SharedMutator,
-    /// What came of what it did.
     pub tally: Tally,
 }
 
 impl Worker {
-    /// It has ended, or was refused, which counts as a wrong answer. It leaves, so that no other waits for it.
+    /// It leaves, so that no other waits for it. A refusal counts as a wrong answer.
     pub fn end(&mut self, has_ended: bool) {
         self.tally.expect(has_ended);
         self.mutator.leave();
     }
 }
 
-/// All mutators of a world.
+/// A mutator for each of so many threads.
 pub fn hire(alloc: Global, world: &mut SharedWorld, count: u32) -> Option<Vec<Worker>> {
     let mut workers = Vec::new(alloc);
     for thread in 0..count {
@@ -98,7 +94,7 @@ pub fn come<R: Wait>(rt: &R, m: &mut SharedMutator) -> Result<(), Refused> {
     m.get(SHARED, ROOT, 0)
 }
 
-/// Raises a variable's value by one, once it is below a bound; false if it wasn't in all its looks.
+/// Raises the value of v's object by one, once it is below a bound; false if it wasn't in all looks.
 pub fn raise_below<R: Wait>(
     rt: &R,
     m: &mut SharedMutator,
@@ -116,7 +112,7 @@ pub fn raise_below<R: Wait>(
     Ok(false)
 }
 
-/// Lowers a variable's value by one.
+/// Lowers the value of v's object by one.
 pub fn lower<R: Wait>(rt: &R, m: &mut SharedMutator, v: u8) -> Result<(), Refused> {
     for _ in rt.forever() {
         let found = u32::try_from(m.value(v)?).unwrap_or(0);
@@ -128,7 +124,7 @@ pub fn lower<R: Wait>(rt: &R, m: &mut SharedMutator, v: u8) -> Result<(), Refuse
     Ok(())
 }
 
-/// How many objects a mutator has made, as the number of the next one tells.
+/// How many objects a mutator has made.
 fn made<R: Wait>(rt: &R, m: &mut SharedMutator) -> Result<u64, Refused> {
     m.enter(rt)?;
     m.make(rt, MADE, 0)?;

@@ -11,29 +11,28 @@ pub const NOTHING: u32 = 0;
 /// What a field has in which nothing was stored.
 pub const NEVER: u32 = 4_294_967_295;
 
-/// A field of the object that stands for this, as one number.
 fn field_of(object: u32, i: u8) -> u32 {
     object.wrapping_mul(FIELDS).wrapping_add(u32::from(i))
 }
 
-/// A field, and what it was found or made to have.
+/// A field, and what it has.
 pub type Entry = (u32, u32);
 
 /// What one thread did.
 #[derive(Drop)]
 pub struct Log {
-    /// Its stores and its reads, and what it found at the end.
+    /// Its stores, its reads, and what it found at the end.
     pub stores: Vec<Entry>,
     pub reads: Vec<Entry>,
     pub ends: Vec<Entry>,
     /// What it stored in each field last.
     pub last: Vec<u32>,
-    /// What its exchanges of the root's fields leave there: what came and what went.
+    /// What its exchanges of the root's fields leave there: all that came, less what went.
     pub left: [u32; 3],
 }
 
 impl Log {
-    /// A log of nothing, with objects that stand for less than a number.
+    /// Nothing done, with objects that stand for less than a number.
     pub fn new(alloc: Global, objects: u32) -> Option<Log> {
         let mut last = Vec::new(alloc);
         for _ in 0..objects.wrapping_mul(FIELDS) {
@@ -48,7 +47,7 @@ impl Log {
         })
     }
 
-    /// Begins anew.
+    /// Empties it.
     pub fn clear(&mut self) {
         self.stores.clear();
         self.reads.clear();
@@ -71,7 +70,7 @@ impl Log {
         self.stored(root, i, what)
     }
 
-    /// Notes a read. A field that has nothing may never have been stored in.
+    /// Notes a read, unless the field has nothing, as one in which nothing was stored.
     pub fn read(&mut self, object: u32, i: u8, what: u32) -> Option<()> {
         if what == NOTHING {
             return Some(());

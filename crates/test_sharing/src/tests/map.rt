@@ -1,5 +1,5 @@
-//! Three threads that fill, change and empty one map. Each has keys of its own, in chains with those of the others,
-//! and all have some keys in common, under which they count together.
+//! Three threads fill, change and empty one map. Each has keys of its own, in chains with those of the others; under
+//! common keys all count.
 
 use super::crew::{FOUND, MADE, ROOT, SHARED, Tally, Worker, come, gather, hire, trace};
 use example_structures::SharedMap;
@@ -8,13 +8,11 @@ use std::alloc::Global;
 use std::sync::Wait;
 use std::thread::{Threads, for_each_mut, join_mut};
 
-/// How many threads there are.
 const THREADS: u32 = 3;
 
-/// How many keys each thread has of its own.
 const OWN: u32 = 12;
 
-/// The first of the keys that all have in common, and how many these are.
+/// The first of the keys in common.
 const COMMON: u32 = 1_000;
 
 const COUNTERS: u32 = 3;
@@ -30,17 +28,15 @@ fn make_map<R: Wait>(rt: &R, m: &mut SharedMutator, map: SharedMap) -> Result<()
     Ok(())
 }
 
-/// The thread's key number n.
 fn key_of(k: u32, n: u32) -> u32 {
     n.wrapping_mul(THREADS).wrapping_add(k)
 }
 
-/// The number that is kept under a key in a round.
 fn number_of(key: u32, round: u32) -> u32 {
     key.wrapping_mul(10_000).wrapping_add(round)
 }
 
-/// Keeps a number under a key: whether what was there before is as expected.
+/// Whether what was there before is as expected.
 fn fills<R: Wait>(
     rt: &R,
     m: &mut SharedMutator,
@@ -64,7 +60,7 @@ fn finds<R: Wait>(
     Ok(found && m.value(FOUND)? == u64::from(number))
 }
 
-/// Whether an exchange for the next number is won, as nobody else changes the key, and isn't won again.
+/// An exchange for the next number is won, as nobody else changes the key, and isn't won again.
 fn exchanges<R: Wait>(
     rt: &R,
     m: &mut SharedMutator,
@@ -79,7 +75,7 @@ fn exchanges<R: Wait>(
     Ok(was && first && !second)
 }
 
-/// Whether this number is taken out, and nothing a second time.
+/// The number is taken out, and nothing a second time.
 fn takes<R: Wait>(
     rt: &R,
     m: &mut SharedMutator,
@@ -92,7 +88,7 @@ fn takes<R: Wait>(
     Ok(first && !second)
 }
 
-/// Raises the number under a common key, or begins with 1.
+/// Raises the number under a common key, which begins with 1.
 fn raises<R: Wait>(rt: &R, m: &mut SharedMutator, map: SharedMap, key: u32) -> Result<(), Refused> {
     for _ in rt.forever() {
         let was = map.find(rt, m, key, FOUND)?;
@@ -106,7 +102,6 @@ fn raises<R: Wait>(rt: &R, m: &mut SharedMutator, map: SharedMap, key: u32) -> R
     Ok(())
 }
 
-/// Fills a key of its own, finds it and changes it.
 fn fills_and_changes<R: Wait>(
     rt: &R,
     m: &mut SharedMutator,
@@ -123,7 +118,7 @@ fn fills_and_changes<R: Wait>(
     Ok(())
 }
 
-/// One round of thread k: it fills and changes all its keys, raises the common ones, and takes its odd keys out.
+/// Thread k fills and changes all its keys, raises the common ones, and takes its odd keys out.
 fn plays_round<R: Wait>(
     rt: &R,
     m: &mut SharedMutator,
@@ -148,7 +143,6 @@ fn plays_round<R: Wait>(
     Ok(())
 }
 
-/// All rounds of thread k.
 fn plays<R: Wait>(
     rt: &R,
     m: &mut SharedMutator,
@@ -163,7 +157,7 @@ fn plays<R: Wait>(
     Ok(())
 }
 
-/// Counts what is kept under a range of keys.
+/// Counts what is kept under the keys from one number up to another.
 fn counts<R: Wait>(
     rt: &R,
     m: &mut SharedMutator,
@@ -182,7 +176,6 @@ fn counts<R: Wait>(
     Ok(tally)
 }
 
-/// What came of the threads, what the map has under their own and the common keys, and how many objects they made.
 #[derive(PartialEq, Drop)]
 struct Left {
     came: Tally,
@@ -212,7 +205,7 @@ fn play_all<R: Threads + Wait + Sync>(
     world.dismiss_tracers(rt);
 }
 
-/// What three threads leave in a map, with a tracer, in a heap of so many cells, and how many objects they made.
+/// What they leave in a map, and how many objects they made.
 fn leaves<R: Threads + Wait + Sync>(rt: &R, alloc: Global, cells: u32) -> Option<(Left, u64)> {
     let sizes = SharedSizes::of_cells(cells)
         .fields(4)
@@ -255,8 +248,7 @@ fn threads_fill_change_and_empty_one_map(rt: HostRuntime) {
         },
     };
     assert!(&rt; left == wanted);
-    // A round makes at least 54 objects, four for each own key and two for each common one: 648,000 in 12,000
-    // rounds. A cell is used again only once a collection has freed it, so there were at least 648,000 / 320 - 1 =
-    // 2,024 collections.
+    // A round makes at least 54 objects, four for each own key and two for each common one. A cell is used again only
+    // once a collection has freed it, so there were at least 648,000 / 320 - 1 = 2,024 collections.
     assert!(&rt; objects >= 648_000);
 }

@@ -12,10 +12,9 @@ pub const THREADS: u32 = 3;
 
 pub const MOST: u32 = 70;
 
-/// How many steps a thread takes in a round.
 const STEPS: u32 = 300;
 
-/// What the root stands for: its value is 0.
+/// What stands for the root.
 pub const ROOTED: u32 = 1;
 
 /// The variables: the root, nothing, what the thread keeps, and what it finds.
@@ -29,30 +28,28 @@ pub const FOUND: u8 = 12;
 
 pub const OTHER: u8 = 13;
 
-/// How many slots the thread keeps something in. In those behind them objects wait to be looked at.
+/// In the slots behind these, objects wait to be looked at.
 pub const SLOTS: u16 = 4;
 
-/// How many objects there are at most in a round, with the root, and how many slots each thread needs.
+/// How many objects a round has at most, with the root, and how many slots a thread needs.
 pub const OBJECTS: u32 = THREADS * MOST + 2;
 
 pub const PLACES: u32 = 4 + OBJECTS;
 
-/// A thread.
+/// A thread of the torture.
 #[derive(Drop)]
 pub struct Player {
-    /// Its mutator, which is outside before and after a round.
+    /// It is outside before and after a round.
     pub mutator: SharedMutator,
-    /// Which thread it is.
     thread: u32,
-    /// How many objects it has made in this round, and each thread before.
+    /// How many it made in this round, and each thread before.
     pub made: u32,
     before: [u64; 3],
-    /// What was drawn last.
+    /// The last number drawn.
     drawn: u32,
     /// What its variables and slots refer to.
     own: [u32; 13],
     slots: [u32; 4],
-    /// What it stored and read.
     pub log: Log,
     /// How many answers were wrong.
     pub wrong: u64,
@@ -61,7 +58,7 @@ pub struct Player {
 }
 
 impl Player {
-    /// A thread that has done nothing. None if there is no memory.
+    /// None if there is no memory.
     pub fn new(alloc: Global, mutator: SharedMutator, thread: u32) -> Option<Player> {
         Some(Player {
             mutator,
@@ -84,7 +81,6 @@ impl Player {
         }
     }
 
-    /// A number below a bound.
     fn draw(&mut self, bound: u8) -> u8
         requires some { 0 < bound }
         ensures below { result < bound }
@@ -120,7 +116,6 @@ impl Player {
         }
     }
 
-    /// The number of the object of a value.
     fn number_of(&self, value: u32) -> u64 {
         if value == 0 {
             return 0;
@@ -133,7 +128,7 @@ impl Player {
             .wrapping_add(u64::from((value - 1) / THREADS))
     }
 
-    /// What a variable refers to, by the object's value, with which its number agrees.
+    /// What a variable's object stands for, with whose value its number has to agree.
     pub fn which(&mut self, v: u8) -> Option<u32> {
         if self.mutator.is_nil(v).ok()? {
             return Some(NOTHING);
@@ -145,7 +140,7 @@ impl Player {
         Some(value.wrapping_add(1))
     }
 
-    /// Makes an object, if it may make one more.
+    /// Makes an object, but no more than `MOST`.
     fn make<R: Wait>(&mut self, rt: &R, v: u8) -> Option<()> {
         if self.made >= MOST {
             return Some(());
@@ -185,7 +180,7 @@ impl Player {
         Some(())
     }
 
-    /// Hands variable v's object over in field i of the root, and takes what was there, if no other is faster.
+    /// Hands variable v's object over in field i of the root, for what was there, if no other is faster.
     fn hand_over(&mut self, w: u8, v: u8, i: u8) -> Option<()> {
         let (from, what) = (self.follow(FOUND, ROOT, i)?, self.kept(v));
         if self.mutator.exchange(ROOT, i, FOUND, v).ok()? {
@@ -216,7 +211,6 @@ impl Player {
         Some(())
     }
 
-    /// Takes into variable v what a slot has.
     fn fill(&mut self, v: u8, k: u16) -> Option<()> {
         self.mutator.fill(v, k).ok()?;
         let what = self.which(v)?;
@@ -254,7 +248,6 @@ impl Player {
         }
     }
 
-    /// All steps of a round.
     fn steps<R: Wait>(&mut self, rt: &R) -> Option<()> {
         self.mutator.enter(rt).ok()?;
         self.mutator.root(ROOT).ok()?;
@@ -272,7 +265,7 @@ impl Player {
         self.ended = self.ended && self.steps(rt).is_some();
     }
 
-    /// Begins a round, before which the threads had made this many.
+    /// Begins a round, before which the threads had made so many objects.
     pub fn begin(&mut self, before: [u64; 3]) {
         self.before = before;
         self.made = 0;

@@ -1,4 +1,4 @@
-//! Four threads that put into one queue and take out of it.
+//! Four threads put into one queue and take out of it.
 
 use super::crew::{FOUND, MADE, ROOT, SHARED, Tally, Worker, come, gather, hire, trace};
 use example_structures::SharedQueue;
@@ -27,14 +27,14 @@ pub fn make_queue<R: Wait>(
     Ok(())
 }
 
-/// The least number of each thread that may come next: its numbers go in steps of four.
+/// A thread's numbers go in steps of four.
 #[derive(Drop)]
 pub struct Next {
     least: [u64; 4],
 }
 
 impl Next {
-    /// Nothing came yet.
+    /// Any number may come.
     pub fn new() -> Next {
         Next { least: [0; 4] }
     }
@@ -52,7 +52,7 @@ impl Next {
     }
 }
 
-/// Puts in an object with this number as its value.
+/// Puts in a number, and an object with it as its value.
 pub fn give<R: Wait>(
     rt: &R,
     m: &mut SharedMutator,
@@ -64,7 +64,7 @@ pub fn give<R: Wait>(
     m.forget(MADE)
 }
 
-/// Takes one out, if any: its object has the number that came with it, behind its thread's earlier ones.
+/// Takes one out, if any, with its own object, behind its thread's earlier ones.
 pub fn take<R: Wait>(
     rt: &R,
     m: &mut SharedMutator,
@@ -82,8 +82,7 @@ pub fn take<R: Wait>(
     Ok(true)
 }
 
-/// What thread k does: it puts some in and takes as many out, again and again. There is always one to take, since
-/// no thread has taken more than it put in.
+/// There is always one to take: no thread has taken more than it put in.
 fn trades<R: Wait>(
     rt: &R,
     m: &mut SharedMutator,
@@ -127,8 +126,7 @@ fn trade_all<R: Threads + Wait + Sync>(
     world.dismiss_tracers(rt);
 }
 
-/// What four threads take out of a queue, with a tracer, in a heap of so many cells, and how many objects they
-/// made.
+/// What they take out of a queue, and how many objects they made.
 fn plays<R: Threads + Wait + Sync>(rt: &R, alloc: Global, cells: u32) -> Option<(Tally, u64)> {
     let sizes = SharedSizes::of_cells(cells)
         .fields(2)
@@ -159,7 +157,6 @@ fn what_goes_into_a_queue_comes_out_once(rt: HostRuntime) {
         wrong: 0,
     };
     assert!(&rt; tally == wanted);
-    // A cell is used again only once a collection has freed it, so there were at least 3,200,000 / 128 - 1 = 24,999
-    // collections.
+    // So there were at least 3,200,000 / 128 - 1 = 24,999 collections: only a collection frees a cell.
     assert!(&rt; objects == 3_200_000);
 }

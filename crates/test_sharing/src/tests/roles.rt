@@ -1,4 +1,4 @@
-//! Two threads that only put into a queue, and two that only take out of it.
+//! Two threads only put into a queue, and two only take out of it.
 
 use super::crew::{
     LOOKS, ROOT, SHARED, Tally, Worker, come, gather, hire, lower, raise_below, trace,
@@ -12,10 +12,10 @@ use std::thread::{Threads, for_each_mut, join_mut, yield_now};
 
 const COUNT: u32 = 20_000;
 
-/// How many objects are in the queue at most: the queue's own value counts them.
+/// How many objects are in the queue at most: its own value counts them.
 const PLACES: u32 = 64;
 
-/// Puts in COUNT objects of producer p, 0 or 1, each once there is a place for it, then raises the root's value.
+/// Puts in `COUNT` objects, each once there is a place for it, and then raises the root's value.
 fn produce<R: Wait>(
     rt: &R,
     m: &mut SharedMutator,
@@ -104,7 +104,6 @@ fn act_all<R: Threads + Wait + Sync>(
     world.dismiss_tracers(rt);
 }
 
-/// What two consumers take out that two producers put in, and how many objects were made.
 fn plays<R: Threads + Wait + Sync>(rt: &R, alloc: Global) -> Option<(Tally, u64)> {
     let sizes = SharedSizes::of_cells(512).fields(2).mutators(5).tracers(1);
     let mut world = SharedWorld::open(alloc, sizes).ok()?;

@@ -1,9 +1,9 @@
-//! Threads that link, unlink, hand over and drop random graphs through the fields of objects that they share.
+//! Threads link, unlink, hand over and drop random graphs through the fields of objects that they share.
 //!
-//! In each round they make fewer objects than the heap has cells, and drop all at its end; so the heap is never
-//! full, and is collected again and again while they change it. An object's value and its number say who made it,
-//! and which of its maker's it is in this round. Each thread logs its stores and reads. Once all are joined, each
-//! read is one of the stores, and what a walk finds in each reachable field agrees with what was stored there last.
+//! In each round they make fewer objects than the heap has cells, and drop all at its end; so the heap is never full,
+//! and is collected again and again while they change it. An object's value and number say who made it, and when in the
+//! round. Once the threads are joined, each logged read is one of the stores, and what a walk finds in each reachable
+//! field is what was stored there last.
 
 use super::agreeing::wrongs;
 use super::crew::trace;
@@ -13,10 +13,8 @@ use std::alloc::Global;
 use std::sync::Wait;
 use std::thread::{Threads, for_each_mut, join_mut};
 
-/// How many rounds there are.
 const ROUNDS: u32 = 4_000;
 
-/// All threads.
 fn hire(alloc: Global, world: &mut SharedWorld) -> Option<Vec<Player>> {
     let mut players = Vec::new(alloc);
     for thread in 0..THREADS {
@@ -34,7 +32,7 @@ fn made_after(players: &[Player], before: [u64; 3]) -> [u64; 3] {
     after
 }
 
-/// A round, after the threads had made so many objects: how many answers and fields were wrong.
+/// How many answers and fields were wrong in a round.
 fn round<R: Threads + Wait + Sync>(
     rt: &R,
     alloc: Global,
@@ -84,7 +82,7 @@ fn rounds<R: Threads + Wait + Sync>(
     Some((first.wrapping_add(second).wrapping_add(third), wrong))
 }
 
-/// What comes of three threads, with a tracer, in a heap of so many cells.
+/// How many objects three threads make, and how many answers were wrong.
 fn tortures<R: Threads + Wait + Sync>(rt: &R, alloc: Global, cells: u32) -> Option<(u64, u64)> {
     let sizes = SharedSizes::of_cells(cells)
         .fields(3)
@@ -112,7 +110,6 @@ fn random_graphs_are_what_was_stored(rt: HostRuntime) {
         panic!(&rt; "refused")
     };
     assert!(&rt; wrong == 0);
-    // The draws say how many objects are made, whatever the schedule. A cell is used again only once a collection
-    // has freed it, so there were at least 826,678 / 256 - 1 = 3,228 collections.
+    // The draws say how many objects are made, so there were at least 826,678 / 256 - 1 = 3,228 collections.
     assert!(&rt; objects == 826_678);
 }

@@ -11,7 +11,7 @@ struct Waiting {
 }
 
 impl Player {
-    /// What a variable refers to waits, if not seen before.
+    /// What a variable refers to waits, if it wasn't seen before.
     fn wait_for(&mut self, v: u8, waiting: &mut Waiting) -> Option<u32> {
         let what = self.which(v)?;
         let seen = waiting.seen.get_mut(what as usize)?;
@@ -23,7 +23,7 @@ impl Player {
         Some(what)
     }
 
-    /// Checks that variables and slots have what the thread keeps, and lets it wait.
+    /// Checks that variables and slots have what the thread keeps.
     fn look_at_own(&mut self, waiting: &mut Waiting) -> Option<()> {
         for v in ROOT..FOUND {
             let what = self.wait_for(v, waiting)?;
@@ -39,7 +39,6 @@ impl Player {
         Some(())
     }
 
-    /// Notes what the fields of the next object refer to, and lets that wait.
     fn look_at_next(&mut self, waiting: &mut Waiting) -> Option<()> {
         waiting.next = waiting.next.wrapping_sub(1);
         self.mutator.fill(OTHER, waiting.next).ok()?;
@@ -70,7 +69,7 @@ impl Player {
         Some(())
     }
 
-    /// Lets go of all, and of what the root refers to.
+    /// Lets go of all, and empties the root's fields.
     pub fn let_go<R: Wait>(&mut self, rt: &R) -> Option<()> {
         self.mutator.enter(rt).ok()?;
         for i in 0..FIELDS as u8 {

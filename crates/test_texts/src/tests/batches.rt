@@ -10,11 +10,11 @@ use std::test::*;
 use std::thread::Threads;
 use std::time::Duration;
 
-/// How many times a held job looks before it gives up. In between its thread sleeps, for a millisecond at most.
+/// How often a held job looks before it gives up, after each look asleep for a millisecond at most.
 const LOOKS: u64 = 5_000;
 
-/// Answers with the script itself, counts how often jobs were played, and adds up their numbers. It holds a job
-/// whose script is `0` until one whose script is `1` was played.
+/// Answers with the script itself, and counts plays and their jobs' numbers. It holds a job whose script is `0` until
+/// one whose script is `1` was played.
 #[derive(Drop)]
 struct Watching {
     plays: AtomicU64,
@@ -78,9 +78,9 @@ impl Watching {
     }
 }
 
-/// How many results there are of the batch, how many of them belong to the job of their place, how often jobs were
-/// played, and the sum of their numbers. A play spends its job, so the scripts are those of a second reading. None if
-/// a job that was held gave up, or there is no memory.
+/// How many results there are, how many of them belong to the job of their place, how often jobs were played, and the
+/// sum of their numbers. A play spends its job, so the scripts are those of a second reading. None if a held job gave
+/// up.
 fn echoed<R: AllocGlobal + Threads + Wait + Sync>(
     rt: &R,
     source: &[u8],
@@ -193,7 +193,7 @@ fn batches_are_read(rt: HostRuntime) {
     all_hold(&rt, Kind::Batch, BATCHES);
 }
 
-/// What is said of a batch with this many jobs of no bytes, and what comes behind them.
+/// What is said of so many jobs of no bytes, and what comes behind them.
 pub fn said_of_many(alloc: Global, told: &str) -> Option<String> {
     let (count, rest) = told.split_once(' ')?;
     let mut batch = "gcbatch 1\n".to_string(alloc).ok()?;
@@ -204,7 +204,7 @@ pub fn said_of_many(alloc: Global, told: &str) -> Option<String> {
     said(alloc, batch.as_bytes())
 }
 
-/// 64 jobs are read, and one more is a fault where it begins, whatever comes behind.
+/// One job more than 64 is a fault where it begins, whatever comes behind.
 const LONG: &str =
     "$ 64 => 64 jobs: [] [] [] [] [] [] [] [] [] [] [] [] [] [] [] [] [] [] [] [] [] [] [] [] [] [] [] [] [] [] [] [] [] [] [] [] [] [] [] [] [] [] [] [] [] [] [] [] [] [] [] [] [] [] [] [] [] [] [] [] [] [] [] []
 $ 64 job 5

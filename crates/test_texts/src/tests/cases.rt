@@ -26,21 +26,19 @@ pub enum Kind {
     /// Words of the command line.
     Words,
     Number,
-    /// A script.
     Script,
-    /// A script whose first warehouse is played on a heap that forgets nothing.
+    /// A script, whose first warehouse is played.
     Heap,
     /// The size of a generated script, and a line of it.
     Generated,
     /// The name of a fault of scripts, and its place.
     Fault,
-    /// A batch.
     Batch,
     /// A number of jobs of no bytes, and what comes behind them.
     Long,
-    /// The length of the dump of one object, and its bytes that are changed.
+    /// The length of the dump of one object, and its changed bytes.
     Dump,
-    /// A schedule, in which `; ` ends a line as a line's end does.
+    /// A schedule. In it `; ` ends a line, too.
     Schedule,
 }
 

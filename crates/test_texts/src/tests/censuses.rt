@@ -1,4 +1,4 @@
-//! Censuses of small dumps as text, of a long chain and of the greatest number of records.
+//! Censuses of small dumps, of a long chain, and of the most records.
 ghost use Rattle.std.specs.Prelude.{◌≤◌};
 
 use dump_census::{Census, census, write_census};
@@ -112,7 +112,7 @@ fn an_object_that_only_a_field_holds_is_at_level_1(rt: HostRuntime) {
 #[test]
 fn two_objects_that_hold_each_other_are_unreached(rt: HostRuntime) {
     let alloc = rt.alloc();
-    // Object 0 is of section 0, and variable 0 of section 1 holds it; objects 0 and 1 of section 1 hold each other.
+    // Object 0 is of section 0, and variable 0 of section 1 holds it. The two of section 1 hold each other.
     let dump = listed(alloc, 1, 3, &[0, 0, 9, 0, 1, 0, 9, 3, 1, 1, 4, 2]);
     let text =
         b"levels 1\nlevel 0 1\nunreached 2\nsection 0 1 9\nsection 1 2 13\nvalue 4 1\nvalue 9 2\n";

@@ -1,4 +1,4 @@
-//! The dump of one object, written out byte by byte: read, written, cut, overlong and with faults.
+//! The dump of one object, byte by byte.
 use super::cases::{Kind, all_hold};
 use heap_dump::{DumpError, FinalHeap, FinalRecord, read_dump, write_dump};
 use plain_heap::OutOfMemory;
@@ -18,7 +18,6 @@ fn row() -> [u8; 305] {
     bytes
 }
 
-/// The heap of that dump.
 fn one_object(alloc: Global) -> Result<FinalHeap, OutOfMemory> {
     let mut roots = [0u32; 64];
     roots[32] = 1;
@@ -38,13 +37,12 @@ fn written(alloc: Global) -> Result<MemorySink, OutOfMemory> {
     Ok(sink)
 }
 
-/// At most n bytes.
 fn front(bytes: &[u8], n: usize) -> &[u8] {
     if n < bytes.len() { &bytes[..n] } else { bytes }
 }
 
-/// What is read of these bytes: the shape; a root of each section, and two that aren't there; the record and one that
-/// isn't there; a reference, and one that isn't there.
+/// What is read: the shape; roots, the last two of which aren't there; the record; a reference and one that isn't
+/// there; whether there are more records.
 fn read_text(alloc: Global, bytes: &[u8]) -> Option<String> {
     let dump = read_dump(bytes).ok()?;
     let record = dump.nth(0)?;
@@ -103,7 +101,7 @@ fn change(bytes: &mut [u8; 305], changes: &str) -> Option<()> {
     Some(())
 }
 
-/// How many bytes there are of the dump of one object, which of them are changed, and the fault.
+/// A dump's length, its changed bytes, and its fault.
 #[derive(Drop)]
 struct Faulty<'a> {
     length: usize,
@@ -121,7 +119,6 @@ fn faulty_of(line: &str) -> Option<Faulty<'_>> {
     })
 }
 
-/// The fault of this many of these bytes.
 fn fault_of(alloc: Global, bytes: &[u8], length: usize) -> Option<String> {
     match read_dump(front(bytes, length)) {
         Ok(_) => "none".to_string(alloc).ok(),
@@ -129,7 +126,7 @@ fn fault_of(alloc: Global, bytes: &[u8], length: usize) -> Option<String> {
     }
 }
 
-/// The fault of the dump of one object with this length and these changes.
+/// The fault of the dump with this length and these changes.
 pub fn first_fault(alloc: Global, told: &str) -> Option<String> {
     let (length, changes) = told.trim().split_once(' ').unwrap_or((told.trim(), ""));
     let mut bytes = row();
@@ -137,8 +134,7 @@ pub fn first_fault(alloc: Global, told: &str) -> Option<String> {
     fault_of(alloc, &bytes, length.parse::<usize>().ok()?)
 }
 
-/// Dumps with faults. 16 fields and 33 sections are in range, and want more bytes: 20 + 128 * 2 + 76, and 20 + 128
-/// * 33 + 28.
+/// 16 fields and 33 sections are in range, and want more bytes: 20 + 128 * 2 + 76, and 20 + 128 * 33 + 28.
 const FAULTS: &str = "$ 303 => Cut { needed: 304 }
 $ 305 => TooMuch
 $ 19 => Cut { needed: 20 }
@@ -185,7 +181,7 @@ fn both(alloc: Global, one: &Faulty<'_>, other: &Faulty<'_>) -> Option<String> {
     fault_of(alloc, &bytes, length)
 }
 
-/// Whether of both faults this first one is told, whichever way round they come.
+/// Whether the first fault is told of both, whichever comes first.
 fn is_first(alloc: Global, line: &str, other: &str) -> Option<bool> {
     let (first, second) = (faulty_of(line)?, faulty_of(other)?);
     let told = both(alloc, &first, &second)?;

@@ -1,4 +1,4 @@
-//! Long schedules made from numbers: the verdict is what the core answers event by event.
+//! The verdict on a schedule made from a number is what the core answers event by event.
 use mark_core::{CoreState, Event, Phase, Rule, Shape, Step, phase_of};
 use schedule_check::{Verdict, check, read_schedule};
 use std::alloc::{AllocError, Global};
@@ -15,7 +15,6 @@ const SHAPE: Shape = Shape {
     stretch: 1,
 };
 
-/// A step, and its words.
 fn step(n: u32) -> (Step, &'static [u8]) {
     match n {
         0 => (Step::EnterStep, b"enter_step"),
@@ -47,8 +46,7 @@ fn put(source: &mut Vec<u8>, seat: u32, words: &[u8]) -> Result<(), AllocError> 
     source.extend_from_slice(b"\n")
 }
 
-/// What the core answers to events made from this number, and the schedule of the same events: those allowed among
-/// 200, or all up to the first that isn't.
+/// The schedule of the events allowed among 200, or of all up to the first refused, and the core's verdict.
 fn folded(alloc: Global, number: u32, stops: bool) -> Option<(Vec<u8>, Verdict)> {
     let mut source = Vec::new(alloc);
     source

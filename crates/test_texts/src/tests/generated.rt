@@ -4,7 +4,7 @@ use load_gen::generate;
 use std::alloc::Global;
 use std::test::Fail;
 
-/// That line, counted from 0, of the script of number 1 and that size.
+/// That line, from 0, of the script of number 1 and that size.
 pub fn line_of(alloc: Global, told: &str) -> Option<String> {
     let (size, line) = told.trim().split_once(' ')?;
     let size = size.parse::<u32>().ok()?;
@@ -16,7 +16,6 @@ pub fn line_of(alloc: Global, told: &str) -> Option<String> {
     line.to_string(alloc).ok()
 }
 
-/// A size, and a line.
 const LINES: &str = "$ 1 0 => gcscript 1
 $ 1 1 => warehouse
 $ 1 2 => nil a

@@ -1,4 +1,4 @@
-//! Small scripts, played operation by operation on heaps that forget nothing.
+//! Small scripts, played on heaps that forget nothing.
 ghost use Rattle.std.specs.Prelude.{IsTrue};
 ghost use Rattle.plain_heap.specs.PlainStep.{IsInRange};
 
@@ -44,8 +44,7 @@ fn play(
     Some(text)
 }
 
-/// How many objects a heap has, how many stores were dropped, what the first two variables refer to, and which
-/// objects are reached.
+/// How many objects a heap has, how many stores were dropped, the first two variables, and which objects are reached.
 fn left(alloc: Global, heap: &PlainHeap) -> Option<String> {
     let reached = heap.reachable(alloc).ok()?;
     let (objects, dropped) = (heap.objects().len(), heap.dropped());
@@ -57,7 +56,7 @@ fn left(alloc: Global, heap: &PlainHeap) -> Option<String> {
     .ok()
 }
 
-/// What the commands of a script's first warehouse print, and what is left then.
+/// What a script's first warehouse prints, and what is left.
 pub fn played(alloc: Global, source: &[u8]) -> Option<String> {
     let script = read(alloc, source).ok()?;
     let warehouse = script.warehouses().first()?;
@@ -85,8 +84,7 @@ fn one_object(rt: HostRuntime) {
     all_hold(&rt, Kind::Heap, ONE);
 }
 
-/// On nil nothing is stored, what is read is nil, and no object is met. Then object 1 refers to object 2, and each
-/// to the other. A variable that is read and assigned is read first.
+/// On nil nothing is stored, and what is read is nil. A variable that is read and assigned is read first.
 const OWN: &str = "$ gcscript 1
 warehouse
 nil a
@@ -157,7 +155,7 @@ fn catalogue_objects(rt: HostRuntime) {
     all_hold(&rt, Kind::Heap, CATALOGUE);
 }
 
-/// Object 2 refers to 0, which refers to 3 and to itself. Nothing that is held refers to 1.
+/// Nothing that is held refers to object 1.
 const REACHED: &str = "$ gcscript 1
 warehouse
 new a 0

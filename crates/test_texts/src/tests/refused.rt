@@ -1,17 +1,14 @@
 //! Each part of each condition of docs/STEPS.md that a schedule can break, broken once.
 //!
-//! A table is a schedule behind its first line, whose lines `; ` or a line's end ends. A line `EVENT => RULE PART`
-//! isn't one of its events: it is tried after the events before it, and refused by that part of that rule. All other
-//! lines are allowed.
+//! A table is a schedule behind its first line, whose lines `; ` or a line's end ends. A line `EVENT => RULE PART` is
+//! tried after the events before it, and refused by that part of that rule; all others are allowed.
 //!
 //! These parts aren't here:
-//! - Kinds 50 to 53 and the slots of kind 10 have no name in a schedule. They are tried in `test_core`, as is a
-//!   section that has made all that it may.
-//! - Kinds 6 part 4, 11 part 2 and 26 part 3 fail of no seat that has come so far: what such a seat has in hand it
-//!   gives up before it stops to be a tracer, and there is no work in hand without a packet. They stand in the
-//!   conditions so that each is complete in itself.
-//! - Kind 29 part 4: in Idle and Full a seat that has stopped the world is alone, since a move of the phase asks
-//!   that.
+//! - Kinds 50 to 53 and the slots of kind 10 have no name in a schedule: `test_core` tries them, and a section that has
+//! made all that it may.
+//! - Kinds 6 part 4, 11 part 2 and 26 part 3 hold of any seat that comes so far: it has given up before what it had in
+//! hand, and has no work in hand without a packet.
+//! - Kind 29 part 4: in Idle and Full a seat that has stopped the world is alone.
 //! - Kind 32 part 2: a seat outside has nothing.
 //! - Kinds 8, 16, 28 and 47 ask nothing.
 use super::schedules::told;
@@ -64,8 +61,8 @@ const MAKING: &str =
 1 release_block; 1 dirty_card 0; 1 read_own 0 0; 1 leave_step => 26 4; 1 store_root 2 0; 1 leave_step
 ";
 
-/// In its own turn the catalogue reads no variable as another section does. In the other turn no warehouse stores
-/// in the object that it made.
+/// In its own turn the catalogue reads no variable as another section does; in the other turn no warehouse stores in
+/// its object.
 const CATALOGUE: &str =
     "shape 64 2 2 2 1 2; 0 enter_step; 0 read_season; 0 read_cat 0 => 17 2; 0 claim_block 0
 0 read_free; 0 store_new 0 0 0; 0 store_new 0 1 5; 0 store_new 0 2 0; 0 store_root 0 1; 0 publish_cells
@@ -74,7 +71,7 @@ const CATALOGUE: &str =
 1 store_field 0 0 - => 18 2; 1 store_value 0 6 => 18 2; 1 read_value 0; 1 leave_step
 ";
 
-/// Cell 0 is named by variable 0 of seat 1 and refers to cell 1, which is named by variable 1. Seat 2 has no section.
+/// Variable 0 of seat 1 names cell 0, which refers to cell 1, and variable 1 names that. Seat 2 has no section.
 const MARKING: &str =
     "shape 128 6 2 2 2 4; 0 raise_step; 0 observe; 0 next_season; 0 drop_step; 0 leave_step
 1 enter_step; 1 read_season; 1 claim_block 0; 1 read_free; 1 store_new 0 0 0; 1 store_new 0 1 0; 1 store_new 0 2 5
@@ -100,8 +97,7 @@ const MARKING: &str =
 2 read_length 2; 2 give 2 0; 2 credit; 2 read_length 3; 2 give 3 0; 2 leave_step => 26 2; 2 credit; 2 leave_step
 ";
 
-/// Seat 1 stops the world. In the drain it makes a card dirty and cleans it; seat 2 helps in the drain and in the
-/// sweep.
+/// Seat 1 stops the world, and cleans a card in the drain; seat 2 helps.
 const STOPPING: &str =
     "shape 128 6 2 2 2 4; 1 raise_step; 1 observe; 1 store_phase 0 => 30 1; 1 store_phase 5 => 30 2
 1 store_phase 1 => 30 2; 1 open_step => 43 2; 1 reset 6 => 38 1; 1 store_phase 2; 1 store_phase 2 => 30 1
@@ -152,7 +148,7 @@ fn is_refused(alloc: Global, source: &str, line: u32, event: &str, broken: &str)
     Some(told(alloc, whole.as_str())? == wanted)
 }
 
-/// The first line of the table that isn't answered so, or the empty one.
+/// The first line that isn't answered so, or the empty one.
 fn first_unlike(alloc: Global, table: &str) -> Option<String> {
     let lines = table.replace(alloc, "; ", "\n").ok()?;
     let mut source = "gcschedule 1\n".to_string(alloc).ok()?;

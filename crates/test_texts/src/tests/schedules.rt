@@ -1,12 +1,11 @@
-//! Written schedules with verdicts, texts and faults worked out by hand, at limits and one past them.
+//! Schedules with their verdicts, at limits and one past them.
 use super::cases::{Kind, all_hold};
 use play_report::MemorySink;
 use schedule_check::{ScheduleFault, Untold, read_schedule, tell_schedule};
 use std::alloc::{AllocError, Global};
 use std::test::Fail;
 
-/// What is told of the source, and its text, by a sink that takes seven bytes a call. In the text `; ` stands for the
-/// end of a line.
+/// What is told of the source, by a sink that takes seven bytes a call. In the text `; ` stands for the end of a line.
 pub fn told(alloc: Global, source: &str) -> Option<String> {
     let mut sink = MemorySink::make(alloc, 128, 7, &[]).ok()?;
     let told = tell_schedule(alloc, source.as_bytes(), &mut sink).ok()?;
@@ -15,15 +14,13 @@ pub fn told(alloc: Global, source: &str) -> Option<String> {
     format!(in alloc; "{told:?}: {text}").ok()
 }
 
-/// What is told of a source in which `; ` stands for the end of a line, too.
+/// The same of a source in which `; ` ends a line, too.
 pub fn told_of(alloc: Global, source: &str) -> Option<String> {
     told(alloc, source.replace(alloc, "; ", "\n").ok()?.as_str())
 }
 
-/// A reservation lowers the count. A seat makes a cell, marks it from a root and pops it unpublished, and then loads
-/// its field, in line 27: without that event the cell is marked, and in use though not published; one packet is out.
-/// An empty heap is closed if a seat knows; with a reservation out the count is 65, and nobody may tell. Seats that
-/// don't exist are refused at part 0.
+/// A cell that is marked and popped unpublished is in use; its field isn't loaded, in line 27. An empty heap is closed
+/// if a seat knows; with a reservation out nobody may tell. Seats that don't exist are refused at part 0.
 const VERDICTS: &str =
     "$ gcschedule 1; shape 64 2 2 2 4 2; 1 enter_step; 1 store_phase 1; 1 read_phase
 1 reserve; 1 read_count
@@ -71,9 +68,8 @@ $ gcschedule 1; shape 64 2 2 - 4 2; => Faulty: 23 BadShape
 $ gcschedule 1; shapes 64 2 2 2 4 2; => Faulty: 23 BadShape
 ";
 
-/// Lines that are no event: no known name, and none at all; one parameter too few, and one too many; a seat of the
-/// wrong form, and one past its type; parameters past their types, and of the wrong form. The first bad line is told.
-/// An event that isn't allowed stands before a line that is none: the fault is told, and nothing is played.
+/// Lines that are no event, the first of which is told. Nothing is played: an event that isn't allowed comes before the
+/// last.
 const EVENTS: &str =
     "$ gcschedule 1; shape 64 2 2 2 4 2; 1 observe; 1 enter=> Faulty: 24 BadEvent line 4
 $ gcschedule 1; shape 64 2 2 2 4 2; 1 observe; 1 Observe=> Faulty: 24 BadEvent line 4
@@ -100,7 +96,6 @@ $ gcschedule 1; shape 64 2 2 2 4 2; ; # a note; 1 observ; 1 take 300 0; => Fault
 $ gcschedule 1; shape 64 2 2 2 4 2; 1 credit; 1 nothing; => Faulty: 24 BadEvent line 4
 ";
 
-/// Sizes within their limits, and past them.
 const SIZES: &str =
     "$ gcschedule 1; shape 64 2 2 1 1 1=> Accepted: accepted 0; phase 0; empty 66; marked 0; used 0; closed no
 $ gcschedule 1; shape 65536 1024 512 33 16 41=> Accepted: accepted 0; phase 0; empty 1088; marked 0; used 0; closed no
@@ -138,7 +133,7 @@ fn a_sink_that_fails_is_told(rt: HostRuntime) -> Result<(), Fail> {
     Ok(())
 }
 
-/// Each step once, with parameters of its forms at their greatest, or zero: 57 names, and one of them once more.
+/// Each of 57 names, with parameters at their greatest or zero, and one of them once more.
 const STEPS: &str =
     "gcschedule 1; shape 64 2 2 2 4 2; 0 reserve; 0 take 255 4294967295; 0 give 4294967295 1; 0 credit
 0 push 4294967295 4294967295; 0 pop 4294967295; 0 look 255 4294967295; 0 read_count; 0 read_alloc 4294967295
@@ -164,7 +159,7 @@ fn each_name_is_read(rt: HostRuntime) -> Result<(), Fail> {
     Ok(())
 }
 
-/// The header, a shape, and this many lines `0 credit`.
+/// A schedule of so many lines `0 credit`.
 fn events(alloc: Global, count: u32) -> Result<Vec<u8>, AllocError> {
     let mut source = Vec::new(alloc);
     source.extend_from_slice(b"gcschedule 1\nshape 64 2 2 2 4 2\n")?;
@@ -189,7 +184,7 @@ fn events_up_to_100000_are_read(rt: HostRuntime) -> Result<(), Fail> {
     Ok(())
 }
 
-/// A schedule without events, and after it a note that makes the source this long.
+/// A schedule without events, which a note makes this long.
 fn long(alloc: Global, length: usize) -> Result<Vec<u8>, AllocError> {
     let mut source = Vec::new(alloc);
     source.extend_from_slice(b"gcschedule 1\nshape 64 2 2 2 4 2\n#")?;

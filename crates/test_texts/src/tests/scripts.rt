@@ -1,4 +1,3 @@
-//! Small sources, with answers worked out by hand.
 use super::cases::{Kind, all_hold};
 use gc_script::{Commands, Section, convert, read};
 use std::alloc::Global;
@@ -16,7 +15,6 @@ fn lines_of(commands: Commands<'_, '_>) -> (u32, u32) {
     (lines, bytes)
 }
 
-/// What a section says of itself, and the lines of its commands, of all or of a season.
 fn section_text(alloc: Global, section: &Section<'_>, season: u32) -> Option<String> {
     let lines = if season == 0 {
         lines_of(section.commands())
@@ -29,7 +27,6 @@ fn section_text(alloc: Global, section: &Section<'_>, season: u32) -> Option<Str
     format!(in alloc; "{number} {made} {executed} {printed} {fields} {seasons} {lines:?}").ok()
 }
 
-/// What a script says of itself, of its catalogue and of its first warehouse.
 fn script_text(alloc: Global, source: &[u8]) -> Option<String> {
     let script = read(alloc, source).ok()?;
     let (executed, printed) = (script.executed(), script.printed());
@@ -44,7 +41,6 @@ fn script_text(alloc: Global, source: &[u8]) -> Option<String> {
     ).ok()
 }
 
-/// The catalogue makes one object, in two commands. The warehouse executes eight.
 const TOLD: &str =
     "10 4 2 2; 0 1 2 0 2 2 (57, 0); 0 1 2 0 2 2 (7, 0); 0 1 2 0 2 2 (0, 0); 1 0 8 4 2 2 (18, 1)";
 

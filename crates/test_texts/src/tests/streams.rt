@@ -1,4 +1,4 @@
-//! Sources and sinks, over fakes of a reader and a writer, and in memory.
+//! Sources and sinks over fakes of a reader and a writer, and in memory.
 use play_report::{
     Failed, GatheredSink, MemorySink, MemorySource, Source, StdSink, StdSource, SureSource,
     write_all,
@@ -24,7 +24,7 @@ fn fault_of(step: Step) -> Option<ErrorKind> {
     }
 }
 
-/// Does one step a call, and is at its end after them.
+/// Does one step a call, and is then at its end.
 #[derive(Drop)]
 struct FakeReader<'a> {
     steps: &'a [Step],
@@ -53,7 +53,7 @@ impl<'a> Read for FakeReader<'a> {
     }
 }
 
-/// Does one step a call, and takes nothing after them.
+/// Does one step a call, and then takes nothing.
 #[derive(Drop)]
 struct FakeWriter<'a> {
     steps: &'a [Step],
@@ -144,7 +144,7 @@ fn a_writer_is_handed_the_rest(rt: HostRuntime) {
     }
 }
 
-/// Whether the source reads four bytes at a time, if it may, as told: so many, or none where it fails, and which.
+/// Whether the source reads so many bytes, four at a time, or fails if it tells none.
 fn gives<S: Source>(source: &mut S, told: &[(Option<usize>, &[u8; 4])]) -> bool {
     for (answer, bytes) in told {
         let mut buf = [0; 4];
@@ -190,13 +190,12 @@ fn thousands(alloc: Global, count: u8) -> Option<Vec<u8>> {
     Some(bytes)
 }
 
-/// The call that fails of a sink behind one that gathers; whether more bytes are taken then, and how many were
-/// handed on; whether the end goes well, and how many were handed on in the end.
+/// The call that fails of a sink behind one that gathers; whether more bytes are taken then, and how many were handed
+/// on; whether the end goes well, and how many were handed on by then.
 type Gathered = (u32, bool, usize, bool, usize);
 
-/// 60,000 bytes are gathered, and 10,000 more have no room beside them. So the first go on in three calls, of
-/// 25,000 bytes at most, and the others in a fourth at the end. Nothing is lost if a call fails: what is written
-/// again goes where it belongs.
+/// 60,000 bytes are gathered, and 10,000 more have no room beside them: the first go on in three calls, of 25,000 bytes
+/// at most, and the others in a fourth at the end. Nothing is lost if a call fails.
 const GATHERED: [Gathered; 5] = [
     (1, false, 0, true, 70_000),
     (2, false, 25_000, true, 70_000),
@@ -205,7 +204,6 @@ const GATHERED: [Gathered; 5] = [
     (5, true, 60_000, true, 70_000),
 ];
 
-/// A sink that gathers over one whose call fails, after it was handed these bytes.
 fn gathering(alloc: Global, failing: u32, bytes: &[u8]) -> Option<GatheredSink<MemorySink>> {
     let inner = MemorySink::make(alloc, 70_000, 25_000, &[failing]).ok()?;
     let mut sink = GatheredSink::make(alloc, inner).ok()?;

@@ -68,9 +68,8 @@ fn report(alloc: Global) -> Result<Report<'static>, AllocError>
     })
 }
 
-/// Texts. Behind a `$ ` stand which it is, the room of the sink, how much it takes in a call, the call that fails,
-/// and whether all is done; then what the sink has. `ends` and `placed` are the report, without places and with
-/// them, and `load` its five lines: 4,294,967,295 and 5 survive.
+/// Behind a `$ ` stand which text it is, the room of the sink, how much it takes in a call, the call that fails, and
+/// whether all is done; then what the sink has. `ends` and `placed` are the report, without places and with them.
 const TEXTS: &str = "$ ends 200 200 0 done
 warehouse 1
 a 5
@@ -149,7 +148,6 @@ fn number(word: Option<&str>) -> Option<usize> {
     word?.parse::<usize>().ok()
 }
 
-/// A sink with that room, which takes so much in a call, and of which that call fails.
 fn sink_of(alloc: Global, words: &mut SplitWhitespace<'_>) -> Option<MemorySink> {
     let room = number(words.next())?;
     let per_call = number(words.next())?;
@@ -216,7 +214,6 @@ fn bytes_are_counted(rt: HostRuntime) -> Result<(), Fail> {
     Ok(())
 }
 
-/// The fault of that name.
 fn fault_of(name: &str, place: u32) -> Option<ScriptError> {
     match name {
         "NotAscii" => Some(ScriptError::NotAscii { offset: place }),
@@ -249,7 +246,6 @@ pub fn fault_text(alloc: Global, told: &str) -> Option<String> {
     line.to_string(alloc).ok()
 }
 
-/// Faults of scripts, with the places of those that have one.
 const FAULTS: &str = "$ NotAscii 7 => 1 NotAscii offset 7
 $ BadHeader 0 => 2 BadHeader
 $ BadLine 2 => 3 BadLine line 2

@@ -1,4 +1,4 @@
-//! Words and what they ask for. In a case a `|` stands behind each word.
+//! In a case a `|` stands behind each word.
 use super::cases::{Kind, all_hold};
 use command_words::command_of;
 use std::alloc::{AllocError, Global};
@@ -15,7 +15,6 @@ pub fn asked_by(alloc: Global, told: &str) -> Option<String> {
     format!(in alloc; "{asked:?}").ok()
 }
 
-/// Words that ask for a command.
 const TAKEN: &str =
     "$ run| => Some(Run(Options { cells: 4096, workers: 4, tracers: 1, packets: 64, entries: 32, place: false }))
 $ run|--cells|64| => Some(Run(Options { cells: 64, workers: 4, tracers: 1, packets: 64, entries: 32, place: false }))
@@ -58,7 +57,7 @@ fn with_zeros(alloc: Global, zeros: usize, digits: &str) -> Result<String, Alloc
     Ok(number)
 }
 
-/// What is asked for with the number that has this many zeros, and the digits behind them.
+/// What is asked for with a number of so many zeros and the digits behind them.
 pub fn asked_with(alloc: Global, told: &str) -> Option<String> {
     let (zeros, digits) = told.trim().split_once(' ')?;
     let number = with_zeros(alloc, zeros.parse::<usize>().ok()?, digits).ok()?;
@@ -66,7 +65,7 @@ pub fn asked_with(alloc: Global, told: &str) -> Option<String> {
     asked_by(alloc, words.as_str())
 }
 
-/// Values of any length: leading zeros are allowed, and a number past the range is refused. The last three are 2^64, 2^64 + 7 and 2^128.
+/// The last three numbers are 2^64, 2^64 + 7 and 2^128.
 const NUMBERS: &str = "$ 40 7 => Some(Gen(7, 1))
 $ 5000 7 => Some(Gen(7, 1))
 $ 5000 4294967295 => Some(Gen(4294967295, 1))
@@ -80,7 +79,7 @@ fn reads_numbers_of_any_length(rt: HostRuntime) {
     all_hold(&rt, Kind::Number, NUMBERS);
 }
 
-/// Words that ask for nothing: no command, or more than one. The first has no words, and the second an empty one.
+/// No command, or more than one. The first case has no words, and the second an empty one.
 const COMMANDS: &str = "$ => None
 $ | => None
 $ --| => None
