@@ -12,6 +12,7 @@ use std::marker::Model;
 /// How many bytes are gathered before they are handed on.
 pub const GATHERED: usize = 65_536;
 
+#[tactic(auto, using(crate::proofs::Gathering::handed_turn))]
 fn hand_on<K: Sink>(inner: &mut K, bytes: &[u8], at: &mut usize) -> Result<(), Failed>
     requires within { at.old ≤ length bytes.now }
     ensures between { at.new ≤ length bytes.now }
