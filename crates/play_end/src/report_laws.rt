@@ -7,6 +7,7 @@ pub fn one_report()
 {}
 
 /// Each script has a list of survivors to report.
+#[tactic(auto, using(crate::proofs::Existing::survivors_exist))]
 pub fn survivors_exist()
     ensures { SurvivorsExist }
 {}
