@@ -10,6 +10,7 @@ use Rattle.command_words.specs.Parsing.{dashed, has_no_dashes, is_flag}
 use Rattle.command_words.proofs.LeafTurns.{has_name, begins_with_hyphen}
 use Rattle.command_words.proofs.Uses.{Use, has_setting, is_used, settings_of}
 use Rattle.command_words.proofs.LongWords.{BeginsOther, has_dashes, lacks_names}
+use Rattle.play_end.proofs.EndClosed.{or_there as or_second}
 
 -- a flag with a value, or an option whose value begins with a hyphen
 abbrev pub is_misused : Setting → Bool
@@ -39,10 +40,6 @@ read uses words waiting = preceded (settings_of uses) (settings words waiting)
 same_flipped : (n : Text) (l : List Text) → list_any (λ m. bytes_eq n m) l ≡ has_name l n
 same_flipped n [] = refl
 same_flipped n (m ∷ ms) = ap₂ ◌||◌ (flip n m) (same_flipped n ms)
-
-or_second : (a b : Bool) → b ≡ true → (a || b) ≡ true
-or_second true b e = refl
-or_second false b e = e
 
 pub again : (uses : List Use) (n : Text) → is_used n uses ≡ true → list_any (λ d. bytes_eq d.name (dashed n)) (settings_of uses) ≡ true
 again uses n e = has_setting n uses ∙ e

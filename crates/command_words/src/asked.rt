@@ -1,6 +1,6 @@
 use play_end::Options;
 
-/// A command that the program has.
+/// A command with its options.
 #[derive(Clone, Copy, Debug, PartialEq, Eq)]
 pub enum Asked {
     /// Plays the script of the source, as these options say.

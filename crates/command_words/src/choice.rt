@@ -26,7 +26,6 @@ fn chosen(
     }
 }
 
-/// Whether the flag is given.
 fn is_set(matches: &ArgMatches<'_>, name: &str) -> bool
     ensures { (all : List (Option (List ℕ))) → IsToldFlag (one_of name.now (rows_of (found_of matches.now))) all → Some result ≡ is_set all }
 {
@@ -41,7 +40,6 @@ fn cells(matches: &ArgMatches<'_>) -> Option<u32>
     if cells % 64 == 0 { Some(cells) } else { None }
 }
 
-/// How a script is to be played.
 fn options(matches: &ArgMatches<'_>) -> Option<Options>
     ensures { (all : List Setting) → MatchesTell (rows_of (found_of matches.now)) all → option_map options_of result ≡ options all }
 {
@@ -92,7 +90,7 @@ fn batch(matches: &ArgMatches<'_>) -> Option<Asked>
     Some(Asked::Batch(options, runners))
 }
 
-/// The command of this name. None if a value is out of range or a required option is missing.
+/// The command of this name; none if a value is out of range or a required option is missing.
 pub fn by_name(name: &str, matches: &ArgMatches<'_>) -> Option<Asked>
     ensures { (all : List Setting) → IsAsked name.now (rows_of (found_of matches.now)) all → option_map command_of result ≡ by_name name.now all }
 {

@@ -6,7 +6,7 @@ ghost use Rattle.command_words.specs.Parsing.{asked_program, asked_rule, is_flag
 use clap::{Arg, ArgAction, Command};
 use std::alloc::{AllocError, Global};
 
-/// A command by its name, with the names of its options.
+/// A command's name, and the names of its options.
 #[derive(Clone, Copy)]
 pub struct Form {
     pub name: &'static str,
@@ -62,14 +62,12 @@ fn is_flag(name: &str) -> bool
     name == "place"
 }
 
-/// Whether a command can't do without an option that it has.
 fn is_required(name: &str) -> bool
     ensures { result ≡ is_required name.now }
 {
     name == "number" || name == "size"
 }
 
-/// An option, as it stands in every command that has it.
 fn option<'a>(alloc: Global, name: &'a str) -> Arg<'a>
     ensures rule { rule_of result ≡ asked_rule name.entry.now }
     ensures local { result.global ≡ false }
@@ -85,7 +83,6 @@ fn option<'a>(alloc: Global, name: &'a str) -> Arg<'a>
         .required(is_required(name))
 }
 
-/// A command with these options.
 fn command<'a>(alloc: Global, name: &'a str, options: &[&'a str]) -> Result<Command<'a>, AllocError>
     ensures { IfOk result (IsCommand name.entry.now (texts_of options.entry.now)) }
 {
@@ -96,7 +93,6 @@ fn command<'a>(alloc: Global, name: &'a str, options: &[&'a str]) -> Result<Comm
     Ok(command)
 }
 
-/// A program with a command for each of these lines.
 fn with_commands<'a>(
     alloc: Global,
     mut program: Command<'a>,

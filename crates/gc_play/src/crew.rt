@@ -9,7 +9,7 @@ use plain_heap::OutOfMemory;
 use std::alloc::Global;
 use warehouse::Mutator;
 
-/// The seat of section 0, with what it printed if the script has a catalogue.
+/// The seat of section 0, with its player if the script has a catalogue.
 #[derive(Drop)]
 pub(crate) enum Catalogue<'a> {
     Playing(Mutator<'a>),
@@ -87,7 +87,6 @@ fn deal_one<'a>(
     }
 }
 
-/// Deals the seats of the warehouses out among the workers. The tracers' seats are left.
 fn deal<'a>(
     alloc: Global,
     heap: &Heap,
@@ -117,7 +116,7 @@ fn deal<'a>(
     Ok(())
 }
 
-/// All seats of a heap, dealt out, with all the memory that playing needs.
+/// All seats of a heap, dealt out, with the memory that playing needs.
 pub(crate) fn muster<'a>(
     alloc: Global,
     heap: &Heap,

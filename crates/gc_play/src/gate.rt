@@ -2,7 +2,7 @@ use gc_script::Section;
 use gc_table::HeapSeat;
 use warehouse::Gate;
 
-/// Lets each command and each turn pass at once.
+/// A gate that is always open.
 pub struct OpenGate;
 
 impl Gate for OpenGate {

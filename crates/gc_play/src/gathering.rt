@@ -26,7 +26,7 @@ fn take_back<'a>(workers: &mut Vec<Worker<'a>>, at: usize) -> Mutator<'a>
     mutator
 }
 
-/// Puts what a section's player had before what those of later sections had.
+/// Puts what a section's player had before what later sections had.
 fn hand_over<'a>(
     seats: &mut Vec<HeapSeat>,
     parts: &mut Vec<Part<'a>>,
@@ -55,7 +55,7 @@ fn hand_over<'a>(
     }
 }
 
-/// Puts the seats of the warehouses back before those of the tracers, in order, with their parts of the report.
+/// Puts the warehouses' seats back before the tracers', in order, with their parts of the report.
 pub(crate) fn gather<'a>(
     heap: &Heap,
     script: &Script<'a>,
@@ -91,7 +91,6 @@ pub(crate) fn gather<'a>(
     Ok(())
 }
 
-/// What section 0 had: nothing if the script has no catalogue.
 fn hand_catalogue<'a>(
     alloc: Global,
     catalogue: Catalogue<'a>,
@@ -104,7 +103,7 @@ fn hand_catalogue<'a>(
     }
 }
 
-/// All seats of a play, in the order of their numbers, and the parts of its report.
+/// All seats of a play, by their numbers, and the parts of its report.
 pub(crate) fn put_away<'a>(
     alloc: Global,
     heap: &Heap,

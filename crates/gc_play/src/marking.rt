@@ -1,4 +1,4 @@
-//! What a tracer does inside while marking is under way. Each turn is short, since a stop waits until it has ended.
+//! What a tracer does inside while marking is under way.
 ghost use Rattle.std.specs.Prelude.{false};
 ghost use Rattle.mark_core.specs.Numbers.{traced_count};
 ghost use Rattle.mark_core.specs.declared.kinds.Step.TheVariants.{AddStat};
@@ -20,7 +20,7 @@ fn count_traced(heap: &Heap, seat: &mut HeapSeat, by: u32)
     heap.add_stat(seat, TRACED, by, false);
 }
 
-/// Does a tracer's turn, and adds what it traced to the number of traced objects, by one step.
+/// Does a tracer's turn, and adds what it traced to the number of traced objects.
 pub(crate) fn trace_inside(heap: &Heap, seat: &mut HeapSeat)
     requires { GoesMarking heap.now seat.old }
     ensures seat { Goes heap.now seat.new }

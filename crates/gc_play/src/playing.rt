@@ -32,7 +32,6 @@ fn count_sections(script: &Script<'_>) -> u32
     script.warehouses().len() as u32 + 1
 }
 
-/// The sizes of the heap.
 fn shape_of(script: &Script<'_>, options: &Options) -> Shape
     requires range { AreInRange options.now }
     requires script { IsPlayable script.now.sections }
@@ -52,7 +51,6 @@ fn shape_of(script: &Script<'_>, options: &Options) -> Shape
     }
 }
 
-/// The heap, with a seat for each section and each tracer.
 fn make_heap(
     alloc: Global,
     script: &Script<'_>,
@@ -80,7 +78,7 @@ fn make_parts<'a>(alloc: Global, script: &Script<'a>) -> Result<Vec<Part<'a>>, O
     }
 }
 
-/// Plays the seasons, up to one that finds the heap full; says which was the last.
+/// Plays the seasons up to one that finds the heap full, and says which was the last.
 fn play_seasons<'a, R: Threads + Wait + Sync, G: Gate + Sync>(
     rt: &R,
     heap: &Heap,
@@ -146,7 +144,6 @@ fn close<'a>(
     }
 }
 
-/// All that a play needs before its first command.
 fn prepare<'a>(
     alloc: Global,
     script: &Script<'a>,
@@ -173,7 +170,7 @@ fn prepare<'a>(
     }
 }
 
-/// [`play`], with the words of the closed heap besides.
+/// [`play`], with the words of the closed heap.
 pub fn play_final<'a, R: Threads + Wait + Sync, G: Gate + Sync>(
     rt: &R,
     alloc: Global,
@@ -217,11 +214,11 @@ pub fn play_final<'a, R: Threads + Wait + Sync, G: Gate + Sync>(
 }
 
 /// Plays a script over a heap of `options.cells` cells, on `options.workers` threads with `options.tracers` beside
-/// them: each section's transcript and dropped stores, exactly the objects that are reachable at the end, and the
-/// cell of each. Only the cells depend on the threads.
+/// them: each section's transcript and dropped stores, exactly the objects that are reachable at the end, and the cell
+/// of each object. Only the cells depend on the threads.
 ///
-/// `Full` says that the reachable objects filled all cells when a section was to make one more. Memory is taken
-/// only before the first command and after the last.
+/// `Full` says that the reachable objects filled all cells when a section was to make one more. Memory is taken only
+/// before the first command and after the last.
 pub fn play<'a, R: Threads + Wait + Sync, G: Gate + Sync>(
     rt: &R,
     alloc: Global,

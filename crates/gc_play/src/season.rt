@@ -1,4 +1,4 @@
-//! A season: the catalogue's turn, and then all threads of the warehouses' turn.
+//! A season: the catalogue's turn, and then the warehouses'.
 ghost use Rattle.std.specs.Prelude.{◌≡◌, ◌+◌, ◌-◌, ◌*◌, ◌<◌, ◌≤◌, ◌⊎◌, All, false};
 ghost use Rattle.gc_table.specs.Seats.{Sits, view_of};
 ghost use Rattle.gc_cycle.specs.Standing.{IsOut};
@@ -30,7 +30,7 @@ pub(crate) enum Ended {
     Later,
 }
 
-/// Runs all workers and tracers, each in a thread of its own, until all have ended.
+/// Runs all workers and tracers side by side until all have ended.
 fn run_threads<'a, R: Threads + Wait + Sync, G: Gate + Sync>(
     rt: &R,
     heap: &Heap,
@@ -153,7 +153,7 @@ pub(crate) fn settle<'a, R: Threads + Wait + Sync>(
     }
 }
 
-/// Hands the turn back to the catalogue; the first season begins with it.
+/// Hands the turn back to the catalogue, with which the first season begins.
 fn begin_season<'a, R: Threads + Wait + Sync>(
     rt: &R,
     heap: &Heap,
@@ -171,7 +171,6 @@ fn begin_season<'a, R: Threads + Wait + Sync>(
     Played::Done
 }
 
-/// One season of all sections.
 pub(crate) fn play_season<'a, R: Threads + Wait + Sync, G: Gate + Sync>(
     rt: &R,
     heap: &Heap,

@@ -6,8 +6,8 @@ ghost use Rattle.play_report.specs.Causes.{Rose};
 use crate::status::Status;
 use play_report::{GatheredSink, Sink};
 
-/// Hands on what is still gathered, and gives the status and the sink behind. If that sink fails, the status is 5,
-/// and it has a prefix. If it failed before, no more is handed on.
+/// Hands on what is gathered, and gives the status and the sink behind. If that fails, the status is 5, and it has a
+/// prefix; if it failed before, no more is handed on.
 pub fn settle<K: Sink + Drop>(status: u8, sink: GatheredSink<K>) -> (u8, K)
     ensures status { (result.0 ≡ status) ⊎ (result.0 ≡ 5) }
     ensures whole { result.0 ≢ 5 → Keeps sink.bytes (K.written result.1) × (K.faults result.1 ≡ sink.faults) }

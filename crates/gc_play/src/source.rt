@@ -23,8 +23,7 @@ pub const DUMP: usize = 4_984_981;
 /// One byte more than the longest batch.
 pub const BATCH: usize = 16_777_217;
 
-/// Takes bytes until there are no more, or `enough` of them, which is more than the input may have. Unread says
-/// that the source failed, or that there was no memory.
+/// Takes bytes until there are no more, or `enough` of them, more than the input may have.
 pub fn read_source<S: Source>(
     alloc: Global,
     source: &mut S,

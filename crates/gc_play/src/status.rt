@@ -26,8 +26,7 @@ pub enum Status {
 }
 
 impl Status {
-    /// Its number: 0 done, 1 usage, 2 fault of the input, 3 full, 4 read fault, 5 write fault, 6 memory,
-    /// 7 refused.
+    /// Its number, 0 to 7 in the order above.
     pub fn code(self) -> u8
         ensures { result ≡ number_of_status self }
     {
@@ -43,7 +42,7 @@ impl Status {
         }
     }
 
-    /// The status after its text was handed to the sink.
+    /// The status after its text was handed to the sink, which may have failed.
     pub fn after(self, written: Result<(), Failed>) -> Status
         ensures { result ≡ status_after_write self written }
     {

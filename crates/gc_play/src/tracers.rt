@@ -72,7 +72,7 @@ fn go_round<G: Gate>(heap: &Heap, seat: &mut HeapSeat, gate: &G) -> bool
     matches!(phase, Phase::Full)
 }
 
-/// One turn of a tracer. True if nothing more is to be traced.
+/// One turn. True if nothing more is to be traced.
 fn take_turn<R: Threads + Wait + Sync, G: Gate>(
     rt: &R,
     heap: &Heap,
@@ -116,7 +116,6 @@ pub fn run_tracer<R: Threads + Wait + Sync, G: Gate>(
     unreachable!()
 }
 
-/// Runs each tracer in a thread of its own.
 pub(crate) fn run_tracers<R: Threads + Wait + Sync, G: Gate + Sync>(
     rt: &R,
     heap: &Heap,

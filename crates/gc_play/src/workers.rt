@@ -9,7 +9,7 @@ use std::thread;
 use std::thread::Threads;
 use warehouse::{Gate, Mutator, play_part};
 
-/// The warehouses that one thread plays, in order, and whether one found the heap full.
+/// The warehouses that one thread plays, and whether one found the heap full.
 #[derive(Drop)]
 pub(crate) struct Worker<'a> {
     pub(crate) mutators: Vec<Mutator<'a>>,
@@ -33,7 +33,7 @@ fn play_one<'a, R: Threads + Wait + Sync, G: Gate>(
     play_part(rt, heap, mutator, section, season, gate)
 }
 
-/// Plays one part of each of a worker's warehouses, up to one that finds the heap full.
+/// Plays a part of each warehouse, up to one that finds the heap full.
 fn play_share<'a, R: Threads + Wait + Sync, G: Gate>(
     rt: &R,
     heap: &Heap,
@@ -56,7 +56,7 @@ fn play_share<'a, R: Threads + Wait + Sync, G: Gate>(
     }
 }
 
-/// Plays one part of each warehouse, each worker in a thread of its own.
+/// Plays a part of each warehouse, each worker in a thread of its own.
 pub(crate) fn play_warehouses<'a, R: Threads + Wait + Sync, G: Gate + Sync>(
     rt: &R,
     heap: &Heap,
@@ -86,7 +86,6 @@ pub(crate) fn play_warehouses<'a, R: Threads + Wait + Sync, G: Gate + Sync>(
     );
 }
 
-/// Whether a section found the heap full.
 pub(crate) fn any_full(workers: &[Worker<'_>]) -> bool
     ensures none { IsFalse result → All (λ x. x.full ≡ false) workers.now }
     ensures some { IsTrue result → SomeFull workers.now }

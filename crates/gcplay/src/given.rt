@@ -15,8 +15,8 @@ use std::io;
 use std::sync::Wait;
 use std::thread::Threads;
 
-/// Does what the words behind the program's name ask for. Gathers what it writes, and hands it on to the sink,
-/// which it gives back with the status. If std tells no words, they ask for nothing.
+/// Does what the words behind the program's name ask for, and gives the sink back with the status. If std tells no
+/// words, they ask for nothing.
 pub fn play_given<R: Threads + Wait + Sync, S: Source, K: Sink + Drop>(
     rt: &R,
     alloc: Global,

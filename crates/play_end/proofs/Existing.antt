@@ -181,5 +181,5 @@ module _ (heaps : List Heap) where
         λ r. subst (λ (x : List Name). Contains x n) (sym l.1) (ordered.1.to n (names.1.all n r)),
       )
 
-pub survivors-exist : SurvivorsExist
-survivors-exist s = exist (last_heaps s)
+pub survivors_exist : SurvivorsExist
+survivors_exist s = exist (last_heaps s)

@@ -19,10 +19,9 @@ use plain_heap::OutOfMemory;
 use play_report::{Part, Positions, Report};
 use std::alloc::{AllocError, Global};
 
-/// Closes the heap of a play in which each section played all its parts and the catalogue's seat then moved the
-/// season on and ended an exact cycle. Answers the report, and the words of the heap.
-///
-/// If memory runs out, all that was handed in is gone.
+/// Closes the heap of a play in which each section played all its parts and the catalogue's seat then moved the season
+/// on and ended an exact cycle: the report, and the words of the heap. If memory runs out, all that was handed in is
+/// gone.
 pub fn close_played<'a>(
     alloc: Global,
     script: &Script<'a>,
@@ -52,7 +51,6 @@ pub fn close_played<'a>(
     }
 }
 
-/// Positions as the text has them.
 fn as_positions(alloc: Global, positions: &[u64]) -> Result<Vec<u32>, AllocError>
     ensures { IfOk result (λ v. v.items ≡ map reference_in positions.now) }
 {
@@ -62,10 +60,9 @@ fn as_positions(alloc: Global, positions: &[u64]) -> Result<Vec<u32>, AllocError
         .collect(alloc)
 }
 
-/// Closes the heap of a play that some seat found full, and in which each section stopped or ended its part. At the
-/// positions answered the reachable objects fill all cells, and the next command of the named section is a `new`.
-///
-/// If memory runs out, all that was handed in is gone.
+/// Closes the heap of a play that some seat found full, in which each section stopped or ended its part. At the
+/// positions answered the reachable objects fill all cells, and the next command of the named section is a `new`. If
+/// memory runs out, all that was handed in is gone.
 pub fn close_full(
     alloc: Global,
     script: &Script<'_>,

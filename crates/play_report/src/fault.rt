@@ -7,15 +7,14 @@ use crate::line::write_named;
 use crate::outside::{Failed, Sink, write_all};
 use gc_script::ScriptError;
 
-/// Writes the text of status 1: how the program is called.
+/// Writes the text of status 1, the usage.
 pub fn write_usage<K: Sink>(sink: &mut K) -> Result<(), Failed>
     ensures { WritesTo K.written K.faults result sink.old sink.new usage_text }
 {
     write_all(sink, b"usage: gcplay command [options]\n")
 }
 
-/// Writes the text of status 2: the number and the name of the fault, and its place. Out of memory is no fault of a
-/// script and has no text.
+/// Writes the text of status 2: the fault's number, name and place. Out of memory has none.
 pub fn write_fault<K: Sink>(fault: &ScriptError, sink: &mut K) -> Result<(), Failed>
     requires { fault.now ≢ ScriptError.OutOfMemory }
     ensures { WritesTo K.written K.faults result sink.old sink.new (error_text fault.now) }

@@ -18,8 +18,7 @@ fn write_positions<K: Sink>(done: &[u32], sink: &mut K) -> Result<(), Failed>
     Ok(())
 }
 
-/// Writes the text of status 3, a full run: the section that found no cell, then for each section how many of its
-/// commands were done.
+/// Writes the text of status 3: the section that found no cell, and how many commands each section did.
 pub fn write_full<K: Sink>(positions: &Positions, sink: &mut K) -> Result<(), Failed>
     ensures { WritesTo K.written K.faults result sink.old sink.new (full_text positions.now.section positions.now.done.items) }
 {

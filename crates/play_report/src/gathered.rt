@@ -1,4 +1,4 @@
-//! A sink that gathers: it takes pieces into memory, and hands on whole buffers.
+//! A sink that gathers pieces in memory, and hands on whole buffers.
 ghost use Rattle.std.specs.Prelude.{◌≡◌, ◌<◌, ◌≤◌, [], IfOk, IfSome, MatchResult, drop, length, vec_capacity, vec_len};
 ghost use Rattle.std.specs.Io.{StartsWith};
 ghost use Rattle.std.specs.Io.KnownBytes.{Keeps, append_known};
@@ -12,7 +12,7 @@ use std::marker::Model;
 /// How many bytes are gathered before they are handed on.
 pub const GATHERED: usize = 65_536;
 
-/// Hands on the bytes from `at` on, which moves on by what was taken.
+#[tactic(auto, using(crate::proofs::Gathering::handed_turn))]
 fn hand_on<K: Sink>(inner: &mut K, bytes: &[u8], at: &mut usize) -> Result<(), Failed>
     requires within { at.old ≤ length bytes.now }
     ensures between { at.new ≤ length bytes.now }
@@ -28,7 +28,6 @@ fn hand_on<K: Sink>(inner: &mut K, bytes: &[u8], at: &mut usize) -> Result<(), F
     Ok(())
 }
 
-/// Makes room for so many bytes more.
 fn make_room<K: Sink>(
     inner: &mut K,
     gathered: &mut Vec<u8>,
@@ -51,8 +50,8 @@ fn make_room<K: Sink>(
     Ok(())
 }
 
-/// Takes what is written into memory, [`GATHERED`] bytes or a little more at a time, and hands them on together.
-/// Only a call that hands on may fail: then it takes no byte of its piece, and what was gathered stays.
+/// Gathers what is written, and hands it on when there are [`GATHERED`] bytes or a little more. Only a call that hands
+/// on may fail: then it takes no byte of its piece, and what was gathered stays.
 #[derive(Drop)]
 pub struct GatheredSink<K: Sink + Drop> {
     inner: K,
@@ -77,7 +76,7 @@ impl<K: Sink + Drop> Model for GatheredSink<K> {
 }
 
 impl<K: Sink + Drop> GatheredSink<K> {
-    /// Nothing is gathered yet. The memory is taken now; if it ran out, the sink is given back.
+    /// Takes the memory; if there is none, gives the sink back.
     pub fn make(alloc: Global, inner: K) -> Result<GatheredSink<K>, (OutOfMemory, K)>
         ensures { MatchResult result (λ s. s ≡ record { bytes = append_known (K.written inner) []; handed = K.written inner; faults = K.faults inner }) (λ e. e.1 ≡ inner) }
     {
@@ -91,8 +90,7 @@ impl<K: Sink + Drop> GatheredSink<K> {
         }
     }
 
-    /// Hands on all that was gathered, and gives the sink behind back. If it fails, that has a prefix of what was
-    /// taken.
+    /// Hands on all that was gathered, and gives the sink back. If it fails, the sink has a prefix.
     pub fn finish(self) -> (Result<(), Failed>, K)
         ensures whole { IfOk result.0 (λ _. Keeps self.bytes (K.written result.1)) }
         ensures prefix { IfSome self.bytes (λ all. IfSome (K.written result.1) (λ handed. StartsWith all handed)) }
@@ -107,7 +105,7 @@ impl<K: Sink + Drop> GatheredSink<K> {
         (result, inner)
     }
 
-    /// Gives the sink behind back, as it is. What was not handed on is lost.
+    /// Gives the sink back; what was not handed on is lost.
     pub fn abandon(self) -> K
         ensures handed { K.written result ≡ self.handed }
         ensures prefix { IfSome self.bytes (λ all. IfSome (K.written result) (λ handed. StartsWith all handed)) }

@@ -7,10 +7,10 @@ use crate::outside::{Failed, Sink, write_all};
 use itoa::Buffer;
 use std::marker::Model;
 
-// The longest line is a label of 32 bytes, a count and a total, with two spaces and LF.
+// The longest line: a label of 32 bytes, a count and a total, with two spaces and LF.
 const LONGEST: usize = 96;
 
-/// A line that is being built: its bytes so far, at most 96.
+/// A line that is being built, of at most 96 bytes.
 #[derive(Drop)]
 pub struct TextLine {
     bytes: [u8; LONGEST],
@@ -67,7 +67,7 @@ impl TextLine {
     }
 }
 
-/// The line of a word, its space included, and a number.
+/// Writes a line: a word, its space included, and a number.
 #[tactic(auto, unfolding(crate::specs::Text::named_text))]
 pub fn write_named<K: Sink>(word: &str, n: u64, sink: &mut K) -> Result<(), Failed>
     requires { length word.now ≤ 32 }
@@ -80,7 +80,7 @@ pub fn write_named<K: Sink>(word: &str, n: u64, sink: &mut K) -> Result<(), Fail
     line.write(sink)
 }
 
-/// The line of a word, its space included, and two numbers.
+/// Writes a line: a word, its space included, and two numbers.
 #[tactic(auto, unfolding(crate::specs::Text::pair_text))]
 pub fn write_pair<K: Sink>(word: &str, a: u64, b: u64, sink: &mut K) -> Result<(), Failed>
     requires { length word.now ≤ 32 }
@@ -95,7 +95,7 @@ pub fn write_pair<K: Sink>(word: &str, a: u64, b: u64, sink: &mut K) -> Result<(
     line.write(sink)
 }
 
-/// The line of three numbers.
+/// Writes a line of three numbers.
 #[tactic(auto, unfolding(crate::specs::Text::triple_text))]
 pub fn write_triple<K: Sink>(a: u64, b: u64, c: u64, sink: &mut K) -> Result<(), Failed>
     ensures { WritesTo K.written K.faults result sink.old sink.new (triple_text a b c) }

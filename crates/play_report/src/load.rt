@@ -61,8 +61,8 @@ fn write_counts<K: Sink>(report: &Report<'_>, sink: &mut K) -> Result<(), Failed
     }
 }
 
-/// Writes a play that is done in five lines: how many commands were executed, which the caller says, how many
-/// objects were made and lines printed, how many objects survive, and the sum of their values.
+/// Writes a play that is done in five lines: the commands executed, as the caller says, the objects made, the lines
+/// printed, the survivors, and the sum of their values.
 pub fn write_load<K: Sink>(report: &Report<'_>, commands: u64, sink: &mut K) -> Result<(), Failed>
     requires objects { placed_count (map outcome_of report.now.parts.items) < 2 ^ 32 }
     requires lines { printed_count (map outcome_of report.now.parts.items) < 2 ^ 64 }

@@ -47,8 +47,7 @@ impl Model for MemorySink {
 }
 
 impl MemorySink {
-    /// An empty sink with room for `room` bytes, for which it takes the memory now. `failing` lists the calls that
-    /// fail, counted from 1.
+    /// An empty sink, which takes the memory for `room` bytes. `failing` lists the calls that fail, counted from 1.
     pub fn make(
         alloc: Global,
         room: usize,
@@ -86,8 +85,8 @@ impl Sink for MemorySink {
 
     ghost faults = { λ s. s.faults };
 
-    /// Fails exactly at the listed calls, and without room for a byte of the piece. Any other call takes as many
-    /// bytes as it may.
+    /// Fails at the listed calls, and if there is no room for a byte of the piece; otherwise takes as many bytes as it
+    /// may.
     fn write(&mut self, piece: &[u8]) -> Result<usize, Failed>
         ensures bound { WritesAtMost result piece.now }
         ensures progress { IfOk result (λ n. 0 < length piece.now → 0 < n) }
@@ -116,7 +115,7 @@ impl Sink for MemorySink {
     }
 }
 
-/// Takes all that is written and keeps only the number of bytes.
+/// Only counts the bytes that are written.
 #[derive(Drop)]
 pub struct CountSink {
     count: u64,

@@ -10,7 +10,7 @@ use plain_heap::OutOfMemory;
 use std::alloc::Global;
 use std::marker::Model;
 
-/// A copy of a list of plain values. Refused only if there is no memory.
+/// A copy of a list; refused only if there is no memory.
 pub fn copy_of<T: Copy>(alloc: Global, items: &[T]) -> Result<Vec<T>, OutOfMemory>
     ensures { IfOk result (λ v. v.items ≡ items.now) }
 {
@@ -96,7 +96,7 @@ impl Source for MemorySource {
 
     ghost faults = { λ s. s.faults };
 
-    /// Fails exactly at the listed calls. Any other call gives as many of the next bytes as it may.
+    /// Fails at the listed calls; otherwise gives as many of the next bytes as it may.
     fn read(&mut self, buf: &mut [u8]) -> Result<usize, Failed>
         ensures bound { ReadsAtMost result buf.new }
         ensures bytes { ReadConsumes (Some self.old.left) (Some self.new.left) result buf.new }
@@ -119,7 +119,7 @@ impl Source for MemorySource {
     }
 }
 
-/// Some bytes in memory, which a program reads with no fault.
+/// Some bytes in memory, of which no read fails.
 #[derive(Drop)]
 pub struct SureSource {
     bytes: Vec<u8>,
@@ -137,7 +137,7 @@ impl Model for SureSource {
 }
 
 impl SureSource {
-    /// A source of these bytes. Refused only if there is no memory.
+    /// A source of these bytes; refused only if there is no memory.
     pub fn make(alloc: Global, bytes: &[u8]) -> Result<SureSource, OutOfMemory>
         ensures { IfOk result (λ s. s ≡ bytes.now) }
     {
@@ -153,7 +153,7 @@ impl Source for SureSource {
 
     ghost faults = { λ s. 0 };
 
-    /// Never fails, and gives as many of the next bytes as have room.
+    /// Gives as many of the next bytes as have room.
     fn read(&mut self, buf: &mut [u8]) -> Result<usize, Failed>
         ensures bound { ReadsAtMost result buf.new }
         ensures bytes { ReadConsumes (Some self.old) (Some self.new) result buf.new }

@@ -50,7 +50,7 @@ fn write_placed<K: Sink>(parts: &[Part<'_>], sink: &mut K) -> Result<(), Failed>
     }
 }
 
-/// If it is asked for: how many objects were made, and the cell of each, by section and number.
+/// If `place` asks for it: how many objects were made, and the cell of each, by section and number.
 pub fn write_asked_places<K: Sink>(
     asked: bool,
     parts: &[Part<'_>],

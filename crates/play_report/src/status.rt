@@ -20,9 +20,8 @@ fn write_ends<K: Sink>(report: &Report<'_>, sink: &mut K) -> Result<(), Failed>
     }
 }
 
-/// Writes the text of status 0, a play that is done: for each warehouse in order its number, its printed lines and
-/// its count of dropped stores, then the survivors, and if `place` asks for it the cell of each object that was
-/// made.
+/// Writes the text of status 0: for each warehouse its number, its printed lines and its count of dropped stores, then
+/// the survivors, and if `place` asks for it the cell of each object that was made.
 pub fn write_report<K: Sink>(report: &Report<'_>, place: bool, sink: &mut K) -> Result<(), Failed>
     requires { placed_count (map outcome_of report.now.parts.items) < 2 ^ 32 }
     ensures { WritesTo K.written K.faults result sink.old sink.new

@@ -32,7 +32,7 @@ fn write_survivor_lines<K: Sink>(survivors: &[Survivor], sink: &mut K) -> Result
     Ok(())
 }
 
-/// How many survivors there are, and a line for each, in the order given.
+/// Writes how many survivors there are, and a line for each.
 pub fn write_survivors<K: Sink>(survivors: &[Survivor], sink: &mut K) -> Result<(), Failed>
     ensures { WritesTo K.written K.faults result sink.old sink.new (survivors_text (map survivor_of survivors.now)) }
 {

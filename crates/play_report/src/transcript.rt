@@ -81,7 +81,7 @@ fn write_warehouses<K: Sink>(parts: &[Part<'_>], sink: &mut K) -> Result<(), Fai
     Ok(())
 }
 
-/// What each warehouse printed and dropped, in order; section 0, which comes first, prints nothing.
+/// Writes what each warehouse printed and dropped; section 0, which comes first, prints nothing.
 pub fn write_parts<K: Sink>(parts: &[Part<'_>], sink: &mut K) -> Result<(), Failed>
     ensures { WritesTo K.written K.faults result sink.old sink.new (warehouses_text (map outcome_of parts.now)) }
 {

@@ -1,8 +1,7 @@
-//! The commands but for `run`, which stands in `gc_play` with what it shares with them.
+//! The commands but for `run`, which is in `gc_play`.
 //!
-//! A command takes its input whole before it writes, so a source that fails or a script with a fault leaves nothing
-//! written but the fault's text. How each ends is `CommandEnds` in `specs/Ending.antt` of `gc_play`, for the texts
-//! that `specs/Answers.antt` allows it.
+//! A command takes its input whole before it writes, so if the source fails nothing is written. How each ends is
+//! `CommandEnds` in `specs/Ending.antt` of `gc_play`, for the texts of `specs/Answers.antt`.
 ghost use Rattle.std.specs.Prelude.{◌≡◌, IfSome, Some, true, false};
 ghost use Rattle.command_words.specs.Commands.{IsCommandInRange, command_of};
 ghost use Rattle.gc_play.specs.Ending.{CommandEnds, number_of_status};

@@ -7,7 +7,7 @@ pub fn runs_alike()
     ensures { RunsAlike }
 {}
 
-/// Of a conversion `run` may write what it may write of the source, with the same status, whatever the options.
+/// Of a conversion `run` may write what it may of the source, with the same status, whatever the options.
 pub fn conversions_answer()
     ensures { ConversionsAnswer }
 {}
@@ -37,12 +37,12 @@ pub fn final_heaps_are_reached()
     ensures { FinalHeapsAreReached }
 {}
 
-/// In what `dump` writes with status 0, `census` counts no record as unreached.
+/// In what `dump` writes `census` counts no record as unreached.
 pub fn dumps_are_reached()
     ensures { DumpsAreReached }
 {}
 
-/// Of what `dump` writes with status 0, `undump` lists the survivors that `run` prints, and `census` counts them.
+/// Of what `dump` writes `undump` lists the survivors that `run` prints, and `census` counts them.
 pub fn dumps_tell_survivors()
     ensures { DumpsTellSurvivors }
 {}

@@ -1,9 +1,7 @@
-//! What the program does: plays scripts of mutations over a heap, and writes what each warehouse printed and the
-//! objects that survive. It makes, converts and checks texts, too.
+//! What the program does: it plays scripts of mutations over a heap, and makes, converts and checks texts.
 //!
-//! The contract of `play_words` is what the program promises; `laws` has what follows for any two runs. A script is
-//! played by `play` of `gc_play`, of which the commands know only `PlayAnswers` of `play_end`, and for a dump by
-//! `play_final`, of which they know `FinalAnswers` besides.
+//! The contract of `play_words` is what the program promises; `laws` has what follows for any two runs. Of `play` of
+//! `gc_play` the commands know only `PlayAnswers` of `play_end`, and of `play_final` `FinalAnswers`.
 #![tactic(auto)]
 
 mod commands;

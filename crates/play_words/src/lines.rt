@@ -10,7 +10,7 @@ fn line_feed(text: &[u8]) -> Option<usize>
     text.iter().position(|b| *b == b'\n')
 }
 
-/// The bytes of a text's first line, with its line feed; a text without one is one line.
+/// The bytes of the first line, with its line feed if there is one.
 fn first_line(text: &[u8]) -> usize
     ensures is { result ≡ first_line text.now }
     ensures within { result ≤ length text.now }
@@ -22,8 +22,7 @@ fn first_line(text: &[u8]) -> usize
     }
 }
 
-/// Hands a text to the sink, each line as one piece. If it fails, the sink's count of faults rose and a prefix was
-/// written.
+/// Hands a text to the sink, each line as one piece.
 pub fn write_lines<K: Sink>(sink: &mut K, text: &[u8]) -> Result<(), Failed>
     ensures { WritesTo K.written K.faults result sink.old sink.new text.now }
 {

@@ -1,5 +1,5 @@
-//! What each command writes is a clause of its own, by a definition of its own: `specs/Running.antt` for `run`, and
-//! so on; what all share is in `specs/Promise.antt`. `docs/HEADLINE.md` walks through the clause of `run`.
+//! What each command writes is a clause of its own; the definition for `run` is in `specs/Running.antt`, and so on, and
+//! `docs/HEADLINE.md` walks through it.
 ghost use Rattle.std.specs.Prelude.{ℕ, ◌≡◌, ◌≢◌, ◌<◌, ◌≤◌, ◌-◌, ◌^◌, ◌⊎◌, ◌∷◌, [], map, Contains, IfSome, Some, None, true, false};
 ghost use Rattle.std.specs.String.{string_bytes};
 ghost use Rattle.std.specs.Io.KnownBytes.{Keeps};
@@ -30,7 +30,6 @@ use std::alloc::Global;
 use std::sync::Wait;
 use std::thread::Threads;
 
-/// Does what the words ask for.
 fn do_words<R: Threads + Wait + Sync, S: Source, K: Sink, G: Gate + Sync>(
     rt: &R,
     alloc: Global,
@@ -53,17 +52,12 @@ fn do_words<R: Threads + Wait + Sync, S: Source, K: Sink, G: Gate + Sync>(
     }
 }
 
-/// All that the program does: takes the words, reads the source if their command reads one, and writes to the sink.
-/// It answers the program's status.
+/// All that the program does: takes the words, reads the source if their command reads one, writes to the sink, and
+/// answers the status.
 ///
 /// | Status | Meaning | Written |
 /// |---|---|---|
-/// | 0 | done | `run`: transcripts, the objects reachable at the end, with `--place` the cell of each made |
-/// | | | `gen`: the generated script; `convert`: the script in the second version of the language |
-/// | | | `load`: how many commands, objects, printed lines and survivors, and the sum of their values |
-/// | | | `schedule`: that it is accepted, and its end |
-/// | | | `dump`: the heap at the end; `undump`: its records; `census`: how many there are of each kind |
-/// | | | `batch`: for each job its status and length, and the text that `run` writes of its script |
+/// | 0 | done | the command's text (`docs/SCRIPTS.md`) |
 /// | 1 | the words ask for nothing | `usage: gcplay command [options]` |
 /// | 2 | the input has a fault | the fault's number, name and place |
 /// | 3 | `run`, `load` and `dump`: the heap was full | the section that found no cell, and how many commands each did |
@@ -84,14 +78,14 @@ pub fn play_words<R: Threads + Wait + Sync, S: Source, K: Sink, G: Gate + Sync>(
 
     ensures statuses { Contains (0 ∷ 1 ∷ 2 ∷ 3 ∷ 4 ∷ 5 ∷ 6 ∷ 7 ∷ []) result }
 
-    // `run`, done: each transcript, exactly the objects that are reachable at the end, and if asked for, a legal
-    // cell of each object.
+    // `run`, done: each transcript, exactly the objects reachable at the end, and if asked for, a legal cell of each
+    // object.
     ensures run { (o : Options) → wanted (map string_bytes words.now) ≡ Some (Run o) → result ≡ 0
         → WritesSome (K.written sink.old) (K.written sink.new) (FromSource (IsRunText o) (S.left source.old)) }
     // `run`, full: a section that wants a new object, and positions at which the reachable objects fill all cells.
     ensures run_full { (o : Options) → wanted (map string_bytes words.now) ≡ Some (Run o) → result ≡ 3
         → WritesSome (K.written sink.old) (K.written sink.new) (FromSource (IsRunFull o) (S.left source.old)) }
-    // `run`, with any status: a script without a fault was played, or the first fault of the text is written.
+    // `run`, with any status: a script without a fault was played, or its first fault is written.
     ensures run_or_fault { (o : Options) → wanted (map string_bytes words.now) ≡ Some (Run o)
         → Wrote (OfSource (IsRunAnswer o) (S.left source.old)) result (K.written sink.old) (K.written sink.new) }
 
@@ -118,13 +112,12 @@ pub fn play_words<R: Threads + Wait + Sync, S: Source, K: Sink, G: Gate + Sync>(
     ensures refused { wanted (map string_bytes words.now) ≡ None → (result ≡ 1) ⊎ (result ≡ 5) ⊎ (result ≡ 6) }
     ensures asked { result ≡ 1 → wanted (map string_bytes words.now) ≡ None }
 
-    // If no count of faults rises, one of these texts is written whole, unless memory runs out.
+    // If nothing fails, one of these texts is written whole, unless memory runs out.
     ensures complete { S.faults source.new ≡ S.faults source.old → K.faults sink.new ≡ K.faults sink.old → (result ≡ 6) ⊎ HasItsText result }
 
     // Nothing is left in the source, or it was too long and one byte more was taken than the input may have.
     ensures spent { reads_source (wanted (map string_bytes words.now)) ≡ true → HasItsText result
         → IfSome (S.left source.old) (λ bytes. IsSpent (enough_for (wanted (map string_bytes words.now))) bytes (S.left source.new)) }
-    // Never more than one byte past the longest input of the command is taken.
     ensures most { TakesAtMost (enough_for (wanted (map string_bytes words.now))) (S.left source.old) (S.left source.new) }
     // `gen`, `load` and words that ask for nothing leave the source as it was.
     ensures untouched { reads_source (wanted (map string_bytes words.now)) ≡ false → source.new ≡ source.old }
@@ -139,7 +132,7 @@ pub fn play_words<R: Threads + Wait + Sync, S: Source, K: Sink, G: Gate + Sync>(
     ensures write_fault { result ≡ 5 → K.faults sink.old < K.faults sink.new }
     ensures write_rose { K.faults sink.old < K.faults sink.new → result ≡ 5 }
 
-    // 3 doesn't come if the cells are more than what may be reachable at once.
+    // 3 doesn't come if the cells are more than may be reachable at once.
     ensures roomy { result ≡ 3 → (s : Sections) (cells : ℕ) → PlaysIn (wanted (map string_bytes words.now)) (S.left source.old) s cells → AreFew s cells }
     // So it never comes to `load` with 256 cells or more.
     ensures load_fits { (o : Options) (number size : ℕ) → wanted (map string_bytes words.now) ≡ Some (Load o number size) → 256 ≤ o.cells → result ≢ 3 }

@@ -41,7 +41,6 @@ fn play_jobs<R: Threads + Wait + Sync, K: Sink>(
     }
 }
 
-/// Writes a fault; out of memory is none.
 fn tell_batch_fault<K: Sink>(fault: &BatchError, sink: &mut K) -> Status
     requires { fault.now ≢ BatchError.OutOfMemory }
     ensures { AcrossSink K.written K.faults (TextEnds (IsBatchFault (batch_fault_of fault.now)) result) sink.old sink.new }
@@ -49,7 +48,6 @@ fn tell_batch_fault<K: Sink>(fault: &BatchError, sink: &mut K) -> Status
     Status::InputFault.after(write_batch_fault(fault, sink))
 }
 
-/// Reads and plays a batch, and writes its jobs' results or its fault.
 fn batch_bytes<R: Threads + Wait + Sync, K: Sink>(
     rt: &R,
     alloc: Global,
@@ -69,7 +67,7 @@ fn batch_bytes<R: Threads + Wait + Sync, K: Sink>(
     }
 }
 
-/// Plays the batch of the source, each script as the options say, on this many runners.
+/// Plays the batch of the source, as the options say, on this many runners.
 pub fn play_batch<R: Threads + Wait + Sync, S: Source, K: Sink>(
     rt: &R,
     alloc: Global,

@@ -1,4 +1,4 @@
-//! The command `dump`: plays the script of the source and writes the heap at its end.
+//! The command `dump`: plays a script and writes the heap at its end.
 ghost use Rattle.std.specs.Prelude.{IfSome};
 ghost use Rattle.command_words.specs.Commands.{options_of};
 ghost use Rattle.play_end.specs.Answers.{AreInRange};

@@ -10,7 +10,7 @@ use load_gen::generate;
 use play_report::Sink;
 use std::alloc::Global;
 
-/// Writes the generated script of this number, with this many lines a warehouse, each line as one piece.
+/// Writes the generated script of this number, with this many lines a warehouse.
 pub fn write_generated<K: Sink>(alloc: Global, number: u32, size: u32, sink: &mut K) -> Status
     requires least { 1 ≤ size }
     requires most { size ≤ 20000 }

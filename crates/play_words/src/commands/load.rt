@@ -36,7 +36,7 @@ fn load_script<R: Threads + Wait + Sync, K: Sink, G: Gate + Sync>(
     }
 }
 
-/// Reads and plays a script of four warehouses. It has no fault, so it is refused only if memory runs out.
+/// Plays a script of four warehouses, which has no fault: it is refused only if memory runs out.
 fn load_bytes<R: Threads + Wait + Sync, K: Sink, G: Gate + Sync>(
     rt: &R,
     alloc: Global,

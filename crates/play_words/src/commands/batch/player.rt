@@ -8,7 +8,7 @@ use std::alloc::Global;
 use std::sync::Wait;
 use std::thread::Threads;
 
-/// Keeps what is written as a text; fails only if memory runs out.
+/// Keeps what is written; fails only if memory runs out.
 #[derive(Drop)]
 struct TextSink {
     text: Text,

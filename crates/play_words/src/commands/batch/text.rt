@@ -7,7 +7,6 @@ use crate::lines::write_lines;
 use job_pool::{BatchError, JobDone};
 use play_report::{Failed, Sink, TextLine, write_all, write_named};
 
-/// The line before a job's text: the job, its status, and how many bytes the text has.
 #[tactic(auto, unfolding(crate::specs::Batching::job_line_text))]
 fn write_job_line<K: Sink>(job: u32, status: u8, bytes: usize, sink: &mut K) -> Result<(), Failed>
     ensures { WritesTo K.written K.faults result sink.old sink.new (job_line_text job status bytes) }
@@ -23,7 +22,6 @@ fn write_job_line<K: Sink>(job: u32, status: u8, bytes: usize, sink: &mut K) -> 
     line.write(sink)
 }
 
-/// A job's line, and the lines of its text.
 fn write_job<K: Sink>(done: &JobDone, sink: &mut K) -> Result<(), Failed>
     ensures { WritesTo K.written K.faults result sink.old sink.new (job_text done.now) }
 {
@@ -34,8 +32,7 @@ fn write_job<K: Sink>(done: &JobDone, sink: &mut K) -> Result<(), Failed>
     }
 }
 
-/// Writes the results of jobs, in the order given. If it fails, the sink's count of faults rose and a prefix was
-/// written.
+/// Writes the results of jobs, in the order given.
 pub fn write_jobs<K: Sink>(done: &[JobDone], sink: &mut K) -> Result<(), Failed>
     ensures { WritesTo K.written K.faults result sink.old sink.new (flat_map job_text done.now) }
 {
@@ -48,7 +45,7 @@ pub fn write_jobs<K: Sink>(done: &[JobDone], sink: &mut K) -> Result<(), Failed>
     Ok(())
 }
 
-/// The text of a batch's fault; out of memory is none.
+/// Writes a batch's fault; out of memory is none.
 pub fn write_batch_fault<K: Sink>(fault: &BatchError, sink: &mut K) -> Result<(), Failed>
     requires { fault.now ≢ BatchError.OutOfMemory }
     ensures { WritesTo K.written K.faults result sink.old sink.new (batch_error_text fault.now) }

@@ -1,26 +1,23 @@
 //! The heap at the end of a play, made ready to be written as a dump.
 //!
-//! [`final_heap`] takes the report and the words of the closed heap, and gives the heap that a dump tells. Its
-//! contract speaks only of the script: `IsFinalHeap` (`specs/Final.antt`) says which heap it is by the plain runs
-//! of the sections, and no script has two such heaps (`one_final_heap`). So the dump is the same whatever the cells
-//! and threads.
+//! Which heap it is, `IsFinalHeap` (`specs/Final.antt`) says by the plain runs of the sections, and no script has two
+//! (`one_final_heap`): so the dump is the same whatever the cells and threads.
 //!
 //! # How it is made
 //!
-//! 1. The report lists the survivors in the order of the dump, and the cell of each. `numbers` makes of this a
-//!    table with a number for each cell: 0, or one more than the number of the record of the object in it.
-//! 2. A word of the heap is 0 or a cell's number and 1, so the table tells each root and each field at once
-//!    (`telling`).
+//! The report lists the survivors in the order of the dump, and the cell of each: so a table has for each cell 0, or
+//! one more than the number of its survivor's record (`numbers`). By it each root and each field is told (`telling`): a
+//! word of the heap is 0, or a cell's number and 1.
 //!
-//! It takes memory for the table (4 bytes a cell), and twice for the records (76 bytes each) and the roots (4 bytes
-//! each), since a heap to be written has copies of its own.
+//! It takes 4 bytes a cell for the table, and twice 76 bytes a record and 4 a root, since a heap to be written has
+//! copies of its own.
 //!
 //! # Why it is the final heap
 //!
-//! The words stand for the plain heaps of all sections, which at the end are the last of the plain runs, apart from
-//! dropped stores. A cell that a root or a field of a reachable cell names is reachable, so its object is a
-//! survivor. Its place in the report is a cell in use with the same identity, and no two cells in use have one
-//! identity: so it is that very cell, and the table has the survivor's number for it.
+//! The words stand for the last of the plain runs, apart from dropped stores. A cell that a root or a field of a
+//! reachable cell names is reachable, so its object is a survivor. Its place in the report is a cell in use with the
+//! same identity, which only one cell in use has: so it is that very cell, and the table has the survivor's number for
+//! it.
 ghost use Rattle.std.specs.Prelude.{◌≡◌, ◌+◌, ◌≤◌, IfOk, length};
 ghost use Rattle.plain_heap.specs.Sections.{section_numbers};
 ghost use Rattle.heap_dump.specs.Final.{HasDump};
@@ -36,7 +33,6 @@ use plain_heap::OutOfMemory;
 use play_report::Report;
 use std::alloc::Global;
 
-/// How many sections there are.
 fn count_sections(script: &Script<'_>) -> u32
     ensures same { result ≡ length (section_numbers script.now.sections) }
     ensures few { result ≤ 33 }
@@ -44,10 +40,8 @@ fn count_sections(script: &Script<'_>) -> u32
     script.warehouses().len() as u32 + 1
 }
 
-/// The heap at the end of a play, from its report and the words of its closed heap: that of the plain runs of the
-/// script, in whatever cells the objects lay.
-///
-/// It takes time linear in the cells and in the fields of the survivors.
+/// The heap at the end of a play, from its report and the words of its closed heap, in time linear in the cells and in
+/// the fields of the survivors.
 pub fn final_heap(
     alloc: Global,
     script: &Script<'_>,

@@ -16,7 +16,7 @@ pub(crate) fn cell_of(report: &Report<'_>, survivor: &Survivor) -> usize
     part.places[survivor.number as usize] as usize
 }
 
-/// By cell: 0, or one more than the number of the survivor in it.
+/// For each cell 0, or one more than the number of the survivor in it.
 pub(crate) fn number_cells(
     alloc: Global,
     report: &Report<'_>,

@@ -34,7 +34,7 @@ pub(crate) fn tell_roots(
     Ok(told)
 }
 
-/// The fields of a cell as references; from the number of fields on they are 0.
+/// The fields of a cell as references, and zeros.
 fn tell_refs(numbers: &[u32], words: &Words, fields: usize, cell: usize) -> [u32; 16]
     requires { HasFields words.now fields (length numbers.now) cell }
     ensures { AreRefs numbers.now words.now fields cell result }
@@ -46,7 +46,6 @@ fn tell_refs(numbers: &[u32], words: &Words, fields: usize, cell: usize) -> [u32
     refs
 }
 
-/// The record of a survivor.
 fn tell_survivor(
     numbers: &[u32],
     report: &Report<'_>,
