@@ -29,9 +29,10 @@ use Rattle.gc_cycle.specs.Sorts.{enters, looks_at_phase, tries_marking}
 use Rattle.gc_cycle.specs.Sorts.{reads_phase as sees_phase}
 use Rattle.gc_cycle.specs.Statistics.{numbers_changed}
 use Rattle.gc_cycle.proofs.Searched.{moment-longer, work-longer}
-use Rattle.gc_cycle.proofs.Stops.Admitted.{never-join}
+use Rattle.gc_cycle.proofs.Ends.Swept.{unless as not-true}
+use Rattle.gc_cycle.proofs.Ends.Finishes.{never-both as never-join}
 use Rattle.gc_play.specs.Turns.{LeavesNumbers, payments, Turn, lead, turns_of, record_after, sees_full, enters_full, is_leave, until_leave, seat_traces_on, seat_traces_where_marking, visits, payment, PaysForPops, IsTracerTurn, AreTurns, AllTurns, HasTakenTurns, ReadsNoParts, WaitsOutside, IsOne, IsOneTurn, SeesPhase, TracesInside, IsVisit}
-use Rattle.gc_play.proofs.TurnCuts.{changes-left, payments-none, kept-head, quiet-turns, quiet-join, quiet-one, not-true, waits-join, visits-none, pays-none, lead-more, turns-more}
+use Rattle.gc_play.proofs.TurnCuts.{changes-left, payments-none, kept-head, quiet-turns, quiet-join, quiet-one, waits-join, visits-none, pays-none, lead-more, turns-more}
 
 -- a read of that number, and what it leads to
 turn-of : (sh : Shape) (s : SeatState) (n : ℕ) (rest : List Entry) → ReadsNoParts rest → turns_of sh s (event (ReadStat done_count) n ∷ rest) ≡ record { found = n; state = seat_after sh s (ReadStat done_count) n; rest = rest } ∷ []
