@@ -1,6 +1,7 @@
 //! Laws of censuses, which hold of every dump.
 ghost use Rattle.dump_census.specs.Surviving.{OneCensus, SurvivorsAreReached};
 
+#[tactic(auto, using(crate::proofs::Found::survivors_reached))]
 /// In the dump of a play's survivors, which refers as the plain heaps do, no record is unreached.
 pub fn survivors_are_reached()
     ensures { SurvivorsAreReached }

@@ -9,6 +9,7 @@ use crate::draws::{Draw, Drawer, Line, Put};
 use crate::reader::Job;
 use std::sync::Wait;
 
+#[tactic(auto, using(crate::proofs::Rule::puts, crate::proofs::Rule::learns_many, crate::proofs::Lining::next_number))]
 /// Puts the jobs in line, in order.
 pub fn put_all<'a, R: Wait>(
     rt: &R,
@@ -30,6 +31,7 @@ pub fn put_all<'a, R: Wait>(
     me
 }
 
+#[tactic(auto, using(crate::proofs::Rule::draws, crate::proofs::Rule::learns))]
 /// Draws a job that nobody has drawn. If none is in line, who has every part knows that all were drawn.
 pub fn draw<'a, R: Wait>(rt: &R, line: &Line<'a>, me: &mut Drawer<'a>) -> Option<Job<'a>>
     requires me { IsPassOf line.now me.old × (0 < (view me.old).parts) }
