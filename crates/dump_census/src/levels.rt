@@ -18,8 +18,8 @@ pub struct Levels {
     pub counts: Vec<u32>,
 }
 
-#[tactic(auto, using(crate::proofs::Leveling::first))]
 /// A search in which the records that variables refer to have level 0.
+#[tactic(auto, using(crate::proofs::Leveling::first))]
 fn first_round(alloc: Global, dump: &Dump<'_>) -> Result<Search, OutOfMemory>
     ensures { IfOk result (λ s. IsLeveling (heap_of_dump dump.now) s []) }
 {
@@ -54,8 +54,8 @@ fn next_round(
     search.reach_from(dump, counts.len() as u32, front.as_slice())
 }
 
-#[tactic(auto, using(crate::proofs::Leveling::levels_found))]
 /// The level of each record, and how many records each level has.
+#[tactic(auto, using(crate::proofs::Leveling::levels_found))]
 pub fn find_levels(alloc: Global, dump: &Dump<'_>) -> Result<Levels, OutOfMemory>
     requires { HasDump (heap_of_dump dump.now) }
     ensures { IfOk result (λ r. AreLevels (heap_of_dump dump.now) r.found.items × (r.counts.items ≡ level_counts r.found.items)) }

@@ -61,8 +61,8 @@ fn write_values<K: Sink>(values: &[ValueCount], sink: &mut K) -> Result<(), Fail
     Ok(())
 }
 
-#[tactic(auto, using(play_report::proofs::Turns::then_writes, play_report::proofs::Turns::stops_writes, play_report::proofs::Turns::same_writes, play_report::proofs::Turns::same_stops))]
 /// The sections and the values.
+#[tactic(auto, using(play_report::proofs::Turns::then_writes, play_report::proofs::Turns::stops_writes, play_report::proofs::Turns::same_writes, play_report::proofs::Turns::same_stops))]
 fn write_counts<K: Sink>(census: &Census, sink: &mut K) -> Result<(), Failed>
     ensures { WritesTo K.written K.faults result sink.old sink.new
         (numbered_texts section_text 0 census.now.sections ++ flat_map value_text census.now.values) }
@@ -96,10 +96,10 @@ fn write_after<K: Sink>(census: &Census, sink: &mut K) -> Result<(), Failed>
     }
 }
 
-#[tactic(auto, using(play_report::proofs::Turns::then_writes, play_report::proofs::Turns::stops_writes, play_report::proofs::Turns::same_writes, play_report::proofs::Turns::same_stops))]
 /// Writes a census: `levels d`, a line `level n count` for each level, `unreached u`, a line `section w count
 /// total` for each section, and a line `value v count` for each value, in order. If it fails, the sink's count of
 /// faults rose and a prefix was written.
+#[tactic(auto, using(play_report::proofs::Turns::then_writes, play_report::proofs::Turns::stops_writes, play_report::proofs::Turns::same_writes, play_report::proofs::Turns::same_stops))]
 pub fn write_census<K: Sink>(census: &Census, sink: &mut K) -> Result<(), Failed>
     ensures { WritesTo K.written K.faults result sink.old sink.new (census_text census.now) }
 {

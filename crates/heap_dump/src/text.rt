@@ -55,9 +55,9 @@ fn write_objects<K: Sink>(dump: &Dump<'_>, sink: &mut K) -> Result<(), Failed>
     Ok(())
 }
 
-#[tactic(auto, using(play_report::proofs::Turns::then_writes, play_report::proofs::Turns::stops_writes, play_report::proofs::Turns::same_writes, play_report::proofs::Turns::same_stops))]
 /// Writes a line `sections S fields F records m`, and for each record a line with its section, its number and its
 /// value. If it fails, the sink's count of faults rose and a prefix was written.
+#[tactic(auto, using(play_report::proofs::Turns::then_writes, play_report::proofs::Turns::stops_writes, play_report::proofs::Turns::same_writes, play_report::proofs::Turns::same_stops))]
 pub fn write_undump<K: Sink>(dump: &Dump<'_>, sink: &mut K) -> Result<(), Failed>
     ensures { WritesTo K.written K.faults result sink.old sink.new (undump_text (heap_of_dump dump.now)) }
 {

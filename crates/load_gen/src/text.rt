@@ -19,8 +19,8 @@ const SECTION_BYTES: usize = 51;
 /// The most bytes that a line of a warehouse has, with its LF.
 const LINE_BYTES: usize = 10;
 
-#[tactic(auto, using(crate::proofs::Steps::next_lines))]
 /// Appends a warehouse of `size` lines.
+#[tactic(auto, using(crate::proofs::Steps::next_lines))]
 fn push_warehouse(text: &mut String, draws: &mut Draws, size: u32) -> Result<(), AllocError>
     ensures text { let state = draws.old.state in
         OnOk result (string_bytes text.new ≡ string_bytes text.old ++ codes "warehouse\n" ++ lines_text size 0 state) }
@@ -33,8 +33,8 @@ fn push_warehouse(text: &mut String, draws: &mut Draws, size: u32) -> Result<(),
     Ok(())
 }
 
-#[tactic(auto, using(crate::proofs::Steps::next_warehouse))]
 /// Appends the four warehouses.
+#[tactic(auto, using(crate::proofs::Steps::next_warehouse))]
 fn push_warehouses(text: &mut String, draws: &mut Draws, size: u32) -> Result<(), AllocError>
     ensures { let state = draws.old.state in
         OnOk result (string_bytes text.new ≡ string_bytes text.old ++ generated_warehouses WAREHOUSES size state) }
@@ -59,10 +59,10 @@ fn text_of(alloc: Global, number: u32, size: u32) -> Result<String, AllocError>
     Ok(text)
 }
 
-#[tactic(auto, using(crate::proofs::Source::generated_source, crate::proofs::Whole::generated_script, crate::proofs::FewObjects::generated_few))]
 /// The text of a script of version 1: four warehouses of `size` lines each, drawn from `number` on.
 ///
 /// It has no fault, and no warehouse ever has more than 55 reachable objects. The text's memory is taken at once.
+#[tactic(auto, using(crate::proofs::Source::generated_source, crate::proofs::Whole::generated_script, crate::proofs::FewObjects::generated_few))]
 pub fn generate(alloc: Global, number: u32, size: u32) -> Result<String, OutOfMemory>
     requires least { 1 ≤ size }
     requires most { size ≤ 20000 }
