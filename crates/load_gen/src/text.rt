@@ -20,7 +20,6 @@ const SECTION_BYTES: usize = 51;
 const LINE_BYTES: usize = 10;
 
 /// Appends a warehouse of `size` lines.
-#[tactic(auto, using(crate::proofs::Steps::next_lines))]
 fn push_warehouse(text: &mut String, draws: &mut Draws, size: u32) -> Result<(), AllocError>
     ensures text { let state = draws.old.state in
         OnOk result (string_bytes text.new ≡ string_bytes text.old ++ codes "warehouse\n" ++ lines_text size 0 state) }
@@ -34,7 +33,6 @@ fn push_warehouse(text: &mut String, draws: &mut Draws, size: u32) -> Result<(),
 }
 
 /// Appends the four warehouses.
-#[tactic(auto, using(crate::proofs::Steps::next_warehouse))]
 fn push_warehouses(text: &mut String, draws: &mut Draws, size: u32) -> Result<(), AllocError>
     ensures { let state = draws.old.state in
         OnOk result (string_bytes text.new ≡ string_bytes text.old ++ generated_warehouses WAREHOUSES size state) }
@@ -62,7 +60,6 @@ fn text_of(alloc: Global, number: u32, size: u32) -> Result<String, AllocError>
 /// The text of a script of version 1: four warehouses of `size` lines each, drawn from `number` on.
 ///
 /// It has no fault, and no warehouse ever has more than 55 reachable objects. The text's memory is taken at once.
-#[tactic(auto, using(crate::proofs::Source::generated_source, crate::proofs::Whole::generated_script, crate::proofs::FewObjects::generated_few))]
 pub fn generate(alloc: Global, number: u32, size: u32) -> Result<String, OutOfMemory>
     requires least { 1 ≤ size }
     requires most { size ≤ 20000 }
