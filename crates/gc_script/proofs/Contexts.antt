@@ -5,6 +5,7 @@ use Rattle.gc_script.specs.Statement.{Statement, Blank, Fields, Catalogue, Wareh
 use Rattle.gc_script.specs.Earlier.{next_line, known_fields, stated_fields}
 use Rattle.gc_script.specs.Faults.{line_fault}
 use Rattle.gc_script.specs.Context.{Context, context_of, context_after, closed_names, placed_in, fault_in, next}
+use Rattle.gc_script.proofs.Clear.{left}
 
 -- the fault of a line, by the context
 pub fault_is : (version : ℕ) (e : List Statement) (s : Statement) → line_fault version (closed_names e) e s ≡ fault_in (context_of version e) s
@@ -30,10 +31,6 @@ stated_now version n o = by_test (version == 1)
     by_test : (b : Bool) → is_none (cond b (Some 4) o) ≡ true → cond b (Some 4) (Some n) ≡ Some n
     by_test true h = cc
     by_test false h = refl
-
-left : (a b : Bool) → (a && b) ≡ true → a ≡ true
-left true b e = refl
-left false b e = e
 
 -- the context after one line more that is well placed
 pub context_step : (version : ℕ) (e : List Statement) (s : Statement) → placed_in (context_of version e) s ≡ true → context_of version (s ∷ e) ≡ context_after (context_of version e) s

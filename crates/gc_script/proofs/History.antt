@@ -1,5 +1,5 @@
 -- What holds of lines without a fault, latest first.
-use Rattle.std.proofs.Common.{◌≡◌, ℕ, zero, suc, List, [], ◌∷◌, ◌++◌, refl, ap, sym, ◌∙◌, cond, Bool, true, false}
+use Rattle.std.proofs.Common.{◌≡◌, ℕ, zero, suc, List, [], ◌∷◌, ◌++◌, refl, ap, sym, ◌∙◌, cond, true}
 use Rattle.std.proofs.lemmas.List.{append-nil, append_assoc}
 use Rattle.std.specs.Prelude.{Option, Some, None, is_none, is_some, ◌&&◌}
 use Rattle.plain_heap.specs.Sections.{Execution}
@@ -9,14 +9,7 @@ use Rattle.gc_script.specs.Earlier.{next_line, place, known_names, open_repeat, 
 use Rattle.gc_script.specs.Script.{repeated, repetitions, pending, executed, execution, operation, label_of, ended_parts}
 use Rattle.gc_script.specs.Context.{context_of, closed_names, IsClear, AreClear, IsCatalogueKnown, execution_in}
 use Rattle.gc_script.specs.Content.{settled, content_of, content_after, close}
-
-left : (a b : Bool) → (a && b) ≡ true → a ≡ true
-left true b e = refl
-left false b e = e
-
-right : (a b : Bool) → (a && b) ≡ true → b ≡ true
-right true b e = e
-right false b e = cc
+use Rattle.gc_script.proofs.Clear.{right, left}
 
 pub none_is : {A : Type 0} (o : Option A) → is_none o ≡ true → o ≡ None
 none_is None e = refl

@@ -18,7 +18,7 @@ use Rattle.gc_script.specs.Shown.{fault_of}
 use Rattle.gc_script.specs.declared.progress.Progress.{Progress}
 use Rattle.gc_script.specs.declared.script.ScriptError.{ScriptError}
 use Rattle.gc_script.proofs.Contexts.{fault_is, context_step, line_more}
-use Rattle.gc_script.proofs.Clear.{sane_step, no_fault}
+use Rattle.gc_script.proofs.Clear.{sane_step, no_fault, right}
 
 -- The names that the catalogue assigns anywhere are those that were known as it ended.
 -- the catalogue's names, by the section that was started last, the names known in it, those of the closed catalogue, and the rest of the lines
@@ -46,10 +46,6 @@ at_command : (o : Option ℕ) (known closed : List (List ℕ)) (s : Spoken) (res
 at_command None known closed s rest = refl
 at_command (Some zero) known closed s rest = refl
 at_command (Some (suc w)) known closed s rest = refl
-
-right : (a b : Bool) → (a && b) ≡ true → b ≡ true
-right true b e = e
-right false b e = cc
 
 -- one line further
 pub names_step : (version : ℕ) (e : List Statement) (s : Statement) (rest : List Statement) → AreClear version e → IsClear (context_of version e) s → names_from e (s ∷ rest) ≡ names_from (s ∷ e) rest

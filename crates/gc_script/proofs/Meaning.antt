@@ -14,6 +14,7 @@ use Rattle.gc_script.specs.Script.{Script, script, of_text, of_lines, of_version
 use Rattle.gc_script.specs.Convert.{Conversion, added_lines, converted_text, if_short, converted, without_lines, KeepsMeaning}
 use Rattle.gc_script.proofs.SameMeaning.{body_same, body_ok, IsScript}
 use Rattle.gc_script.specs.Meaning.{Means}
+use Rattle.gc_script.proofs.Bytes.{none_is}
 
 header_two : header (words (codes "gcscript 2")) ≡ Some 2
 header_two = refl
@@ -98,9 +99,6 @@ parted bytes = by_end (nat_lt (position_or_len (λ (b : ℕ). b == 10) bytes) (l
     by_end : (b : Bool) → nat_lt (position_or_len (λ (b : ℕ). b == 10) bytes) (length bytes) ≡ b → (lines bytes ≡ []) ⊎ ((first : List ℕ) × (lines bytes ≡ first ∷ lines (rest_of bytes)))
     by_end true e = inr (before_first (λ (b : ℕ). b == 10) bytes, with_feed bytes (grind (arith, nat_tests)))
     by_end false e = by_either (without_feed bytes (grind (arith, nat_tests)))
-
-none_is : (k n : ℕ) → cond (nat_lt k n) (Some k) None ≡ None → n ≤ k
-none_is k n e = grind (arith, nat_tests)
 
 none_from : (k n : ℕ) → n ≤ k → cond (nat_lt k n) (Some k) None ≡ None
 none_from k n h = grind (arith, nat_tests)

@@ -13,16 +13,8 @@ use Rattle.gc_script.specs.Earlier.{known_fields, known_names, warehouse_count, 
 use Rattle.gc_script.specs.Script.{repeated, repetitions, pending, executed, execution, ended_parts, parts_of_open_section, if_warehouse, if_catalogue, closed_warehouses, closed_catalogue}
 use Rattle.gc_script.specs.Context.{IsCatalogueKnown, Context, context_of, closed_names, IsClear, AreClear, IsSane, execution_in}
 use Rattle.gc_script.proofs.Contexts.{context_step}
-use Rattle.gc_script.proofs.Clear.{sane_step, in_range}
+use Rattle.gc_script.proofs.Clear.{sane_step, in_range, right, left}
 use Rattle.gc_script.proofs.History.{same_execution}
-
-left : (a b : Bool) → (a && b) ≡ true → a ≡ true
-left true b e = refl
-left false b e = e
-
-right : (a b : Bool) → (a && b) ≡ true → b ≡ true
-right true b e = e
-right false b e = cc
 
 pub first_sane : (version : ℕ) → IsSane (context_of version [])
 first_sane version = record { names = omega arith; catalogue = omega arith; warehouses = omega arith; seasons = omega arith; fields = four (version == 1) }

@@ -1,5 +1,5 @@
 -- The parts and the warehouses of a script without a fault are few.
-use Rattle.std.proofs.Common.{◌≡◌, ℕ, ◌+◌, ◌≤◌, zero, suc, List, [], ◌∷◌, ◌++◌, length, refl, ap, ◌∙◌, Bool, true, false, arith}
+use Rattle.std.proofs.Common.{◌≡◌, ℕ, ◌+◌, ◌≤◌, zero, suc, List, [], ◌∷◌, ◌++◌, length, refl, ap, ◌∙◌, arith}
 use Rattle.std.proofs.lemmas.List.{append-nil, length-append}
 use Rattle.std.proofs.lemmas.List.Elements.{All-nil, All-push, All-same}
 use Rattle.std.specs.Prelude.{Option, Some, None, is_some, unwrap_or, ◌&&◌}
@@ -12,6 +12,7 @@ use Rattle.gc_script.specs.Script.{executed, ended_parts, parts_of_open_section,
 use Rattle.gc_script.specs.Context.{AreClear}
 use Rattle.gc_script.proofs.History.{none_is}
 use Rattle.gc_script.proofs.Ranges.{sane}
+use Rattle.gc_script.proofs.Clear.{right}
 
 ended_count : (catalogue : List (List ℕ)) (e : List Statement) → length (ended_parts catalogue e) ≡ season_count e
 ended_count catalogue [] = refl
@@ -85,10 +86,6 @@ open_one_is : (o : Option ℕ) (parts : List (List Execution)) → length (if_wa
 open_one_is None parts = refl
 open_one_is (Some zero) parts = refl
 open_one_is (Some (suc w)) parts = refl
-
-right : (a b : Bool) → (a && b) ≡ true → b ≡ true
-right true b e = e
-right false b e = cc
 
 late : (n : ℕ) → open_one (Some (n + 1)) ≡ 1
 late n = ap (λ (k : ℕ). open_one (Some k)) (Rattle.std.proofs.Common.add-one n)

@@ -1,5 +1,5 @@
 -- Lines of version 1, with the line `fields 4` of version 2 before them: what stands after it, one line further on.
-use Rattle.std.proofs.Common.{◌≡◌, ℕ, ◌+◌, ◌*◌, List, [], ◌∷◌, ◌++◌, refl, ap, sym, ◌∙◌, subst, cond, Bool, true, false, arith}
+use Rattle.std.proofs.Common.{◌≡◌, ℕ, ◌+◌, ◌*◌, List, [], ◌∷◌, ◌++◌, refl, ap, sym, ◌∙◌, subst, cond, Bool, true, arith}
 use Rattle.std.proofs.lemmas.List.{length-append}
 use Rattle.std.specs.Prelude.{Option, Some, None, is_some, is_none, ◌&&◌, ◌==◌}
 use Rattle.gc_script.specs.Statement.{Spoken, Statement, Blank, Fields, Catalogue, Warehouse, Season, Repeat, End, Command, Wrong}
@@ -7,7 +7,7 @@ use Rattle.gc_script.specs.Earlier.{next_line, assigns, with_name, stated_fields
 use Rattle.gc_script.specs.Faults.{Fault, BadHeader, unless_, left_open, line_fault, or_later, first_fault}
 use Rattle.gc_script.specs.Script.{repetitions, one_if, pending_count, executed_count, turned}
 use Rattle.gc_script.specs.Context.{Context, context_of, fault_in, IsClear}
-use Rattle.gc_script.proofs.Clear.{is_clear, no_fault}
+use Rattle.gc_script.proofs.Clear.{is_clear, no_fault, left}
 
 abbrev pub after_fields : List Statement → List Statement
 after_fields e = e ++ Fields 4 ∷ []
@@ -106,10 +106,6 @@ fault_with version catalogue e (Repeat n) = refl
 fault_with version catalogue e End = refl
 fault_with version catalogue e (Command spoken) = refl
 fault_with version catalogue e Wrong = refl
-
-left : (a b : Bool) → (a && b) ≡ true → a ≡ true
-left true b e = refl
-left false b e = e
 
 -- a context of version 1 as one of version 2
 abbrev moved : Context → Context

@@ -14,10 +14,7 @@ use Rattle.gc_script.specs.Context.{AreClear}
 use Rattle.gc_script.specs.Sectioned.{in_parts, in_sections}
 use Rattle.gc_script.proofs.Sectioning.{count_by-append, count_repeated}
 use Rattle.gc_script.proofs.History.{bare, none_is}
-
-right : (a b : Bool) → (a && b) ≡ true → b ≡ true
-right true b e = e
-right false b e = cc
+use Rattle.gc_script.proofs.Clear.{right}
 
 -- no section, or the catalogue, is open
 abbrev pub IsEarly : Option ℕ → Type 0

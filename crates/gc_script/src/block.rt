@@ -90,8 +90,8 @@ fn count_in_blocks(kind: Kind, blocks: &[Block<'_>]) -> u64
     count
 }
 
-#[tactic(auto, using(crate::proofs::Sectioning::count_more, std::proofs::lemmas::List::take_all, crate::proofs::Sectioning::joined_map))]
 /// How many commands of a kind are executed, at most the greatest number.
+#[tactic(auto, using(crate::proofs::Sectioning::count_more, std::proofs::lemmas::List::take_all, crate::proofs::Sectioning::joined_map))]
 pub fn count_in_parts(kind: Kind, parts: &[Part<'_>]) -> u64
     ensures { result ≡ min (count_by (counts kind) (joined (map part_shown parts.now))) u64.MAX }
 {

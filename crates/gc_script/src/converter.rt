@@ -23,8 +23,8 @@ fn first_line_feed(source: &[u8]) -> Option<usize>
     source.iter().position(|b| *b == b'\n')
 }
 
-#[tactic(auto, using(crate::proofs::Clear::end_by_position))]
 /// Where the first line ends, or the source does.
+#[tactic(auto, using(crate::proofs::Clear::end_by_position))]
 fn line_end(source: &[u8]) -> usize
     ensures end { result ≡ position_or_len (λ b. b == 10) source.now }
     ensures within { result ≤ length source.now }
@@ -84,8 +84,8 @@ fn conversion<'a>(version: u32, source: &'a [u8]) -> Converted<'a>
     }
 }
 
-#[tactic(auto, using(crate::proofs::Meaning::keeps_meaning))]
 /// A law: a conversion has the fields and sections of its source, apart from line numbers.
+#[tactic(auto, using(crate::proofs::Meaning::keeps_meaning))]
 pub fn keeps_meaning()
     ensures { KeepsMeaning }
 {}

@@ -20,8 +20,8 @@ fn are_allowed(source: &[u8]) -> bool
     allowed
 }
 
-#[tactic(auto, using(crate::proofs::Bytes::none_foreign))]
 /// The offset of the first byte that is neither a line feed nor from 32 to 126, if any.
+#[tactic(auto, using(crate::proofs::Bytes::none_foreign))]
 pub fn first_foreign(source: &[u8]) -> Option<usize>
     ensures first { result ≡ first_foreign source.now }
     ensures within { IfSome result (λ offset. offset < length source.now) }
@@ -32,8 +32,8 @@ pub fn first_foreign(source: &[u8]) -> Option<usize>
     source.iter().position(|b| !is_allowed(*b))
 }
 
-#[tactic(auto, using(crate::proofs::Bytes::is_text))]
 /// The bytes of a source without a foreign byte, as a text, not copied.
+#[tactic(auto, using(crate::proofs::Bytes::is_text))]
 pub fn text_of<'a>(source: &'a [u8]) -> &'a str
     requires { first_foreign source.now ≡ None }
     ensures { result.now ≡ source.now }

@@ -1,14 +1,16 @@
 -- The text has only bytes of a script, and is short enough for one.
-use Rattle.std.proofs.Common.{◌≡◌, ℕ, ◌+◌, ◌*◌, ◌/◌, ◌%◌, ◌^◌, ◌<◌, ◌≤◌, zero, suc, List, [], ◌∷◌, ◌++◌, length, refl, sym, ◌∙◌, subst, cond, Bool, true, false, arith, codes, decimal, length-append}
+use Rattle.std.proofs.Common.{◌≡◌, ℕ, ◌+◌, ◌*◌, ◌/◌, ◌%◌, ◌^◌, ◌<◌, ◌≤◌, zero, suc, List, ◌∷◌, ◌++◌, length, refl, sym, ◌∙◌, subst, cond, Bool, true, false, arith, codes, decimal, length-append}
 use Rattle.std.proofs.lemmas.Bool.Decides.{nat_tests}
 use Rattle.std.proofs.lemmas.Fmt.{decimal_digit, length-decimal-le}
 use Rattle.std.proofs.lemmas.List.Folds.{list_all-append}
 use Rattle.std.specs.Prelude.{not, ◌&&◌, ◌==◌, nat_lt, Some, None}
-use Rattle.std.specs.List.{list_all, position_or_len}
-use Rattle.gc_script.specs.ScriptText.{is_allowed, first_foreign}
-use Rattle.load_gen.proofs.Cut.{both, and_true, is_printed, all_pass, decimal_printed, letter_printed}
+use Rattle.std.specs.List.{list_all}
+use Rattle.gc_script.specs.ScriptText.{is_allowed}
+use Rattle.gc_script.proofs.Bytes.{all_pass as all_end, none_foreign as no_foreign}
+use Rattle.load_gen.proofs.Cut.{and_true, is_printed, all_pass, decimal_printed, letter_printed}
 use Rattle.load_gen.specs.Generated.{letter, draw_of, drawn_text, state_after_line, generated_line, lines_text, last_state, generated_warehouses, generated}
 use Rattle.load_gen.proofs.LineText.{by_test, chosen, below}
+use Rattle.plain_heap.proofs.Found.{both}
 
 -- the text of a line, without its LF
 pub record IsShort (text : List ℕ) : Type 0 where
@@ -109,19 +111,5 @@ generated_source number size h =
     let head : IsSource (codes "gcscript 1\n") 11 = record { allowed = refl; short = omega arith } in
     joined (codes "gcscript 1\n") (generated_warehouses 4 size number) 11 800040 800051 (omega arith) head (warehouses_source 4 size number h)
 
--- no byte is foreign
-all_end : (bs : List ℕ) → list_all is_allowed bs ≡ true → position_or_len (λ (b : ℕ). not (is_allowed b)) bs ≡ length bs
-all_end [] h = refl
-all_end (b ∷ bs) h =
-    let p = both (is_allowed b) (list_all is_allowed bs) h in
-    by_head (is_allowed b) _ (length bs) p.0 (all_end bs p.1)
-  where
-    by_head : (t : Bool) (k n : ℕ) → t ≡ true → k ≡ n → cond (not (not t)) (1 + k) 0 ≡ suc n
-    by_head true k n e l = omega arith
-    by_head false k n e l = cc
-
 none_from : (k n : ℕ) → k ≡ n → cond (nat_lt k n) (Some k) None ≡ None
 none_from k n e = grind (arith, nat_tests)
-
-pub no_foreign : (bs : List ℕ) → list_all is_allowed bs ≡ true → first_foreign bs ≡ None
-no_foreign bs h = none_from _ _ (all_end bs h)

@@ -16,9 +16,10 @@ use Rattle.load_gen.proofs.Known.{Knows, few_names, knows_none}
 use Rattle.load_gen.proofs.LineText.{MayStand, IsLine, line_is}
 use Rattle.load_gen.proofs.Blocks.{IsStep, AreSteps, AreBlocks, steps_push}
 use Rattle.gc_script.specs.ScriptText.{first_foreign, words}
+use Rattle.gc_script.proofs.Bytes.{none_foreign as no_foreign}
 use Rattle.load_gen.specs.Generated.{state_after_line, generated_line, lines_text, last_state, generated_warehouses, generated}
 use Rattle.load_gen.specs.FourWarehouses.{HasFourWarehouses}
-use Rattle.load_gen.proofs.Source.{line_no_end, IsSource, generated_source, no_foreign}
+use Rattle.load_gen.proofs.Source.{line_no_end, IsSource, generated_source}
 
 -- What the lines so far make, latest first, between two warehouses and inside one.
 -- how many commands each part of each warehouse has

@@ -1,4 +1,4 @@
-use Rattle.std.proofs.Common.{◌≡◌, ℕ, ◌<◌, zero, suc, length, refl, ap, ◌∙◌, Bool, true, false, arith, min, sym, subst}
+use Rattle.std.proofs.Common.{◌≡◌, ℕ, ◌<◌, zero, suc, length, refl, ap, ◌∙◌, Bool, false, arith, min, sym, subst}
 use Rattle.std.proofs.lemmas.Bool.Decides.{nat_tests}
 use Rattle.std.specs.Prelude.{not, nat_le, nat_lt, Option, Some, None, ◌==◌, ◌||◌, ◌&&◌, unwrap_or, is_none, Result, Ok, Err, OnOk, OnErr}
 use Rattle.gc_script.specs.Statement.{Spoken, NewOf, LetOf, NilOf, SetOf, GetOf, CatOf, PutOf, SayOf, SumOf, CollectOf, Statement, Blank, Fields, Catalogue, Warehouse, Season, Repeat, End, Command, Wrong}
@@ -12,7 +12,7 @@ use Rattle.gc_script.specs.Shown.{fault_of}
 use Rattle.gc_script.specs.Reading.{is_told, TellsFault, LineAnswers}
 use Rattle.gc_script.specs.declared.progress.Progress.{Progress}
 use Rattle.gc_script.specs.declared.script.ScriptError.{ScriptError}
-use Rattle.gc_script.proofs.Clear.{is_clear}
+use Rattle.gc_script.proofs.Clear.{is_clear, or_left, or_right}
 use Rattle.gc_script.specs.declared.script.ScriptError.TheVariants as errors
 use Rattle.gc_script.proofs.progress.Progress.follow.Goals as goal
 
@@ -31,14 +31,6 @@ cap_small b n h e = grind (arith, nat_tests)
 
 cap_within : (b n : ℕ) → b < 4294967296 → nat_le b n ≡ false → min n 4294967296 ≡ n
 cap_within b n h e = grind (arith, nat_tests)
-
-or_left : (a b : Bool) → (a || b) ≡ false → a ≡ false
-or_left true b e = e
-or_left false b e = refl
-
-or_right : (a b : Bool) → (a || b) ≡ false → b ≡ false
-or_right true b e = cc
-or_right false b e = e
 
 large_command : (fields : ℕ) (s : Spoken) → fields < 4294967296 → is_too_large fields (capped_command s) ≡ is_too_large fields s
 large_command fields (NewOf v n) h = cap_above 4294967295 n (omega arith)
