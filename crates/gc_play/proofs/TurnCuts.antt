@@ -15,7 +15,8 @@ use Rattle.packet_pools.specs.Seeking.{some_event}
 use Rattle.tracer.specs.Tally.{pops}
 use Rattle.gc_cycle.specs.Sorts.{enters, enters_freely}
 use Rattle.gc_cycle.specs.Statistics.{changing_step, numbers_changed}
-use Rattle.gc_cycle.proofs.Stops.Admitted.{never-join}
+use Rattle.gc_cycle.proofs.Ends.Swept.{unless as not-true}
+use Rattle.gc_cycle.proofs.Ends.Finishes.{never-both as never-join}
 use Rattle.gc_play.specs.Turns.{Turn, leaves_done, is_read_of_done, lead, turns_of, record_after, each_visit, EachPays, ReadsNoParts, WaitsOutside, payment, payments, until_leave}
 
 tail : List Entry → List Entry
@@ -46,10 +47,6 @@ quiet-join xs ys a b = quiet-lead xs ys a ∙ ap (λ l. xs ++ l) b
 
 pub quiet-one : (step : Step) (n : ℕ) → is_read_of_done step ≡ false → ReadsNoParts (event step n ∷ [])
 quiet-one step n e = ap (λ (b : Bool). cond b [] (event step n ∷ [])) e
-
-pub not-true : (b : Bool) → not b ≡ true → b ≡ false
-not-true true e = sym e
-not-true false e = refl
 
 -- events that read no number of parts
 pub quiet-only : (es : List Entry) → IsTrue (all_steps leaves_done es) → ReadsNoParts es

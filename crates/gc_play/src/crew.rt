@@ -1,4 +1,5 @@
 ghost use Rattle.std.specs.Prelude.{◌≡◌, ◌+◌, ◌<◌, ◌≤◌, [], All, false, IfOk, OnOk, length, vec_len};
+ghost use Rattle.gc_table.specs.Seats.{state_of};
 ghost use Rattle.gc_play.specs.Crews.{CatalogueAt, IsCrew, IsNewSeatOfPlay, Numbered};
 ghost use Rattle.gc_play.specs.Dealing.{EachOne, IsDealt, StandsAt};
 
@@ -25,12 +26,10 @@ pub(crate) struct Crew<'a> {
 
 fn make_catalogue<'a>(
     alloc: Global,
-    _heap: &Heap,
     script: &Script<'a>,
     seat: HeapSeat,
 ) -> Result<Catalogue<'a>, OutOfMemory>
-    requires { IsNewSeatOfPlay _heap.now script.now.sections 0 seat }
-    ensures { IfOk result (CatalogueAt _heap.now script.now.sections 0 0) }
+    ensures { (heap : Heap) → IsNewSeatOfPlay heap script.now.sections 0 seat → IfOk result (CatalogueAt heap script.now.sections 0 0) }
 {
     match script.catalogue() {
         None => Ok(Catalogue::Absent(seat)),
@@ -61,7 +60,6 @@ fn hire<'a>(alloc: Global, workers: u32) -> Result<Vec<Worker<'a>>, OutOfMemory>
 /// Gives warehouse `at`, counted from 0, to the worker whose turn it is.
 fn deal_one<'a>(
     alloc: Global,
-    _heap: &Heap,
     script: &Script<'a>,
     workers: &mut Vec<Worker<'a>>,
     at: usize,
@@ -69,12 +67,12 @@ fn deal_one<'a>(
 ) -> Result<(), OutOfMemory>
     requires some { 0 < vec_len workers.old }
     requires at { at < length script.now.sections.warehouses }
-    requires seat { IsNewSeatOfPlay _heap.now script.now.sections (at + 1) seat }
+    requires number { (state_of seat).number ≡ at + 1 }
     requires dealt { IsDealt (vec_len workers.old) at workers.old.items }
-    requires played { EachOne (StandsAt _heap.now script.now.sections 0) workers.old.items }
     requires going { All (λ x. x.full ≡ false) workers.old.items }
     ensures dealt { OnOk result (IsDealt (vec_len workers.old) (at + 1) workers.new.items) }
-    ensures played { OnOk result (EachOne (StandsAt _heap.now script.now.sections 0) workers.new.items) }
+    ensures played { (heap : Heap) → IsNewSeatOfPlay heap script.now.sections (at + 1) seat → EachOne (StandsAt heap script.now.sections 0) workers.old.items
+        → OnOk result (EachOne (StandsAt heap script.now.sections 0) workers.new.items) }
     ensures going { OnOk result (All (λ x. x.full ≡ false) workers.new.items) }
 {
     let turn = at % workers.len();
@@ -100,7 +98,8 @@ fn deal<'a>(
     requires going { All (λ x. x.full ≡ false) workers.old.items }
     requires seats { Numbered (IsNewSeatOfPlay heap.now script.now.sections) 1 seats.old.items }
     requires enough { length script.now.sections.warehouses ≤ vec_len seats.old }
-    ensures dealt { OnOk result (IsDealt (vec_len workers.old) (length script.now.sections.warehouses) workers.new.items) }
+    ensures some { OnOk result (0 < vec_len workers.new) }
+    ensures dealt { OnOk result (IsDealt (vec_len workers.new) (length script.now.sections.warehouses) workers.new.items) }
     ensures played { OnOk result (EachOne (StandsAt heap.now script.now.sections 0) workers.new.items) }
     ensures going { OnOk result (All (λ x. x.full ≡ false) workers.new.items) }
     ensures seats { OnOk result (Numbered (IsNewSeatOfPlay heap.now script.now.sections) (1 + length script.now.sections.warehouses) seats.new.items) }
@@ -108,7 +107,7 @@ fn deal<'a>(
 {
     for at in 0..script.warehouses().len() {
         let seat = seats.remove(0);
-        match deal_one(alloc, heap, script, workers, at, seat) {
+        match deal_one(alloc, script, workers, at, seat) {
             Ok(()) => {}
             Err(e) => return Err(e),
         }
@@ -127,11 +126,11 @@ pub(crate) fn muster<'a>(
     requires some { 1 ≤ workers }
     requires seats { Numbered (IsNewSeatOfPlay heap.now script.now.sections) 0 seats.items }
     requires enough { 1 + length script.now.sections.warehouses ≤ vec_len seats }
-    ensures crew { IfOk result (IsCrew heap.now script.now.sections workers 0 0) }
+    ensures crew { IfOk result (IsCrew heap.now script.now.sections 0 0) }
     ensures tracers { IfOk result (λ c. vec_len c.tracers + (1 + length script.now.sections.warehouses) ≡ vec_len seats) }
     ensures new { IfOk result (λ c. Numbered (IsNewSeatOfPlay heap.now script.now.sections) (1 + length script.now.sections.warehouses) c.tracers.items) }
 {
-    let catalogue = match make_catalogue(alloc, heap, script, seats.remove(0)) {
+    let catalogue = match make_catalogue(alloc, script, seats.remove(0)) {
         Ok(catalogue) => catalogue,
         Err(e) => return Err(e),
     };
