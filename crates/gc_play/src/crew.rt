@@ -1,5 +1,4 @@
 ghost use Rattle.std.specs.Prelude.{◌≡◌, ◌+◌, ◌<◌, ◌≤◌, [], All, false, IfOk, OnOk, length, vec_len};
-ghost use Rattle.gc_table.specs.Seats.{state_of};
 ghost use Rattle.gc_play.specs.Crews.{CatalogueAt, IsCrew, IsNewSeatOfPlay, Numbered};
 ghost use Rattle.gc_play.specs.Dealing.{EachOne, IsDealt, StandsAt};
 
@@ -60,6 +59,7 @@ fn hire<'a>(alloc: Global, workers: u32) -> Result<Vec<Worker<'a>>, OutOfMemory>
 /// Gives warehouse `at`, counted from 0, to the worker whose turn it is.
 fn deal_one<'a>(
     alloc: Global,
+    _heap: &Heap,
     script: &Script<'a>,
     workers: &mut Vec<Worker<'a>>,
     at: usize,
@@ -67,12 +67,12 @@ fn deal_one<'a>(
 ) -> Result<(), OutOfMemory>
     requires some { 0 < vec_len workers.old }
     requires at { at < length script.now.sections.warehouses }
-    requires number { (state_of seat).number ≡ at + 1 }
+    requires seat { IsNewSeatOfPlay _heap.now script.now.sections (at + 1) seat }
     requires dealt { IsDealt (vec_len workers.old) at workers.old.items }
+    requires played { EachOne (StandsAt _heap.now script.now.sections 0) workers.old.items }
     requires going { All (λ x. x.full ≡ false) workers.old.items }
     ensures dealt { OnOk result (IsDealt (vec_len workers.old) (at + 1) workers.new.items) }
-    ensures played { (heap : Heap) → IsNewSeatOfPlay heap script.now.sections (at + 1) seat → EachOne (StandsAt heap script.now.sections 0) workers.old.items
-        → OnOk result (EachOne (StandsAt heap script.now.sections 0) workers.new.items) }
+    ensures played { OnOk result (EachOne (StandsAt _heap.now script.now.sections 0) workers.new.items) }
     ensures going { OnOk result (All (λ x. x.full ≡ false) workers.new.items) }
 {
     let turn = at % workers.len();
@@ -107,7 +107,7 @@ fn deal<'a>(
 {
     for at in 0..script.warehouses().len() {
         let seat = seats.remove(0);
-        match deal_one(alloc, script, workers, at, seat) {
+        match deal_one(alloc, heap, script, workers, at, seat) {
             Ok(()) => {}
             Err(e) => return Err(e),
         }

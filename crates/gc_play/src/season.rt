@@ -63,7 +63,6 @@ fn run_threads<'a, R: Threads + Wait + Sync, G: Gate + Sync>(
     );
 }
 
-#[tactic(auto, using(crate::proofs::SeasonTurns::turn_full))]
 fn play_turn<'a, R: Threads + Wait + Sync, G: Gate + Sync>(
     rt: &R,
     heap: &Heap,

@@ -3,12 +3,12 @@ use Rattle.gc_play.proofs.Catalogues.{may-move, starts-after, turned}
 use Rattle.gc_play.proofs.season.begin_season.Goals as goal
 
 pub next_turn-requires-clause-seat : goal.next_turn-requires-clause-seat
-next_turn-requires-clause-seat g c =
+next_turn-requires-clause-seat g c κs within =
     let z = c.args.season - 1 in
     (may-move c.args.heap.now c.args.script.now.sections z (2 * z - 1) c.args.catalogue.now (omega (arith, c.if-season-gt1.true)) (omega (arith, c.requires.season.1)) (inr refl) c.requires.before).0
 
 pub next_turn-requires-clause-turn : goal.next_turn-requires-clause-turn
-next_turn-requires-clause-turn g c =
+next_turn-requires-clause-turn g c κs within =
     let z = c.args.season - 1 in
     (may-move c.args.heap.now c.args.script.now.sections z (2 * z - 1) c.args.catalogue.now (omega (arith, c.if-season-gt1.true)) (omega (arith, c.requires.season.1)) (inr refl) c.requires.before).1
 

@@ -6,7 +6,7 @@ use Rattle.gc_play.proofs.SeasonTurns.{turn-ended}
 use Rattle.gc_play.proofs.season.play_season.Goals as goal
 
 pub next_turn-requires-clause-seat : goal.next_turn-requires-clause-seat
-next_turn-requires-clause-seat g c =
+next_turn-requires-clause-seat g c κs within =
     let h = c.args.heap.now in
     let s = c.args.script.now.sections in
     let z = c.args.season in
@@ -15,7 +15,7 @@ next_turn-requires-clause-seat g c =
     (may-move h s z (2 * z - 2) before (omega (arith, c.requires.season.0)) (omega (arith, c.requires.season.1)) (inl refl) at).0
 
 pub next_turn-requires-clause-turn : goal.next_turn-requires-clause-turn
-next_turn-requires-clause-turn g c =
+next_turn-requires-clause-turn g c κs within =
     let h = c.args.heap.now in
     let s = c.args.script.now.sections in
     let z = c.args.season in
