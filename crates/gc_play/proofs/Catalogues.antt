@@ -117,7 +117,7 @@ module _ (h : Heap) (s : Sections) (z : ℕ) where
   player-left m n kept l q = subst (PlayedTo h s 0 z) (sym kept) (seated-in m n.seat l q)
 
   -- a stop between two turns
-  pub turned-playing : (r : Played) (moved : ℕ) (m n : Mutator) → n ≡ record m { seat = n.seat } → Leaves h m.seat n.seat → Turns r (view_of m.seat) (view_of n.seat) → CatalogueAt h s z moved (Playing m) → TurnMoves r h s z moved (Playing n)
+  turned-playing : (r : Played) (moved : ℕ) (m n : Mutator) → n ≡ record m { seat = n.seat } → Leaves h m.seat n.seat → Turns r (view_of m.seat) (view_of n.seat) → CatalogueAt h s z moved (Playing m) → TurnMoves r h s z moved (Playing n)
   turned-playing Done moved m n kept l t e =
       let q = player-left m n kept l e.goes_on.1 in
       record { seated = q.seated; played = q.after.played; moved_is = t.2 ∙ ap (λ k. k + 1) e.moved_is; goes_on = (e.goes_on.0, q) }
@@ -125,7 +125,7 @@ module _ (h : Heap) (s : Sections) (z : ℕ) where
       let q = player-left m n kept l e.goes_on.1 in
       (record { seated = q.seated; played = q.after.played }, t.3)
 
-  pub turned-absent : (r : Played) (moved : ℕ) (x y : HeapSeat) → Leaves h x y → Turns r (view_of x) (view_of y) → CatalogueAt h s z moved (Absent x) → TurnMoves r h s z moved (Absent y)
+  turned-absent : (r : Played) (moved : ℕ) (x y : HeapSeat) → Leaves h x y → Turns r (view_of x) (view_of y) → CatalogueAt h s z moved (Absent x) → TurnMoves r h s z moved (Absent y)
   turned-absent Done moved x y l t e = record {
     seated = left-seated x y l e.seated;
     played = left-played z x y l e.played;
@@ -134,6 +134,10 @@ module _ (h : Heap) (s : Sections) (z : ℕ) where
   }
   turned-absent Full moved x y l t e = (record { seated = left-seated x y l e.seated; played = left-played z x y l e.played }, t.3)
 
+  pub turned : (r : Played) (moved : ℕ) (c d : Catalogue) → LeavesCatalogue h c d → Turns r (view_of (seat_in c)) (view_of (seat_in d)) → CatalogueAt h s z moved c → TurnMoves r h s z moved d
+  turned r moved (Playing m) d l t e = subst (λ (b : Catalogue). TurnMoves r h s z moved b) (sym l.kept) (turned-playing r moved m (record m { seat = seat_in d }) refl (record { seat = l.seat; keeps = l.keeps }) t e)
+  turned r moved (Absent x) d l t e = subst (λ (b : Catalogue). TurnMoves r h s z moved b) (sym l.kept) (turned-absent r moved x (seat_in d) (record { seat = l.seat; keeps = l.keeps }) t e)
+
   odd : (n : ℕ) → 0 < z → n ≡ 2 * z - 1 → IsTrue (n % 2 == 1)
   odd n season e = eq-true (n % 2) 1 (omega (arith, season, e))
     where
@@ -141,7 +145,7 @@ module _ (h : Heap) (s : Sections) (z : ℕ) where
       eq-true a b q = grind (arith, q)
 
   -- the last stop
-  pub settled-playing : (r : Played) (m n : Mutator) → 0 < z → n ≡ record m { seat = n.seat } → Leaves h m.seat n.seat → Settles r (view_of m.seat) (view_of n.seat) → CatalogueAt h s z (2 * z - 1) (Playing m) → CatalogueSettles r h s z (Playing n)
+  settled-playing : (r : Played) (m n : Mutator) → 0 < z → n ≡ record m { seat = n.seat } → Leaves h m.seat n.seat → Settles r (view_of m.seat) (view_of n.seat) → CatalogueAt h s z (2 * z - 1) (Playing m) → CatalogueSettles r h s z (Playing n)
   settled-playing Done m n season kept l t e =
       let q = player-left m n kept l e.goes_on.1 in (
         record { seated = q.seated; played = q.after.played; moved_is = t.0 ∙ omega (arith, e.moved_is, season); goes_on = (e.goes_on.0, q) },
@@ -151,7 +155,7 @@ module _ (h : Heap) (s : Sections) (z : ℕ) where
       let q = player-left m n kept l e.goes_on.1 in
       (record { seated = q.seated; played = q.after.played }, t)
 
-  pub settled-absent : (r : Played) (x y : HeapSeat) → 0 < z → Leaves h x y → Settles r (view_of x) (view_of y) → CatalogueAt h s z (2 * z - 1) (Absent x) → CatalogueSettles r h s z (Absent y)
+  settled-absent : (r : Played) (x y : HeapSeat) → 0 < z → Leaves h x y → Settles r (view_of x) (view_of y) → CatalogueAt h s z (2 * z - 1) (Absent x) → CatalogueSettles r h s z (Absent y)
   settled-absent Done x y season l t e = (
     record {
       seated = left-seated x y l e.seated;
@@ -185,6 +189,16 @@ module _ (h : Heap) (s : Sections) (z : ℕ) where
               turn;
         },
       )
+
+-- a part that was played to its end
+pub part-ended : (r : Played) (h : Heap) (s : Sections) (z moved : ℕ) (c : Catalogue) → (r ≡ Full → ⊥) → CatalogueEnds r h s z moved c → CatalogueAt h s z moved c
+part-ended Done h s z moved c n e = e
+part-ended Full h s z moved c n e = absurd (n refl)
+
+-- and a stop that moved the season on
+pub turn-moved : (r : Played) (h : Heap) (s : Sections) (z moved : ℕ) (c : Catalogue) → (r ≡ Full → ⊥) → TurnMoves r h s z moved c → CatalogueAt h s z (moved + 1) c
+turn-moved Done h s z moved c n e = e
+turn-moved Full h s z moved c n e = absurd (n refl)
 
 -- the next season begins
 pub starts-after : (r : Played) (h : Heap) (s : Sections) (z moved : ℕ) (c : Catalogue) → 1 < z → moved ≡ 2 * z - 3 → TurnMoves r h s (z - 1) moved c → CatalogueStarts r h s z c

@@ -2,15 +2,13 @@
 use Rattle.std.proofs.Common.{◌≡◌, ℕ, List, refl, sym, subst}
 use Rattle.std.specs.Prelude.{Option, Some, None, Result}
 use Rattle.gc_script.specs.Faults.{Fault}
-use Rattle.gc_script.specs.Script.{Script}
 use Rattle.gc_script.specs.Shown.{fault_of}
 use Rattle.gc_script.specs.Finished.{is_refused}
 use Rattle.gc_script.specs.declared.script.ScriptError.{ScriptError}
 use Rattle.gc_script.specs.declared.script.ScriptError.TheVariants as errors
 use Rattle.play_report.specs.Text.{error_text, text_of_fault}
-use Rattle.gc_play.specs.RunAnswers.{RunAnswersTo}
 use Rattle.gc_play.specs.Ending.{IsFaultAnswer}
-use Rattle.command_words.specs.Words.{Options}
+use Rattle.gc_play.specs.Promise.{OfRead}
 
 is_fault : (e : ScriptError) → (e ≡ errors.OutOfMemory → ⊥) → fault_of e ≡ None → ⊥
 is_fault errors.OutOfMemory memory e = memory refl
@@ -36,7 +34,7 @@ told (Some fault) some = (refl, refl)
 pub fault_told : (e : ScriptError) → (e ≡ errors.OutOfMemory → ⊥) → IsFaultAnswer (fault_of e) 2 (error_text e)
 fault_told e memory = told (fault_of e) (is_fault e memory)
 
--- the text of a fault answers `run`
-pub run_fault : (o : Options) (fault : Option Fault) (r : Result Script Fault) → is_refused fault r → (status : ℕ) (text : List ℕ) → IsFaultAnswer fault status text → RunAnswersTo o r status text
-run_fault o None r h status text a = absurd a
-run_fault o (Some fault) r h status text a = subst (λ (x : Result Script Fault). RunAnswersTo o x status text) (sym h) a
+-- the text of a fault answers what has it
+pub fault_answers : {X : Type 0} (Answers : X → ℕ → List ℕ → Type 0) (fault : Option Fault) (r : Result X Fault) → is_refused fault r → (status : ℕ) (text : List ℕ) → IsFaultAnswer fault status text → OfRead Answers r status text
+fault_answers Answers None r h status text a = absurd a
+fault_answers {X = X} Answers (Some fault) r h status text a = subst (λ (x : Result X Fault). OfRead Answers x status text) (sym h) a

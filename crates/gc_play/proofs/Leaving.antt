@@ -70,22 +70,22 @@ warehouse-says Done h s z w m x p same said places dropped num e =
 warehouse-says First h s z w m x p same said places dropped num e = tt
 warehouse-says Later h s z w m x p same said places dropped num e = tt
 
-crew-seated : (r : Ended) (h : Heap) (s : Sections) (n z : ℕ) (c : Crew) → PlayEnds r h s n z c → IsSeated h s 0 (seat_in c.catalogue)
-crew-seated Done h s n z c e = e.0.catalogue.seated
-crew-seated First h s n z c e = e.catalogue.seated
-crew-seated Later h s n z c e = e.catalogue.seated
+crew-seated : (r : Ended) (h : Heap) (s : Sections) (z : ℕ) (c : Crew) → PlayEnds r h s z c → IsSeated h s 0 (seat_in c.catalogue)
+crew-seated Done h s z c e = e.0.catalogue.seated
+crew-seated First h s z c e = e.catalogue.seated
+crew-seated Later h s z c e = e.catalogue.seated
 
-crew-came : (r : Ended) (h : Heap) (s : Sections) (n z : ℕ) (c : Crew) → PlayEnds r h s n z c → CameIn r s z 0 (own_of c.catalogue)
-crew-came Done h s n z c e = e.0.catalogue.played
-crew-came First h s n z c e = (e.catalogue.at, e.catalogue.stopped)
-crew-came Later h s n z c e = e.catalogue.played
+crew-came : (r : Ended) (h : Heap) (s : Sections) (z : ℕ) (c : Crew) → PlayEnds r h s z c → CameIn r s z 0 (own_of c.catalogue)
+crew-came Done h s z c e = e.0.catalogue.played
+crew-came First h s z c e = (e.catalogue.at, e.catalogue.stopped)
+crew-came Later h s z c e = e.catalogue.played
 
 -- the seat of section 0
-pub catalogue-left : (r : Ended) (h : Heap) (s : Sections) (n z : ℕ) (c : Crew) (x : HeapSeat) → seat_in c.catalogue ≡ x → PlayEnds r h s n z c → IsSeatLeftBy r h s z 0 x
-catalogue-left r h s n z c x same e =
+pub catalogue-left : (r : Ended) (h : Heap) (s : Sections) (z : ℕ) (c : Crew) (x : HeapSeat) → seat_in c.catalogue ≡ x → PlayEnds r h s z c → IsSeatLeftBy r h s z 0 x
+catalogue-left r h s z c x same e =
     subst (IsSeatLeftBy r h s z 0) same
-    (let q = crew-seated r h s n z c e in
-    record { sits = q.rests.sits; number = q.number; outside = q.rests.outside; of_section = λ _. record { section = q.section; plan_is = q.plan_is; came = crew-came r h s n z c e } })
+    (let q = crew-seated r h s z c e in
+    record { sits = q.rests.sits; number = q.number; outside = q.rests.outside; of_section = λ _. record { section = q.section; plan_is = q.plan_is; came = crew-came r h s z c e } })
 
 -- one more part of the report in front of those that are there
 pub said-front : (r : Ended) (s : Sections) (z n : ℕ) (x : HeapSeat) (p : Part) (xs : List HeapSeat) (ps : List Part) → SaysOfSection r s z n x p → AreSaid r s z (n + 1) xs ps → AreSaid r s z n (x ∷ xs) (p ∷ ps)
@@ -115,10 +115,10 @@ says-first h s z moved (Absent y) x p e o =
       cells_are = o.2 ∙ (ap (λ (ps : List Place). map (λ (a : Place). a.cell) ps) (sym places) ∙ ap (λ (v : HeapSeat). map (λ (a : Place). a.cell) (view_of v).own.places) (sym o.0));
     }
 
-pub catalogue-says : (r : Ended) (h : Heap) (s : Sections) (n z : ℕ) (c : Crew) (x : HeapSeat) (p : Part) → PlayEnds r h s n z c → HandsOver c.catalogue x p.said.items p.places.items p.dropped → SaysOfSection r s z 0 x p
-catalogue-says Done h s n z c x p e o = says-first h s z (2 * z) c.catalogue x p e.0.catalogue o
-catalogue-says First h s n z c x p e o = tt
-catalogue-says Later h s n z c x p e o = tt
+pub catalogue-says : (r : Ended) (h : Heap) (s : Sections) (z : ℕ) (c : Crew) (x : HeapSeat) (p : Part) → PlayEnds r h s z c → HandsOver c.catalogue x p.said.items p.places.items p.dropped → SaysOfSection r s z 0 x p
+catalogue-says Done h s z c x p e o = says-first h s z (2 * z) c.catalogue x p e.0.catalogue o
+catalogue-says First h s z c x p e o = tt
+catalogue-says Later h s z c x p e o = tt
 
 pub handed-seat : (c : Catalogue) (x : HeapSeat) (said : List Said) (places : List ℕ) (dropped : ℕ) → HandsOver c x said places dropped → seat_in c ≡ x
 handed-seat (Playing m) x said places dropped o = sym o.0
@@ -128,14 +128,14 @@ knows : HeapSeat → Type 0
 knows x = KnowsFull (view_of x)
 
 -- if the heap is full, some seat knows it
-pub crew-knows : (r : Ended) (h : Heap) (s : Sections) (n z : ℕ) (c : Crew) (x : HeapSeat) (xs : List HeapSeat) → seat_in c.catalogue ≡ x → PlayEnds r h s n z c → (SomeKnows c.workers.items → SomeSeatKnows xs) → KnowsEnd r (x ∷ xs)
+pub crew-knows : (r : Ended) (h : Heap) (s : Sections) (z : ℕ) (c : Crew) (x : HeapSeat) (xs : List HeapSeat) → seat_in c.catalogue ≡ x → PlayEnds r h s z c → (SomeKnows c.workers.items → SomeSeatKnows xs) → KnowsEnd r (x ∷ xs)
 unfolding knows
-crew-knows Done h s n z c x xs same e f = tt
-crew-knows First h s n z c x xs same e f = some-first knows x xs (subst knows same e.catalogue.full)
-crew-knows Later h s n z c x xs same e f = ⊎_elim (λ (k : KnowsFull (view_of (seat_in c.catalogue))). some-first knows x xs (subst knows same k)) (λ (k : SomeKnows c.workers.items). some-ahead knows x xs (f k)) e.known
+crew-knows Done h s z c x xs same e f = tt
+crew-knows First h s z c x xs same e f = some-first knows x xs (subst knows same e.catalogue.full)
+crew-knows Later h s z c x xs same e f = ⊎_elim (λ (k : KnowsFull (view_of (seat_in c.catalogue))). some-first knows x xs (subst knows same k)) (λ (k : SomeKnows c.workers.items). some-ahead knows x xs (f k)) e.known
 
 -- if all was played, the catalogue's seat ended an exact cycle
-pub crew-settles : (r : Ended) (h : Heap) (s : Sections) (n z : ℕ) (c : Crew) (x : HeapSeat) (xs : List HeapSeat) → seat_in c.catalogue ≡ x → PlayEnds r h s n z c → SettlesEnd r (x ∷ xs)
-crew-settles Done h s n z c x xs same e = λ d. subst (λ (y : HeapSeat). IsTrue (view_of y).own.settled) same e.1
-crew-settles First h s n z c x xs same e = tt
-crew-settles Later h s n z c x xs same e = tt
+pub crew-settles : (r : Ended) (h : Heap) (s : Sections) (z : ℕ) (c : Crew) (x : HeapSeat) (xs : List HeapSeat) → seat_in c.catalogue ≡ x → PlayEnds r h s z c → SettlesEnd r (x ∷ xs)
+crew-settles Done h s z c x xs same e = λ d. subst (λ (y : HeapSeat). IsTrue (view_of y).own.settled) same e.1
+crew-settles First h s z c x xs same e = tt
+crew-settles Later h s z c x xs same e = tt

@@ -6,7 +6,7 @@ use Rattle.std.proofs.lemmas.Bool.{or_from}
 use Rattle.std.proofs.lemmas.List.Elements.{All-head, All-tail}
 use Rattle.plain_heap.specs.Sections.{Execution, lends}
 
-pub none-lends : (es : List Execution) → All (λ e. IsFalse (lends e.op)) es → list_any (λ e. lends e.op) es ≡ false
-none-lends [] a = refl
-none-lends (e ∷ es) a =
-    or_from _ _ (All-head (λ (x : Execution). IsFalse (lends x.op)) e es a) (none-lends es (All-tail (λ (x : Execution). IsFalse (lends x.op)) e es a))
+pub none_lends : (es : List Execution) → All (λ e. IsFalse (lends e.op)) es → list_any (λ e. lends e.op) es ≡ false
+none_lends [] a = refl
+none_lends (e ∷ es) a =
+    or_from _ _ (All-head (λ (x : Execution). IsFalse (lends x.op)) e es a) (none_lends es (All-tail (λ (x : Execution). IsFalse (lends x.op)) e es a))

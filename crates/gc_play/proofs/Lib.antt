@@ -3,7 +3,7 @@ pub mod Parts
 pub mod Shares
 pub mod Dealt
 pub mod Starting
-pub mod Turning
+pub mod SeasonTurns
 pub mod Leaving
 pub mod Catalogues
 pub mod Handing

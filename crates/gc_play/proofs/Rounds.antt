@@ -18,7 +18,9 @@ use Rattle.gc_table.specs.declared.view.View.{View}
 use Rattle.gc_table.specs.Log.{events}
 use Rattle.gc_table.specs.Running.{Ran, after_all}
 use Rattle.gc_table.specs.Taking.{after}
-use Rattle.gc_table.proofs.Running.{ran-events, ran-join}
+use Rattle.gc_table.specs.Seats.{Took}
+use Rattle.gc_table.proofs.History.Log.{events-after}
+use Rattle.gc_table.proofs.Running.{ran-events, ran-join, ran-took}
 use Rattle.gc_table.specs.Entries.{event}
 use Rattle.packet_pools.specs.Counts.{count_of}
 use Rattle.packet_pools.specs.Seeking.{some_event}
@@ -31,7 +33,7 @@ use Rattle.gc_cycle.specs.Statistics.{numbers_changed}
 use Rattle.gc_cycle.proofs.Searched.{moment-longer, work-longer}
 use Rattle.gc_cycle.proofs.Ends.Swept.{unless as not-true}
 use Rattle.gc_cycle.proofs.Ends.Finishes.{never-both as never-join}
-use Rattle.gc_play.specs.Turns.{LeavesNumbers, payments, Turn, lead, turns_of, record_after, sees_full, enters_full, is_leave, until_leave, seat_traces_on, seat_traces_where_marking, visits, payment, PaysForPops, IsTracerTurn, AreTurns, AllTurns, HasTakenTurns, ReadsNoParts, WaitsOutside, IsOne, IsOneTurn, SeesPhase, TracesInside, IsVisit}
+use Rattle.gc_play.specs.Turns.{LeavesNumbers, payments, Turn, lead, turns_of, record_after, sees_full, enters_full, is_leave, until_leave, seat_traces_on, seat_traces_where_marking, visits, payment, PaysForPops, IsTracerTurn, AreTurns, AllTurns, HasTakenTurns, ReadsNoParts, WaitsOutside, IsOneTurn, SeesPhase, TracesInside, IsVisit}
 use Rattle.gc_play.proofs.TurnCuts.{changes-left, payments-none, kept-head, quiet-turns, quiet-join, quiet-one, waits-join, visits-none, pays-none, lead-more, turns-more}
 
 -- a read of that number, and what it leads to
@@ -232,9 +234,10 @@ pub events-three : (a b c d : View) → Ran a b → Ran b c → Ran c d → even
 events-three a b c d f g h = ran-events a b d f (ran-join b c d g h) ∙ ap (λ l. events a b ++ l) (ran-events b c d g h)
 
 -- a round made of three calls: the phase is read, what follows from it is done, and the seat leaves
-pub round-join : (sh : Shape) (p : Phase) (full : Bool) (a b c d : View) → a.shape ≡ sh → Ran a b → Ran b c → Ran c d → SeesPhase p (events a b) → (p ≡ Marking → TracesInside sh b.state (events b c)) → ((p ≡ Marking → ⊥) → events b c ≡ [])
-    → IsOne LeaveStep (events c d) → full ≡ saw (Some p) Full → IsVisit sh full a.state (events a d)
-round-join sh p full a b c d shape f g h sees marking other left e =
+pub round-join : (sh : Shape) (p : Phase) (full : Bool) (a b c d : View) → a.shape ≡ sh → Ran a b → Ran b c → SeesPhase p (events a b) → (p ≡ Marking → TracesInside sh b.state (events b c)) → ((p ≡ Marking → ⊥) → events b c ≡ [])
+    → Took LeaveStep c d → full ≡ saw (Some p) Full → IsVisit sh full a.state (events a d)
+round-join sh p full a b c d shape f g sees marking other left e =
+    let leaves : events c d ≡ event LeaveStep left.0 ∷ [] = events-after c d LeaveStep left.0 left.1.0 in
     let read : b.state ≡ seat_after sh a.state ReadPhase sees.0 = sym (ran-state-in sh a b shape f) ∙ ap (record_after sh a.state) sees.2 in
-    subst (IsVisit sh full a.state) (sym (events-three a b c d f g h ∙ (λ y. sees.2 y ++ (events b c ++ left.1 y))))
+    subst (IsVisit sh full a.state) (sym (events-three a b c d f g (ran-took c d LeaveStep refl left) ∙ (λ y. sees.2 y ++ (events b c ++ leaves y))))
     (round-of sh p a.state sees.0 left.0 (events b c) full sees.1 (λ q. subst (λ (s : SeatState). TracesInside sh s (events b c)) read (marking q)) other e)

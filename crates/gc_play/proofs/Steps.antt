@@ -17,13 +17,11 @@ use Rattle.gc_table.proofs.History.Log.{events-after}
 use Rattle.gc_table.proofs.Running.{ran-found, ran-join, ran-number, ran-plan, ran-section, ran-shape}
 use Rattle.gc_play.specs.Stays.{SeatStays}
 use Rattle.gc_play.specs.Turns.{SeesPhase}
-use Rattle.std.specs.Bool.{OnFalse, OnTrue}
 use Rattle.gc_table.specs.declared.seat.Heap.{Heap}
 use Rattle.gc_table.specs.declared.seat.HeapSeat.{HeapSeat}
 use Rattle.stop_world.specs.Gates.{Enters, TurnsBack}
 use Rattle.seat_turns.specs.TracerStanding.{Goes}
 use Rattle.gc_play.specs.Standing.{Rests}
-use Rattle.gc_play.specs.Turns as turns
 
 pub bare-parts : (s : SeatState) → is_bare s ≡ true → (s.counted ≡ false) × (s.raised ≡ false) × (s.helping ≡ false)
 bare-parts s e =
@@ -83,29 +81,28 @@ sees-seen p v w a = (a.0, a.3, events-after v w ReadPhase a.0 a.1)
 pub stays-read_stat : (v w : View) (which n : ℕ) → Found (ReadStat which) n v w → SeatStays v w
 stays-read_stat v w which n f = stays-step v w (ReadStat which) n refl refl refl f
 
+-- and the seat is at rest as before
+pub read-rests : (h : Heap) (x y : HeapSeat) (which n : ℕ) → Rests h x → Sits h y → Found (ReadStat which) n (view_of x) (view_of y) → Rests h y
+read-rests h x y which n r sits f = record {
+  sits = sits;
+  outside = ap (λ (v : View). is_bare v.state) f.0 ∙ r.outside;
+  idle = ap (λ (v : View). has_nothing h.shape v.state) f.0 ∙ r.idle;
+}
+
 pub stays-add_stat : (v w : View) (which by n : ℕ) (down : Bool) → Found (AddStat which by down) n v w → SeatStays v w
 stays-add_stat v w which by n down f = stays-step v w (AddStat which by down) n refl refl refl f
 
 -- A tracer that goes into the world, or finds a stop and turns back.
-entered-stays : (v w : View) → Ran v w → Enters v w → SeatStays v w
+pub entered-stays : (v w : View) → Ran v w → Enters v w → SeatStays v w
 entered-stays v w r e =
     let seen : AllSeen (event EnterStep e.word ∷ []) v = subst (λ es. AllSeen es v) e.events r.seen in
     stays-enter v w e.word (r.steps ∙ ap (λ es. after_all es v) e.events, seen.0.found refl)
 
-turned-stays : (v w : View) → Ran v w → TurnsBack v w → SeatStays v w
+pub turned-stays : (v w : View) → Ran v w → TurnsBack v w → SeatStays v w
 turned-stays v w r t =
     let inside : View = after EnterStep t.word v in
     let seen : AllSeen (event EnterStep t.word ∷ event LeaveStep t.left ∷ []) v = subst (λ es. AllSeen es v) t.events r.seen in
     stays-join v inside w (stays-enter v inside t.word (refl, seen.0.found refl)) (stays-leave inside w t.left (r.steps ∙ ap (λ es. after_all es v) t.events, seen.1.0.found refl))
-
--- either way the seat stays the same
-pub came-stays : (came : Bool) (v w : View) → Ran v w → OnTrue came (Enters v w) → OnFalse came (TurnsBack v w) → SeatStays v w
-came-stays true v w r e t = entered-stays v w r e
-came-stays false v w r e t = turned-stays v w r t
-
-pub came-events : (came : Bool) (v w : View) → OnTrue came (Enters v w) → OnFalse came (TurnsBack v w) → turns.EntersOrLeaves came (events v w)
-came-events true v w e t = (e.word, e.clear, e.events)
-came-events false v w e t = (t.word, t.left, t.flag, t.events)
 
 pub entered-goes : (h : Heap) (x y : HeapSeat) → Rests h x → Sits h y → Enters (view_of x) (view_of y) → Goes h y
 entered-goes h x y r sits e =

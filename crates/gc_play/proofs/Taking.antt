@@ -7,11 +7,9 @@ use Rattle.std.specs.Io.KnownBytes.{Consumes, IsAtEnd, Appends, Keeps}
 use Rattle.gc_script.specs.Faults.{Fault, TooLong}
 use Rattle.gc_script.specs.Script.{Script, script, of_text}
 use Rattle.gc_script.specs.ScriptText.{first_foreign}
-use Rattle.gc_play.specs.RunAnswers.{IsRunAnswer, RunAnswersTo}
 use Rattle.gc_play.specs.Ending.{TextEnds, CommandEnds, number_of_status, status_after_write}
-use Rattle.gc_play.specs.Promise.{OfSource}
+use Rattle.gc_play.specs.Promise.{OfRead, OfScript, OfSource}
 use Rattle.gc_play.specs.Reading.{IsSpent}
-use Rattle.command_words.specs.Words.{Options}
 use Rattle.gc_play.specs.declared.status.Status.{Status}
 use Rattle.play_report.specs.Causes.{WritesText}
 use Rattle.gc_play.specs.declared.status.Status.TheVariants as ends
@@ -112,9 +110,9 @@ long_script bytes long =
 abbrev pub IsOfWhole : ℕ → (List ℕ → ℕ → List ℕ → Type 0) → Type 0
 IsOfWhole enough A = (bytes taken rest : List ℕ) → Takes enough bytes taken rest → (status : ℕ) (text : List ℕ) → A taken status text → A bytes status text
 
-pub run_of_whole : (o : Options) → IsOfWhole 1048577 (IsRunAnswer o)
-run_of_whole o bytes taken rest t status text a =
-    subst (λ (r : Result Script Fault). RunAnswersTo o r status text) (same_meaning script 1048577 (Err TooLong) long_script bytes taken rest t) a
+pub script_of_whole : (Answers : Script → ℕ → List ℕ → Type 0) → IsOfWhole 1048577 (OfScript Answers)
+script_of_whole Answers bytes taken rest t status text a =
+    subst (λ (r : Result Script Fault). OfRead Answers r status text) (same_meaning script 1048577 (Err TooLong) long_script bytes taken rest t) a
 
 module _ (enough : ℕ) where
   -- what was taken, if the source tells its bytes
@@ -159,3 +157,8 @@ module _ (enough : ℕ) where
   source_spent (Some bytes) left_now taken (consumed, decided, few, same) =
       let t = takes bytes taken left_now consumed decided in
       subst (λ (o : Option (List ℕ)). IsSpent enough bytes o) (sym t.1) (is_spent bytes taken t.0 t.2 few)
+
+-- how a command ends that told a text, and one that took its source
+pub ruleset told = (text_ends, kept, other_ends, command_ends, read_ends)
+
+pub ruleset taken = (source_ends, source_spent)

@@ -1,6 +1,6 @@
 -- All seats of a play, in the hands of those that play.
-use Rattle.std.specs.Prelude.{ℕ, zero, suc, ◌≡◌, ◌+◌, ◌-◌, ◌*◌, ◌<◌, ◌≤◌, ◌⊎◌, List, [], ◌++◌, length, map, All, false, None, Some, IsNone, IsTrue, IsFalse, slice_index_or}
-use Rattle.plain_heap.specs.Sections.{Sections, end_of}
+use Rattle.std.specs.Prelude.{ℕ, zero, suc, ◌≡◌, ◌+◌, ◌-◌, ◌*◌, ◌<◌, ◌≤◌, ◌⊎◌, List, [], ◌++◌, length, map, All, false, None, Some, IsNone, IsTrue, IsFalse, slice_index_or, vec_len}
+use Rattle.plain_heap.specs.Sections.{Sections, end_of, seasons}
 use Rattle.plain_heap.specs.PlainRun.{plan_of}
 use Rattle.play_report.specs.Report.{printed_of}
 use Rattle.play_report.specs.declared.report.Part.{Part}
@@ -125,9 +125,10 @@ pub record IsAnyTracer (h : Heap) (x : HeapSeat) : Type 0 where
   pub section : (view_of x).state.section ≡ None
 
 -- all sections played their first z parts, and the season was moved on so often
-pub record IsCrew (h : Heap) (s : Sections) (n z moved : ℕ) (c : Crew) : Type 0 where
+pub record IsCrew (h : Heap) (s : Sections) (z moved : ℕ) (c : Crew) : Type 0 where
   pub catalogue : CatalogueAt h s z moved c.catalogue
-  pub dealt : IsDealt n (length s.warehouses) c.workers.items
+  pub some : 0 < vec_len c.workers
+  pub dealt : IsDealt (vec_len c.workers) (length s.warehouses) c.workers.items
   pub played : EachOne (StandsAt h s z) c.workers.items
   pub going : All (λ (x : Worker). x.full ≡ false) c.workers.items
   pub tracers : AreTracers h s c.tracers.items
@@ -137,32 +138,34 @@ abbrev pub SomeKnows : List Worker → Type 0
 SomeKnows ws = SomeAt (λ (x : Worker). SomeAt (λ (m : Mutator). KnowsFull (view_of m.seat)) x.mutators.items) ws
 
 -- the catalogue's turn of season z found the heap full: the warehouses wait for theirs
-pub record IsHaltedFirst (h : Heap) (s : Sections) (n z : ℕ) (c : Crew) : Type 0 where
+pub record IsHaltedFirst (h : Heap) (s : Sections) (z : ℕ) (c : Crew) : Type 0 where
   pub catalogue : CatalogueStops h s z c.catalogue
-  pub dealt : IsDealt n (length s.warehouses) c.workers.items
+  pub some : 0 < vec_len c.workers
+  pub dealt : IsDealt (vec_len c.workers) (length s.warehouses) c.workers.items
   pub waiting : EachOne (StandsAt h s (z - 1)) c.workers.items
   pub tracers : AreTracers h s c.tracers.items
 
 -- the warehouses' turn of season z, or a stop after a turn, found the heap full
-pub record IsHaltedLater (h : Heap) (s : Sections) (n z : ℕ) (c : Crew) : Type 0 where
+pub record IsHaltedLater (h : Heap) (s : Sections) (z : ℕ) (c : Crew) : Type 0 where
   pub season : 0 < z
   pub catalogue : CatalogueWaits h s z c.catalogue
-  pub dealt : IsDealt n (length s.warehouses) c.workers.items
+  pub some : 0 < vec_len c.workers
+  pub dealt : IsDealt (vec_len c.workers) (length s.warehouses) c.workers.items
   pub halted : EachOne (HaltsAt h s z) c.workers.items
   pub known : KnowsFull (view_of (seat_in c.catalogue)) ⊎ SomeKnows c.workers.items
   pub tracers : AreTracers h s c.tracers.items
 
 -- how a season ends: the season was moved on twice in each one, but for once in the last so far
-abbrev pub CrewEnds : Ended → Heap → Sections → ℕ → ℕ → Crew → Type 0
-CrewEnds plays.Done h s n z c = IsCrew h s n z (2 * z - 1) c
-CrewEnds plays.First h s n z c = IsHaltedFirst h s n z c
-CrewEnds plays.Later h s n z c = IsHaltedLater h s n z c
+abbrev pub CrewEnds : Ended → Heap → Sections → ℕ → Crew → Type 0
+CrewEnds plays.Done h s z c = IsCrew h s z (2 * z - 1) c
+CrewEnds plays.First h s z c = IsHaltedFirst h s z c
+CrewEnds plays.Later h s z c = IsHaltedLater h s z c
 
 -- how a play ends: if all was played, the last stop was made
-abbrev pub PlayEnds : Ended → Heap → Sections → ℕ → ℕ → Crew → Type 0
-PlayEnds plays.Done h s n z c = IsCrew h s n z (2 * z) c × IsTrue (own_of c.catalogue).settled
-PlayEnds plays.First h s n z c = IsHaltedFirst h s n z c
-PlayEnds plays.Later h s n z c = IsHaltedLater h s n z c
+abbrev pub PlayEnds : Ended → Heap → Sections → ℕ → Crew → Type 0
+PlayEnds plays.Done h s z c = IsCrew h s z (2 * z) c × IsTrue (own_of c.catalogue).settled
+PlayEnds plays.First h s z c = IsHaltedFirst h s z c
+PlayEnds plays.Later h s z c = IsHaltedLater h s z c
 
 -- how the warehouses' turn of a season ends
 abbrev pub SeasonTurnEnds : Played → Heap → Sections → ℕ → List Worker → Type 0
@@ -226,3 +229,13 @@ abbrev pub SettlesEnd : Ended → List HeapSeat → Type 0
 SettlesEnd plays.Done xs = (d : HeapSeat) → IsTrue (view_of (slice_index_or xs 0 d)).own.settled
 SettlesEnd plays.First xs = Unit {0}
 SettlesEnd plays.Later xs = Unit {0}
+
+-- the seats and the parts of the report, as a play left them that ended in season z
+pub record AreLeftBy (r : Ended) (h : Heap) (s : Sections) (z : ℕ) (xs : List HeapSeat) (ps : List Part) : Type 0 where
+  pub season : 1 ≤ z
+  pub all : r ≡ plays.Done → z ≡ seasons s
+  pub left : Numbered (IsSeatLeftBy r h s z) 0 xs
+  pub parts : length ps ≡ 1 + length s.warehouses
+  pub said : AreSaid r s z 0 xs ps
+  pub knows : KnowsEnd r xs
+  pub settles : SettlesEnd r xs

@@ -1,7 +1,10 @@
 -- What all commands share: the words that ask for one, the bytes that it takes, and what is written by its status.
-use Rattle.std.specs.Prelude.{ℕ, ◌≡◌, ◌≤◌, ◌⊎◌, List, Bool, true, false, Option, Some, IfSome}
+use Rattle.std.specs.Prelude.{ℕ, ◌≡◌, ◌≤◌, ◌⊎◌, List, Bool, true, false, Option, Some, IfSome, Result, Ok, Err}
 use Rattle.std.specs.Io.KnownBytes.{Appends}
+use Rattle.gc_script.specs.Faults.{Fault}
+use Rattle.gc_script.specs.Script.{Script, script}
 use Rattle.play_report.specs.Causes.{AppendsPrefix}
+use Rattle.play_report.specs.Text.{fault_text}
 use Rattle.gc_play.specs.declared.source.TheConstants.{SCRIPT, SCHEDULE, DUMP, BATCH}
 use Rattle.command_words.specs.Words.{Command, Run, Convert, Schedule, Dump, Undump, Census, Batch, command}
 
@@ -20,6 +23,15 @@ FromSource IsText left text = (bytes : List ℕ) × IfSome left (λ told. told �
 -- a text may be written with a status, of some bytes, which are those that the source tells if it tells them
 abbrev pub OfSource : (List ℕ → ℕ → List ℕ → Type 0) → Option (List ℕ) → ℕ → List ℕ → Type 0
 OfSource Answers left status text = FromSource (λ bytes. Answers bytes status) left text
+
+-- of what was read, or of its fault, which has status 2
+abbrev pub OfRead : {X : Type 0} → (X → ℕ → List ℕ → Type 0) → Result X Fault → ℕ → List ℕ → Type 0
+OfRead Answers (Err fault) status text = (status ≡ 2) × (text ≡ fault_text fault)
+OfRead Answers (Ok x) status text = Answers x status text
+
+-- of the script in these bytes, or of its fault
+abbrev pub OfScript : (Script → ℕ → List ℕ → Type 0) → List ℕ → ℕ → List ℕ → Type 0
+OfScript Answers bytes status text = OfRead Answers (script bytes) status text
 
 -- the statuses with which a whole text is written
 abbrev pub HasItsText : ℕ → Type 0

@@ -1,5 +1,5 @@
 -- The turns of a tracer, by its events: what comes after each read of the number of parts that were played.
-use Rattle.std.specs.Prelude.{ℕ, ◌≡◌, ◌<◌, ◌==◌, ◌&&◌, ◌||◌, if◌then◌else◌, List, [], ◌∷◌, ◌++◌, not, nat_le, Bool, true, false, Some, IsTrue, IsFalse}
+use Rattle.std.specs.Prelude.{ℕ, ◌≡◌, ◌<◌, ◌==◌, ◌&&◌, ◌||◌, if◌then◌else◌, List, [], ◌∷◌, ◌++◌, not, nat_le, Bool, true, false, Some, IsTrue}
 use Rattle.mark_core.specs.Numbers.{done_count}
 use Rattle.mark_core.specs.Bits.{has_flag}
 use Rattle.mark_core.specs.Effects.{seat_after}
@@ -172,18 +172,9 @@ pub record WaitsOutside (es : List Entry) : Type 0 where
   pub quiet : ReadsNoParts es
   pub outside : IsTrue (never enters es)
 
--- the events are one step of this sort
-abbrev pub IsOne : Step → List Entry → Type 0
-IsOne step es = (n : ℕ) × (es ≡ event step n ∷ [])
-
 -- the phase was read
 abbrev pub SeesPhase : Phase → List Entry → Type 0
 SeesPhase p es = (n : ℕ) × (p ≡ phase_of n) × (es ≡ event ReadPhase n ∷ [])
-
--- the seat found no flag, and entered; or it found one, and left
-abbrev pub EntersOrLeaves : Bool → List Entry → Type 0
-EntersOrLeaves true es = (n : ℕ) × IsFalse (has_flag n) × (es ≡ event EnterStep n ∷ [])
-EntersOrLeaves false es = (n : ℕ) × (m : ℕ) × IsTrue (has_flag n) × (es ≡ event EnterStep n ∷ event LeaveStep m ∷ [])
 
 -- one turn of a seat with this record, and whether it is the last
 pub record IsOneTurn (sh : Shape) (until : ℕ) (last : Bool) (s : SeatState) (es : List Entry) : Type 0 where

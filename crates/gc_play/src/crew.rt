@@ -25,12 +25,10 @@ pub(crate) struct Crew<'a> {
 
 fn make_catalogue<'a>(
     alloc: Global,
-    _heap: &Heap,
     script: &Script<'a>,
     seat: HeapSeat,
 ) -> Result<Catalogue<'a>, OutOfMemory>
-    requires { IsNewSeatOfPlay _heap.now script.now.sections 0 seat }
-    ensures { IfOk result (CatalogueAt _heap.now script.now.sections 0 0) }
+    ensures { (heap : Heap) → IsNewSeatOfPlay heap script.now.sections 0 seat → IfOk result (CatalogueAt heap script.now.sections 0 0) }
 {
     match script.catalogue() {
         None => Ok(Catalogue::Absent(seat)),
@@ -100,7 +98,8 @@ fn deal<'a>(
     requires going { All (λ x. x.full ≡ false) workers.old.items }
     requires seats { Numbered (IsNewSeatOfPlay heap.now script.now.sections) 1 seats.old.items }
     requires enough { length script.now.sections.warehouses ≤ vec_len seats.old }
-    ensures dealt { OnOk result (IsDealt (vec_len workers.old) (length script.now.sections.warehouses) workers.new.items) }
+    ensures some { OnOk result (0 < vec_len workers.new) }
+    ensures dealt { OnOk result (IsDealt (vec_len workers.new) (length script.now.sections.warehouses) workers.new.items) }
     ensures played { OnOk result (EachOne (StandsAt heap.now script.now.sections 0) workers.new.items) }
     ensures going { OnOk result (All (λ x. x.full ≡ false) workers.new.items) }
     ensures seats { OnOk result (Numbered (IsNewSeatOfPlay heap.now script.now.sections) (1 + length script.now.sections.warehouses) seats.new.items) }
@@ -127,11 +126,11 @@ pub(crate) fn muster<'a>(
     requires some { 1 ≤ workers }
     requires seats { Numbered (IsNewSeatOfPlay heap.now script.now.sections) 0 seats.items }
     requires enough { 1 + length script.now.sections.warehouses ≤ vec_len seats }
-    ensures crew { IfOk result (IsCrew heap.now script.now.sections workers 0 0) }
+    ensures crew { IfOk result (IsCrew heap.now script.now.sections 0 0) }
     ensures tracers { IfOk result (λ c. vec_len c.tracers + (1 + length script.now.sections.warehouses) ≡ vec_len seats) }
     ensures new { IfOk result (λ c. Numbered (IsNewSeatOfPlay heap.now script.now.sections) (1 + length script.now.sections.warehouses) c.tracers.items) }
 {
-    let catalogue = match make_catalogue(alloc, heap, script, seats.remove(0)) {
+    let catalogue = match make_catalogue(alloc, script, seats.remove(0)) {
         Ok(catalogue) => catalogue,
         Err(e) => return Err(e),
     };

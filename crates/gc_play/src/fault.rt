@@ -8,6 +8,7 @@ use gc_script::ScriptError;
 use play_report::{Sink, write_fault};
 
 /// Writes a fault; out of memory is none.
+#[tactic(auto, using(crate::proofs::Taking::told, crate::proofs::Faulted::fault_told))]
 pub fn tell_fault<K: Sink>(fault: &ScriptError, sink: &mut K) -> Status
     requires { fault.now ≢ ScriptError.OutOfMemory }
     ensures { AcrossSink K.written K.faults (TextEnds (IsFaultAnswer (fault_of fault.now)) result) sink.old sink.new }

@@ -1,5 +1,7 @@
 ghost use Rattle.std.specs.Prelude.{◌≡◌, ◌+◌, ◌%◌, ◌<◌, ◌≤◌, [], ◌∷◌, IfOk, OnOk, length, vec_len};
-ghost use Rattle.gc_play.specs.Crews.{AreAfter, AreSaid, AreTracers, WarehouseEndsAt, HandsOver, IsSeatLeftBy, KnowsEnd, Numbered, PlayEnds, SettlesEnd, SomeKnows, SomeSeatKnows};
+ghost use Rattle.plain_heap.specs.Sections.{seasons};
+ghost use Rattle.gc_play.specs.declared.season.Ended.TheVariants as ends;
+ghost use Rattle.gc_play.specs.Crews.{AreAfter, AreLeftBy, AreSaid, AreTracers, WarehouseEndsAt, HandsOver, IsSeatLeftBy, Numbered, PlayEnds, SomeKnows, SomeSeatKnows};
 ghost use Rattle.gc_play.specs.Dealing.{EachOne, IsDealt, TakesLast, seat_number};
 
 use crate::crew::{Catalogue, Crew};
@@ -110,20 +112,15 @@ pub(crate) fn put_away<'a>(
     script: &Script<'a>,
     crew: Crew<'a>,
     mut parts: Vec<Part<'a>>,
-    _workers: u32,
     ended: Ended,
     season: u32,
 ) -> Result<(Vec<HeapSeat>, Vec<Part<'a>>), OutOfMemory>
-    requires some { 1 ≤ _workers }
     requires season { 1 ≤ season }
-    requires crew { PlayEnds ended heap.now script.now.sections _workers season crew }
+    requires all { ended ≡ ends.Done → season ≡ seasons script.now.sections }
+    requires crew { PlayEnds ended heap.now script.now.sections season crew }
     requires parts { parts.items ≡ [] }
-    ensures left { IfOk result (λ r. Numbered (IsSeatLeftBy ended heap.now script.now.sections season) 0 r.0.items) }
+    ensures left { IfOk result (λ r. AreLeftBy ended heap.now script.now.sections season r.0.items r.1.items) }
     ensures count { IfOk result (λ r. vec_len r.0 ≡ vec_len crew.entry.tracers + (1 + length script.now.sections.warehouses)) }
-    ensures parts { IfOk result (λ r. length r.1.items ≡ 1 + length script.now.sections.warehouses) }
-    ensures said { IfOk result (λ r. AreSaid ended script.now.sections season 0 r.0.items r.1.items) }
-    ensures knows { IfOk result (λ r. KnowsEnd ended r.0.items) }
-    ensures settles { IfOk result (λ r. SettlesEnd ended r.0.items) }
     ensures tracers { IfOk result (λ r. AreAfter (1 + length script.now.sections.warehouses) crew.entry.tracers.items r.0.items) }
 {
     let Crew {

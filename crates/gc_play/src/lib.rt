@@ -34,7 +34,6 @@
 #![tactic(auto)]
 
 mod crew;
-mod entering;
 mod fault;
 mod gate;
 mod gathering;

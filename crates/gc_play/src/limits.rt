@@ -11,6 +11,7 @@ fn see_warehouses(script: &Script<'_>)
     let _warehouses = script.warehouses();
 }
 
+#[tactic(auto, using(crate::proofs::Lending::none_lends))]
 fn see_catalogue(script: &Script<'_>)
     ensures { IsFalse (list_any (λ e. lends e.op) (joined (parts_of script.now.sections 0))) }
 {

@@ -1,24 +1,12 @@
 //! What a tracer does inside while marking is under way.
-ghost use Rattle.std.specs.Prelude.{false};
-ghost use Rattle.mark_core.specs.Numbers.{traced_count};
-ghost use Rattle.mark_core.specs.declared.kinds.Step.TheVariants.{AddStat};
 ghost use Rattle.gc_table.specs.Seats.{Across, did, state_of};
 ghost use Rattle.seat_turns.specs.TracerStanding.{Goes, GoesMarking};
 ghost use Rattle.gc_play.specs.Stays.{SeatStays};
-ghost use Rattle.gc_play.specs.Turns.{IsOne, TracesInside};
+ghost use Rattle.gc_play.specs.Turns.{TracesInside};
 
 use gc_table::{Heap, HeapSeat};
 use mark_core::TRACED;
 use seat_turns::mark_some;
-
-fn count_traced(heap: &Heap, seat: &mut HeapSeat, by: u32)
-    requires { Goes heap.now seat.old }
-    ensures seat { Goes heap.now seat.new }
-    ensures stays { Across SeatStays seat.old seat.new }
-    ensures events { IsOne (AddStat traced_count by false) (did seat.old seat.new) }
-{
-    heap.add_stat(seat, TRACED, by, false);
-}
 
 /// Does a tracer's turn, and adds what it traced to the number of traced objects.
 pub(crate) fn trace_inside(heap: &Heap, seat: &mut HeapSeat)
@@ -29,6 +17,6 @@ pub(crate) fn trace_inside(heap: &Heap, seat: &mut HeapSeat)
 {
     let traced = mark_some(heap, seat);
     if traced > 0 {
-        count_traced(heap, seat, traced);
+        heap.add_stat(seat, TRACED, traced, false);
     }
 }

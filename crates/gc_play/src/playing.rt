@@ -1,10 +1,10 @@
 //! A whole play.
-ghost use Rattle.std.specs.Prelude.{◌≡◌, ◌+◌, ◌≤◌, [], IfOk, length, vec_len};
+ghost use Rattle.std.specs.Prelude.{ℕ, ◌≡◌, ◌+◌, ◌≤◌, [], IfOk, length, vec_len};
 ghost use Rattle.plain_heap.specs.Sections.{seasons};
 ghost use Rattle.mark_core.specs.Shapes.{IsShape};
 ghost use Rattle.play_end.specs.Answers.{AreInRange, PlayAnswers};
 ghost use Rattle.gc_play.specs.declared.season.Ended.TheVariants as ends;
-ghost use Rattle.gc_play.specs.Crews.{IsCrew, IsSeatLeftBy, IsMadeForScript, IsNewSeatOfPlay, Numbered, PlayEnds, AreSaid, KnowsEnd, SettlesEnd};
+ghost use Rattle.gc_play.specs.Crews.{AreLeftBy, IsCrew, IsMadeForScript, IsNewSeatOfPlay, Numbered, PlayEnds};
 ghost use Rattle.gc_play.specs.Answers.{EndsIn, FinalAnswers, FinalEnds};
 ghost use Rattle.gc_play.specs.Options.{IsPlayable, shape_for};
 ghost use Rattle.gc_play.specs.Traced.{EndTraced, PlayTraced};
@@ -84,12 +84,11 @@ fn play_seasons<'a, R: Threads + Wait + Sync, G: Gate + Sync>(
     heap: &Heap,
     script: &Script<'a>,
     crew: &mut Crew<'a>,
-    workers: u32,
     gate: &G,
 ) -> (Ended, u32)
     requires script { IsPlayable script.now.sections }
-    requires crew { IsCrew heap.now script.now.sections workers 0 0 crew.old }
-    ensures ends { PlayEnds result.0 heap.now script.now.sections workers result.1 crew.new }
+    requires crew { IsCrew heap.now script.now.sections 0 0 crew.old }
+    ensures ends { PlayEnds result.0 heap.now script.now.sections result.1 crew.new }
     ensures season { 1 ≤ result.1 }
     ensures all { result.0 ≡ ends.Done → result.1 ≡ seasons script.now.sections }
     ensures traced { PlayTraced result.0 heap.now script.now.sections result.1 crew.old.tracers.items crew.new.tracers.items }
@@ -99,7 +98,7 @@ fn play_seasons<'a, R: Threads + Wait + Sync, G: Gate + Sync>(
     for before in 0..all {
         let season = before + 1;
         let until = season * sections;
-        match play_season(rt, heap, script, crew, workers, season, until, gate) {
+        match play_season(rt, heap, script, crew, season, until, gate) {
             Ended::Done => {}
             ended => return (ended, season),
         }
@@ -117,20 +116,12 @@ fn close<'a>(
     seats: Vec<HeapSeat>,
     parts: Vec<Part<'a>>,
     ended: Ended,
-    _season: u32,
-    _tracers: u32,
 ) -> Result<(Report<'a>, Words), PlayError>
     requires made { IsMadeForScript script.now.sections heap seats.items }
-    requires season { 1 ≤ _season }
-    requires all { ended ≡ ends.Done → _season ≡ seasons script.now.sections }
-    requires left { Numbered (IsSeatLeftBy ended heap script.now.sections _season) 0 seats.items }
-    requires parts { length parts.items ≡ 1 + length script.now.sections.warehouses }
-    requires said { AreSaid ended script.now.sections _season 0 seats.items parts.items }
-    requires knows { KnowsEnd ended seats.items }
-    requires settles { SettlesEnd ended seats.items }
-    requires traced { EndTraced ended script.now.sections heap.shape _tracers _season seats.items }
+    requires left { (season : ℕ) × AreLeftBy ended heap script.now.sections season seats.items parts.items }
     ensures answers { FinalAnswers result script.now.sections heap.shape.cells }
-    ensures ends { FinalEnds result script.now.sections heap.shape _tracers }
+    ensures ends { (tracers season : ℕ) → AreLeftBy ended heap script.now.sections season seats.items parts.entry.items
+        → EndTraced ended script.now.sections heap.shape tracers season seats.items → FinalEnds result script.now.sections heap.shape tracers }
 {
     match ended {
         Ended::Done => match close_played(alloc, script, heap, seats, parts) {
@@ -152,7 +143,7 @@ fn prepare<'a>(
     requires range { AreInRange options.now }
     requires script { IsPlayable script.now.sections }
     ensures shape { IfOk result (λ r. r.0.shape ≡ shape_for options.now script.now.sections) }
-    ensures crew { IfOk result (λ r. IsCrew r.0 script.now.sections options.now.workers 0 0 r.1) }
+    ensures crew { IfOk result (λ r. IsCrew r.0 script.now.sections 0 0 r.1) }
     ensures parts { IfOk result (λ r. r.2.items ≡ []) }
     ensures tracers { IfOk result (λ r. (vec_len r.1.tracers ≡ options.now.tracers) × Numbered (IsNewSeatOfPlay r.0 script.now.sections) (1 + length script.now.sections.warehouses) r.1.tracers.items) }
 {
@@ -187,30 +178,12 @@ pub fn play_final<'a, R: Threads + Wait + Sync, G: Gate + Sync>(
         Ok(made) => made,
         Err(_) => return Err(PlayError::OutOfMemory),
     };
-    let (ended, season) = play_seasons(rt, &heap, script, &mut crew, options.workers, gate);
-    let (seats, parts) = match put_away(
-        alloc,
-        &heap,
-        script,
-        crew,
-        parts,
-        options.workers,
-        ended,
-        season,
-    ) {
+    let (ended, season) = play_seasons(rt, &heap, script, &mut crew, gate);
+    let (seats, parts) = match put_away(alloc, &heap, script, crew, parts, ended, season) {
         Ok(left) => left,
         Err(_) => return Err(PlayError::OutOfMemory),
     };
-    close(
-        alloc,
-        script,
-        heap,
-        seats,
-        parts,
-        ended,
-        season,
-        options.tracers,
-    )
+    close(alloc, script, heap, seats, parts, ended)
 }
 
 /// Plays a script over a heap of `options.cells` cells, on `options.workers` threads with `options.tracers` beside

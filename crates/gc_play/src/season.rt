@@ -1,10 +1,10 @@
 //! A season: the catalogue's turn, and then the warehouses'.
-ghost use Rattle.std.specs.Prelude.{◌≡◌, ◌+◌, ◌-◌, ◌*◌, ◌<◌, ◌≤◌, ◌⊎◌, All, false};
+ghost use Rattle.std.specs.Prelude.{◌≡◌, ◌-◌, ◌*◌, ◌≤◌, All, false};
 ghost use Rattle.gc_table.specs.Seats.{Sits, view_of};
 ghost use Rattle.gc_cycle.specs.Standing.{IsOut};
 ghost use Rattle.warehouse.specs.Ending.{PlaySettles};
-ghost use Rattle.warehouse.specs.Turns.{MayTurnSeason};
-ghost use Rattle.gc_play.specs.Crews.{AreTracers, CatalogueAt, CatalogueEnds, CatalogueStarts, CrewEnds, IsAnyTracer, IsCrew, LeavesCatalogue, SeasonTurnEnds, TurnMoves, seat_in};
+ghost use Rattle.warehouse.specs.Turns.{MayTurnSeason, TurnEnds};
+ghost use Rattle.gc_play.specs.Crews.{AreTracers, CatalogueAt, CatalogueEnds, CatalogueStarts, CrewEnds, IsAnyTracer, IsCrew, LeavesCatalogue, SeasonTurnEnds, seat_in};
 ghost use Rattle.gc_play.specs.Dealing.{EachOne, SameShares, ShareEnds, StandsAt};
 ghost use Rattle.gc_play.specs.Options.{IsPlayable};
 ghost use Rattle.gc_play.specs.Traced.{AllTracedUntil, SeasonTraced, parts_by};
@@ -116,20 +116,16 @@ fn play_catalogue<'a, R: Threads + Wait + Sync, G: Gate>(
     }
 }
 
-/// The catalogue's seat moves the season on, after this many parts.
+/// The catalogue's seat moves the season on.
 fn next_turn<'a, R: Threads + Wait + Sync>(
     rt: &R,
     heap: &Heap,
-    _script: &Script<'a>,
     catalogue: &mut Catalogue<'a>,
-    _parts: u32,
-    _moved: u32,
 ) -> Played
-    requires parts { 1 ≤ _parts }
-    requires few { _moved < 128 }
-    requires turn { (_moved ≡ 2 * _parts - 2) ⊎ (_moved ≡ 2 * _parts - 1) }
-    requires at { CatalogueAt heap.now _script.now.sections _parts _moved catalogue.old }
-    ensures { TurnMoves result heap.now _script.now.sections _parts _moved catalogue.new }
+    requires seat { Sits heap.now (seat_in catalogue.old) × IsOut (view_of (seat_in catalogue.old)) }
+    requires turn { MayTurnSeason (view_of (seat_in catalogue.old)) }
+    ensures leaves { LeavesCatalogue heap.now catalogue.old catalogue.new }
+    ensures ends { TurnEnds result (view_of (seat_in catalogue.old)) (view_of (seat_in catalogue.new)) }
 {
     match catalogue {
         Catalogue::Playing(mutator) => mutator.next_turn(rt, heap),
@@ -166,7 +162,7 @@ fn begin_season<'a, R: Threads + Wait + Sync>(
     ensures { CatalogueStarts result heap.now script.now.sections season catalogue.new }
 {
     if season > 1 {
-        return next_turn(rt, heap, script, catalogue, season - 1, 2 * season - 3);
+        return next_turn(rt, heap, catalogue);
     }
     Played::Done
 }
@@ -176,7 +172,6 @@ pub(crate) fn play_season<'a, R: Threads + Wait + Sync, G: Gate + Sync>(
     heap: &Heap,
     script: &Script<'a>,
     crew: &mut Crew<'a>,
-    _workers: u32,
     season: u32,
     until: u32,
     gate: &G,
@@ -184,8 +179,8 @@ pub(crate) fn play_season<'a, R: Threads + Wait + Sync, G: Gate + Sync>(
     requires season { (1 ≤ season) × (season ≤ 64) }
     requires until { until ≡ parts_by script.now.sections season }
     requires script { IsPlayable script.now.sections }
-    requires before { IsCrew heap.now script.now.sections _workers (season - 1) (2 * (season - 1) - 1) crew.old }
-    ensures ends { CrewEnds result heap.now script.now.sections _workers season crew.new }
+    requires before { IsCrew heap.now script.now.sections (season - 1) (2 * (season - 1) - 1) crew.old }
+    ensures ends { CrewEnds result heap.now script.now.sections season crew.new }
     ensures traced { SeasonTraced result heap.now script.now.sections season crew.old.tracers.items crew.new.tracers.items }
 {
     if let Played::Full = begin_season(rt, heap, script, &mut crew.catalogue, season) {
@@ -194,8 +189,7 @@ pub(crate) fn play_season<'a, R: Threads + Wait + Sync, G: Gate + Sync>(
     if let Played::Full = play_catalogue(rt, heap, script, &mut crew.catalogue, season, gate) {
         return Ended::First;
     }
-    let turn = 2 * season - 2;
-    if let Played::Full = next_turn(rt, heap, script, &mut crew.catalogue, season, turn) {
+    if let Played::Full = next_turn(rt, heap, &mut crew.catalogue) {
         return Ended::Later;
     }
     if let Played::Full = play_turn(

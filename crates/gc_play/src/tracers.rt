@@ -1,18 +1,13 @@
-ghost use Rattle.std.specs.Prelude.{◌≡◌, ◌∷◌, [], All, None, Some};
+ghost use Rattle.std.specs.Prelude.{◌≡◌, [], All, None, Some};
 ghost use Rattle.gc_table.specs.Seats.{Across, did, state_of};
 ghost use Rattle.gc_play.specs.Crews.{IsAnyTracer};
 ghost use Rattle.seat_turns.specs.TracerStanding.{Goes};
 ghost use Rattle.gc_play.specs.Standing.{Rests};
-ghost use Rattle.mark_core.specs.Numbers.{done_count};
 ghost use Rattle.mark_core.specs.declared.kinds.Phase.TheVariants.{Marking};
-ghost use Rattle.mark_core.specs.declared.kinds.Step.TheVariants.{ReadStat};
-ghost use Rattle.gc_table.specs.Log.{events};
-ghost use Rattle.gc_table.specs.Entries.{event};
 ghost use Rattle.gc_play.specs.Stays.{RestsUnchanged, SeatStays};
 ghost use Rattle.gc_play.specs.Traced.{AllTracedUntil, TracedUntil};
-ghost use Rattle.gc_play.specs.Turns.{HasTakenTurns, IsOneTurn, IsVisit, LeavesNumbers, TracesInside, WaitsOutside};
+ghost use Rattle.gc_play.specs.Turns.{HasTakenTurns, IsOneTurn, IsVisit, TracesInside};
 
-use crate::entering::{enter, leave};
 use crate::marking::trace_inside;
 use gc_cycle::await_resumed_helping;
 use gc_table::{Heap, HeapSeat};
@@ -21,28 +16,8 @@ use seat_turns::{rest, see_phase};
 use std::sync::Wait;
 use std::thread;
 use std::thread::Threads;
+use stop_world::{enter, leave};
 use warehouse::Gate;
-
-/// Helps until no stop is under way.
-fn await_resumed<R: Wait>(rt: &R, heap: &Heap, seat: &mut HeapSeat)
-    requires { Rests heap.now seat.old }
-    ensures seat { Rests heap.now seat.new }
-    ensures stays { Across SeatStays seat.old seat.new }
-    ensures waits { WaitsOutside (did seat.old seat.new) }
-    ensures numbers { LeavesNumbers (did seat.old seat.new) }
-{
-    await_resumed_helping(rt, heap, seat);
-}
-
-/// How many parts were played.
-fn see_done(heap: &Heap, seat: &mut HeapSeat) -> u64
-    requires { Rests heap.now seat.old }
-    ensures seat { Rests heap.now seat.new }
-    ensures stays { Across SeatStays seat.old seat.new }
-    ensures events { did seat.old seat.new ≡ event (ReadStat done_count) result ∷ [] }
-{
-    heap.read_stat(seat, DONE)
-}
 
 fn trace_if(heap: &Heap, seat: &mut HeapSeat, phase: Phase)
     requires seat { Goes heap.now seat.old }
@@ -58,12 +33,12 @@ fn trace_if(heap: &Heap, seat: &mut HeapSeat, phase: Phase)
 }
 
 /// What a tracer does in the world. True if the heap is full.
-fn go_round<G: Gate>(heap: &Heap, seat: &mut HeapSeat, gate: &G) -> bool
+fn visit<G: Gate>(heap: &Heap, seat: &mut HeapSeat, gate: &G) -> bool
     requires seat { Goes heap.now seat.old }
     requires section { (state_of seat.old).section ≡ None }
     ensures seat { Rests heap.now seat.new }
     ensures stays { Across SeatStays seat.old seat.new }
-    ensures round { IsVisit heap.now.shape result (state_of seat.old) (did seat.old seat.new) }
+    ensures visit { IsVisit heap.now.shape result (state_of seat.old) (did seat.old seat.new) }
 {
     let phase = see_phase(heap, seat);
     gate.turn(seat);
@@ -85,14 +60,14 @@ fn take_turn<R: Threads + Wait + Sync, G: Gate>(
     ensures stays { Across SeatStays seat.old seat.new }
     ensures turn { IsOneTurn heap.now.shape until result (state_of seat.old) (did seat.old seat.new) }
 {
-    if see_done(heap, seat) >= u64::from(until) {
+    if heap.read_stat(seat, DONE) >= u64::from(until) {
         return true;
     }
     if !enter(heap, seat) {
-        await_resumed(rt, heap, seat);
+        await_resumed_helping(rt, heap, seat);
         return false;
     }
-    go_round(heap, seat, gate)
+    visit(heap, seat, gate)
 }
 
 /// Traces beside the mutators until so many parts were played or the heap is full.

@@ -17,9 +17,10 @@ use Rattle.gc_script.specs.Convert.{Conversion, convert, converted, converted_te
 use Rattle.gc_script.proofs.Meaning.{keeps_meaning}
 use Rattle.play_end.proofs.SectionLists.{one-text}
 use Rattle.command_words.specs.Words.{Options}
-use Rattle.play_words.specs.Converting.{ConvertsTo}
-use Rattle.gc_play.specs.RunAnswers.{PlaysTo, RunAnswersTo, IsRunAnswer}
+use Rattle.play_words.specs.Converting.{IsConversion}
+use Rattle.gc_play.specs.RunAnswers.{PlaysTo, IsRunAnswer}
 use Rattle.play_words.specs.Laws.{ConversionsAnswer, ConversionsRunAlike}
+use Rattle.gc_play.specs.Promise.{OfRead}
 
 module _ (s t : Sections) (same : PlaysAlike s t) (back : PlaysAlike t s) where
   map-alike : {X : Type 0} (f g : ℕ → X) → ((w : ℕ) → f w ≡ g w) → (ws : List ℕ) → map f ws ≡ map g ws
@@ -129,7 +130,7 @@ no-fault bytes c (Err fault) is made = absurd (never (sym (ap (λ (q : Result Sc
     never = cc
 no-fault bytes c (Ok s) is made = let kept = keeps_meaning bytes c s made is in (s, kept.0, is, kept.1, kept.2)
 
-scripts-of : (bytes text : List ℕ) (r : Result Conversion Fault) → convert bytes ≡ r → ConvertsTo r 0 text → AreApartByLines bytes text
+scripts-of : (bytes text : List ℕ) (r : Result Conversion Fault) → convert bytes ≡ r → OfRead IsConversion r 0 text → AreApartByLines bytes text
 scripts-of bytes text (Err fault) is a = absurd (omega (arith, a.0))
 scripts-of bytes text (Ok c) is a = subst (AreApartByLines bytes) (sym a.1) (no-fault bytes c (script bytes) refl is)
 
@@ -153,17 +154,17 @@ plays-through o status text s t is (inr a) =
 answers-through : (o : Options) (status : ℕ) (text from to : List ℕ) (s t : Script) → script from ≡ Ok s → script to ≡ Ok t → without_lines t.sections ≡ without_lines s.sections
     → IsRunAnswer o from status text → IsRunAnswer o to status text
 answers-through o status text from to s t of_from of_to is a =
-    subst (λ (r : Result Script Fault). RunAnswersTo o r status text) (sym of_to)
-    (plays-through o status text s t is (subst (λ (r : Result Script Fault). RunAnswersTo o r status text) of_from a))
+    subst (λ (r : Result Script Fault). OfRead (PlaysTo o) r status text) (sym of_to)
+    (plays-through o status text s t is (subst (λ (r : Result Script Fault). OfRead (PlaysTo o) r status text) of_from a))
 
-pub conversions-answer : ConversionsAnswer
-conversions-answer o bytes text status answer made =
+pub conversions_answer : ConversionsAnswer
+conversions_answer o bytes text status answer made =
     let both = scripts-of bytes text (convert bytes) refl made in (
       answers-through o status answer bytes text both.0 both.1 both.2 both.3 both.4,
       answers-through o status answer text bytes both.1 both.0 both.3 both.2 (sym both.4),
     )
 
-written-alike : (o p : Options) (r : Result Script Fault) (a b : List ℕ) → o.place ≡ false → p.place ≡ false → RunAnswersTo o r 0 a → RunAnswersTo p r 0 b → a ≡ b
+written-alike : (o p : Options) (r : Result Script Fault) (a b : List ℕ) → o.place ≡ false → p.place ≡ false → OfRead (PlaysTo o) r 0 a → OfRead (PlaysTo p) r 0 b → a ≡ b
 written-alike o p (Err fault) a b f g x y = absurd (omega (arith, x.0))
 written-alike o p (Ok s) a b f g (inr x) y = absurd (omega (arith, x.0))
 written-alike o p (Ok s) a b f g (inl x) (inr y) = absurd (omega (arith, y.0))
@@ -171,5 +172,5 @@ written-alike o p (Ok s) a b f g (inl x) (inl y) =
     one-text s.sections o.cells p.cells a b
     (subst (λ (place : Bool). IsReportText s.sections o.cells place a) f x.1) (subst (λ (place : Bool). IsReportText s.sections p.cells place b) g y.1)
 
-pub conversions-run-alike : ConversionsRunAlike
-conversions-run-alike o p bytes text a b f g made x y = written-alike o p (script bytes) a b f g x ((conversions-answer p bytes text 0 b made).1 y)
+pub conversions_run_alike : ConversionsRunAlike
+conversions_run_alike o p bytes text a b f g made x y = written-alike o p (script bytes) a b f g x ((conversions_answer p bytes text 0 b made).1 y)

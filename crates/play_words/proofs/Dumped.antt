@@ -22,11 +22,11 @@ use Rattle.schedule_check.specs.Schedule.{Schedule, schedule, of_schedule_text a
 use Rattle.schedule_check.specs.Telling.{IsToldAs, IsScheduleAnswer}
 use Rattle.command_words.specs.Words.{Options}
 use Rattle.gc_play.proofs.Taking.{IsOfWhole, all_taken, long_script, same_meaning}
-use Rattle.play_words.specs.Converting.{IsConvertAnswer, ConvertsTo}
+use Rattle.play_words.specs.Converting.{IsConvertAnswer, IsConversion}
 use Rattle.play_words.specs.Batching.{IsBatchAnswer, BatchesTo}
-use Rattle.play_words.specs.Dumping.{IsDumpAnswer, DumpsTo}
 use Rattle.play_words.specs.Undumping.{IsUndumpAnswer, IsUndumpText}
 use Rattle.play_words.specs.Counting.{IsCensusAnswer, IsCensusText}
+use Rattle.gc_play.specs.Promise.{OfRead}
 
 -- the head of what was taken is that of the whole
 pub record HasHead (xs ys : List ℕ) : Type 0 where
@@ -109,7 +109,7 @@ long_batch bytes long =
 
 pub conversion_of_whole : IsOfWhole 1048577 IsConvertAnswer
 conversion_of_whole bytes taken rest t status text a =
-    subst (λ (r : Result Conversion Fault). ConvertsTo r status text) (same_meaning convert 1048577 (Err TooLong) long_conversion bytes taken rest t) a
+    subst (λ (r : Result Conversion Fault). OfRead IsConversion r status text) (same_meaning convert 1048577 (Err TooLong) long_conversion bytes taken rest t) a
 
 pub batch_of_whole : (o : Options) → IsOfWhole 16777217 (IsBatchAnswer o)
 batch_of_whole o bytes taken rest t status text a =
@@ -123,10 +123,6 @@ long_schedule bytes long =
 pub schedule_of_whole : IsOfWhole 4194305 IsScheduleAnswer
 schedule_of_whole bytes taken rest t status text a =
     subst (λ (r : Result Schedule schedules.FaultOfSchedule). IsToldAs r status text) (same_meaning schedule 4194305 (Err schedules.TooLong) long_schedule bytes taken rest t) a
-
-pub dump_of_whole : (o : Options) → IsOfWhole 1048577 (IsDumpAnswer o)
-dump_of_whole o bytes taken rest t status text a =
-    subst (λ (r : Result Script Fault). DumpsTo o r status text) (same_meaning script 1048577 (Err TooLong) long_script bytes taken rest t) a
 
 read_of_whole : (P : DumpedHeap → List ℕ → Type 0) → IsOfWhole 4984981 (λ bytes status text. OfDump P bytes (first_dump_fault bytes) status text)
 read_of_whole P bytes taken rest t status text a = by t.enough_taken

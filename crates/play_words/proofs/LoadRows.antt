@@ -13,9 +13,10 @@ use Rattle.plain_heap.proofs.Search.{searched}
 use Rattle.gc_script.specs.Faults.{Fault, BadHeader}
 use Rattle.gc_script.specs.Script.{Script, script}
 use Rattle.load_gen.specs.Generated.{generated}
-use Rattle.gc_play.specs.RunAnswers.{IsRunAnswer, RunAnswersTo}
+use Rattle.gc_play.specs.RunAnswers.{IsRunAnswer, PlaysTo}
 use Rattle.plain_heap.specs.declared.operation.Op.TheVariants as ops
 use Rattle.play_end.proofs.FreeCells.{cells-free}
+use Rattle.gc_play.specs.Promise.{OfRead}
 
 -- What shows an answer of `run`.
 abbrev pub sections_in : Result Script Fault → Sections
@@ -42,7 +43,7 @@ pub done : (o : Options) (rounds : ℕ) (bytes text : List ℕ) → o.place ≡ 
     → are_found (last_heaps (sections_in (script bytes))) (witnesses rounds bytes) ≡ true
     → text ≡ report_text (outcomes (sections_in (script bytes)) []) (survivors_of (witnesses rounds bytes)) false
     → IsRunAnswer o bytes 0 text
-done o rounds bytes text place ok test written = subst (λ (r : Result Script Fault). RunAnswersTo o r 0 text) (sym ok) (inl (refl, report o.place (sym place)))
+done o rounds bytes text place ok test written = subst (λ (r : Result Script Fault). OfRead (PlaysTo o) r 0 text) (sym ok) (inl (refl, report o.place (sym place)))
   where
     s : Sections
     s = sections_in (script bytes)
@@ -58,7 +59,7 @@ done o rounds bytes text place ok test written = subst (λ (r : Result Script Fa
 
 -- a script has a fault
 pub faulty : (o : Options) (bytes text : List ℕ) → script bytes ≡ Err (fault_in (script bytes)) → text ≡ fault_text (fault_in (script bytes)) → IsRunAnswer o bytes 2 text
-faulty o bytes text err written = subst (λ (r : Result Script Fault). RunAnswersTo o r 2 text) (sym err) (refl, written)
+faulty o bytes text err written = subst (λ (r : Result Script Fault). OfRead (PlaysTo o) r 2 text) (sym err) (refl, written)
 
 -- a script that is made is played to its end
 pub loaded : (o : Options) (rounds number size : ℕ) (text : List ℕ) → script (generated number size) ≡ Ok (script_in (script (generated number size)))

@@ -9,16 +9,16 @@ use Rattle.gc_script.specs.Meaning.{Means, sections, turned}
 use Rattle.gc_script.specs.Script.{Script, script}
 use Rattle.gc_script.proofs.Meaning.{scripts-mean}
 use Rattle.command_words.specs.Words.{Options}
-use Rattle.gc_play.specs.Promise.{FromSource, OfSource, Wrote, WritesSome}
+use Rattle.gc_play.specs.Promise.{FromSource, OfSource, Wrote, WritesSome, OfRead}
 use Rattle.play_words.specs.Running.{IsRunText, IsRunFull}
-use Rattle.gc_play.specs.RunAnswers.{PlaysTo, RunAnswersTo, IsRunAnswer}
+use Rattle.gc_play.specs.RunAnswers.{PlaysTo, IsRunAnswer}
 use Rattle.heap_dump.specs.Spelling.{dump}
 use Rattle.load_gen.specs.Generated.{generated}
 use Rattle.play_report.specs.Text.{IsReportText}
 use Rattle.play_end.proofs.SectionLists.{one-text, one-load-text}
-use Rattle.play_words.proofs.FinalHeap.One.{one-final}
+use Rattle.play_words.proofs.FinalHeap.One.{one_final}
 use Rattle.play_words.specs.Loading.{LoadsTo}
-use Rattle.play_words.specs.Dumping.{EndsDoneOrFull, DumpsTo}
+use Rattle.play_words.specs.Dumping.{EndsDoneOrFull}
 use Rattle.play_words.specs.Laws.{RunsAlike, DumpsAlike, LoadsAlike}
 
 played : (o : Options) (bytes text : List ℕ) (s : Script) → script bytes ≡ Ok s → PlaysTo o s 0 text → IsRunText o bytes text
@@ -29,11 +29,11 @@ filled : (o : Options) (bytes text : List ℕ) (s : Script) → script bytes ≡
 filled o bytes text s is (inl a) = absurd (omega (arith, a.0))
 filled o bytes text s is (inr a) = record { sections = s.sections; meant = scripts-mean bytes s is; full = a.1 }
 
-run_text : (o : Options) (bytes text : List ℕ) (r : Result Script Fault) → script bytes ≡ r → RunAnswersTo o r 0 text → IsRunText o bytes text
+run_text : (o : Options) (bytes text : List ℕ) (r : Result Script Fault) → script bytes ≡ r → OfRead (PlaysTo o) r 0 text → IsRunText o bytes text
 run_text o bytes text (Err fault) is a = absurd (omega (arith, a.0))
 run_text o bytes text (Ok s) is a = played o bytes text s is a
 
-run_full : (o : Options) (bytes text : List ℕ) (r : Result Script Fault) → script bytes ≡ r → RunAnswersTo o r 3 text → IsRunFull o bytes text
+run_full : (o : Options) (bytes text : List ℕ) (r : Result Script Fault) → script bytes ≡ r → OfRead (PlaysTo o) r 3 text → IsRunFull o bytes text
 run_full o bytes text (Err fault) is a = absurd (omega (arith, a.0))
 run_full o bytes text (Ok s) is a = filled o bytes text s is a
 
@@ -64,9 +64,9 @@ one-meaning bytes s t x y =
 ended-alike : (o p : Options) (s : Script) (a b : List ℕ) → EndsDoneOrFull o s 0 a → EndsDoneOrFull p s 0 b → a ≡ b
 ended-alike o p s a b (inr x) y = absurd (omega (arith, x.0))
 ended-alike o p s a b (inl x) (inr y) = absurd (omega (arith, y.0))
-ended-alike o p s a b (inl x) (inl y) = x.1.written ∙ (ap dump (one-final s.sections x.1.heap y.1.heap x.1.final y.1.final) ∙ sym y.1.written)
+ended-alike o p s a b (inl x) (inl y) = x.1.written ∙ (ap dump (one_final s.sections x.1.heap y.1.heap x.1.final y.1.final) ∙ sym y.1.written)
 
-dump-alike : (o p : Options) (r : Result Script Fault) (a b : List ℕ) → DumpsTo o r 0 a → DumpsTo p r 0 b → a ≡ b
+dump-alike : (o p : Options) (r : Result Script Fault) (a b : List ℕ) → OfRead (EndsDoneOrFull o) r 0 a → OfRead (EndsDoneOrFull p) r 0 b → a ≡ b
 dump-alike o p (Err fault) a b x y = absurd (omega (arith, x.0))
 dump-alike o p (Ok s) a b x y = ended-alike o p s a b x y
 
@@ -76,15 +76,15 @@ load-alike o p (Ok s) a b (inr x) y = absurd (omega (arith, x.0))
 load-alike o p (Ok s) a b (inl x) (inr y) = absurd (omega (arith, y.0))
 load-alike o p (Ok s) a b (inl x) (inl y) = one-load-text s.sections a b x.1 y.1
 
-pub runs-alike : RunsAlike
-runs-alike o p bytes a b f g x y =
+pub runs_alike : RunsAlike
+runs_alike o p bytes a b f g x y =
     let same : x.sections ≡ y.sections = one-meaning bytes x.sections y.sections x.meant y.meant in
     let first : IsReportText y.sections o.cells o.place a = subst (λ (s : Sections). IsReportText s o.cells o.place a) same x.report in
     one-text y.sections o.cells p.cells a b
     (subst (λ (place : Bool). IsReportText y.sections o.cells place a) f first) (subst (λ (place : Bool). IsReportText y.sections p.cells place b) g y.report)
 
-pub dumps-alike : DumpsAlike
-dumps-alike o p bytes a b x y = dump-alike o p (script bytes) a b x y
+pub dumps_alike : DumpsAlike
+dumps_alike o p bytes a b x y = dump-alike o p (script bytes) a b x y
 
-pub loads-alike : LoadsAlike
-loads-alike o p number size a b x y = load-alike o p (script (generated number size)) a b x y
+pub loads_alike : LoadsAlike
+loads_alike o p number size a b x y = load-alike o p (script (generated number size)) a b x y

@@ -7,9 +7,9 @@ use Rattle.gc_script.specs.Convert.{Conversion, convert}
 use Rattle.load_gen.specs.Generated.{generated}
 use Rattle.play_report.specs.Text.{usage_text}
 use Rattle.command_words.specs.Words.{Options, Command, Run, Gen, Load, Convert, Schedule, Dump, Undump, Census, Batch}
-use Rattle.gc_play.specs.RunAnswers.{RunAnswersTo}
+use Rattle.gc_play.specs.RunAnswers.{PlaysTo}
 use Rattle.play_words.specs.Loading.{LoadsTo}
-use Rattle.play_words.specs.Converting.{ConvertsTo}
+use Rattle.play_words.specs.Converting.{IsConversion}
 use Rattle.job_pool.specs.Batch.{FaultOfBatch as BatchFault, batch}
 use Rattle.play_words.specs.Batching.{BatchesTo}
 use Rattle.heap_dump.specs.Final.{DumpedHeap}
@@ -21,15 +21,16 @@ use Rattle.schedule_check.specs.Verdicts.{verdict}
 use Rattle.schedule_check.specs.Telling.{status_as, status_of, verdict_status}
 use Rattle.schedule_check.specs.declared.verdict.Verdict.{Verdict}
 use Rattle.schedule_check.specs.declared.verdict.Verdict.TheVariants as verdicts
-use Rattle.play_words.specs.Dumping.{DumpsTo}
+use Rattle.play_words.specs.Dumping.{EndsDoneOrFull}
 use Rattle.play_words.specs.DumpReading.{OfDump}
 use Rattle.play_words.specs.Undumping.{IsUndumpText}
 use Rattle.play_words.specs.Counting.{IsCensusText}
 use Rattle.play_words.specs.Answers.{IsAnswer}
 use Rattle.play_words.specs.Statuses.{EndsWith, RunsWith, ConvertsWith, BatchesWith, DumpsWith}
 use Rattle.play_words.specs.Following.{AnswersFollow, StatusesFollow}
+use Rattle.gc_play.specs.Promise.{OfRead}
 
-runs_with : (o : Options) (r : Result Script Fault) (status : ℕ) (text : List ℕ) → RunAnswersTo o r status text → RunsWith r status
+runs_with : (o : Options) (r : Result Script Fault) (status : ℕ) (text : List ℕ) → OfRead (PlaysTo o) r status text → RunsWith r status
 runs_with o (Err fault) status text a = a.0
 runs_with o (Ok s) status text (inl a) = inl a.0
 runs_with o (Ok s) status text (inr a) = inr a.0
@@ -39,7 +40,7 @@ loads_with o (Err fault) status text a = absurd a
 loads_with o (Ok s) status text (inl a) = inl a.0
 loads_with o (Ok s) status text (inr a) = inr a.0
 
-converts_with : (r : Result Conversion Fault) (status : ℕ) (text : List ℕ) → ConvertsTo r status text → ConvertsWith r status
+converts_with : (r : Result Conversion Fault) (status : ℕ) (text : List ℕ) → OfRead IsConversion r status text → ConvertsWith r status
 converts_with (Err fault) status text a = a.0
 converts_with (Ok c) status text a = a.0
 
@@ -51,7 +52,7 @@ batches_not_usage : (r : Result (List (List ℕ)) BatchFault) (status : ℕ) →
 batches_not_usage (Ok jobs) status h e = omega arith
 batches_not_usage (Err fault) status h e = omega arith
 
-dumps_with : (o : Options) (r : Result Script Fault) (status : ℕ) (text : List ℕ) → DumpsTo o r status text → RunsWith r status
+dumps_with : (o : Options) (r : Result Script Fault) (status : ℕ) (text : List ℕ) → OfRead (EndsDoneOrFull o) r status text → RunsWith r status
 dumps_with o (Err fault) status text a = a.0
 dumps_with o (Ok s) status text (inl a) = inl a.0
 dumps_with o (Ok s) status text (inr a) = inr a.0
@@ -165,17 +166,17 @@ refusal_is_schedule (Some Census) left text (taken, same, a) = absurd (dumps_not
 refusal_is_schedule (Some (Batch o runners)) left text (taken, same, a) = absurd (batches_not_seven (batch taken) (batches_with o (batch taken) 7 text a))
 
 -- The clauses of all commands together.
-pub answers-follow : AnswersFollow
-answers-follow None left old new status p = p.usage refl
-answers-follow (Some (Run o)) left old new status p = p.run o refl
-answers-follow (Some (Gen number size)) left old new status p = p.gen number size refl
-answers-follow (Some (Load o number size)) left old new status p = p.load o number size refl
-answers-follow (Some Convert) left old new status p = p.convert refl
-answers-follow (Some Schedule) left old new status p = p.schedule refl
-answers-follow (Some (Dump o)) left old new status p = p.dump o refl
-answers-follow (Some Undump) left old new status p = p.undump refl
-answers-follow (Some Census) left old new status p = p.census refl
-answers-follow (Some (Batch o runners)) left old new status p = p.batch o runners refl
+pub answers_follow : AnswersFollow
+answers_follow None left old new status p = p.usage refl
+answers_follow (Some (Run o)) left old new status p = p.run o refl
+answers_follow (Some (Gen number size)) left old new status p = p.gen number size refl
+answers_follow (Some (Load o number size)) left old new status p = p.load o number size refl
+answers_follow (Some Convert) left old new status p = p.convert refl
+answers_follow (Some Schedule) left old new status p = p.schedule refl
+answers_follow (Some (Dump o)) left old new status p = p.dump o refl
+answers_follow (Some Undump) left old new status p = p.undump refl
+answers_follow (Some Census) left old new status p = p.census refl
+answers_follow (Some (Batch o runners)) left old new status p = p.batch o runners refl
 
-pub statuses-follow : StatusesFollow
-statuses-follow asked left old new status p h = let some = (answers-follow asked left old new status p).whole h in ends_with asked left status some.0 some.1
+pub statuses_follow : StatusesFollow
+statuses_follow asked left old new status p h = let some = (answers_follow asked left old new status p).whole h in ends_with asked left status some.0 some.1

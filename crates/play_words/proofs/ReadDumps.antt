@@ -1,9 +1,7 @@
 -- What is read of a dump, and what a play's end answers.
 use Rattle.std.proofs.Common.{◌≡◌, ℕ, List, refl, sym, subst, inl}
-use Rattle.std.specs.Prelude.{Option, Some, None, Result}
+use Rattle.std.specs.Prelude.{Option, Some, None}
 use Rattle.gc_script.specs.Script.{Script}
-use Rattle.gc_script.specs.Faults.{Fault}
-use Rattle.gc_script.specs.Finished.{is_refused}
 use Rattle.heap_dump.specs.Final.{DumpedHeap, HasDump}
 use Rattle.heap_dump.specs.Reading.{first_dump_fault, heap_of_dump}
 use Rattle.heap_dump.specs.Spelling.{dump}
@@ -11,10 +9,9 @@ use Rattle.heap_dump.specs.Text.{dump_fault_text}
 use Rattle.heap_dump.specs.declared.fault.DumpError.{DumpError}
 use Rattle.play_words.specs.Final.{IsFinalHeap}
 use Rattle.command_words.specs.Words.{Options}
-use Rattle.play_words.specs.Dumping.{DumpsTo, EndsDoneOrFull, IsEndAnswer}
+use Rattle.play_words.specs.Dumping.{EndsDoneOrFull, IsEndAnswer}
 use Rattle.play_words.specs.Counting.{IsCensusAnswer, IsCensusText, IsCountOf}
 use Rattle.play_words.specs.DumpReading.{OfDump}
-use Rattle.gc_play.specs.Ending.{IsFaultAnswer}
 
 -- bytes with a fault are told so
 pub read_fault : (P : DumpedHeap → List ℕ → Type 0) (bytes : List ℕ) (e : DumpError) → Some e ≡ first_dump_fault bytes → OfDump P bytes (first_dump_fault bytes) 2 (dump_fault_text e)
@@ -36,8 +33,3 @@ end_answer s h final legal = (refl, record { heap = h; final = final; legal = le
 
 pub dump_answer : (o : Options) (s : Script) (status : ℕ) (text : List ℕ) → IsEndAnswer s status text → EndsDoneOrFull o s status text
 dump_answer o s status text a = inl a
-
--- the text of a script's fault answers it
-pub dump_fault : (o : Options) (fault : Option Fault) (r : Result Script Fault) → is_refused fault r → (status : ℕ) (text : List ℕ) → IsFaultAnswer fault status text → DumpsTo o r status text
-dump_fault o None r h status text a = absurd a
-dump_fault o (Some fault) r h status text a = subst (λ (x : Result Script Fault). DumpsTo o x status text) (sym h) a

@@ -12,9 +12,9 @@ use Rattle.load_gen.proofs.FewObjects.{generated_few}
 use Rattle.load_gen.proofs.Whole.{generated_script}
 use Rattle.play_report.specs.Text.{IsFullText}
 use Rattle.command_words.specs.Words.{Options, Command, Run, Gen, Load, Convert, Schedule, Dump, Undump, Census, Batch}
-use Rattle.gc_play.specs.RunAnswers.{RunAnswersTo, IsRunAnswer}
+use Rattle.gc_play.specs.RunAnswers.{IsRunAnswer, PlaysTo}
 use Rattle.play_words.specs.Loading.{LoadsTo}
-use Rattle.play_words.specs.Dumping.{DumpsTo}
+use Rattle.play_words.specs.Dumping.{EndsDoneOrFull}
 use Rattle.play_words.specs.Answers.{IsAnswer}
 use Rattle.play_words.specs.Roomy.{PlaysIn, AreFew, IsOf}
 use Rattle.play_words.proofs.Bounding.{few-never-fill}
@@ -29,6 +29,7 @@ use Rattle.play_words.specs.Batching.{FitsJob, BatchesTo, IsBatchAnswer, IsBatch
 use Rattle.gc_play.specs.Ending.{TextEnds, number_of_status}
 use Rattle.gc_play.specs.declared.status.Status.{Status}
 use Rattle.gc_play.specs.declared.status.Status.TheVariants as ends
+use Rattle.gc_play.specs.Promise.{OfRead}
 
 -- a full text tells that the cells were too few
 full_few : (s : Sections) (cells : ℕ) (text : List ℕ) → IsFullText s cells text → AreFew s cells
@@ -39,7 +40,7 @@ full_few s cells text full most keeps =
     (λ (few : cells ≤ sum). few)
     (cases_lt sum cells)
 
-run_full : (o : Options) (s : Sections) (text : List ℕ) (whole : Script) → whole.sections ≡ s → RunAnswersTo o (Ok whole) 3 text → AreFew s o.cells
+run_full : (o : Options) (s : Sections) (text : List ℕ) (whole : Script) → whole.sections ≡ s → OfRead (PlaysTo o) (Ok whole) 3 text → AreFew s o.cells
 run_full o s text whole f plays =
     ⊎_elim
     (λ a. absurd (omega (arith, a.0)))
@@ -54,18 +55,18 @@ load_full o s text whole f plays =
     plays
 
 -- a script that was read, and is full
-pub run_few : (o : Options) (s : Sections) (text : List ℕ) (read : Result Script Fault) (whole : Script) → read ≡ Ok whole → whole.sections ≡ s → RunAnswersTo o read 3 text → AreFew s o.cells
-run_few o s text read whole e f runs = run_full o s text whole f (subst (λ (r : Result Script Fault). RunAnswersTo o r 3 text) e runs)
+pub run_few : (o : Options) (s : Sections) (text : List ℕ) (read : Result Script Fault) (whole : Script) → read ≡ Ok whole → whole.sections ≡ s → OfRead (PlaysTo o) read 3 text → AreFew s o.cells
+run_few o s text read whole e f runs = run_full o s text whole f (subst (λ (r : Result Script Fault). OfRead (PlaysTo o) r 3 text) e runs)
 
-dump_full : (o : Options) (s : Sections) (text : List ℕ) (whole : Script) → whole.sections ≡ s → DumpsTo o (Ok whole) 3 text → AreFew s o.cells
+dump_full : (o : Options) (s : Sections) (text : List ℕ) (whole : Script) → whole.sections ≡ s → OfRead (EndsDoneOrFull o) (Ok whole) 3 text → AreFew s o.cells
 dump_full o s text whole f plays =
     ⊎_elim
     (λ a. absurd (omega (arith, a.0)))
     (λ (a : (3 ≡ 3) × IsFullText whole.sections o.cells text). subst (λ (t : Sections). AreFew t o.cells) f (full_few whole.sections o.cells text a.1))
     plays
 
-dump_few : (o : Options) (s : Sections) (text : List ℕ) (read : Result Script Fault) (whole : Script) → read ≡ Ok whole → whole.sections ≡ s → DumpsTo o read 3 text → AreFew s o.cells
-dump_few o s text read whole e f dumps = dump_full o s text whole f (subst (λ (r : Result Script Fault). DumpsTo o r 3 text) e dumps)
+dump_few : (o : Options) (s : Sections) (text : List ℕ) (read : Result Script Fault) (whole : Script) → read ≡ Ok whole → whole.sections ≡ s → OfRead (EndsDoneOrFull o) read 3 text → AreFew s o.cells
+dump_few o s text read whole e f dumps = dump_full o s text whole f (subst (λ (r : Result Script Fault). OfRead (EndsDoneOrFull o) r 3 text) e dumps)
 
 load_few : (o : Options) (s : Sections) (text : List ℕ) (read : Result Script Fault) (whole : Script) → read ≡ Ok whole → whole.sections ≡ s → LoadsTo o read 3 text → AreFew s o.cells
 load_few o s text read whole e f loads = load_full o s text whole f (subst (λ (r : Result Script Fault). LoadsTo o r 3 text) e loads)

@@ -98,5 +98,5 @@ module _ (s : Sections) (a b : DumpedHeap) (f : IsFinalHeap s a) (g : IsFinalHea
           ∙ (ap (λ (n : ℕ). record { fields = y.fields; sections = n; roots = x.roots; records = x.records }) q
           ∙ (ap (λ (l : List ℕ). record { fields = y.fields; sections = y.sections; roots = l; records = x.records }) r ∙ ap (λ (l : List Object). record { fields = y.fields; sections = y.sections; roots = y.roots; records = l }) t))
 
-pub one-final : OneFinalHeap
-one-final s a b f g = heaps-same s a b f g
+pub one_final : OneFinalHeap
+one_final s a b f g = heaps-same s a b f g

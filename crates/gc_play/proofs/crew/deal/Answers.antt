@@ -1,4 +1,4 @@
-use Rattle.std.proofs.Common.{◌≡◌, ◌+◌, length, subst, arith}
+use Rattle.std.proofs.Common.{◌≡◌, ◌+◌, length, sym, subst, arith}
 use Rattle.std.specs.Prelude.{vec_len}
 use Rattle.gc_play.specs.Crews.{IsNewSeatOfPlay, Numbered}
 use Rattle.gc_play.specs.Dealing.{IsDealt}
@@ -15,7 +15,12 @@ all-dealt : (c : goal.After-loop-at) → c.loop-at.at ≡ length c.args.script.n
 all-dealt c = omega (arith, c.loop-at-test.false, c.loop-at.auto.at-end, warehouse-count c.args.script.now.sections c.warehouses-at-end.result.now c.warehouses-at-end.ensures.same)
 
 pub returns-clause-dealt : goal.returns-clause-dealt
-returns-clause-dealt c = subst (λ k. IsDealt (vec_len c.args.workers.now) k c.loop-at.workers.items) (all-dealt c) c.loop-at.invariant.dealt
+returns-clause-dealt c =
+    let i = c.loop-at.invariant in
+    subst (λ n. IsDealt n (length c.args.script.now.sections.warehouses) c.loop-at.workers.items) (sym i.same) (subst (λ k. IsDealt (vec_len c.args.workers.now) k c.loop-at.workers.items) (all-dealt c) i.dealt)
+
+pub returns-clause-some : goal.returns-clause-some
+returns-clause-some c = omega (arith, c.loop-at.invariant.same, c.requires.some)
 
 pub returns-clause-seats : goal.returns-clause-seats
 returns-clause-seats c = subst (λ k. Numbered (IsNewSeatOfPlay c.args.heap.now c.args.script.now.sections) (1 + k) c.loop-at.seats.items) (all-dealt c) c.loop-at.invariant.seats

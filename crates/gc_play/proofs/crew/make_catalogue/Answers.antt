@@ -9,10 +9,8 @@ use Rattle.gc_play.proofs.Starting.{new-made, new-objects, new-played}
 use Rattle.gc_play.proofs.crew.make_catalogue.Goals as goal
 
 pub returns-in-Ok : goal.returns-in-Ok
-returns-in-Ok c =
+returns-in-Ok c h n =
     let s = c.args.script.now.sections in
-    let h = c.args._heap.now in
-    let n = c.requires in
     let m = c.in-Ok.mutator in
     let e = c.in-Ok.ensures in
     let q = new-played h s 0 c.args.seat n m e.made.0 (omega arith) e.made.1 e.made.2 e.made.3 e.made.4

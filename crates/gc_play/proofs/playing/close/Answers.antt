@@ -10,57 +10,61 @@ use Rattle.gc_play.proofs.Ending.{all-played, are-parts, are-ready, are-seated, 
 use Rattle.gc_play.proofs.playing.close.Goals as goal
 
 pub close_played-requires-clause-made : goal.close_played-requires-clause-made
-close_played-requires-clause-made c = are-seated c.args.ended c.args.heap c.args.script.now.sections c.args._season c.args.seats.items c.requires.made c.requires.left
+close_played-requires-clause-made c =
+    let l = c.requires.left in
+    are-seated c.args.ended c.args.heap c.args.script.now.sections l.0 c.args.seats.items c.requires.made l.1.left
 
 pub close_played-requires-clause-played : goal.close_played-requires-clause-played
 close_played-requires-clause-played c =
     let h = c.args.heap in
     let s = c.args.script.now.sections in
-    let z = c.args._season in
+    let z = c.requires.left.0 in
+    let l = c.requires.left.1 in
     let xs = c.args.seats.items in
-    all-played h s z xs c.requires.made (subst (λ r. Numbered (IsSeatLeftBy r h s z) 0 xs) c.in-Done.is c.requires.left) (c.requires.all c.in-Done.is) (subst (λ r. SettlesEnd r xs) c.in-Done.is c.requires.settles)
+    all-played h s z xs c.requires.made (subst (λ r. Numbered (IsSeatLeftBy r h s z) 0 xs) c.in-Done.is l.left) (l.all c.in-Done.is) (subst (λ r. SettlesEnd r xs) c.in-Done.is l.settles)
 
 pub close_played-requires-clause-parts : goal.close_played-requires-clause-parts
 close_played-requires-clause-parts c =
     let h = c.args.heap in
     let s = c.args.script.now.sections in
-    let z = c.args._season in
+    let z = c.requires.left.0 in
+    let l = c.requires.left.1 in
     let xs = c.args.seats.items in
-    are-parts h s z xs c.requires.made c.args.parts.items (c.requires.all c.in-Done.is) c.requires.parts (subst (λ r. AreSaid r s z 0 xs c.args.parts.items) c.in-Done.is c.requires.said)
+    are-parts h s z xs c.requires.made c.args.parts.items (l.all c.in-Done.is) l.parts (subst (λ r. AreSaid r s z 0 xs c.args.parts.items) c.in-Done.is l.said)
 
 pub returns-in-Ok-clause-answers : goal.returns-in-Ok-clause-answers
 returns-in-Ok-clause-answers c = c.in-Ok.ensures.report
 
 pub returns-in-Ok-clause-ends : goal.returns-in-Ok-clause-ends
-returns-in-Ok-clause-ends c =
+returns-in-Ok-clause-ends c tracers z l traced =
     let h = c.args.heap in
     let s = c.args.script.now.sections in
-    let z = c.args._season in
     let xs = c.args.seats.items in
-    let all = c.requires.all c.in-Done.is in
-    let left : Numbered (IsSeatLeftBy Done h s z) 0 xs = subst (λ r. Numbered (IsSeatLeftBy r h s z) 0 xs) c.in-Done.is c.requires.left in
+    let all = l.all c.in-Done.is in
+    let left : Numbered (IsSeatLeftBy Done h s z) 0 xs = subst (λ r. Numbered (IsSeatLeftBy r h s z) 0 xs) c.in-Done.is l.left in
     record {
       seats = xs;
       closed = record { end = c.in-Ok.ensures.words; made = are-seated Done h s z xs c.requires.made left };
-      played = all-played h s z xs c.requires.made left all (subst (λ r. SettlesEnd r xs) c.in-Done.is c.requires.settles);
+      played = all-played h s z xs c.requires.made left all (subst (λ r. SettlesEnd r xs) c.in-Done.is l.settles);
       parts = c.in-Ok.ensures.parts;
       held = c.in-Ok.ensures.held;
-      traced = subst (λ n. TracersRan s h.shape c.args._tracers n xs) all (subst (λ r. EndTraced r s h.shape c.args._tracers z xs) c.in-Done.is c.requires.traced);
+      traced = subst (λ n. TracersRan s h.shape tracers n xs) all (subst (λ r. EndTraced r s h.shape tracers z xs) c.in-Done.is traced);
     }
 
 pub close_full-requires : goal.close_full-requires
 close_full-requires c =
     let h = c.args.heap in
     let s = c.args.script.now.sections in
-    let z = c.args._season in
+    let z = c.requires.left.0 in
+    let l = c.requires.left.1 in
     let xs = c.args.seats.items in
     let r = c.args.ended in
     record {
       some = omega (arith, c.requires.made.enough, c.args.seats.ok);
-      seats = are-ready r h s z xs c.requires.made c.requires.left;
-      made = are-seated r h s z xs c.requires.made c.requires.left;
-      stopped = (z, have-stopped h s z xs c.requires.made r c.in_default.not-Done c.requires.season c.requires.left);
-      full = some-knows h s z xs c.requires.made r c.in_default.not-Done c.requires.knows;
+      seats = are-ready r h s z xs c.requires.made l.left;
+      made = are-seated r h s z xs c.requires.made l.left;
+      stopped = (z, have-stopped h s z xs c.requires.made r c.in_default.not-Done l.season l.left);
+      full = some-knows h s z xs c.requires.made r c.in_default.not-Done l.knows;
     }
 
 -- the tracers of a play that came to no end
@@ -70,10 +74,9 @@ stopped-traced First s sh tracers z xs n t = inl t
 stopped-traced Later s sh tracers z xs n t = t
 
 pub returns-in-Ok-close_full-clause-ends : goal.returns-in-Ok-close_full-clause-ends
-returns-in-Ok-close_full-clause-ends c =
+returns-in-Ok-close_full-clause-ends c tracers z l traced =
     let h = c.args.heap in
     let s = c.args.script.now.sections in
-    let z = c.args._season in
     let xs = c.args.seats.items in
     let r = c.args.ended in
     let w = c.in-Ok-close_full.ensures.words in
@@ -81,8 +84,8 @@ returns-in-Ok-close_full-clause-ends c =
       season = z;
       words = w.0;
       seats = xs;
-      closed = record { end = w.1; made = are-seated r h s z xs c.requires.made c.requires.left };
-      stopped = have-stopped h s z xs c.requires.made r c.in_default.not-Done c.requires.season c.requires.left;
+      closed = record { end = w.1; made = are-seated r h s z xs c.requires.made l.left };
+      stopped = have-stopped h s z xs c.requires.made r c.in_default.not-Done l.season l.left;
       stored = w.2;
-      traced = stopped-traced r s h.shape c.args._tracers z xs c.in_default.not-Done c.requires.traced;
+      traced = stopped-traced r s h.shape tracers z xs c.in_default.not-Done traced;
     }

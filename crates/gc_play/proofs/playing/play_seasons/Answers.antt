@@ -38,7 +38,7 @@ returns-in-Done-settle-clause-ends g c =
     let first : 0 < n = omega (arith, some-season s, c.seasons-all.ensures.same) in
     let at = subst (λ k. CatalogueAt h s k (2 * k - 1) c.loop-before.crew.catalogue) all i.catalogue in
     let e = subst (λ r. CatalogueSettles r h s n c.settle.new.catalogue) c.in-Done-settle.is (settled h s n c.settle.result c.loop-before.crew.catalogue c.settle.new.catalogue first c.settle.ensures.leaves c.settle.ensures.settles at) in
-    (record { catalogue = e.0; dealt = i.dealt; played = subst (λ n. EachOne (StandsAt h s n) c.loop-before.crew.workers.items) all i.played; going = i.going; tracers = i.tracers }, e.1)
+    (record { catalogue = e.0; some = i.some; dealt = i.dealt; played = subst (λ n. EachOne (StandsAt h s n) c.loop-before.crew.workers.items) all i.played; going = i.going; tracers = i.tracers }, e.1)
 
 pub returns-in-Done-settle-clause-season : goal.returns-in-Done-settle-clause-season
 returns-in-Done-settle-clause-season g c = omega (arith, some-season c.args.script.now.sections, c.seasons-all.ensures.same)
@@ -57,6 +57,7 @@ returns-in-Full-clause-ends g c =
     record {
       season = omega (arith, some-season s, c.seasons-all.ensures.same);
       catalogue = e.0;
+      some = i.some;
       dealt = i.dealt;
       halted = λ k d low j m below. inr (inl (played k d low j m below));
       known = inl e.1;

@@ -5,6 +5,6 @@ use Rattle.gc_play.proofs.playing.play_seasons.Given as goal
 
 abbrev pub invariant-loop-before : goal.invariant-loop-before
 invariant-loop-before g l = record {
-  crew : IsCrew l.heap l.script.sections l.workers l.before (2 * l.before - 1) l.crew;
+  crew : IsCrew l.heap l.script.sections l.before (2 * l.before - 1) l.crew;
   traced : SeasonsTraced l.heap l.script.sections l.before l.fn.crew.tracers.items l.crew.tracers.items;
 }

@@ -1,33 +1,19 @@
-use Rattle.std.proofs.Common.{subst}
-use Rattle.gc_play.specs.Crews.{CatalogueAt}
-use Rattle.gc_play.specs.declared.crew.Catalogue.TheVariants.{Absent, Playing}
-use Rattle.gc_play.proofs.Catalogues.{may-move, turned-playing, turned-absent}
+use Rattle.std.proofs.Common.{sym, subst}
+use Rattle.gc_table.specs.Seats.{view_of}
+use Rattle.warehouse.specs.Turns.{TurnEnds}
+use Rattle.gc_play.specs.declared.crew.Catalogue.{Catalogue}
+use Rattle.gc_play.specs.Crews.{seat_in}
+use Rattle.gc_play.proofs.Catalogues.{stop-absent, stop-playing}
 use Rattle.gc_play.proofs.season.next_turn.Goals as goal
 
-pub next_turn-requires-clause-turn : goal.next_turn-requires-clause-turn
-next_turn-requires-clause-turn g c =
-    let h = c.args.heap.now in
-    let s = c.args._script.now.sections in
-    let r = c.requires in
-    (may-move h s c.args._parts c.args._moved (Playing c.in-Playing.mutator) r.parts r.few r.turn (subst (CatalogueAt h s c.args._parts c.args._moved) c.in-Playing.is r.at)).1
+pub returns-in-Playing-clause-leaves : goal.returns-in-Playing-clause-leaves
+returns-in-Playing-clause-leaves g c = stop-playing c.args.heap.now c.in-Playing.mutator c.next_turn.new.self c.args.catalogue.now c.in-Playing.is c.next_turn.ensures.kept c.next_turn.ensures.seat c.next_turn.ensures.keeps
 
-pub turn_season-requires-clause-turn : goal.turn_season-requires-clause-turn
-turn_season-requires-clause-turn g c =
-    let h = c.args.heap.now in
-    let s = c.args._script.now.sections in
-    let r = c.requires in
-    (may-move h s c.args._parts c.args._moved (Absent c.in-Absent.seat) r.parts r.few r.turn (subst (CatalogueAt h s c.args._parts c.args._moved) c.in-Absent.is r.at)).1
+pub returns-in-Playing-clause-ends : goal.returns-in-Playing-clause-ends
+returns-in-Playing-clause-ends g c = subst (λ (b : Catalogue). TurnEnds c.next_turn.result (view_of (seat_in b)) (view_of c.next_turn.new.self.seat)) (sym c.in-Playing.is) c.next_turn.ensures.ends
 
-pub returns-in-Playing : goal.returns-in-Playing
-returns-in-Playing g c =
-    let h = c.args.heap.now in
-    let s = c.args._script.now.sections in
-    let e = c.next_turn.ensures in
-    turned-playing h s c.args._parts c.next_turn.result c.args._moved c.in-Playing.mutator c.next_turn.new.self e.kept (record { seat = e.seat; keeps = e.keeps }) e.ends (subst (CatalogueAt h s c.args._parts c.args._moved) c.in-Playing.is c.requires.at)
+pub returns-in-Absent-clause-leaves : goal.returns-in-Absent-clause-leaves
+returns-in-Absent-clause-leaves g c = stop-absent c.args.heap.now c.in-Absent.seat c.turn_season.new.seat c.args.catalogue.now c.in-Absent.is c.turn_season.ensures.seat c.turn_season.ensures.keeps
 
-pub returns-in-Absent : goal.returns-in-Absent
-returns-in-Absent g c =
-    let h = c.args.heap.now in
-    let s = c.args._script.now.sections in
-    let e = c.turn_season.ensures in
-    turned-absent h s c.args._parts c.turn_season.result c.args._moved c.in-Absent.seat c.turn_season.new.seat (record { seat = e.seat; keeps = e.keeps }) e.ends (subst (CatalogueAt h s c.args._parts c.args._moved) c.in-Absent.is c.requires.at)
+pub returns-in-Absent-clause-ends : goal.returns-in-Absent-clause-ends
+returns-in-Absent-clause-ends g c = subst (λ (b : Catalogue). TurnEnds c.turn_season.result (view_of (seat_in b)) (view_of c.turn_season.new.seat)) (sym c.in-Absent.is) c.turn_season.ensures.ends

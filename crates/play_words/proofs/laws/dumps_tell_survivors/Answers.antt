@@ -20,12 +20,13 @@ use Rattle.dump_census.specs.Values.{AreValueCounts}
 use Rattle.dump_census.specs.declared.counts.SectionCount.{SectionCount}
 use Rattle.play_words.specs.Final.{survivor_in}
 use Rattle.command_words.specs.Words.{Options}
-use Rattle.gc_play.specs.RunAnswers.{RunAnswersTo}
-use Rattle.play_words.specs.Dumping.{DumpsTo, IsDumpText}
+use Rattle.gc_play.specs.RunAnswers.{PlaysTo}
+use Rattle.play_words.specs.Dumping.{IsDumpText, EndsDoneOrFull}
 use Rattle.play_words.specs.DumpReading.{OfDump}
 use Rattle.play_words.specs.Undumping.{IsUndumpText, IsUndumpAnswer}
 use Rattle.play_words.specs.Counting.{IsCensusText, IsCensusAnswer}
 use Rattle.play_words.specs.Laws.{survivor_count, TellTheSame, DumpsTellSurvivors}
+use Rattle.gc_play.specs.Promise.{OfRead}
 use Rattle.play_words.proofs.laws.dumps_tell_survivors.Goals as goal
 
 -- The texts of a play and of its dump tell the same survivors.
@@ -92,7 +93,7 @@ read-told o bytes s run dumped listed counted undumped censused is r t u c =
     (list.0, count.0, tell-same o bytes s run dumped listed counted is r t list.1 count.1)
 
 told : (o p : Options) (bytes : List ℕ) (q : Result Script Fault) (run dumped listed counted : List ℕ) (undumped censused : ℕ) → script bytes ≡ q → o.place ≡ false
-    → RunAnswersTo o q 0 run → DumpsTo p q 0 dumped → IsUndumpAnswer dumped undumped listed → IsCensusAnswer dumped censused counted
+    → OfRead (PlaysTo o) q 0 run → OfRead (EndsDoneOrFull p) q 0 dumped → IsUndumpAnswer dumped undumped listed → IsCensusAnswer dumped censused counted
     → (undumped ≡ 0) × (censused ≡ 0) × TellTheSame bytes run listed counted
 told o p bytes (Err fault) run dumped listed counted undumped censused is f x d u c = absurd (omega (arith, x.0))
 told o p bytes (Ok s) run dumped listed counted undumped censused is f (inr x) d u c = absurd (omega (arith, x.0))

@@ -1,13 +1,14 @@
 -- What the workers' seasons come to together.
-use Rattle.std.proofs.Common.{ℕ, ◌≡◌, List, All, get_or, subst, Bool, true, false, inl, inr}
+use Rattle.std.proofs.Common.{ℕ, ◌≡◌, List, All, get_or, refl, subst, Bool, true, false, inl, inr}
 use Rattle.plain_heap.specs.Sections.{Sections}
 use Rattle.gc_table.specs.Rule.{KnowsFull}
 use Rattle.gc_table.specs.Seats.{view_of}
 use Rattle.gc_table.specs.declared.seat.Heap.{Heap}
 use Rattle.warehouse.specs.declared.mutator.Mutator.{Mutator}
+use Rattle.play_end.specs.declared.played.Played.{Played}
 use Rattle.play_end.specs.declared.played.Played.TheVariants.{Done, Full}
 use Rattle.gc_play.specs.declared.workers.Worker.{Worker}
-use Rattle.gc_play.specs.Dealing.{StandsAt, HaltsAt, WarehouseStopsAt, ShareEnds, SomeAt, SomeFull}
+use Rattle.gc_play.specs.Dealing.{HaltsAt, WarehouseStopsAt, ShareEnds, SomeAt, SomeFull}
 use Rattle.gc_play.specs.Crews.{SeasonTurnEnds}
 
 some-map : {X : Type 0} (P Q : X → Type 0) → ((x : X) → P x → Q x) → (xs : List X) → SomeAt P xs → SomeAt Q xs
@@ -20,12 +21,9 @@ share-halts false h s z ms e = λ k d below. inr (inl (e k d below))
 share-stops : (b : Bool) (h : Heap) (s : Sections) (z : ℕ) (ms : List Mutator) → b ≡ true → ShareEnds b h s z ms → SomeAt (WarehouseStopsAt h s z) ms
 share-stops b h s z ms t e = (subst (λ x. ShareEnds x h s z ms) t e).1
 
-share-stands : (b : Bool) (h : Heap) (s : Sections) (z : ℕ) (ms : List Mutator) → b ≡ false → ShareEnds b h s z ms → All (StandsAt h s z) ms
-share-stands b h s z ms f e = subst (λ x. ShareEnds x h s z ms) f e
-
 module _ (h : Heap) (s : Sections) (z : ℕ) (ws : List Worker) (all : All (λ (x : Worker). ShareEnds x.full h s z x.mutators.items) ws) where
-  pub turn-full : SomeFull ws → SeasonTurnEnds Full h s z ws
-  turn-full some_full = (
+  pub turn_full : SomeFull ws → SeasonTurnEnds Full h s z ws
+  turn_full some_full = (
     λ k d below. share-halts (get_or ws k d).full h s z (get_or ws k d).mutators.items (all k d below),
     (
       some_full.0,
@@ -36,5 +34,7 @@ module _ (h : Heap) (s : Sections) (z : ℕ) (ws : List Worker) (all : All (λ (
     ),
   )
 
-  pub turn-done : All (λ (x : Worker). x.full ≡ false) ws → SeasonTurnEnds Done h s z ws
-  turn-done going = (λ k d below. share-stands (get_or ws k d).full h s z (get_or ws k d).mutators.items (going k d below) (all k d below), going)
+-- a turn that all warehouses played to its end
+pub turn-ended : (r : Played) (h : Heap) (s : Sections) (z : ℕ) (ws : List Worker) → (r ≡ Full → ⊥) → SeasonTurnEnds r h s z ws → SeasonTurnEnds Done h s z ws
+turn-ended Done h s z ws n e = e
+turn-ended Full h s z ws n e = absurd (n refl)

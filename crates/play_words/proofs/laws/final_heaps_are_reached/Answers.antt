@@ -1,5 +1,0 @@
-use Rattle.play_words.proofs.Reached.{final-reached}
-use Rattle.play_words.proofs.laws.final_heaps_are_reached.Goals as goal
-
-pub returns : goal.returns
-returns c = final-reached

@@ -1,5 +1,0 @@
-use Rattle.play_words.proofs.Meant.{loads-alike}
-use Rattle.play_words.proofs.laws.loads_alike.Goals as goal
-
-pub returns : goal.returns
-returns c = loads-alike

@@ -1,5 +1,0 @@
-use Rattle.play_words.proofs.Meant.{runs-alike}
-use Rattle.play_words.proofs.laws.runs_alike.Goals as goal
-
-pub returns : goal.returns
-returns c = runs-alike
