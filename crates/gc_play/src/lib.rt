@@ -61,4 +61,4 @@ pub use status::Status;
 pub use stopped::tell_stop;
 pub use tracers::run_tracer;
 pub use warehouse::Gate;
-pub use words::{given_words, run_words};
+pub use words::given_words;
