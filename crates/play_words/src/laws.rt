@@ -3,7 +3,6 @@ ghost use Rattle.play_words.specs.Following.{AnswersFollow, StatusesFollow};
 ghost use Rattle.play_words.specs.Laws.{ConversionsAnswer, ConversionsRunAlike, DumpsAlike, DumpsAreReached, DumpsTellSurvivors, FinalHeapsAreReached, LoadsAlike, OneFinalHeap, RunsAlike};
 
 /// Two runs of one script with status 0, without `--place`, write the same bytes, whatever their other options.
-#[tactic(auto, using(crate::proofs::Meant::runs_alike))]
 pub fn runs_alike()
     ensures { RunsAlike }
 {}
@@ -33,13 +32,11 @@ pub fn dumps_alike()
 {}
 
 /// Two loads with the same numbers write the same text.
-#[tactic(auto, using(crate::proofs::Meant::loads_alike))]
 pub fn loads_alike()
     ensures { LoadsAlike }
 {}
 
 /// Each record of the heap at the end of a play is reached from a variable.
-#[tactic(auto, using(crate::proofs::Reached::final_reached))]
 pub fn final_heaps_are_reached()
     ensures { FinalHeapsAreReached }
 {}
