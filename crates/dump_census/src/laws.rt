@@ -2,7 +2,6 @@
 ghost use Rattle.dump_census.specs.Surviving.{OneCensus, SurvivorsAreReached};
 
 /// In the dump of a play's survivors, which refers as the plain heaps do, no record is unreached.
-#[tactic(auto, using(crate::proofs::Found::survivors_reached))]
 pub fn survivors_are_reached()
     ensures { SurvivorsAreReached }
 {}

@@ -19,7 +19,6 @@ pub struct Levels {
 }
 
 /// A search in which the records that variables refer to have level 0.
-#[tactic(auto, using(crate::proofs::Leveling::first))]
 fn first_round(alloc: Global, dump: &Dump<'_>) -> Result<Search, OutOfMemory>
     ensures { IfOk result (λ s. IsLeveling (heap_of_dump dump.now) s []) }
 {
@@ -55,7 +54,6 @@ fn next_round(
 }
 
 /// The level of each record, and how many records each level has.
-#[tactic(auto, using(crate::proofs::Leveling::levels_found))]
 pub fn find_levels(alloc: Global, dump: &Dump<'_>) -> Result<Levels, OutOfMemory>
     requires { HasDump (heap_of_dump dump.now) }
     ensures { IfOk result (λ r. AreLevels (heap_of_dump dump.now) r.found.items × (r.counts.items ≡ level_counts r.found.items)) }

@@ -97,7 +97,6 @@ impl Search {
     }
 
     /// Gives this level to what these records refer to. If memory runs out, some records may have the level.
-    #[tactic(auto, using(crate::proofs::Rounding::from_more, crate::proofs::Rounding::long_stays_all))]
     pub fn reach_from(
         &mut self,
         dump: &Dump<'_>,

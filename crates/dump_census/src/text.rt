@@ -7,7 +7,6 @@ ghost use Rattle.dump_census.specs.Text.{section_text, level_text, value_text, c
 use crate::counts::{Census, SectionCount, ValueCount};
 use play_report::{Failed, Sink, TextLine, write_named, write_pair};
 
-#[tactic(auto, using(play_report::proofs::Turns::numbered_ok, play_report::proofs::Turns::numbered_err))]
 fn write_levels<K: Sink>(levels: &[u32], sink: &mut K) -> Result<(), Failed>
     ensures { WritesTo K.written K.faults result sink.old sink.new (numbered_texts level_text 0 levels.now) }
 {
@@ -35,7 +34,6 @@ fn write_section<K: Sink>(w: u64, section: &SectionCount, sink: &mut K) -> Resul
     line.write(sink)
 }
 
-#[tactic(auto, using(play_report::proofs::Turns::numbered_ok, play_report::proofs::Turns::numbered_err))]
 fn write_sections<K: Sink>(sections: &[SectionCount], sink: &mut K) -> Result<(), Failed>
     ensures { WritesTo K.written K.faults result sink.old sink.new (numbered_texts section_text 0 sections.now) }
 {
@@ -48,7 +46,6 @@ fn write_sections<K: Sink>(sections: &[SectionCount], sink: &mut K) -> Result<()
     Ok(())
 }
 
-#[tactic(auto, using(play_report::proofs::Turns::turn_ok, play_report::proofs::Turns::turn_err))]
 fn write_values<K: Sink>(values: &[ValueCount], sink: &mut K) -> Result<(), Failed>
     ensures { WritesTo K.written K.faults result sink.old sink.new (flat_map value_text values.now) }
 {
@@ -62,7 +59,6 @@ fn write_values<K: Sink>(values: &[ValueCount], sink: &mut K) -> Result<(), Fail
 }
 
 /// The sections and the values.
-#[tactic(auto, using(play_report::proofs::Turns::then_writes, play_report::proofs::Turns::stops_writes, play_report::proofs::Turns::same_writes, play_report::proofs::Turns::same_stops))]
 fn write_counts<K: Sink>(census: &Census, sink: &mut K) -> Result<(), Failed>
     ensures { WritesTo K.written K.faults result sink.old sink.new
         (numbered_texts section_text 0 census.now.sections ++ flat_map value_text census.now.values) }
@@ -73,7 +69,6 @@ fn write_counts<K: Sink>(census: &Census, sink: &mut K) -> Result<(), Failed>
     }
 }
 
-#[tactic(auto, using(play_report::proofs::Turns::then_writes, play_report::proofs::Turns::stops_writes, play_report::proofs::Turns::same_writes, play_report::proofs::Turns::same_stops))]
 fn write_rest<K: Sink>(census: &Census, sink: &mut K) -> Result<(), Failed>
     ensures { WritesTo K.written K.faults result sink.old sink.new
         (named_text (codes "unreached ") census.now.unreached ++ (numbered_texts section_text 0 census.now.sections ++ flat_map value_text census.now.values)) }
@@ -84,7 +79,6 @@ fn write_rest<K: Sink>(census: &Census, sink: &mut K) -> Result<(), Failed>
     }
 }
 
-#[tactic(auto, using(play_report::proofs::Turns::then_writes, play_report::proofs::Turns::stops_writes, play_report::proofs::Turns::same_writes, play_report::proofs::Turns::same_stops))]
 fn write_after<K: Sink>(census: &Census, sink: &mut K) -> Result<(), Failed>
     ensures { WritesTo K.written K.faults result sink.old sink.new
         (numbered_texts level_text 0 census.now.levels ++ (named_text (codes "unreached ") census.now.unreached
@@ -99,7 +93,6 @@ fn write_after<K: Sink>(census: &Census, sink: &mut K) -> Result<(), Failed>
 /// Writes a census: `levels d`, a line `level n count` for each level, `unreached u`, a line `section w count
 /// total` for each section, and a line `value v count` for each value, in order. If it fails, the sink's count of
 /// faults rose and a prefix was written.
-#[tactic(auto, using(play_report::proofs::Turns::then_writes, play_report::proofs::Turns::stops_writes, play_report::proofs::Turns::same_writes, play_report::proofs::Turns::same_stops))]
 pub fn write_census<K: Sink>(census: &Census, sink: &mut K) -> Result<(), Failed>
     ensures { WritesTo K.written K.faults result sink.old sink.new (census_text census.now) }
 {

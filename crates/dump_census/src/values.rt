@@ -49,7 +49,6 @@ fn count_value(counts: &mut Vec<ValueCount>, value: u32) -> Result<(), OutOfMemo
     }
 }
 
-#[tactic(auto, using(crate::proofs::Tally::count_small, crate::proofs::Tally::tally_more))]
 fn count_sorted(alloc: Global, values: &[u32]) -> Result<Vec<ValueCount>, OutOfMemory>
     requires few { length values.now ≤ 65536 }
     requires rising { IsRising values.now }

@@ -89,7 +89,6 @@ impl<'a> Dump<'a> {
 
     /// Variable v of a section: 0 for nil, k + 1 for record k. None if there is no such section or variable (v is
     /// below 32).
-    #[tactic(auto, using(crate::proofs::Lent::root_found, crate::proofs::Lent::section_past))]
     pub fn root(&self, section: u32, v: u32) -> Option<u32>
         ensures { SomeIff result ((section < (heap_of_dump self.now).sections) × (v < 32))
             (slice_index (heap_of_dump self.now).roots (32 * section + v)) }
@@ -102,7 +101,6 @@ impl<'a> Dump<'a> {
     }
 
     /// Record k, if there is one.
-    #[tactic(auto, using(crate::proofs::Lent::nth_found, crate::proofs::Lent::nth_past))]
     pub fn nth(&self, k: u32) -> Option<Record<'a>>
         ensures { MatchOption result (length (heap_of_dump self.now).records ≤ k) (λ r. (k < length (heap_of_dump self.now).records)
             × (r ≡ record_bytes (heap_of_dump self.now).fields (heap_of_dump self.now).sections self.now k)
@@ -120,7 +118,6 @@ impl<'a> Dump<'a> {
 }
 
 /// Number i of the bytes.
-#[tactic(auto, using(crate::proofs::Numbers::be_at, crate::proofs::Numbers::numbers_rules))]
 fn number_in(bytes: &[u8], i: usize) -> u32
     requires { 4 * i + 4 ≤ length bytes.now }
     ensures { result ≡ slice_index (numbers bytes.now) i }
@@ -130,7 +127,6 @@ fn number_in(bytes: &[u8], i: usize) -> u32
 }
 
 impl<'a> Record<'a> {
-    #[tactic(auto, unfolding(crate::specs::Reading::object_in))]
     /// The object's section.
     pub fn section(&self) -> u32
         ensures { result ≡ (object_in self.now).section }
@@ -138,7 +134,6 @@ impl<'a> Record<'a> {
         number_in(self.bytes, 0)
     }
 
-    #[tactic(auto, unfolding(crate::specs::Reading::object_in))]
     /// The object's number within its section.
     pub fn number(&self) -> u32
         ensures { result ≡ (object_in self.now).number }
@@ -146,7 +141,6 @@ impl<'a> Record<'a> {
         number_in(self.bytes, 1)
     }
 
-    #[tactic(auto, unfolding(crate::specs::Reading::object_in))]
     /// The object's value.
     pub fn value(&self) -> u32
         ensures { result ≡ (object_in self.now).value }
@@ -155,7 +149,6 @@ impl<'a> Record<'a> {
     }
 
     /// Field i: 0 for nil, k + 1 for record k. None if the object has no such field.
-    #[tactic(auto, using(crate::proofs::Lent::length_refs, crate::proofs::Lent::ref_at))]
     pub fn reference(&self, i: u32) -> Option<u32>
         ensures { SomeIff result (i < length (object_in self.now).refs) (slice_index (object_in self.now).refs i) }
     {

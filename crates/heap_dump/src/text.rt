@@ -39,7 +39,6 @@ fn write_object<K: Sink>(object: &Record<'_>, sink: &mut K) -> Result<(), Failed
     )
 }
 
-#[tactic(auto, using(play_report::proofs::Turns::turn_err))]
 fn write_objects<K: Sink>(dump: &Dump<'_>, sink: &mut K) -> Result<(), Failed>
     ensures { WritesTo K.written K.faults result sink.old sink.new (flat_map object_text (heap_of_dump dump.now).records) }
 {
@@ -57,7 +56,6 @@ fn write_objects<K: Sink>(dump: &Dump<'_>, sink: &mut K) -> Result<(), Failed>
 
 /// Writes a line `sections S fields F records m`, and for each record a line with its section, its number and its
 /// value. If it fails, the sink's count of faults rose and a prefix was written.
-#[tactic(auto, using(play_report::proofs::Turns::then_writes, play_report::proofs::Turns::stops_writes, play_report::proofs::Turns::same_writes, play_report::proofs::Turns::same_stops))]
 pub fn write_undump<K: Sink>(dump: &Dump<'_>, sink: &mut K) -> Result<(), Failed>
     ensures { WritesTo K.written K.faults result sink.old sink.new (undump_text (heap_of_dump dump.now)) }
 {
@@ -67,7 +65,7 @@ pub fn write_undump<K: Sink>(dump: &Dump<'_>, sink: &mut K) -> Result<(), Failed
     }
 }
 
-#[tactic(auto, using(), unfolding(crate::specs::Text::reference_fault_text))]
+#[tactic(auto, unfolding(crate::specs::Text::reference_fault_text))]
 fn write_reference_fault<K: Sink>(k: u32, field: u32, sink: &mut K) -> Result<(), Failed>
     ensures { WritesTo K.written K.faults result sink.old sink.new (reference_fault_text k field) }
 {

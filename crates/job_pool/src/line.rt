@@ -10,7 +10,6 @@ use crate::reader::Job;
 use std::sync::Wait;
 
 /// Puts the jobs in line, in order.
-#[tactic(auto, using(crate::proofs::Rule::puts, crate::proofs::Rule::learns_many, crate::proofs::Lining::next_number))]
 pub fn put_all<'a, R: Wait>(
     rt: &R,
     line: &Line<'a>,
@@ -32,7 +31,6 @@ pub fn put_all<'a, R: Wait>(
 }
 
 /// Draws a job that nobody has drawn. If none is in line, who has every part knows that all were drawn.
-#[tactic(auto, using(crate::proofs::Rule::draws, crate::proofs::Rule::learns))]
 pub fn draw<'a, R: Wait>(rt: &R, line: &Line<'a>, me: &mut Drawer<'a>) -> Option<Job<'a>>
     requires me { IsPassOf line.now me.old × (0 < (view me.old).parts) }
     ensures me { IsPassOf line.now me.new }

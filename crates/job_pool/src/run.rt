@@ -25,7 +25,6 @@ struct Runner<'l, 'a> {
 }
 
 /// Plays jobs as long as some are in line. Who has every part then has a result of each job.
-#[tactic(auto, using(crate::proofs::Results::drew, crate::proofs::Results::played, crate::proofs::Results::all_more, crate::proofs::Results::all_drawn))]
 fn draw_jobs<'a, P: Player, R: Threads + Wait + Sync>(
     rt: &R,
     alloc: Global,
@@ -115,7 +114,6 @@ fn beside<'a, P: Player + Sync, R: Threads + Wait + Sync>(
 /// Plays each job of the batch once, on so many runners, which are 1 to 8. Entry j has job j and what its play
 /// answered. Each runner but the caller has a thread of its own; one that can't be started is run by the caller,
 /// after its own. Refused only if there is no memory.
-#[tactic(auto, using(crate::proofs::Results::all_played))]
 pub fn run_jobs<P: Player + Sync, R: Threads + Wait + Sync>(
     rt: &R,
     alloc: Global,

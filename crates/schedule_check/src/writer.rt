@@ -18,7 +18,6 @@ fn write_closed<K: Sink>(closed: bool, sink: &mut K) -> Result<(), Failed>
     }
 }
 
-#[tactic(auto, using(play_report::proofs::Turns::then_writes, play_report::proofs::Turns::stops_writes))]
 fn write_used<K: Sink>(used: u32, closed: bool, sink: &mut K) -> Result<(), Failed>
     ensures { WritesTo K.written K.faults result sink.old sink.new (used_text used closed) }
 {
@@ -28,7 +27,6 @@ fn write_used<K: Sink>(used: u32, closed: bool, sink: &mut K) -> Result<(), Fail
     }
 }
 
-#[tactic(auto, using(play_report::proofs::Turns::then_writes, play_report::proofs::Turns::stops_writes))]
 fn write_marking<K: Sink>(marked: u32, used: u32, closed: bool, sink: &mut K) -> Result<(), Failed>
     ensures { WritesTo K.written K.faults result sink.old sink.new (marking_text marked used closed) }
 {
@@ -38,7 +36,6 @@ fn write_marking<K: Sink>(marked: u32, used: u32, closed: bool, sink: &mut K) ->
     }
 }
 
-#[tactic(auto, using(play_report::proofs::Turns::then_writes, play_report::proofs::Turns::stops_writes, play_report::proofs::Turns::same_writes, play_report::proofs::Turns::same_stops))]
 fn write_words<K: Sink>(phase: Phase, empty: u64, sink: &mut K) -> Result<(), Failed>
     ensures { WritesTo K.written K.faults result sink.old sink.new (words_text phase empty) }
 {
@@ -48,7 +45,6 @@ fn write_words<K: Sink>(phase: Phase, empty: u64, sink: &mut K) -> Result<(), Fa
     }
 }
 
-#[tactic(auto, using(play_report::proofs::Turns::then_writes, play_report::proofs::Turns::stops_writes))]
 fn write_end<K: Sink>(
     phase: Phase,
     empty: u64,
@@ -65,7 +61,6 @@ fn write_end<K: Sink>(
     }
 }
 
-#[tactic(auto, using(play_report::proofs::Turns::then_writes, play_report::proofs::Turns::stops_writes))]
 fn write_accepted<K: Sink>(
     events: u32,
     phase: Phase,
@@ -83,7 +78,7 @@ fn write_accepted<K: Sink>(
     }
 }
 
-#[tactic(auto, using(play_report::proofs::Turns::same_writes), unfolding(crate::specs::Text::refused_text))]
+#[tactic(auto, unfolding(crate::specs::Text::refused_text))]
 fn write_refused<K: Sink>(at: u32, rule: &Rule, sink: &mut K) -> Result<(), Failed>
     ensures { WritesTo K.written K.faults result sink.old sink.new (refused_text at rule.now.kind rule.now.part) }
 {

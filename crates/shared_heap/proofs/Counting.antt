@@ -190,5 +190,3 @@ lock-closed world mutators tracers w end es whole all turns =
     (each_left (λ l. takes_turns false l ≡ true) (λ xs ys a h. turns_more sh.fields false xs ys (spared-values sh.fields ys a) h) mutators end.rest end.left turns)
     (λ l a. turns_none sh.fields false l (spared-values sh.fields l a))
     (are_spared world mutators tracers w end es whole))
-
-pub ruleset counting = (counter-closed, lock-closed)

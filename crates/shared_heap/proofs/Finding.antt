@@ -35,4 +35,4 @@ field-found w v i x y f =
     first-found (event (ReadOwn (word_in (state_of x.seat) v - 1) i) f.found) (event (StoreRoot w (reference_in f.found)) (reference_in f.found) ∷ []) (view_of x.seat)
     (subst (λ (es : List Entry). AllFindHeap es (view_of x.seat)) f.events_are (calls-find x y f.ran)) refl
 
-pub ruleset finding = (calls-find, value-found, field-found)
+pub ruleset finding = (calls-find)

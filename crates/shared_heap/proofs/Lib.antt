@@ -1,4 +1,4 @@
-pub mod Counting
+mod Counting
 mod Dealt
 pub mod Finding
 mod Keeping

@@ -173,4 +173,4 @@ counter-read world mutators tracers w end all raised n e =
     let root = held d (heap_after_events sh es k) w r.1.root n (r.1.run.sound k) (r.1.agrees k) words kept e in
     sym root.2 ∙ counter-closed world mutators tracers w end es r.1 all raised root.0 root.1
 
-pub ruleset reading = (threads-run, counter-read)
+pub ruleset reading = (threads-run)

@@ -66,33 +66,28 @@ pub fn calls_find()
 {}
 
 /// So [`value`](SharedMutator::value) answers the value that the object had in this heap.
-#[tactic(auto, using(crate::proofs::Finding::finding))]
 pub fn value_found()
     ensures { ValueFound }
 {}
 
 /// And what [`get`](SharedMutator::get) found is the reference that the object's field had in it.
-#[tactic(auto, using(crate::proofs::Finding::finding))]
 pub fn field_found()
     ensures { FieldFound }
 {}
 
 /// If the mutators of a closed world made no object, and changed values only by exchanges of a number for the next,
 /// the root's value at the end is the number of exchanges won.
-#[tactic(auto, using(crate::proofs::Counting::counting))]
 pub fn counter_closed()
     ensures { CounterClosed }
 {}
 
 /// That is what [`root_value`] reads in the words of the closed world.
-#[tactic(auto, using(crate::proofs::RootRead::reading))]
 pub fn counter_read()
     ensures { CounterRead }
 {}
 
 /// If they made no object, and each exchanged a value only from 0 to 1 while it was outside and from 1 to 0 while
 /// it was inside, no two were inside at any moment.
-#[tactic(auto, using(crate::proofs::Counting::counting))]
 pub fn lock_closed()
     ensures { LockClosed }
 {}

@@ -1,0 +1,18 @@
+use Rattle.std.proofs.Common.{◌++◌, ap, codes}
+use Rattle.std.specs.Prelude.{flat_map, length}
+use Rattle.play_report.specs.Text.{named_text, numbered_texts}
+use Rattle.play_report.proofs.Turns.{then_writes, stops_writes, same_writes, same_stops}
+use Rattle.dump_census.specs.Text.{level_text, section_text, value_text}
+use Rattle.dump_census.proofs.text.write_census.Goals as goal
+
+pub returns-in-Ok : goal.returns-in-Ok
+returns-in-Ok g c =
+    let both = then_writes _ _ _ _ _ _ _ _ _ c.in-Ok.ensures.0 c.in-Ok.ensures.1 c.write_after.ensures in
+    let v = c.args.census.now in
+    same_writes _ _ _ _ _ _ _ (ap (λ xs. named_text (codes "levels ") (length xs) ++ (numbered_texts level_text 0 v.levels ++ (named_text (codes "unreached ") v.unreached ++ (numbered_texts section_text 0 v.sections ++ flat_map value_text v.values)))) c.levels.ensures) both
+
+pub returns-in-Err : goal.returns-in-Err
+returns-in-Err g c =
+    let v = c.args.census.now in
+    same_stops _ _ _ _ _ _ (ap (λ xs. named_text (codes "levels ") (length xs) ++ (numbered_texts level_text 0 v.levels ++ (named_text (codes "unreached ") v.unreached ++ (numbered_texts section_text 0 v.sections ++ flat_map value_text v.values)))) c.levels.ensures)
+    (stops_writes _ _ _ _ _ _ c.in-Err.ensures)
