@@ -3,7 +3,7 @@ use Rattle.std.specs.String.{string_bytes}
 use Rattle.play_words.specs.Answers.{IsAnswer}
 use Rattle.gc_play.specs.Promise.{FromSource, Wrote, wanted}
 use Rattle.play_words.specs.Running.{IsRunText}
-use Rattle.play_words.proofs.Promised.{answers-follow}
+use Rattle.play_words.proofs.Promised.{answers_follow}
 use Rattle.gc_play.specs.Given.{words_behind}
 use Rattle.gcplay.proofs.Handed.{whole-text, wrote-handed, keeps-handed}
 use Rattle.gcplay.proofs.given.play_given.Goals as goal
@@ -15,7 +15,7 @@ returns-clause-answers g c text =
     let status : c.settle.result.0 ≡ c.play_words-status.result = ⊎_elim (λ is. is) (λ five. absurd (whole-text c.settle.result.0 text five)) c.settle.ensures.status in
     let all = c.play_words-status.ensures in
     let wrote : Wrote (IsAnswer (wanted (map string_bytes c.as_slice.result.now)) left) c.play_words-status.result c.in-Ok.gathered.bytes c.play_words-status.new.sink.bytes =
-    answers-follow (wanted (map string_bytes c.as_slice.result.now)) left c.in-Ok.gathered.bytes c.play_words-status.new.sink.bytes c.play_words-status.result
+    answers_follow (wanted (map string_bytes c.as_slice.result.now)) left c.in-Ok.gathered.bytes c.play_words-status.new.sink.bytes c.play_words-status.result
     (record {
       run = all.run_or_fault;
       load = all.load;
