@@ -1,5 +1,4 @@
-//! The heap for programs in C: handles of worlds, mutators and tracers, whose calls answer a status
-//! (`c/include/managed_heap.h`).
+//! The heap for C (`c/include/managed_heap.h`): handles of worlds, mutators and tracers, whose calls answer a status.
 //!
 //! A handle is a struct of C with the address of what lies behind it. C gives it to one call at a time: a call marks
 //! what is behind it, and one that finds the mark is refused, unless the handle is given back meanwhile. The calls of
