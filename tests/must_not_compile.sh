@@ -7,12 +7,23 @@ top=$(cd "$(dirname "$0")/.." && pwd)
 copy=$(mktemp -d)
 trap 'rm -rf "$copy"' EXIT
 
-# The crates of this repository that a crate stands on, with itself.
+# The crates of this repository that a crate stands on, at any depth, and itself.
 below() {
-    sed -n "s/#.*//; s/^$1://p" "$top/crates.txt" | tr ' ' '\n' | while read -r name; do
-        if grep -q "^$name:" "$top/crates.txt"; then echo "$name"; fi
-    done
-    echo "$1"
+    python3 - "$top/crates.txt" "$1" <<'END'
+import sys
+stands_on = {}
+for line in open(sys.argv[1]):
+    name, mark, names = line.split("#")[0].partition(":")
+    if mark:
+        stands_on[name.split()[0]] = names.split()
+found, left = set(), [sys.argv[2]]
+while left:
+    name = left.pop()
+    if name in stands_on and name not in found:
+        found.add(name)
+        left += stands_on[name]
+print("\n".join(name for name in stands_on if name in found))
+END
 }
 
 # Compiles the crate in this folder, with its tests if it has some.
@@ -37,6 +48,7 @@ copy_crates() {
 failed=0
 for edit in "$top"/crates/${1:-*}/must-not-compile/*.edit; do
     crate=$(basename "$(dirname "$(dirname "$edit")")")
+    cd "$top"
     copy_crates "$crate"
     cd "$copy/crates/$crate"
     python3 - "$edit" <<'END'
