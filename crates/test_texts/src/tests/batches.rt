@@ -23,7 +23,7 @@ struct Watching {
     late: AtomicU64,
 }
 
-impl Player for Watching {
+impl Player<()> for Watching {
     ghost use Rattle.std.specs.Prelude.{◌≡◌, ◌⊎◌, []};
 
     ghost fits = { λ player script status text. ((status ≡ 0) × (text ≡ script)) ⊎ ((status ≡ 6) × (text ≡ [])) };
@@ -32,7 +32,7 @@ impl Player for Watching {
         &self,
         rt: &R,
         alloc: Global,
-        job: Job<'_>,
+        job: Job<'_, ()>,
     ) -> (u8, Text) {
         self.watch(rt, &job);
         let mut text = Text::make(alloc);
@@ -53,7 +53,7 @@ impl Watching {
         }
     }
 
-    fn watch<R: Wait>(&self, rt: &R, job: &Job<'_>) {
+    fn watch<R: Wait>(&self, rt: &R, job: &Job<'_, ()>) {
         self.plays.fetch_add(1, Ordering::SeqCst);
         self.numbers
             .fetch_add(u64::from(job.number()), Ordering::SeqCst);
@@ -89,8 +89,8 @@ fn echoed<R: AllocGlobal + Threads + Wait + Sync>(
     requires { (1 ≤ runners) × (runners ≤ 8) }
 {
     let player = Watching::new();
-    let played = read_batch(rt.alloc(), source).ok()?;
-    let batch = read_batch(rt.alloc(), source).ok()?;
+    let played = read_batch(rt.alloc(), source, ()).ok()?;
+    let batch = read_batch(rt.alloc(), source, ()).ok()?;
     let done = run_jobs(rt, rt.alloc(), played, runners, &player).ok()?;
     let mut echoed = 0usize;
     for (job, result) in batch.jobs().iter().zip(done.iter()) {
@@ -146,7 +146,7 @@ fn a_batch_without_jobs_has_no_results(rt: HostRuntime) {
 
 /// The jobs of a batch in order, or its fault.
 pub fn said(alloc: Global, source: &[u8]) -> Option<String> {
-    let batch = match read_batch(alloc, source) {
+    let batch = match read_batch(alloc, source, ()) {
         Ok(batch) => batch,
         Err(e) => return format!(in alloc; "{e:?}").ok(),
     };

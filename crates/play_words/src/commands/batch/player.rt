@@ -33,6 +33,10 @@ impl Sink for TextSink {
     }
 }
 
+/// The seal of the batch that the command plays.
+#[derive(Drop)]
+pub struct Seal;
+
 /// Plays scripts as the options say.
 #[derive(Drop)]
 pub struct ScriptPlayer {
@@ -40,7 +44,7 @@ pub struct ScriptPlayer {
     pub ghost range: { AreInRange options },
 }
 
-impl Player for ScriptPlayer {
+impl Player<Seal> for ScriptPlayer {
     ghost use Rattle.command_words.specs.Commands.{options_of};
     ghost use Rattle.play_words.specs.Batching.{FitsJob};
 
@@ -51,7 +55,7 @@ impl Player for ScriptPlayer {
         &self,
         rt: &R,
         alloc: Global,
-        job: Job<'_>,
+        job: Job<'_, Seal>,
     ) -> (u8, Text) {
         let mut sink = TextSink {
             text: Text::make(alloc),
