@@ -4,8 +4,11 @@ kept=${KEPT:-${TMPDIR:-/tmp}/managed_heap.$(id -u)}
 
 # A checksum of all that a build without a proof reads: the sources, the scripts that compile them, and which kit it is.
 sum_of_sources() {
-    (cd "$top" && find crates c bench tools -name '*.rt' -o -name '*.h' -o -name '*unproved*' -o -name count.py | LC_ALL=C sort | xargs cat crates.txt HANDLES "$kit/KIT-ID") |
-        cksum | tr ' ' '.'
+    (
+        cd "$top"
+        find crates/*/src c/include -type f | LC_ALL=C sort | xargs cat
+        cat crates.txt HANDLES bench/unproved* bench/steps/count.py c/unproved* "$kit/KIT-ID"
+    ) | cksum | tr ' ' '.'
 }
 
 # Prints a dot each five seconds, so that one sees that something goes on.
