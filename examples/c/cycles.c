@@ -116,7 +116,7 @@ static uint64_t dirty(mh_mutator *m, uint32_t each) {
 
 /* What one thread is told that does all itself, without a tracer: exact numbers, and what it paid, which is what the cycles tell together. */
 static void alone(void) {
-    mh_sizes sizes = {ALONE, 1, 1, 0, 0, 0, 0};
+    mh_sizes sizes = {.cells = ALONE, .fields = 1, .mutators = 1};
     mh_world w = {0};
     mh_mutator m = {0};
     mh_cycle c;
@@ -158,7 +158,7 @@ int main(int count_of, char **words) {
     static mh_tracer t[8];
     pthread_t acting[THREADS], marking[8];
     mh_cycle none = {0, 77, 0, 0, 0, 0, 0, 0, 0, 0, 0, 0, 0};
-    mh_sizes sizes = {0, 1, 0, 0, 0, 0, 0};
+    mh_sizes sizes = {.fields = 1};
     uint64_t found;
     uint32_t k;
     threads = sizes.mutators = working = number(count_of, words, 1, 4);

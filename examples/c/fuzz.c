@@ -278,7 +278,7 @@ int main(int count_of, char **words) {
     uint32_t calls = number(count_of, words, 1, 1000000), n = number(count_of, words, 2, 1), k, s;
     uint64_t seed = number(count_of, words, 3, 1), made = 0, walked = 0, walks = 0, collections = 0, answers[STATUSES] = {0};
     uint32_t tracers = n < TRACERS ? n : TRACERS;
-    mh_sizes sizes = {0, FIELDS, n, 0, tracers, 0, 0};
+    mh_sizes sizes = {.fields = FIELDS, .mutators = n, .tracers = tracers};
     is_shared = number(count_of, words, 4, 0);
     root_is_others = n > 1;
     cells = sizes.cells = (n * OBJECTS + n * 64 + 63) / 64 * 64 + 64 * n;

@@ -66,7 +66,7 @@ static inline mh_status timed_make(struct pause *p, mh_mutator *m, uint32_t v, u
 enum { THREADS = 32 };
 
 static inline void open_with(mh_world *world, uint32_t cells, uint32_t fields, uint32_t mutators, uint32_t tracers) {
-    mh_sizes sizes = {cells, fields, mutators, 0, tracers, 0, 0};
+    mh_sizes sizes = {.cells = cells, .fields = fields, .mutators = mutators, .tracers = tracers};
     MUST(mh_open(&sizes, world));
 }
 

@@ -6,6 +6,7 @@
 #     sh examples/c/run.sh --long      besides, 10^9 objects in 65,536 cells
 #
 # The library is the one that c/install.sh installs: it is proved and built if it isn't there. LIBRARY names another archive, KIT the folder of the kit.
+# Each run has a bound, 60 to 600 seconds; on a slow machine BOUND=SECONDS raises all that are less.
 here=$(cd "$(dirname "$0")" && pwd)
 top=$(cd "$here/../.." && pwd)
 work=$(mktemp -d)
@@ -28,12 +29,18 @@ build() {
     cc -O2 $warnings "$@" -o "$work/$out" "$here/$name.c" $libraries -lpthread || fail "$name is not built"
 }
 
+# The seconds that a run has, for these.
+bound() { if [ "${BOUND:-0}" -gt "$1" ]; then echo "$BOUND"; else echo "$1"; fi; }
+
+# How a run ended, by the status of timeout.
+ended() { if [ "$1" -eq 124 ]; then echo "ran out of time (BOUND=SECONDS gives more)"; else echo "ended with status $1"; fi; }
+
 # run SECONDS PROGRAM WORDS..
 run() {
     seconds=$1 program=$2
     shift 2
     [ -x "$work/$program" ] || return
-    timeout "$seconds" "$work/$program" "$@" || fail "$program $* ended with status $?"
+    timeout "$(bound "$seconds")" "$work/$program" "$@" || fail "$program $* $(ended $?)"
 }
 
 programs="binary_trees gcbench rewriter fuzz fills_up edges billion speed queue map counter torture places misuse abandon cycles"
@@ -83,7 +90,7 @@ run 300 map 8 1500 512 2048 1
 run 300 torture 2 8000 256 1 2
 run 300 torture 8 1500 1024 0 3
 run 300 places 4 5000 320
-if timeout 300 "$work/places" 1 1 320 1 >"$work/log"; then fail "a place is used after its object was forgotten, and nobody notices"; else tail -n 1 "$work/log"; fi
+if timeout "$(bound 300)" "$work/places" 1 1 320 1 >"$work/log"; then fail "a place is used after its object was forgotten, and nobody notices"; else tail -n 1 "$work/log"; fi
 
 echo "== many objects in few cells, and what a call takes"
 run 300 billion 20 65536
@@ -113,7 +120,7 @@ fi
 
 if command -v cargo >"$work/log" 2>&1; then
     echo "== from Rust"
-    MANAGED_HEAP_PREFIX=$work/prefix CARGO_TARGET_DIR=$work/target timeout 300 cargo run --offline --quiet --release --manifest-path "$top/rust/managed_heap/Cargo.toml" --example queues || fail "the Rust program"
+    MANAGED_HEAP_PREFIX=$work/prefix CARGO_TARGET_DIR=$work/target timeout "$(bound 300)" cargo run --offline --quiet --release --manifest-path "$top/rust/managed_heap/Cargo.toml" --example queues || fail "the Rust program $(ended $?)"
 else
     echo "== no cargo here: the program in Rust is left out"
 fi
@@ -137,7 +144,7 @@ for kind in address,undefined thread; do
         run 600 torture.checked 4 1000 512 1 4
         run 600 places.checked 4 1500 320
         for rule in 2 3; do
-            if timeout 300 "$work/places.checked" 1 1 320 $rule >"$work/log" 2>&1; then fail "what is freed is used, and -fsanitize=$kind doesn't notice"; fi
+            if timeout "$(bound 300)" "$work/places.checked" 1 1 320 $rule >"$work/log" 2>&1; then fail "what is freed is used, and -fsanitize=$kind doesn't notice"; fi
         done
         run 300 abandon.checked 36
         run 300 abandon.checked 36 1

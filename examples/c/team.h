@@ -82,7 +82,7 @@ static void *mark_beside(void *p) {
 static void act_together(uint32_t cells, uint32_t fields, uint32_t slots, uint32_t threads, uint32_t tracers, work_of *begin, work_of *work, work_of *end) {
     static struct member members[THREADS];
     static mh_tracer marks[8];
-    mh_sizes sizes = {cells, fields, threads, 0, tracers, 1, slots};
+    mh_sizes sizes = {.cells = cells, .fields = fields, .mutators = threads, .tracers = tracers, .shared = 1, .slots = slots};
     mh_world world = {0};
     pthread_t acting[THREADS], marking[8];
     uint32_t k;
