@@ -10,6 +10,13 @@ want() {
     [ $missing -eq 0 ] || exit 1
 }
 
+# Says what isn't there, and goes on.
+lacking() {
+    for needed in "$@"; do
+        is_there "$needed" || echo "$(basename "$0"): $needed isn't there, so what needs it is left out: it is $(what_is "$needed")" >&2
+    done
+}
+
 is_there() {
     if [ "$1" = kit ]; then [ -x "${KIT:-/opt/rattle}/bin/rt" ]; else command -v "$1" >/dev/null 2>&1; fi
 }
@@ -21,6 +28,8 @@ what_is() {
         python3) echo "Python, 3.9 or later (Debian: python3)" ;;
         cc) echo "a compiler for C (Debian: gcc)" ;;
         ar | nm | objcopy) echo "a tool for archives (Debian: binutils)" ;;
+        pkg-config) echo "what tells a compiler where a library is (Debian: pkg-config)" ;;
+        git) echo "what keeps the repository's history (Debian: git)" ;;
         cargo) echo "Rust, 1.65 or later (Debian: cargo)" ;;
         *) echo "a command that is run here" ;;
     esac

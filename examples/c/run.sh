@@ -3,6 +3,7 @@
 # for each run. Ends with status 1 if an answer was wrong.
 #
 #     sh examples/c/run.sh             everything but the long run
+#     sh examples/c/run.sh --quick     neither over Boehm's collector nor under the sanitizers
 #     sh examples/c/run.sh --long      besides, 10^9 objects in 65,536 cells
 #
 # The library is the one that c/install.sh installs: it is proved and built if it isn't there. LIBRARY names another archive, KIT the folder of the kit.
@@ -97,7 +98,14 @@ run 300 billion 20 65536
 run 300 speed 10
 run 300 speed.guarded 10
 
-if cc -o "$work/gc_there" -x c - -lgc 2>"$work/log" <<'END'
+case ${1:-} in
+    --quick) kinds="" collectors="" ;;
+    *) kinds="address,undefined thread" collectors=both ;;
+esac
+
+if [ -z "$collectors" ]; then
+    echo "== without Boehm's collector and the sanitizers"
+elif cc -o "$work/gc_there" -x c - -lgc 2>"$work/log" <<'END'
 #include <gc.h>
 int main(void) { GC_INIT(); return 0; }
 END
@@ -125,7 +133,7 @@ else
     echo "== no cargo here: the program in Rust is left out"
 fi
 
-for kind in address,undefined thread; do
+for kind in $kinds; do
     if echo 'int main(void) { return 0; }' | cc -fsanitize=$kind -o "$work/there" -x c - 2>"$work/log" && "$work/there"; then
         echo "== under -fsanitize=$kind"
         for name in binary_trees gcbench rewriter fuzz fills_up edges queue map counter torture places abandon cycles; do build "$name" "$name.checked" -g -fsanitize=$kind -fno-sanitize-recover=all; done
@@ -154,7 +162,7 @@ for kind in address,undefined thread; do
     fi
 done
 
-if [ "$1" = --long ]; then
+if [ "${1:-}" = --long ]; then
     echo "== 10^9 objects in 65,536 cells"
     run 3600 billion 1000 65536
 fi
