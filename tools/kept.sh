@@ -32,7 +32,7 @@ build_once() {
     printf 'compiling %s, unproved, once: about a minute on an idle machine ' "$name" >&2
     show_life >&2 9>&- &
     life=$!
-    trap 'kill $life 2>/dev/null' EXIT
+    trap 'kill $life 2>/dev/null; echo >&2' EXIT
     "$@" "$built.new" 9>&-
     kill $life
     trap - EXIT
