@@ -1,4 +1,4 @@
-use Rattle.std.proofs.Common.{◌∙◌, Bool, inl, refl, subst, sym}
+use Rattle.std.proofs.Common.{◌∙◌, ◌&&◌, ◌||◌, ap, Bool, inl, not, refl, subst, sym}
 use Rattle.std.specs.Prelude.{if◌then◌else◌}
 use Rattle.gc_table.specs.Seats.{view_of}
 use Rattle.gc_table.proofs.Running.{ran-join}
