@@ -1,17 +1,18 @@
 """Figures that were measured stand on several pages alike: those of README.md, docs/PERFORMANCE.md and docs/PAUSES.md are those of the tables of
 bench/README.md and of the series of pauses in bench/results, and what docs/PAUSES.md works out from that series is right."""
+import re
 import sys
 
 sys.path.insert(0, "docs")
-from pages import label, number, rows_of, says  # noqa: E402
+from pages import label, number, rows_of, says, text_of  # noqa: E402
 
 BENCH, PAUSES, PERFORMANCE = "bench/README.md", "docs/PAUSES.md", "docs/PERFORMANCE.md"
 SERIES = "bench/results/2026-11-30-pauses.md"
 LARGE = ["orders", "live", "objects", "stores", "reads"]
 FRONT = ("4194304", "4")
 
-# Of each row of the series: orders a second, the mean and the longest stop, and the 99.9th percentile of transactions.
-STOPS = {tuple(row[:3]): [float(it) for it in row[3:]] for row in rows_of(SERIES, "Cells", "Workers", "Program", "Orders a second", "Mean stop", "Longest", "p99.9")}
+# Of each row of the series: orders a second, the mean and the longest stop, and the slowest transaction.
+STOPS = {tuple(row[:3]): [float(it) for it in row[3:]] for row in rows_of(SERIES, "Cells", "Workers", "Program", "Orders a second", "Mean stop", "Longest", "Slowest")}
 ALONE = {label(row[0]): row[1:] for row in rows_of(BENCH, "Script", "gcplay, ns a command", "gcplay to the floor", "gcplay, processor ms", "Floor", "Go")}
 THREADS = {tuple(row[:2]): [float(it) for it in row[2:]] for row in rows_of(BENCH, "Workers", "Tracers", "`orders`, clock ms", "`live`, clock ms")}
 
@@ -25,28 +26,42 @@ def row(program, size=FRONT):
     return next(it for key, it in STOPS.items() if key[:2] == size and key[2].startswith(program))
 
 
+# The rows of the table of README.md that are of the series, with the program's name there.
+FRONT_ROWS = {
+    "this one from Rattle, one tracer": "beside, 1",
+    "this one from Rattle, no tracer": "beside, 0",
+    "this one, marking only in pauses, one tracer": "stops, 1",
+    "Boehm, stop the world": "Boehm, stop",
+    "Go 1.19": "Go",
+    "G1 (Java 17)": "G1",
+    "ZGC (Java 17)": "Z",
+}
+
+
 def check_front():
-    """The stops that README.md tells first: four workers in the largest heap, a tracer and none."""
-    told = [milliseconds(it) for program in ("beside, 1", "beside, 0", "stops, 1", "stops, 0") for it in row(program)[1:3]]
-    pattern = r"stops took ([\d.]+) ms in the mean and ([\d.]+) at the longest with the default of one tracer, ([\d.]+) and ([\d.]+) with none, and collecting only in stops ([\d.]+) and ([\d.]+), and ([\d.]+) and ([\d.]+)"
-    says("stops", "README.md", pattern, *told)
-    says("stops of Boehm's", "README.md", r"stopping the world, took ([\d.]+) and ([\d.]+)", *(milliseconds(it) for it in row("Boehm, stop")[1:3]))
-    says("orders of Boehm's", "README.md", r"with ([\d.]+) times the throughput", row("Boehm, stop")[0] / row("beside, 1")[0], near=0.05)
-    says("stops of Go", "README.md", r"Go ([\d.]+) and ([\d.]+)", *(milliseconds(it) for it in row("Go")[1:3]))
+    """The table of pauses in README.md: four workers in the largest heap."""
+    table = rows_of("README.md", "Collector", "Mean pause, ms", "Longest pause, ms", "Slowest transaction, ms", "Transactions a second")
+    told = {name: [number(it) for it in cells] for name, *cells in table if name in FRONT_ROWS}
+    for name, program in FRONT_ROWS.items():
+        rate, mean, longest, slowest = row(program)
+        right = [*map(milliseconds, (mean, longest, slowest)), 1000 * round(rate / 1000)]
+        if told.get(name) != right:
+            print(f"README.md: {name}: {told.get(name)}, where {SERIES} has {right}")
 
 
 def check_speed():
     """The speed that README.md tells."""
-    nanos = [number(ALONE[it][0]) for it in LARGE]
     ratios = [number(ALONE[it][2]) / number(ALONE[it][3]) for it in LARGE]
     mean = 1.0
     for it in ratios:
         mean *= it ** (1 / len(ratios))
-    says("ns a command", "README.md", r"takes (\d+) to (\d+) ns of processor time", min(nanos), max(nanos), near=0.5)
-    says("ratios to the floor", "README.md", r"([\d.]+) to ([\d.]+) times the floor's, ([\d.]+) in the mean", min(ratios), max(ratios), mean, near=0.0051)
+    series = re.search(r"The other four have ([\d.]+), ([\d.]+), ([\d.]+) and ([\d.]+)", text_of(BENCH))
+    means = sorted([mean, *map(float, series.groups())])
+    says("ratios to the floor", "README.md", r"([\d.]+) to ([\d.]+) times its processor time", min(ratios), max(ratios), near=0.0051)
+    says("means of the series", "README.md", r"was ([\d.]+) to ([\d.]+) in five series, with the median at (\d\.\d+)", means[0], means[4], means[2], near=0.0051)
     says("ratios to the floor", PERFORMANCE, r"([\d.]+) in the geometric mean and ([\d.]+) at most", mean, max(ratios), near=0.0051)
     gain = THREADS["1", "0"][0] / THREADS["4", "1"][0]
-    says("gain by workers", "README.md", r"played eight warehouses ([\d.]+) times as fast", gain, near=0.05)
+    says("gain by workers", "README.md", r"Four workers play a script ([\d.]+) times as fast", gain, near=0.05)
     gains = [THREADS["1", "0"][k] / THREADS["4", tracers][k] for k in (0, 1) for tracers in "01"]
     says("gain by workers", PERFORMANCE, r"`orders` ([\d.]+) times as fast as one and with a tracer ([\d.]+) times, `live` ([\d.]+) and ([\d.]+)", *gains, near=0.05)
 
