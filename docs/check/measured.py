@@ -4,7 +4,9 @@ import re
 import sys
 
 sys.path.insert(0, "docs")
-from pages import label, number, rows_of, says, text_of  # noqa: E402
+from pages import figures, label, number, rows_of, says, text_of  # noqa: E402
+import timeline  # noqa: E402
+from utilisation import utilisation  # noqa: E402
 
 BENCH, PAUSES, PERFORMANCE = "bench/README.md", "docs/PAUSES.md", "docs/PERFORMANCE.md"
 SERIES = "bench/results/2026-11-30-pauses.md"
@@ -12,7 +14,8 @@ LARGE = ["orders", "live", "objects", "stores", "reads"]
 FRONT = ("4194304", "4")
 
 # Of each row of the series: orders a second, the mean and the longest stop, and the slowest transaction.
-STOPS = {tuple(row[:3]): [float(it) for it in row[3:]] for row in rows_of(SERIES, "Cells", "Workers", "Program", "Orders a second", "Mean stop", "Longest", "Slowest")}
+COLUMNS = ["Cells", "Workers", "Program", "Orders a second", "Mean stop", "Longest", "Slowest"]
+STOPS = {tuple(row[:3]): [float(it) for it in row[3:]] for row in rows_of(SERIES, *COLUMNS)}
 ALONE = {label(row[0]): row[1:] for row in rows_of(BENCH, "Script", "gcplay, ns a command", "gcplay to the floor", "gcplay, processor ms", "Floor", "Go")}
 THREADS = {tuple(row[:2]): [float(it) for it in row[2:]] for row in rows_of(BENCH, "Workers", "Tracers", "`orders`, clock ms", "`live`, clock ms")}
 
@@ -89,14 +92,31 @@ def check_against():
     sizes = list(dict.fromkeys(key[:2] for key in STOPS))
     more = [row("Boehm, stop", size)[0] / row(f"beside, {t}", size)[0] for size in sizes for t in "01"]
     says("orders of Boehm's", PAUSES, r"replaces ([\d.]+) to ([\d.]+) times as many orders", min(more), max(more), near=0.05)
-    longer = [(size, t) for size in sizes for t in "01" if row(f"beside, {t}", size)[2] > row("Boehm, stop", size)[2]]
-    says("rows in which ours stops longer", PAUSES, r"ours has the longer longest stop in (\w+) of the (\w+) rows", len(longer), 2 * len(sizes))
+    shorter = [(size, t) for size in sizes for t in "01" if row(f"beside, {t}", size)[2] < row("Boehm, stop", size)[2]]
+    says("rows in which ours stops shorter", PAUSES, r"In all (\w+) comparisons our longest stop was shorter", len(shorter))
     faster = row("stops, 0", ("1048576", "1"))[1] / row("stops, 0", ("1048576", "4"))[1]
-    says("gain by workers in stops", PAUSES, r"([\d.]+) times as fast as one at a million cells", faster, near=0.05)
+    says("gain by workers in stops", PAUSES, r"four workers mark everything ([\d.]+) times as fast as one", faster, near=0.05)
+
+
+def check_lengths():
+    """The table of docs/PAUSES.md that has stops of both ways beside each other, with four workers and no tracer."""
+    for cells, *told in rows_of(PAUSES, "Cells", "Mean, beside", "Mean, in stops", "Longest, beside", "Longest, in stops"):
+        right = [milliseconds(row(f"{way}, 0", (cells, "4"))[at]) for at in (1, 2) for way in ("beside", "stops")]
+        if [number(it) for it in told] != right:
+            print(f"{PAUSES}: {cells} cells: {told}, where {SERIES} has {right}")
+
+
+def check_utilisation():
+    """The table of docs/PAUSES.md that is of the cycle in bench/results."""
+    lanes = timeline.read(figures.CYCLE)
+    start, _, end = timeline.cycle_of(lanes)
+    right = [[f"{window}", f"{100 * one:.0f} %", f"{100 * together:.0f} %"] for window, one, together in utilisation(lanes, start, end)]
+    if rows_of(PAUSES, "Window, ms", "The worker with least", "All workers") != right:
+        print(f"{PAUSES}: the mutator utilisation isn't that of {figures.CYCLE}: {right}")
 
 
 def main():
-    for check in (check_front, check_speed, check_ratios, check_against):
+    for check in (check_front, check_speed, check_ratios, check_against, check_lengths, check_utilisation):
         check()
 
 
