@@ -29,7 +29,7 @@ extern "C" {
 #endif
 
 /* The version of these calls. The first number rises if a program has to be changed or compiled again. */
-#define MH_VERSION "3.1"
+#define MH_VERSION "4.0"
 
 /* What a call came to. If it isn't MH_OK, objects and variables are as before, but for what a line here says. */
 typedef enum mh_status {
@@ -93,14 +93,19 @@ static inline const char *mh_status_text(mh_status s) {
  * a collection runs, or that a signal handler makes. Two threads whose calls begin within some nanoseconds may both miss it, and then the heap may be spoiled.
  * If MH_CHECKED is defined, for all files of a program, each call exchanges a word of the handle, and a second one is always MH_IN_USE. That is for tests: it
  * adds some 7 nanoseconds to a call.
+ *
+ * A thread writes into its handle. So handles end in bytes that nobody uses: two of an array share no line of the processor's cache, nor two lines that are
+ * fetched together.
  */
+enum { MH_APART = 128 };
+
 typedef struct mh_world { void *at; struct mh_book *book; } mh_world;
 #ifdef MH_CHECKED
-typedef struct mh_mutator { void *at; struct mh_book *book; uint32_t made, used; uint64_t told; } mh_mutator;
-typedef struct mh_tracer { void *at; struct mh_book *book; uint64_t told; uint32_t used; } mh_tracer;
+typedef struct mh_mutator { void *at; struct mh_book *book; uint32_t made, used; uint64_t told; unsigned char apart[MH_APART]; } mh_mutator;
+typedef struct mh_tracer { void *at; struct mh_book *book; uint64_t told; uint32_t used; unsigned char apart[MH_APART]; } mh_tracer;
 #else
-typedef struct mh_mutator { void *at; struct mh_book *book; uint32_t made; uint64_t told; } mh_mutator;
-typedef struct mh_tracer { void *at; struct mh_book *book; uint64_t told; } mh_tracer;
+typedef struct mh_mutator { void *at; struct mh_book *book; uint32_t made; uint64_t told; unsigned char apart[MH_APART]; } mh_mutator;
+typedef struct mh_tracer { void *at; struct mh_book *book; uint64_t told; unsigned char apart[MH_APART]; } mh_tracer;
 #endif
 
 /* How many variables a mutator has. */

@@ -33,6 +33,8 @@ const TRIES: u32 = 3;
 /// fn shared<T: Sync>() {}
 /// shared::<managed_heap::Mutator>();
 /// ```
+// It is written with each object, so it shares no line of the processor's cache with another, nor two lines that are fetched together.
+#[repr(align(128))]
 pub struct Mutator {
     handle: Handle,
     shared: Arc<Shared>,
