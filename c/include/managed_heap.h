@@ -19,6 +19,7 @@
 
 #include <sched.h>
 #include <stdint.h>
+#include <stdio.h>
 #include <stdlib.h>
 #include <sys/select.h>
 #include <sys/time.h>
@@ -154,6 +155,9 @@ typedef struct mh_cycle {
 /* Why a cycle ended: a collection was asked for, or no cell was free for an object. */
 enum { MH_ASKED = 0, MH_LACKED = 1 };
 
+/* What mh_log_cycles has called with each cycle. */
+typedef void mh_sink(void *context, const mh_cycle *cycle);
+
 /* How far the collection of a mutator is: where it stands; 1 if it is to mark once more, and 1 if it read last that a cycle is marking, else 0; how many cells
    its sweep has freed, and how many in use it has counted. At MH_AT_END its next step ends the cycle by these two. */
 typedef struct mh_course {
@@ -235,6 +239,8 @@ enum { MH_CYCLE_NUMBERS = 13 };
 
 typedef struct mh_book {
     uint64_t (*watch)(void);
+    mh_sink *sink;                   /* what is called with each cycle that has ended, */
+    void *context;                   /* and with what besides */
     uint32_t slots;
     uint32_t turns;                  /* is raised before and after the last cycle is written */
     uint64_t last[MH_CYCLE_NUMBERS]; /* that cycle */
@@ -319,13 +325,31 @@ static inline void mh_tell_paid(mh_mutator *m) {
     if (mhl_work(m, &work) == MH_OK && work.paid != m->told) mh_tell(m, &work);
 }
 
+/* A sink: writes the cycle as one line of words NAME=VALUE to a stream, the context, or to standard error if that is 0. docs/EMBEDDING_C.md has the names. */
+static inline void mh_print_cycle(void *stream, const mh_cycle *c) {
+    fprintf(stream ? (FILE *)stream : stderr,
+            "mh: cycle=%llu why=%s beside=%llu marked_us=%.1f mutators=%llu tracers=%llu waited_us=%.1f stopped_us=%.1f swept_us=%.1f traced=%llu cleaned=%llu "
+            "freed=%llu kept=%llu\n",
+            (unsigned long long)c->number, c->why == MH_ASKED ? "asked" : "lacked", (unsigned long long)c->beside, (double)c->marked / 1e3,
+            (unsigned long long)c->mutators, (unsigned long long)c->tracers, (double)c->waited / 1e3, (double)c->stopped / 1e3, (double)c->swept / 1e3,
+            (unsigned long long)c->traced, (unsigned long long)c->cleaned, (unsigned long long)c->freed, (unsigned long long)c->kept);
+}
+#ifdef MH_TRACED
+/* Whether the environment asks for these lines. */
+static inline int mh_is_traced(void) {
+    const char *asked = getenv("MH_TRACE");
+    return asked && *asked && (*asked != '0' || asked[1]);
+}
+#endif
+
 /* The world: for one thread at a time. */
 
 /* How many worlds got their names here. Each file that includes this has the variable, and the linker keeps one. */
 extern uint32_t mh_names_given;
 __attribute__((weak)) uint32_t mh_names_given = 0;
 
-/* Opens a world. */
+/* Opens a world. If MH_TRACED is defined, and the environment has MH_TRACE, neither empty nor 0, each cycle of the world is written to standard error as a line
+   (mh_print_cycle). */
 static inline mh_status mh_open(const mh_sizes *sizes, mh_world *w) {
     mh_sizes named = *sizes;
     mh_book *book;
@@ -337,6 +361,9 @@ static inline mh_status mh_open(const mh_sizes *sizes, mh_world *w) {
     if (!book) return MH_OUT_OF_MEMORY;
     book->watch = mh_now;
     book->slots = named.slots;
+#ifdef MH_TRACED
+    if (mh_is_traced()) book->sink = mh_print_cycle;
+#endif
     s = mhl_open(&named, w);
     if (s == MH_OK) w->book = book;
     else free(book);
@@ -383,12 +410,10 @@ static inline mh_status mh_close(mh_world *w) {
     if (s == MH_OK) { free(w->book); w->book = 0; }
     return s;
 }
-/* The last cycle that has ended; MH_NOT_YET if none has, and nothing is written. Any thread may ask, while the world is open. */
-static inline mh_status mh_last_cycle(const mh_world *w, mh_cycle *cycle) {
-    const mh_book *book = w->book;
+/* A whole cycle is read: again, while one is written. */
+static inline mh_status mh_read_cycle(const mh_book *book, mh_cycle *cycle) {
     uint64_t n[MH_CYCLE_NUMBERS];
     uint32_t before, k;
-    if (!book) return MH_GIVEN_BACK;
     do {
         before = __atomic_load_n(&book->turns, __ATOMIC_ACQUIRE);
         for (k = 0; k < MH_CYCLE_NUMBERS; k++) n[k] = mh_noted(&book->last[k]);
@@ -407,6 +432,18 @@ static inline mh_status mh_last_cycle(const mh_world *w, mh_cycle *cycle) {
     cycle->mutators = n[10];
     cycle->traced = n[11];
     cycle->cleaned = n[12];
+    return MH_OK;
+}
+/* The last cycle that has ended; MH_NOT_YET if none has, and nothing is written. Any thread may ask, while the world is open. */
+static inline mh_status mh_last_cycle(const mh_world *w, mh_cycle *cycle) { return w->book ? mh_read_cycle(w->book, cycle) : MH_GIVEN_BACK; }
+
+/* From now on the sink is called with each cycle that ends, once, by the thread that made the last step of its collection, in that call and after the world went
+   on; no sink, and none is. It is set before the world's mutators are at work. Cycles that end one behind the other may be told beside each other or in another
+   order: each has its number. The mutator of that thread may be inside meanwhile, so a sink that waits holds up the others' collections. */
+static inline mh_status mh_log_cycles(mh_world *w, mh_sink *sink, void *context) {
+    if (!w->book) return MH_GIVEN_BACK;
+    w->book->context = context;
+    w->book->sink = sink;
     return MH_OK;
 }
 
@@ -486,7 +523,20 @@ static inline mh_status mh_noted_step(mh_mutator *m, mh_status s, uint64_t why) 
     mh_note_course(m->book, &course, &work, why);
     return s;
 }
-static inline mh_status mh_collect_step_for(mh_mutator *m, uint32_t most, uint64_t why) { return MH_BY(m, mh_noted_step(m, mhl_collect_step(m, most), why)); }
+/* What the mutator's next step ends is read before it, since others' cycles may end behind it. */
+static inline void mh_see_end(mh_mutator *m, mh_cycle *ending) {
+    mh_course course;
+    if (m->book->sink && mhl_course(m, &course) == MH_OK && course.stage == MH_AT_END) mh_read_cycle(m->book, ending);
+}
+static inline mh_status mh_logged(mh_mutator *m, const mh_cycle *ended, mh_status s) {
+    if (ended->number && (s == MH_OK || s == MH_STOPPED || s == MH_FULL)) m->book->sink(m->book->context, ended);
+    return s;
+}
+static inline mh_status mh_collect_step_for(mh_mutator *m, uint32_t most, uint64_t why) {
+    mh_cycle ending;
+    ending.number = 0;
+    return mh_logged(m, &ending, MH_BY(m, (mh_see_end(m, &ending), mh_noted_step(m, mhl_collect_step(m, most), why))));
+}
 /* The next step of a collection of the mutator's own: at most so many roots, objects, cards of 16 cells or blocks of 64 are done in it. Blocks are cleared and
    swept in stretches (of 1 to 128, by the heap's size), and one at least. */
 static inline mh_status mh_collect_step(mh_mutator *m, uint32_t most) { return mh_collect_step_for(m, most, MH_ASKED); }
