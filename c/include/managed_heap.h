@@ -532,11 +532,12 @@ static inline mh_status mh_logged(mh_mutator *m, const mh_cycle *ended, mh_statu
     if (ended->number && (s == MH_OK || s == MH_STOPPED || s == MH_FULL)) m->book->sink(m->book->context, ended);
     return s;
 }
-static inline mh_status mh_collect_step_for(mh_mutator *m, uint32_t most, uint64_t why) {
+static inline mh_status mh_step_for(mh_mutator *m, mh_status (*step)(mh_mutator *, uint32_t), uint32_t most, uint64_t why) {
     mh_cycle ending;
     ending.number = 0;
-    return mh_logged(m, &ending, MH_BY(m, (mh_see_end(m, &ending), mh_noted_step(m, mhl_collect_step(m, most), why))));
+    return mh_logged(m, &ending, MH_BY(m, (mh_see_end(m, &ending), mh_noted_step(m, step(m, most), why))));
 }
+static inline mh_status mh_collect_step_for(mh_mutator *m, uint32_t most, uint64_t why) { return mh_step_for(m, mhl_collect_step, most, why); }
 /* The next step of a collection of the mutator's own: at most so many roots, objects, cards of 16 cells or blocks of 64 are done in it. Blocks are cleared and
    swept in stretches (of 1 to 128, by the heap's size), and one at least. */
 static inline mh_status mh_collect_step(mh_mutator *m, uint32_t most) { return mh_collect_step_for(m, most, MH_ASKED); }
