@@ -241,6 +241,7 @@ typedef struct mh_book {
     uint64_t (*watch)(void);
     mh_sink *sink;                   /* what is called with each cycle that has ended, */
     void *context;                   /* and with what besides */
+    uint32_t prints;                 /* whether it is written besides */
     uint32_t slots;
     uint32_t turns;                  /* is raised before and after the last cycle is written */
     uint64_t last[MH_CYCLE_NUMBERS]; /* that cycle */
@@ -362,7 +363,7 @@ static inline mh_status mh_open(const mh_sizes *sizes, mh_world *w) {
     book->watch = mh_now;
     book->slots = named.slots;
 #ifdef MH_TRACED
-    if (mh_is_traced()) book->sink = mh_print_cycle;
+    book->prints = (uint32_t)mh_is_traced();
 #endif
     s = mhl_open(&named, w);
     if (s == MH_OK) w->book = book;
@@ -526,10 +527,12 @@ static inline mh_status mh_noted_step(mh_mutator *m, mh_status s, uint64_t why) 
 /* What the mutator's next step ends is read before it, since others' cycles may end behind it. */
 static inline void mh_see_end(mh_mutator *m, mh_cycle *ending) {
     mh_course course;
-    if (m->book->sink && mhl_course(m, &course) == MH_OK && course.stage == MH_AT_END) mh_read_cycle(m->book, ending);
+    if ((m->book->sink || m->book->prints) && mhl_course(m, &course) == MH_OK && course.stage == MH_AT_END) mh_read_cycle(m->book, ending);
 }
 static inline mh_status mh_logged(mh_mutator *m, const mh_cycle *ended, mh_status s) {
-    if (ended->number && (s == MH_OK || s == MH_STOPPED || s == MH_FULL)) m->book->sink(m->book->context, ended);
+    if (!ended->number || (s != MH_OK && s != MH_STOPPED && s != MH_FULL)) return s;
+    if (m->book->prints) mh_print_cycle(0, ended);
+    if (m->book->sink) m->book->sink(m->book->context, ended);
     return s;
 }
 static inline mh_status mh_step_for(mh_mutator *m, mh_status (*step)(mh_mutator *, uint32_t), uint32_t most, uint64_t why) {
