@@ -12,7 +12,7 @@ use Rattle.seat_turns.specs.Coming.{LeavesTurn}
 use Rattle.seat_turns.specs.Sharing.{LeavesHeap}
 use Rattle.seat_turns.specs.Standing.{plain_of}
 use Rattle.seat_steps.specs.Doing.{Does, FindsNone, FindsSome}
-use Rattle.seat_steps.specs.Causes.{EntersFreely, FoundFullIn, FoundStopIn, MakesBy, MakesFreely, PassesFreely}
+use Rattle.seat_steps.specs.Causes.{EntersFreely, FoundFullIn, FoundStopIn, MakesBy, MakesFreely, PassesBy, PassesFreely}
 use Rattle.seat_steps.specs.declared.came.Came.{Came}
 use Rattle.seat_steps.specs.declared.came.Came.TheVariants as cames
 use Rattle.seat_steps.specs.declared.stepper.Stage.{Stage}
@@ -106,9 +106,9 @@ Left c x y = ⊥
 -- what a safe point came to
 abbrev pub Passed : Came → Stepper → Stepper → Type 0
 Passed cames.Done x y = Across PassesFreely x.seat y.seat × (x.stage ≡ Inside) × (y.stage ≡ Inside) × KeepsAll x y
-Passed cames.Stopped x y = Across (FoundStopIn 8) x.seat y.seat × (x.stage ≡ Inside) × (y.stage ≡ Outside) × KeepsAll x y
+Passed cames.Stopped x y = Across (PassesBy cames.Stopped) x.seat y.seat × (x.stage ≡ Inside) × (y.stage ≡ Outside) × KeepsAll x y
 Passed cames.Outside x y = (x.stage ≡ Outside) × (y ≡ x)
-Passed cames.Full x y = Across (FoundFullIn 8) x.seat y.seat × (x.stage ≡ Inside) × (y.stage ≡ Outside) × KeepsAll x y
+Passed cames.Full x y = Across (PassesBy cames.Full) x.seat y.seat × (x.stage ≡ Inside) × (y.stage ≡ Outside) × KeepsAll x y
 Passed cames.Collecting x y = IsTrue (is_collecting x.stage) × (y ≡ x)
 Passed c x y = ⊥
 
