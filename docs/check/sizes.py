@@ -31,7 +31,7 @@ PLACES = [
     (OWN + "specs/Lending.antt", "NAME = @most;", ["objects"]),
     (SHARED + "README.md", "@least to @most NAME", ["cells", "mutators", "tracers", "slots"]),
     (SHARED + "README.md", "@least to @most references an object", ["fields"]),
-    (SHARED + "src/opening.rt", "NAME ≡ @most ", ["objects"]),
+    (SHARED + "specs/Lending.antt", "NAME = @most;", ["objects"]),
     (FOR_C + "specs/Sizing.antt", "packets = @packets; entries = usual_..", ["room"]),
     ("crates/seat_turns/src/refused.rt", SPENT, ["objects"]),
     ("crates/seat_steps/src/came.rt", SPENT, ["objects"]),
