@@ -12,7 +12,7 @@ use Rattle.seat_steps.proofs.seeking.make_here.Goals as goal
 
 pub returns-in-Ok-clause-makes : goal.returns-in-Ok-clause-makes
 returns-in-Ok-clause-makes c =
-    (c.makes.ensures.turn, makes-after _ c.args.v c.args.value c.args.heap.now c.args.seat.now c.pass_once.new.seat c.makes.new.seat refl c.pass_once.ensures.leaves c.pass_once.ensures.same c.makes.ensures.made)
+    (c.makes.ensures.turn, makes-after _ c.args.v c.args.value c.args.heap.now c.args.seat.now c.pass_once.new.seat c.makes.new.seat refl c.pass_once.ensures.leaves c.pass_once.ensures.same c.makes.ensures.ran c.makes.ensures.made)
 
 pub returns-in-Ok-clause-leaves : goal.returns-in-Ok-clause-leaves
 returns-in-Ok-clause-leaves c = λ other. absurd (other refl)

@@ -107,7 +107,7 @@ returns c =
         inl (c.requires.stopping, record { stopped = u; finds = stopped.1; resumed = v; course = i.over; leaves = l.out; full = begins-full t u v w found.leaves.ran stopped.1 i.over known l.ran (l.full known) }),
         l.full known,
         refl,
-        record { heap = l.same ∙ all.same; leaves = leaves-join t v w all.leaves l.leaves; world = refl; name_is = refl },
+        record { heap = l.same ∙ all.same; leaves = leaves-join t v w all.leaves l.leaves; world = refl; name_is = refl; stops = refl; search = record { paid_is = refl; block = refl; seen = refl } },
       );
       bounded = λ most.
           bounded-on most x _ stages.Stopping stages.Outside c.requires.stopping refl
