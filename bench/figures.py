@@ -1,20 +1,20 @@
 #!/usr/bin/env python3
-"""Draws tables of bench/README.md and bench/results as pictures under docs/figures.
+"""Draws tables of bench/README.md and bench/results, and a timeline that lies there, as pictures under docs/figures.
 
 From the top of the repository: python3 bench/figures.py writes the pictures, and python3 bench/figures.py --check
 says whether those that are there are the ones that it would write. It needs Python's own library alone.
 """
-import html
-import math
 import pathlib
 import re
 import sys
 
+import drawing
+import timeline
+from utilisation import WINDOWS, utilisation
+
 TOP = pathlib.Path(__file__).resolve().parent.parent
 SERIES = "bench/results/2026-11-30-pauses.md"
-COLOURS = ["#0072b2", "#d55e00", "#009e73", "#cc79a7", "#e69f00", "#56b4e9"]
-WIDTH, HEIGHT = 640, 340
-LEFT, RIGHT, HEAD, FOOT = 64, 16, 48, 64
+CYCLE = TOP / "bench/results/2026-11-30-cycle.txt"
 
 
 def tables(name):
@@ -50,143 +50,88 @@ def series(name, label, columns):
     return labels, [(c, [number(row[header.index(c)]) for row in rows]) for c in columns]
 
 
-def text(x, y, words, anchor="middle", size=12, turn=""):
-    return f'<text x="{x:.1f}" y="{y:.1f}" text-anchor="{anchor}" font-size="{size}"{turn}>{html.escape(words)}</text>'
-
-
-def top_of(most):
-    """A round number that is no less, and the step of the lines below it."""
-    for step in (0.1, 0.2, 0.5, 1, 2, 5, 10, 20, 50, 100, 200, 500, 1000):
-        if most <= 6 * step:
-            lines = -(-most // step)
-            return lines * step, step
-    return most, most / 5
-
-
-def ruled(title, unit, place, marks, told="{:g}".format):
-    """The title, and a line with its number at each of these."""
-    middle = HEAD + (HEIGHT - HEAD - FOOT) / 2
-    parts = [text(WIDTH / 2, 22, title, size=15), text(16, middle, unit, turn=f' transform="rotate(-90 16 {middle:.1f})"')]
-    for mark in marks:
-        y = place(mark)
-        parts.append(f'<line x1="{LEFT}" y1="{y:.1f}" x2="{WIDTH - RIGHT}" y2="{y:.1f}" stroke="#dddddd"/>')
-        parts.append(text(LEFT - 6, y + 4, told(mark), "end"))
-    return parts, place
-
-
-def frame(title, unit, values):
-    """The lines of a scale from 0, and where a value stands."""
-    top, step = top_of(max(values))
-    return ruled(title, unit, lambda value: HEAD + (HEIGHT - HEAD - FOOT) * (1 - value / top), [k * step for k in range(int(round(top / step)) + 1)])
-
-
-def powers(title, unit, values):
-    """The same by powers of ten."""
-    low, high = math.floor(math.log10(min(values))), math.ceil(math.log10(max(values)))
-    place = lambda value: HEAD + (HEIGHT - HEAD - FOOT) * (high - math.log10(value)) / (high - low)
-    told = lambda value: f"{value // 10**6} M" if value >= 10**6 else f"{value // 1000} k" if value >= 1000 else f"{value}"
-    return ruled(title, unit, place, [10**k for k in range(low, high + 1)], told)
-
-
-def legend(names):
-    parts, x = [], LEFT
-    for k, name in enumerate(names):
-        parts.append(f'<rect x="{x}" y="{HEIGHT - 22}" width="12" height="12" fill="{COLOURS[k]}"/>')
-        parts.append(text(x + 18, HEIGHT - 12, name.replace("`", ""), "start"))
-        x += 34 + 7 * len(name)
-    return parts
-
-
-def slots(count):
-    """The middle of each place along the foot, and how wide a place is."""
-    wide = (WIDTH - LEFT - RIGHT) / count
-    return [LEFT + wide * (k + 0.5) for k in range(count)], wide
-
-
-def bars(title, unit, labels, lines):
-    parts, place = frame(title, unit, [v for _, values in lines for v in values])
-    middles, wide = slots(len(labels))
-    bar = wide * 0.7 / len(lines)
-    for k, (_, values) in enumerate(lines):
-        for middle, value in zip(middles, values):
-            x = middle + bar * (k - len(lines) / 2)
-            parts.append(f'<rect x="{x:.1f}" y="{place(value):.1f}" width="{bar - 2:.1f}" height="{HEIGHT - FOOT - place(value):.1f}" fill="{COLOURS[k]}"/>')
-            parts.append(text(x + bar / 2 - 1, place(value) - 4, f"{value:g}", size=10))
-    return finish(parts, middles, labels, [name for name, _ in lines])
-
-
-def curves(title, unit, labels, lines, scale=frame):
-    parts, place = scale(title, unit, [v for _, values in lines for v in values])
-    middles, _ = slots(len(labels))
-    for k, (_, values) in enumerate(lines):
-        points = [(x, place(v)) for x, v in zip(middles, values)]
-        path = " ".join(f"{x:.1f},{y:.1f}" for x, y in points)
-        parts.append(f'<polyline points="{path}" fill="none" stroke="{COLOURS[k]}" stroke-width="2"/>')
-        for x, y in points:
-            parts.append(f'<circle cx="{x:.1f}" cy="{y:.1f}" r="3.5" fill="{COLOURS[k]}"/>')
-    return finish(parts, middles, labels, [name for name, _ in lines])
-
-
-def finish(parts, middles, labels, names):
-    for x, label in zip(middles, labels):
-        parts.append(text(x, HEIGHT - FOOT + 16, label))
-    parts += legend(names)
-    style = 'font-family="sans-serif" fill="#222222"'
-    head = f'<svg xmlns="http://www.w3.org/2000/svg" width="{WIDTH}" height="{HEIGHT}" viewBox="0 0 {WIDTH} {HEIGHT}" {style}>'
-    ground = f'<rect width="{WIDTH}" height="{HEIGHT}" fill="#ffffff"/>'
-    return "\n".join([head, ground] + parts + ["</svg>", ""])
-
-
 def to_floor():
     labels, lines = series("bench/README.md", "Script", ["gcplay to the floor"])
-    return bars("Processor time beside the same steps in C++, one worker", "times the floor", labels, lines)
+    rows = [(label, value, 0) for label, value in zip(labels, lines[0][1])]
+    return drawing.bars("Processor time of gcplay, one worker", "times that of the same steps in C++", [("", rows)], (1, "the same steps in C++"))
 
 
 def speed_up():
     """How many times as fast as one worker, without tracers."""
     header, rows = table("bench/README.md", "Workers", "Tracers", "`orders`, clock ms", "`live`, clock ms")
     rows = [row for row in rows if row[1] == "0"]
-    lines = [(name.split(",")[0], [number(row[header.index(name)]) for row in rows]) for name in ("`orders`, clock ms", "`live`, clock ms")]
-    lines = [(name, [values[0] / v for v in values]) for name, values in lines]
-    return curves("Speed-up by workers, by the clock, without tracers", "times one worker", [row[0] for row in rows], lines)
+    times = [(name, [number(row[header.index(f"`{name}`, clock ms")]) for row in rows]) for name in ("orders", "live")]
+    lines = [(name, [values[0] / v for v in values]) for name, values in times]
+    ideal = ("ideal on 4 processors", [min(4, int(row[0])) for row in rows])
+    parts = [drawing.text(320, 22, "Speed-up by workers, by the clock, without tracers", size=15)]
+    labels, box = [row[0] for row in rows], (60, 64, 490, 286)
+    return drawing.page(640, 340, parts + drawing.curves("times as fast as one worker", "workers", labels, lines, box, dashed=ideal))
 
 
-def pauses_of(column, programs):
-    """What programs have in a column of the table of pauses, for each pair of cells and workers; a program is named by how its name begins."""
+# The programs of the series of pauses: how a row begins there, what a picture calls it, and whether it is ours.
+PROGRAMS = [
+    ("beside, 1", "this one, one tracer", 0), ("stops, 1", "this one, marking in stops", 0), ("Boehm, stop", "Boehm, stop the world", 1),
+    ("Boehm, incremental", "Boehm, incremental", 1), ("Go", "Go", 1), ("G1", "G1", 1), ("Z", "ZGC", 1), ("Shenandoah", "Shenandoah", 1),
+]
+
+
+def pauses_of(*columns):
+    """For each pair of cells and workers its heading, and what each program has there in these columns of the table of pauses."""
     header, rows = table(SERIES, "Program", "Mean stop")
     cells, workers, program = (header.index(it) for it in ("Cells", "Workers", "Program"))
     found = {}
     for row in rows:
-        for name in programs:
-            if row[program].startswith(name):
-                found.setdefault((row[cells], row[workers]), {})[name] = number(row[header.index(column)])
-    labels = [f"{int(size[0]) / 2**20:g} M / {size[1]}" for size in found]
-    return labels, {name: [it.get(name, 0) for it in found.values()] for name in programs}
+        for begin, name, colour in PROGRAMS:
+            if row[program].startswith(begin):
+                found.setdefault((row[cells], row[workers]), []).append((name, [number(row[header.index(it)]) for it in columns], colour))
+    return [(f"{int(size[0]):,} cells, {size[1]} worker{'s' * (size[1] != '1')}", rows) for size, rows in found.items()]
 
 
 def pauses():
-    """The mean and the longest stop, marking beside four workers and fewer, and in stops alone."""
-    labels, means = pauses_of("Mean stop", ["beside, 1", "stops, 1"])
-    _, longest = pauses_of("Longest", ["beside, 1", "stops, 1"])
-    lines = [(f"{what}, {way}", [round(v / 1000, 1) for v in found[f"{way}, 1"]]) for way in ("beside", "stops") for what, found in (("mean", means), ("longest", longest))]
-    return bars("Stops with one tracer, by cells / workers", "milliseconds", labels, lines)
+    """The mean and the longest stop of ours and of the peers."""
+    of_size = lambda rows: [(name, (mean / 1000, longest / 1000), colour) for name, (mean, longest), colour in rows]
+    groups = [(size, of_size(rows)) for size, rows in pauses_of("Mean stop", "Longest")]
+    return drawing.ranges("Stops: the mean, and the longest of a run", "milliseconds", groups, ("mean", "longest (median of five runs)"))
 
 
 def pauses_rate():
     """How many orders were replaced in a second."""
-    names = {"beside, 1": "ours, beside", "stops, 1": "ours, in stops", "Boehm, stop": "Boehm", "Go": "Go"}
-    labels, rates = pauses_of("Orders a second", list(names))
-    return bars("Orders, by cells / workers", "thousands a second", labels, [(names[it], [round(v / 1000) for v in rates[it]]) for it in names])
+    groups = [(size, [(name, round(rate / 1000), colour) for name, (rate,), colour in rows]) for size, rows in pauses_of("Orders a second")]
+    return drawing.bars("Throughput", "thousands of transactions a second", groups)
 
 
 def longest_call():
     """The steps and the microseconds of the longest call, by the cells of the heap."""
-    names = ["Steps, before", "Steps", "µs, before", "µs"]
-    labels, lines = series("bench/results/2026-11-longest.md", "Cells", names)
-    return curves("The longest call by cells, before and since collections go on in pieces", "steps; microseconds", labels, lines, powers)
+    labels, lines = series("bench/results/2026-11-longest.md", "Cells", ["Steps, before", "Steps", "µs, before", "µs"])
+    parts = [drawing.text(380, 22, "The longest call, before and since collections go on in pieces", size=15)]
+    for title, at, right in (("steps", 0, 290), ("microseconds, one mutator", 2, 640)):
+        pair = [("before", lines[at][1]), ("now", lines[at + 1][1])]
+        parts += drawing.curves(title, "cells", labels, pair, (right - 230, 64, right, 286), log=True)
+    return drawing.page(720, 340, parts)
 
 
-FIGURES = {"longest_call": longest_call, "to_floor": to_floor, "speed_up": speed_up, "pauses": pauses, "pauses_rate": pauses_rate}
+def mutator_utilisation():
+    """The minimum mutator utilisation of the cycle of the picture `cycle`, and what it can be at most by the longest stop where all is marked in stops."""
+    lanes = timeline.read(CYCLE)
+    start, _, end = timeline.cycle_of(lanes)
+    lines = [("this one", [100 * together for _, _, together in utilisation(lanes, start, end)])]
+    rows = {name: longest / 1000 for name, (longest,), _ in pauses_of("Longest")[2][1]}
+    for name, told in (("this one, marking in stops", "marking in stops, at most"), ("Boehm, stop the world", "Boehm, at most")):
+        lines.append((told, [max(0, 100 - 100 * rows[name] / w) for w in WINDOWS]))
+    parts = [drawing.text(340, 22, "Minimum mutator utilisation", size=15)]
+    panel = drawing.curves("per cent of a window", "length of the window, ms", [f"{w}" for w in WINDOWS], lines, (60, 64, 500, 286))
+    return drawing.page(690, 340, parts + panel)
+
+
+def cycle():
+    lanes = timeline.read(CYCLE)
+    return timeline.picture(lanes, *timeline.cycle_of(lanes))
+
+
+FIGURES = {
+    "cycle": cycle, "longest_call": longest_call, "mutator_utilisation": mutator_utilisation, "to_floor": to_floor, "speed_up": speed_up, "pauses": pauses,
+    "pauses_rate": pauses_rate,
+}
 
 
 def main():

@@ -19,7 +19,7 @@ printf '#include "managed_heap.h"\nint main(void) { mh_world w = {0}; return mh_
 sed 's/{0}/{}/' "$work/alone.c" >"$work/alone.cpp"
 compile() {
     command -v "$1" >/dev/null || { echo "no $1 here"; return; }
-    for checked in "" -DMH_CHECKED; do
+    for checked in "" -DMH_CHECKED -DMH_TRACED; do
         "$1" -std="$2" -Wall -Wextra -pedantic -Wconversion -Werror $checked -I "$top/c/include" -c "$work/alone.$3" -o "$work/alone.o" || fail "the header isn't $2 for $1 $checked"
     done
 }
@@ -42,7 +42,7 @@ cat >"$work/one.c" <<'END'
 #include "managed_heap.h"
 int refused(mh_mutator *m);
 int main(void) {
-    mh_sizes sizes = {64, 1, 1, 0, 0, 0, 0};
+    mh_sizes sizes = {.cells = 64, .fields = 1, .mutators = 1};
     mh_world world = {0};
     mh_mutator m = {0};
     if (mh_open(&sizes, &world) || mh_take_mutator(&world, &m) || refused(&m)) return 1;
@@ -52,7 +52,8 @@ END
 cat >"$work/two.cpp" <<'END'
 #include "managed_heap.h"
 extern "C" int refused(mh_mutator *m) {
-    mh_sizes sizes = {64, 1, 1, 0, 0, 0, 0};
+    mh_sizes sizes = {};
+    sizes.cells = 64, sizes.fields = 1, sizes.mutators = 1;
     mh_world world = {};
     mh_mutator own = {};
     if (mh_open(&sizes, &world) || mh_take_mutator(&world, &own)) return 1;

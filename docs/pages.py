@@ -17,7 +17,7 @@ number = figures.number
 def all_pages():
     """The documents for readers, those of crates last."""
     folders = ["docs/*.md", "bench/README.md", "bench/results/*.md", "tests/README.md", "tests/bodies/README.md", "crates/*/README.md"]
-    return ["README.md", "CONTRIBUTING.md", *(page for it in folders for page in sorted(glob.glob(it)))]
+    return ["README.md", "CONTRIBUTING.md", "CHANGELOG.md", *(page for it in folders for page in sorted(glob.glob(it)))]
 
 
 @functools.lru_cache(maxsize=None)

@@ -1,6 +1,6 @@
 #!/usr/bin/env bash
 # Tries the edits crates/*/must-not-compile/*.edit, or those of the crate that is named, each on a copy: they must not compile.
-# The compiler has to refuse each by its rules of ownership: what is borrowed, moved or private.
+# The compiler has to refuse each by its rules of ownership: what is borrowed, moved, private, or of another seal (a type).
 # An edit has the form of those in must-fail. `rt must-fail` cannot try these, since it wants the edited text to compile.
 set -eu
 top=$(cd "$(dirname "$0")/.." && pwd)
@@ -59,7 +59,7 @@ text = open(file).read()
 assert text.count(old) == 1, "the old text stands there once"
 open(file, "w").write(text.replace(old, new))
 END
-    if compile | grep -E 'error\[(borrow-e0597|borrow-e0382|private-field)\]'; then
+    if compile | grep -E 'error\[(borrow-e0597|borrow-e0382|private-field|mismatched-types)\]'; then
         echo "$crate, $(basename "$edit"): refused, as it must be"
     else
         echo "$crate, $(basename "$edit"): NOT REFUSED"

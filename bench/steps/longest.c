@@ -203,7 +203,7 @@ int main(int count, char **words) {
     cells = number(count, words, 1, 65536), shared = number(count, words, 2, 0), mutators = number(count, words, 3, 1);
     tracers = number(count, words, 4, 1), most = number(count, words, 5, 4096), rounds = number(count, words, 6, 6);
     while (mutators * ((LENGTH + 1ull) << (depth + 1)) * 10 <= cells * 6ull) depth++;
-    mh_sizes sizes = {cells, 2, mutators, 0, tracers, shared, shared ? SLOTS : 0};
+    mh_sizes sizes = {.cells = cells, .fields = 2, .mutators = mutators, .tracers = tracers, .shared = shared, .slots = shared ? SLOTS : 0};
     MUST(mh_open(&sizes, &world));
     for (k = 0; k < mutators; k++) MUST(mh_take_mutator(&world, &of[k].m));
     for (k = 0; k < tracers; k++) MUST(mh_take_tracer(&world, &marks[k].t));

@@ -75,8 +75,8 @@ def turning(cells, most):
 # What is proved of a call: a number of steps, or one by the cells and by what a step does at most.
 PROVED = {
     "set": 3, "get": 2, "put": 2, "copy": 1, "forget": 1, "value": 1, "is_nil": 0, "same": 0, "root": 2, "exchange": 2, "exchange_value": 1, "spill": 1, "fill": 2,
-    "forget_slots": SLOTS, "place": 0, "number": 1, "enter": 5, "enter: stopped": 10, "leave": 5, "safe_point": 2, "safe_point: stopped": 8, "make": 5 + FIELDS,
-    "make_cached": 5 + FIELDS, "make_cached: no cache": 2, "make_cached: stopped": 8, "make: searched": making, "make: none": making, "refill": refilling,
+    "forget_slots": SLOTS, "place": 0, "number": 1, "enter": 5, "enter: stopped": 10, "leave": 5, "safe_point": 2, "safe_point: stopped": 6, "make": 5 + FIELDS,
+    "make_cached": 5 + FIELDS, "make_cached: no cache": 2, "make_cached: stopped": 6, "make: searched": making, "make: none": making, "refill": refilling,
     "refill: not yet": lambda cells, most: 3 * min(most, cells // BLOCK) + 11,
     "collect: asks": 6, "collect: waits": 1, "collect: begins": 5, "collect: roots": seeing, "collect: traces": lambda cells, most: RECYCLE + tracing(most),
     "collect: looks": lambda cells, most: most + 2, "collect: cleans": cleaning, "collect: clears": clearing, "collect: sweeps": sweeping,

@@ -75,7 +75,7 @@ int main(int words, char **word) {
     static struct worker all[MOST];
     static mh_tracer marking[8];
     pthread_t threads[MOST], beside[8];
-    done(mh_open(&(mh_sizes){atoi(word[4]), 2, workers + 1, 0, tracers}, &world));
+    done(mh_open(&(mh_sizes){.cells = atoi(word[4]), .fields = 2, .mutators = workers + 1, .tracers = tracers}, &world));
     for (unsigned t = 0; t < tracers; t++) {
         done(mh_take_tracer(&world, &marking[t]));
         pthread_create(&beside[t], NULL, trace, &marking[t]);

@@ -19,6 +19,7 @@
 
 #include <sched.h>
 #include <stdint.h>
+#include <stdio.h>
 #include <stdlib.h>
 #include <sys/select.h>
 #include <sys/time.h>
@@ -29,7 +30,7 @@ extern "C" {
 #endif
 
 /* The version of these calls. The first number rises if a program has to be changed or compiled again. */
-#define MH_VERSION "3.1"
+#define MH_VERSION "4.0"
 
 /* What a call came to. If it isn't MH_OK, objects and variables are as before, but for what a line here says. */
 typedef enum mh_status {
@@ -37,9 +38,10 @@ typedef enum mh_status {
     MH_NOT_YET = 1,       /* a step more is to be made: call again */
     MH_STOPPED = 2,       /* another's collection is under way: the mutator is outside now, or stays there. Rest, and enter again. A tracer rests, and takes
                              its next turn */
-    MH_NO_CELL = 3,       /* no cell is free for this mutator now: collect. Of mh_make: its collections left none for it; forget something, or try later */
+    MH_NO_CELL = 3,       /* no cell is free for this mutator now: mh_finish, and if that leaves none, mh_collect. Of mh_make: its collections left none for
+                             it; forget something, or try later */
     MH_OUTSIDE = 4,       /* the mutator is outside the world: enter first */
-    MH_COLLECTING = 5,    /* the mutator is between two steps of its collection: mh_collect_step first */
+    MH_COLLECTING = 5,    /* the mutator is between two steps of its collection: mh_collect_step or mh_finish_step first */
     MH_OUT_OF_RANGE = 6,  /* a variable is not below 32, a field or a slot not below the world's, a size not in its range, or the bound of a step is 0 */
     MH_NIL = 7,           /* the variable refers to no object: there is no value, no place and no number, and nothing is stored */
     MH_FULL = 8,          /* the reachable objects fill all cells, for good, as a mutator in Rattle has found: none enters any more. If C has all mutators,
@@ -93,14 +95,19 @@ static inline const char *mh_status_text(mh_status s) {
  * a collection runs, or that a signal handler makes. Two threads whose calls begin within some nanoseconds may both miss it, and then the heap may be spoiled.
  * If MH_CHECKED is defined, for all files of a program, each call exchanges a word of the handle, and a second one is always MH_IN_USE. That is for tests: it
  * adds some 7 nanoseconds to a call.
+ *
+ * A thread writes into its handle. So handles end in bytes that nobody uses: two of an array share no line of the processor's cache, nor two lines that are
+ * fetched together.
  */
+enum { MH_APART = 128 };
+
 typedef struct mh_world { void *at; struct mh_book *book; } mh_world;
 #ifdef MH_CHECKED
-typedef struct mh_mutator { void *at; struct mh_book *book; uint32_t made, used; uint64_t told; } mh_mutator;
-typedef struct mh_tracer { void *at; struct mh_book *book; uint64_t told; uint32_t used; } mh_tracer;
+typedef struct mh_mutator { void *at; struct mh_book *book; uint32_t made, used; uint64_t told; unsigned char apart[MH_APART]; } mh_mutator;
+typedef struct mh_tracer { void *at; struct mh_book *book; uint64_t told; uint32_t used; unsigned char apart[MH_APART]; } mh_tracer;
 #else
-typedef struct mh_mutator { void *at; struct mh_book *book; uint32_t made; uint64_t told; } mh_mutator;
-typedef struct mh_tracer { void *at; struct mh_book *book; uint64_t told; } mh_tracer;
+typedef struct mh_mutator { void *at; struct mh_book *book; uint32_t made; uint64_t told; unsigned char apart[MH_APART]; } mh_mutator;
+typedef struct mh_tracer { void *at; struct mh_book *book; uint64_t told; unsigned char apart[MH_APART]; } mh_tracer;
 #endif
 
 /* How many variables a mutator has. */
@@ -133,7 +140,7 @@ typedef struct mh_numbers {
 typedef struct mh_cycle {
     uint64_t number;  /* how many cycles had ended in this world, with this one */
     uint64_t why;     /* MH_ASKED or MH_LACKED */
-    uint64_t beside;  /* 1 if a cycle was marking beside the program as the world stopped, else 0. What it had marked was finished, and marked anew */
+    uint64_t beside;  /* 1 if a cycle was marking beside the program as the world stopped, else 0. What it had marked was finished */
     uint64_t marked;  /* how long one was seen to mark beside the program, before the stop was asked for; 0 if none was seen */
     uint64_t tracers; /* how many objects tracers traced beside the program since the cycle before */
     uint64_t waited;  /* how long the world took to stop */
@@ -144,19 +151,30 @@ typedef struct mh_cycle {
     uint64_t mutators; /* how many objects mutators traced beside the program since the cycle before, to pay for the cells that they took */
     uint64_t traced;  /* how many objects were traced while the world stood still, */
     uint64_t cleaned; /* and how many cards of 16 cells were cleaned then, since they were dirty */
+    uint64_t rescanned; /* how many objects of those cards were scanned again */
+    uint64_t exact;   /* 1 if it left no garbage, since it was precise or none was marking beside the program. 0: what died since the cycle began may be kept
+                         until the next one */
+    uint64_t wasted;  /* how many objects were traced for nothing beside the program, since a precise collection marked all anew: `tracers` and `mutators`
+                         together if `beside` and `exact` are 1, else 0 */
 } mh_cycle;
 
 /* Why a cycle ended: a collection was asked for, or no cell was free for an object. */
 enum { MH_ASKED = 0, MH_LACKED = 1 };
 
+/* What mh_log_cycles has called with each cycle. */
+typedef void mh_sink(void *context, const mh_cycle *cycle);
+
 /* How far the collection of a mutator is: where it stands; 1 if it is to mark once more, and 1 if it read last that a cycle is marking, else 0; how many cells
-   its sweep has freed, and how many in use it has counted. At MH_AT_END its next step ends the cycle by these two. */
+   its sweep has freed, how many in use it has counted, and how many objects it has scanned again; and, from the roots on, 1 if it leaves no garbage, else 0. At
+   MH_AT_END its next step ends the cycle by these numbers. */
 typedef struct mh_course {
     uint32_t stage;
     uint32_t again;
     uint32_t marking;
     uint32_t freed;
     uint32_t kept;
+    uint32_t rescanned;
+    uint32_t exact;
 } mh_course;
 
 /* How much a mutator has traced: objects, to pay for the cells that it took, since it was taken; and what its collection has done from the roots on: how many
@@ -195,6 +213,7 @@ mh_status mhl_value(mh_mutator *m, uint32_t v, uint32_t *out);
 mh_status mhl_is_nil(mh_mutator *m, uint32_t v, uint32_t *out);
 mh_status mhl_same(mh_mutator *m, uint32_t v, uint32_t w, uint32_t *out);
 mh_status mhl_collect_step(mh_mutator *m, uint32_t most);
+mh_status mhl_finish_step(mh_mutator *m, uint32_t most);
 mh_status mhl_is_stopping(mh_mutator *m, uint32_t *out);
 mh_status mhl_root(mh_mutator *m, uint32_t v);
 mh_status mhl_exchange(mh_mutator *m, uint32_t v, uint32_t i, uint32_t expected, uint32_t next, uint32_t *won);
@@ -226,10 +245,13 @@ static inline mh_status mh_was_used(uint32_t *used, mh_status s) {
 
 /* What the header itself keeps of a world, by atomic words: how many slots a mutator has, and the cycles. */
 
-enum { MH_CYCLE_NUMBERS = 13 };
+enum { MH_CYCLE_NUMBERS = 16 };
 
 typedef struct mh_book {
     uint64_t (*watch)(void);
+    mh_sink *sink;                   /* what is called with each cycle that has ended, */
+    void *context;                   /* and with what besides */
+    uint32_t prints;                 /* whether it is written besides */
     uint32_t slots;
     uint32_t turns;                  /* is raised before and after the last cycle is written */
     uint64_t last[MH_CYCLE_NUMBERS]; /* that cycle */
@@ -263,20 +285,24 @@ static inline uint64_t mh_since(uint64_t from, uint64_t to) { return from < to ?
 static inline void mh_write_cycle(mh_book *book, const mh_course *course, const mh_work *work) {
     uint64_t now = book->watch(), began = mh_noted(&book->began), asked = mh_noted(&book->asked), stopped = mh_noted(&book->stopped);
     uint64_t traced = mh_noted(&book->traced), paid = mh_noted(&book->paid), number = mh_noted(&book->last[0]) + 1;
+    uint64_t tracers = traced - mh_noted(&book->traced_before), mutators = paid - mh_noted(&book->paid_before), beside = mh_noted(&book->beside);
     __atomic_store_n(&book->turns, __atomic_load_n(&book->turns, __ATOMIC_RELAXED) + 1u, __ATOMIC_RELAXED);
     mh_note(&book->last[0], number);
     mh_note(&book->last[1], mh_noted(&book->why));
-    mh_note(&book->last[2], mh_noted(&book->beside));
+    mh_note(&book->last[2], beside);
     mh_note(&book->last[3], began ? mh_since(began, asked) : 0);
-    mh_note(&book->last[4], traced - mh_noted(&book->traced_before));
+    mh_note(&book->last[4], tracers);
     mh_note(&book->last[5], mh_since(asked, stopped));
     mh_note(&book->last[6], mh_since(stopped, now));
     mh_note(&book->last[7], mh_since(mh_noted(&book->swept), now));
     mh_note(&book->last[8], course->freed);
     mh_note(&book->last[9], course->kept);
-    mh_note(&book->last[10], paid - mh_noted(&book->paid_before));
+    mh_note(&book->last[10], mutators);
     mh_note(&book->last[11], work->traced);
     mh_note(&book->last[12], work->cleaned);
+    mh_note(&book->last[13], course->rescanned);
+    mh_note(&book->last[14], course->exact);
+    mh_note(&book->last[15], beside && course->exact ? tracers + mutators : 0);
     __atomic_store_n(&book->turns, __atomic_load_n(&book->turns, __ATOMIC_RELAXED) + 1u, __ATOMIC_RELEASE);
     mh_note(&book->traced_before, traced);
     mh_note(&book->paid_before, paid);
@@ -296,7 +322,7 @@ static inline void mh_note_course(mh_book *book, const mh_course *course, const 
     case MH_AT_ROOTS:
         if (before != MH_AT_STOP) return;
         mh_note(&book->stopped, book->watch());
-        mh_note(&book->beside, course->again);
+        mh_note(&book->beside, course->marking);
         return;
     case MH_AT_SWEEP: mh_note(&book->swept, book->watch()); return;
     case MH_AT_END: mh_write_cycle(book, course, work); return;
@@ -314,13 +340,32 @@ static inline void mh_tell_paid(mh_mutator *m) {
     if (mhl_work(m, &work) == MH_OK && work.paid != m->told) mh_tell(m, &work);
 }
 
+/* A sink: writes the cycle as one line of words NAME=VALUE to a stream, the context, or to standard error if that is 0. docs/EMBEDDING_C.md has the names. */
+static inline void mh_print_cycle(void *stream, const mh_cycle *c) {
+    fprintf(stream ? (FILE *)stream : stderr,
+            "mh: cycle=%llu why=%s beside=%llu marked_us=%.1f mutators=%llu tracers=%llu waited_us=%.1f stopped_us=%.1f swept_us=%.1f traced=%llu cleaned=%llu "
+            "rescanned=%llu freed=%llu kept=%llu exact=%llu wasted=%llu\n",
+            (unsigned long long)c->number, c->why == MH_ASKED ? "asked" : "lacked", (unsigned long long)c->beside, (double)c->marked / 1e3,
+            (unsigned long long)c->mutators, (unsigned long long)c->tracers, (double)c->waited / 1e3, (double)c->stopped / 1e3, (double)c->swept / 1e3,
+            (unsigned long long)c->traced, (unsigned long long)c->cleaned, (unsigned long long)c->rescanned, (unsigned long long)c->freed,
+            (unsigned long long)c->kept, (unsigned long long)c->exact, (unsigned long long)c->wasted);
+}
+#ifdef MH_TRACED
+/* Whether the environment asks for these lines. */
+static inline int mh_is_traced(void) {
+    const char *asked = getenv("MH_TRACE");
+    return asked && *asked && (*asked != '0' || asked[1]);
+}
+#endif
+
 /* The world: for one thread at a time. */
 
 /* How many worlds got their names here. Each file that includes this has the variable, and the linker keeps one. */
 extern uint32_t mh_names_given;
 __attribute__((weak)) uint32_t mh_names_given = 0;
 
-/* Opens a world. */
+/* Opens a world. If MH_TRACED is defined, and the environment has MH_TRACE, neither empty nor 0, each cycle of the world is written to standard error as a line
+   (mh_print_cycle). */
 static inline mh_status mh_open(const mh_sizes *sizes, mh_world *w) {
     mh_sizes named = *sizes;
     mh_book *book;
@@ -332,6 +377,9 @@ static inline mh_status mh_open(const mh_sizes *sizes, mh_world *w) {
     if (!book) return MH_OUT_OF_MEMORY;
     book->watch = mh_now;
     book->slots = named.slots;
+#ifdef MH_TRACED
+    book->prints = (uint32_t)mh_is_traced();
+#endif
     s = mhl_open(&named, w);
     if (s == MH_OK) w->book = book;
     else free(book);
@@ -378,12 +426,10 @@ static inline mh_status mh_close(mh_world *w) {
     if (s == MH_OK) { free(w->book); w->book = 0; }
     return s;
 }
-/* The last cycle that has ended; MH_NOT_YET if none has, and nothing is written. Any thread may ask, while the world is open. */
-static inline mh_status mh_last_cycle(const mh_world *w, mh_cycle *cycle) {
-    const mh_book *book = w->book;
+/* A whole cycle is read: again, while one is written. */
+static inline mh_status mh_read_cycle(const mh_book *book, mh_cycle *cycle) {
     uint64_t n[MH_CYCLE_NUMBERS];
     uint32_t before, k;
-    if (!book) return MH_GIVEN_BACK;
     do {
         before = __atomic_load_n(&book->turns, __ATOMIC_ACQUIRE);
         for (k = 0; k < MH_CYCLE_NUMBERS; k++) n[k] = mh_noted(&book->last[k]);
@@ -402,6 +448,21 @@ static inline mh_status mh_last_cycle(const mh_world *w, mh_cycle *cycle) {
     cycle->mutators = n[10];
     cycle->traced = n[11];
     cycle->cleaned = n[12];
+    cycle->rescanned = n[13];
+    cycle->exact = n[14];
+    cycle->wasted = n[15];
+    return MH_OK;
+}
+/* The last cycle that has ended; MH_NOT_YET if none has, and nothing is written. Any thread may ask, while the world is open. */
+static inline mh_status mh_last_cycle(const mh_world *w, mh_cycle *cycle) { return w->book ? mh_read_cycle(w->book, cycle) : MH_GIVEN_BACK; }
+
+/* From now on the sink is called with each cycle that ends, once, by the thread that made the last step of its collection, in that call and after the world went
+   on; no sink, and none is. It is set before the world's mutators are at work. Cycles that end one behind the other may be told beside each other or in another
+   order: each has its number. The mutator of that thread may be inside meanwhile, so a sink that waits holds up the others' collections. */
+static inline mh_status mh_log_cycles(mh_world *w, mh_sink *sink, void *context) {
+    if (!w->book) return MH_GIVEN_BACK;
+    w->book->context = context;
+    w->book->sink = sink;
     return MH_OK;
 }
 
@@ -443,7 +504,7 @@ static inline mh_status mh_told_at_end(mh_mutator *m, mh_status s) {
 }
 /* The next step on the way to a cache with a free cell: MH_OK if the mutator has one, and MH_NOT_YET if there are more blocks to look at. It looks at no
    more than so many blocks of 64 cells. MH_NO_CELL where its steps looked at as many blocks as there are and found none, or where a cycle is done with marking:
-   collect. Where the cache has no free cell yet it is a safe point too. */
+   mh_finish or mh_finish_step, and if that leaves none, mh_collect or mh_collect_step. Where the cache has no free cell yet it is a safe point too. */
 static inline mh_status mh_refill_step(mh_mutator *m, uint32_t most) { return MH_BY(m, mh_told_at_end(m, mhl_refill_step(m, most))); }
 
 /* Stands for no variable among the fields of mh_make_with: that field stays nil. */
@@ -481,10 +542,30 @@ static inline mh_status mh_noted_step(mh_mutator *m, mh_status s, uint64_t why) 
     mh_note_course(m->book, &course, &work, why);
     return s;
 }
-static inline mh_status mh_collect_step_for(mh_mutator *m, uint32_t most, uint64_t why) { return MH_BY(m, mh_noted_step(m, mhl_collect_step(m, most), why)); }
-/* The next step of a collection of the mutator's own: at most so many roots, objects, cards of 16 cells or blocks of 64 are done in it. Blocks are cleared and
-   swept in stretches (of 1 to 128, by the heap's size), and one at least. */
-static inline mh_status mh_collect_step(mh_mutator *m, uint32_t most) { return mh_collect_step_for(m, most, MH_ASKED); }
+/* What the mutator's next step ends is read before it, since others' cycles may end behind it. */
+static inline void mh_see_end(mh_mutator *m, mh_cycle *ending) {
+    mh_course course;
+    if ((m->book->sink || m->book->prints) && mhl_course(m, &course) == MH_OK && course.stage == MH_AT_END) mh_read_cycle(m->book, ending);
+}
+static inline mh_status mh_logged(mh_mutator *m, const mh_cycle *ended, mh_status s) {
+    if (!ended->number || (s != MH_OK && s != MH_STOPPED && s != MH_FULL)) return s;
+    if (m->book->prints) mh_print_cycle(0, ended);
+    if (m->book->sink) m->book->sink(m->book->context, ended);
+    return s;
+}
+static inline mh_status mh_step_of(mh_mutator *m, int precise, uint32_t most) { return precise ? mhl_collect_step(m, most) : mhl_finish_step(m, most); }
+static inline mh_status mh_step_for(mh_mutator *m, int precise, uint32_t most, uint64_t why) {
+    mh_cycle ending;
+    ending.number = 0;
+    return mh_logged(m, &ending, MH_BY(m, (mh_see_end(m, &ending), mh_noted_step(m, mh_step_of(m, precise, most), why))));
+}
+/* The next step of a precise collection of the mutator's own, which leaves no garbage: at most so many roots, objects, cards of 16 cells or blocks of 64 are done
+   in it. Blocks are cleared and swept in stretches (of 1 to 128, by the heap's size), and one at least. What a cycle had marked beside the program is finished,
+   and all is marked anew: so the world stands still for as long as it takes to trace all that is kept. */
+static inline mh_status mh_collect_step(mh_mutator *m, uint32_t most) { return mh_step_for(m, 1, most, MH_ASKED); }
+/* The same of an ordinary collection: what a cycle had marked beside the program stays marked. So the world stands still shortly, and what died since the cycle
+   began may be kept until the next one. A collection goes on as it was begun, by whichever of the two its steps are taken. */
+static inline mh_status mh_finish_step(mh_mutator *m, uint32_t most) { return mh_step_for(m, 0, most, MH_ASKED); }
 /* 1 if its collection waits for the mutators that are inside, so that a rest is due before its next step, else 0. */
 static inline mh_status mh_is_stopping(mh_mutator *m, uint32_t *out) { return MH_BY(m, mhl_is_stopping(m, out)); }
 
@@ -581,29 +662,44 @@ static inline mh_status mh_safe_point(mh_mutator *m) {
 /* How many roots, objects, cards or blocks a step of mh_collect does. */
 enum { MH_STEP = 4096 };
 
-/* The steps of a collection, with rests while others are inside. */
-static inline mh_status mh_collect_steps(mh_mutator *m, uint64_t why) {
+/* A collection, with rests while others are inside. `last` becomes how far it was before its last step: at MH_AT_END, unless another's collection came first. */
+static inline mh_status mh_collect_once(mh_mutator *m, int precise, uint64_t why, mh_course *last) {
     uint32_t rests = 0, stopping;
     mh_status s;
-    while ((s = mh_collect_step_for(m, MH_STEP, why)) == MH_NOT_YET)
+    last->stage = MH_AT_OUTSIDE;
+    while ((s = mh_step_for(m, precise, MH_STEP, why)) == MH_NOT_YET) {
+        (void)MH_BY(m, mhl_course(m, last));
         if (mh_is_stopping(m, &stopping) == MH_OK && stopping) mh_rest(&rests);
-    return s;
-}
-static inline mh_status mh_collect_for(mh_mutator *m, uint64_t why) {
-    mh_status s = mh_collect_steps(m, why);
+    }
     return s == MH_STOPPED ? mh_enter(m) : s;
 }
 
-/* A collection of the mutator's own; MH_OK too if another's came first. */
-static inline mh_status mh_collect(mh_mutator *m) { return mh_collect_for(m, MH_ASKED); }
+/* A precise collection of the mutator's own, which leaves no garbage. If another's comes first it begins anew. */
+static inline mh_status mh_collect(mh_mutator *m) {
+    mh_course last;
+    mh_status s;
+    do s = mh_collect_once(m, 1, MH_ASKED, &last);
+    while (s == MH_OK && !(last.stage == MH_AT_END && last.exact));
+    return s;
+}
 
-/* How many collections of its own mh_make makes for one object, before it answers MH_NO_CELL. */
+/* An ordinary collection: it finishes the cycle that is marking, if one is, and what died since that began may be kept. MH_OK too if another's came first. */
+static inline mh_status mh_finish(mh_mutator *m) {
+    mh_course last;
+    return mh_collect_once(m, 0, MH_ASKED, &last);
+}
+
+/* How many collections of its own mh_make makes for one object, before it answers MH_NO_CELL. The first is ordinary, and the others are precise. */
 enum { MH_TRIES = 3 };
 
 /* What a call does that makes an object, if a step came to s and made none: MH_OK if it is to take the next step. */
 static inline mh_status mh_make_room(mh_mutator *m, mh_status s, int *tries) {
+    mh_course last;
     if (s == MH_STOPPED) return mh_enter(m);
-    return s != MH_NO_CELL || (*tries)++ == MH_TRIES ? s : mh_collect_for(m, MH_LACKED);
+    if (s != MH_NO_CELL || *tries == MH_TRIES) return s;
+    s = mh_collect_once(m, *tries > 0, MH_LACKED, &last);
+    if (last.stage == MH_AT_END) ++*tries;
+    return s;
 }
 
 /* v refers to a new object, whose fields are nil, with a collection if no cell is free. MH_NO_CELL: the collections left none for this mutator; others have

@@ -16,7 +16,7 @@ def check_edits():
     crates = len({it.split("/")[1] for it in edits})
     says("edits", "docs/STRENGTH.md", r"The gate tries (\d+) of them", len(edits))
     for page, pattern in [
-        ("README.md", r"in (\S+) crates `must-fail/`"),
+        ("README.md", r"(\S+) crates have mutants, in `must-fail/`"),
         ("docs/STRENGTH.md", r"`must-fail/` of (\S+) crates"),
         ("docs/STRENGTH.md", r"so only (\S+) crates have edits"),
     ]:

@@ -1,17 +1,21 @@
 """Figures that were measured stand on several pages alike: those of README.md, docs/PERFORMANCE.md and docs/PAUSES.md are those of the tables of
 bench/README.md and of the series of pauses in bench/results, and what docs/PAUSES.md works out from that series is right."""
+import re
 import sys
 
 sys.path.insert(0, "docs")
-from pages import label, number, rows_of, says  # noqa: E402
+from pages import figures, label, number, rows_of, says, text_of  # noqa: E402
+import timeline  # noqa: E402
+from utilisation import utilisation  # noqa: E402
 
 BENCH, PAUSES, PERFORMANCE = "bench/README.md", "docs/PAUSES.md", "docs/PERFORMANCE.md"
 SERIES = "bench/results/2026-11-30-pauses.md"
 LARGE = ["orders", "live", "objects", "stores", "reads"]
 FRONT = ("4194304", "4")
 
-# Of each row of the series: orders a second, the mean and the longest stop, and the 99.9th percentile of transactions.
-STOPS = {tuple(row[:3]): [float(it) for it in row[3:]] for row in rows_of(SERIES, "Cells", "Workers", "Program", "Orders a second", "Mean stop", "Longest", "p99.9")}
+# Of each row of the series: orders a second, the mean and the longest stop, and the slowest transaction.
+COLUMNS = ["Cells", "Workers", "Program", "Orders a second", "Mean stop", "Longest", "Slowest"]
+STOPS = {tuple(row[:3]): [float(it) for it in row[3:]] for row in rows_of(SERIES, *COLUMNS)}
 ALONE = {label(row[0]): row[1:] for row in rows_of(BENCH, "Script", "gcplay, ns a command", "gcplay to the floor", "gcplay, processor ms", "Floor", "Go")}
 THREADS = {tuple(row[:2]): [float(it) for it in row[2:]] for row in rows_of(BENCH, "Workers", "Tracers", "`orders`, clock ms", "`live`, clock ms")}
 
@@ -25,28 +29,42 @@ def row(program, size=FRONT):
     return next(it for key, it in STOPS.items() if key[:2] == size and key[2].startswith(program))
 
 
+# The rows of the table of README.md that are of the series, with the program's name there.
+FRONT_ROWS = {
+    "this one from Rattle, one tracer": "beside, 1",
+    "this one from Rattle, no tracer": "beside, 0",
+    "this one, marking only in pauses, one tracer": "stops, 1",
+    "Boehm, stop the world": "Boehm, stop",
+    "Go 1.19": "Go",
+    "G1 (Java 17)": "G1",
+    "ZGC (Java 17)": "Z",
+}
+
+
 def check_front():
-    """The stops that README.md tells first: four workers in the largest heap, a tracer and none."""
-    told = [milliseconds(it) for program in ("beside, 1", "beside, 0", "stops, 1", "stops, 0") for it in row(program)[1:3]]
-    pattern = r"stops took ([\d.]+) ms in the mean and ([\d.]+) at the longest with the default of one tracer, ([\d.]+) and ([\d.]+) with none, and collecting only in stops ([\d.]+) and ([\d.]+), and ([\d.]+) and ([\d.]+)"
-    says("stops", "README.md", pattern, *told)
-    says("stops of Boehm's", "README.md", r"stopping the world, took ([\d.]+) and ([\d.]+)", *(milliseconds(it) for it in row("Boehm, stop")[1:3]))
-    says("orders of Boehm's", "README.md", r"with ([\d.]+) times the throughput", row("Boehm, stop")[0] / row("beside, 1")[0], near=0.05)
-    says("stops of Go", "README.md", r"Go ([\d.]+) and ([\d.]+)", *(milliseconds(it) for it in row("Go")[1:3]))
+    """The table of pauses in README.md: four workers in the largest heap."""
+    table = rows_of("README.md", "Collector", "Mean pause, ms", "Longest pause, ms", "Slowest transaction, ms", "Transactions a second")
+    told = {name: [number(it) for it in cells] for name, *cells in table if name in FRONT_ROWS}
+    for name, program in FRONT_ROWS.items():
+        rate, mean, longest, slowest = row(program)
+        right = [*map(milliseconds, (mean, longest, slowest)), 1000 * round(rate / 1000)]
+        if told.get(name) != right:
+            print(f"README.md: {name}: {told.get(name)}, where {SERIES} has {right}")
 
 
 def check_speed():
     """The speed that README.md tells."""
-    nanos = [number(ALONE[it][0]) for it in LARGE]
     ratios = [number(ALONE[it][2]) / number(ALONE[it][3]) for it in LARGE]
     mean = 1.0
     for it in ratios:
         mean *= it ** (1 / len(ratios))
-    says("ns a command", "README.md", r"takes (\d+) to (\d+) ns of processor time", min(nanos), max(nanos), near=0.5)
-    says("ratios to the floor", "README.md", r"([\d.]+) to ([\d.]+) times the floor's, ([\d.]+) in the mean", min(ratios), max(ratios), mean, near=0.0051)
+    series = re.search(r"The other four have ([\d.]+), ([\d.]+), ([\d.]+) and ([\d.]+)", text_of(BENCH))
+    means = sorted([mean, *map(float, series.groups())])
+    says("ratios to the floor", "README.md", r"([\d.]+) to ([\d.]+) times its processor time", min(ratios), max(ratios), near=0.0051)
+    says("means of the series", "README.md", r"was ([\d.]+) to ([\d.]+) in five series, with the median at (\d\.\d+)", means[0], means[4], means[2], near=0.0051)
     says("ratios to the floor", PERFORMANCE, r"([\d.]+) in the geometric mean and ([\d.]+) at most", mean, max(ratios), near=0.0051)
     gain = THREADS["1", "0"][0] / THREADS["4", "1"][0]
-    says("gain by workers", "README.md", r"played eight warehouses ([\d.]+) times as fast", gain, near=0.05)
+    says("gain by workers", "README.md", r"Four workers play a script ([\d.]+) times as fast", gain, near=0.05)
     gains = [THREADS["1", "0"][k] / THREADS["4", tracers][k] for k in (0, 1) for tracers in "01"]
     says("gain by workers", PERFORMANCE, r"`orders` ([\d.]+) times as fast as one and with a tracer ([\d.]+) times, `live` ([\d.]+) and ([\d.]+)", *gains, near=0.05)
 
@@ -74,14 +92,31 @@ def check_against():
     sizes = list(dict.fromkeys(key[:2] for key in STOPS))
     more = [row("Boehm, stop", size)[0] / row(f"beside, {t}", size)[0] for size in sizes for t in "01"]
     says("orders of Boehm's", PAUSES, r"replaces ([\d.]+) to ([\d.]+) times as many orders", min(more), max(more), near=0.05)
-    longer = [(size, t) for size in sizes for t in "01" if row(f"beside, {t}", size)[2] > row("Boehm, stop", size)[2]]
-    says("rows in which ours stops longer", PAUSES, r"ours has the longer longest stop in (\w+) of the (\w+) rows", len(longer), 2 * len(sizes))
+    shorter = [(size, t) for size in sizes for t in "01" if row(f"beside, {t}", size)[2] < row("Boehm, stop", size)[2]]
+    says("rows in which ours stops shorter", PAUSES, r"In all (\w+) comparisons our longest stop was shorter", len(shorter))
     faster = row("stops, 0", ("1048576", "1"))[1] / row("stops, 0", ("1048576", "4"))[1]
-    says("gain by workers in stops", PAUSES, r"([\d.]+) times as fast as one at a million cells", faster, near=0.05)
+    says("gain by workers in stops", PAUSES, r"four workers mark everything ([\d.]+) times as fast as one", faster, near=0.05)
+
+
+def check_lengths():
+    """The table of docs/PAUSES.md that has stops of both ways beside each other, with four workers and no tracer."""
+    for cells, *told in rows_of(PAUSES, "Cells", "Mean, beside", "Mean, in stops", "Longest, beside", "Longest, in stops"):
+        right = [milliseconds(row(f"{way}, 0", (cells, "4"))[at]) for at in (1, 2) for way in ("beside", "stops")]
+        if [number(it) for it in told] != right:
+            print(f"{PAUSES}: {cells} cells: {told}, where {SERIES} has {right}")
+
+
+def check_utilisation():
+    """The table of docs/PAUSES.md that is of the cycle in bench/results."""
+    lanes = timeline.read(figures.CYCLE)
+    start, _, end = timeline.cycle_of(lanes)
+    right = [[f"{window}", f"{100 * one:.0f} %", f"{100 * together:.0f} %"] for window, one, together in utilisation(lanes, start, end)]
+    if rows_of(PAUSES, "Window, ms", "The worker with least", "All workers") != right:
+        print(f"{PAUSES}: the mutator utilisation isn't that of {figures.CYCLE}: {right}")
 
 
 def main():
-    for check in (check_front, check_speed, check_ratios, check_against):
+    for check in (check_front, check_speed, check_ratios, check_against, check_lengths, check_utilisation):
         check()
 
 

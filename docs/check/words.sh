@@ -1,5 +1,5 @@
 # Words that the field doesn't use stand nowhere, each with what is used instead; names in backquotes and programs aren't looked at. README.md has 1,200 words
-# at most, docs/ 30,000 in all, and docs/GLOSSARY.md a word a row. $1: a folder to write in.
+# at most, docs/ 32,000 in all without the borders of tables, and docs/GLOSSARY.md a word a row. $1: a folder to write in.
 set -eu
 
 cat >"$1/discarded" <<'WORDS'
@@ -28,5 +28,5 @@ for text in README.md CONTRIBUTING.md docs/*.md bench/README.md bench/results/*.
 done
 
 [ "$(wc -w <README.md)" -le 1200 ] || echo "README.md: more than 1,200 words"
-[ "$(cat docs/*.md | wc -w)" -le 30000 ] || echo "docs: more than 30,000 words"
+[ "$(cat docs/*.md | sed 's/|/ /g; s/---*/ /g' | wc -w)" -le 32000 ] || echo "docs: more than 32,000 words"
 awk -F'|' '/^\|/ && $2 ~ /[,;]/ { print "docs/GLOSSARY.md: more than one word in a row:" $2 }' docs/GLOSSARY.md

@@ -124,7 +124,7 @@ static void look(int keeps) {
 /* A handle of another world, and one by which a call of the library is under way, aren't given up. */
 static void refuse(mh_mutator *m, int keeps) {
     mh_world elsewhere = {0};
-    mh_sizes sizes = {64, 1, 1, 0, 0, 0, 0};
+    mh_sizes sizes = {.cells = 64, .fields = 1, .mutators = 1};
     MUST_BE(MH_GIVEN_BACK, mh_abandon(&elsewhere, m, keeps));
     MUST(mh_open(&sizes, &elsewhere));
     MUST_BE(MH_REFUSED, mh_abandon(&elsewhere, m, keeps));
@@ -155,7 +155,7 @@ int main(int count_of, char **words) {
     mh_mutator other = {0};
     struct sigaction handler;
     uint32_t rounds = number(count_of, words, 1, 60), k;
-    mh_sizes sizes = {CELLS, 1, 2, 0, 0, 0, 0};
+    mh_sizes sizes = {.cells = CELLS, .fields = 1, .mutators = 2};
     is_shared = sizes.shared = number(count_of, words, 2, 0);
     sizes.slots = is_shared ? SLOTS : 0;
     mh_sleeps_by = sleep_by;

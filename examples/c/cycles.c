@@ -1,7 +1,7 @@
 /*
  * What is told of the last cycle: threads make objects that soon are garbage, beside a list that is kept, and tracers mark; another thread asks meanwhile, and writes
  * a line for some of the cycles that it finds. At the end one mutator collects alone, and what is told then is compared with what is known. Before all this one
- * thread in a world of its own knows each number: what is traced in a stop, which cards are dirty, and what it pays.
+ * thread in a world of its own knows each number: what is traced in a stop, which cards are dirty, what it pays, and what a precise collection does for nothing.
  * Arguments: threads, objects of each, cells, tracers.
  */
 #include "heap.h"
@@ -44,7 +44,7 @@ static void tell(const mh_cycle *c) {
 
 /* Asks until nobody works any more: each answer is a whole cycle, with a number that never falls. How many cycles were found. */
 static uint64_t watch(void) {
-    mh_cycle c = {0, 0, 0, 0, 0, 0, 0, 0, 0, 0, 0, 0, 0};
+    mh_cycle c = {0, 0, 0, 0, 0, 0, 0, 0, 0, 0, 0, 0, 0, 0, 0, 0};
     uint64_t last = 0, found = 0;
     while (__atomic_load_n(&working, __ATOMIC_ACQUIRE)) {
         mh_status s = mh_last_cycle(&world, &c);
@@ -114,9 +114,74 @@ static uint64_t dirty(mh_mutator *m, uint32_t each) {
     return cards;
 }
 
+/* An ordinary cycle: each object that it keeps was traced once, beside the program or while the world stood still. */
+static void end_once(const mh_cycle *c) {
+    wrong("whether a cycle was marking", c->beside, 1);
+    wrong("whether it left no garbage", c->exact, 0);
+    wrong("the objects that were traced for nothing", c->wasted, 0);
+    wrong("the objects that were traced", c->mutators + c->traced, c->kept);
+    if (c->kept < LENGTH) wrong("the objects that were kept", c->kept, LENGTH);
+}
+
+/* One that came as no cell was free: the world stood still for a fiftieth of them at most. */
+static void end_shortly(const mh_cycle *c) {
+    end_once(c);
+    wrong("why it ended", c->why, MH_LACKED);
+    if (50 * c->traced > c->kept) wrong("the objects that were traced in the stop", c->traced, c->kept / 50);
+}
+
+/* A cycle that left no garbage: the list is kept and variable NEW's object, and nothing else. */
+static void end_exactly(const mh_cycle *c, uint64_t beside) {
+    wrong("whether a cycle was marking", c->beside, beside);
+    wrong("whether it left no garbage", c->exact, 1);
+    wrong("the objects that were kept", c->kept, LENGTH + 1);
+    wrong("the objects that were traced for nothing", c->wasted, beside ? c->mutators : 0);
+    if (beside && !c->wasted) wrong("the objects that were traced for nothing", 0, LENGTH);
+    if (c->traced < c->kept) wrong("the objects that were traced in the stop", c->traced, c->kept);
+}
+
+/* Objects that soon are garbage, until a cycle is seen to mark. */
+static void mark_first(mh_mutator *m) {
+    mh_course course;
+    do {
+        MUST(mh_make(m, NEW, 0));
+        MUST(mhl_course(m, &course));
+    } while (!course.marking);
+}
+
+/* Both kinds of collection, while a cycle marks and while none does. One goes on as it was begun, and mh_collect makes another then. */
+static void collect_both_ways(mh_world *w, mh_mutator *m) {
+    mh_cycle c;
+    uint64_t before;
+    mark_first(m);
+    MUST(mh_finish(m));
+    MUST(mh_last_cycle(w, &c));
+    end_once(&c);
+    MUST(mh_finish(m));
+    MUST(mh_last_cycle(w, &c));
+    end_exactly(&c, 0);
+    mark_first(m);
+    MUST(mh_collect(m));
+    MUST(mh_last_cycle(w, &c));
+    end_exactly(&c, 1);
+    mark_first(m);
+    MUST_BE(MH_OUT_OF_RANGE, mh_finish_step(m, 0));
+    MUST_BE(MH_NOT_YET, mh_finish_step(m, 1));
+    while (mh_collect_step(m, 64) == MH_NOT_YET) {}
+    MUST(mh_last_cycle(w, &c));
+    end_once(&c);
+    before = c.number;
+    mark_first(m);
+    MUST_BE(MH_NOT_YET, mh_finish_step(m, 1));
+    MUST(mh_collect(m));
+    MUST(mh_last_cycle(w, &c));
+    end_exactly(&c, 0);
+    wrong("the number of the cycle after the next", c.number, before + 2);
+}
+
 /* What one thread is told that does all itself, without a tracer: exact numbers, and what it paid, which is what the cycles tell together. */
 static void alone(void) {
-    mh_sizes sizes = {ALONE, 1, 1, 0, 0, 0, 0};
+    mh_sizes sizes = {.cells = ALONE, .fields = 1, .mutators = 1};
     mh_world w = {0};
     mh_mutator m = {0};
     mh_cycle c;
@@ -142,6 +207,7 @@ static void alone(void) {
         MUST(mh_last_cycle(&w, &c));
         if (c.number == last) continue;
         wrong("the number of the next cycle", c.number, ++last);
+        end_shortly(&c);
         paid += c.mutators;
     }
     MUST(mh_collect(&m));
@@ -149,6 +215,7 @@ static void alone(void) {
     MUST(mhl_work(&m, &work));
     wrong("what the mutator paid", paid + c.mutators, work.paid);
     if (!work.paid) wrong("what the mutator paid", 0, LENGTH);
+    collect_both_ways(&w, &m);
     MUST(mh_give_back(&w, &m));
     MUST(mh_close(&w));
 }
@@ -157,8 +224,8 @@ int main(int count_of, char **words) {
     static mh_mutator m[THREADS];
     static mh_tracer t[8];
     pthread_t acting[THREADS], marking[8];
-    mh_cycle none = {0, 77, 0, 0, 0, 0, 0, 0, 0, 0, 0, 0, 0};
-    mh_sizes sizes = {0, 1, 0, 0, 0, 0, 0};
+    mh_cycle none = {0, 77, 0, 0, 0, 0, 0, 0, 0, 0, 0, 0, 0, 0, 0, 0};
+    mh_sizes sizes = {.fields = 1};
     uint64_t found;
     uint32_t k;
     threads = sizes.mutators = working = number(count_of, words, 1, 4);

@@ -123,7 +123,7 @@ static void sizes_of_worlds(void) {
     static const uint32_t odd[][2] = {{2, 0}, {256, 0}, {65536, 0}, {0x80000000, 0}, {0xffffffff, 0}, {0, 1}, {0, 65536}, {1, 65537}, {1, 0x80000000}, {1, 0xffffffff}, {2, 7}};
     uint32_t k;
     for (k = 0; k < sizeof odd / sizeof *odd; k++) {
-        mh_sizes sizes = {64, 1, 1, 0, 0, odd[k][0], odd[k][1]};
+        mh_sizes sizes = {.cells = 64, .fields = 1, .mutators = 1, .shared = odd[k][0], .slots = odd[k][1]};
         mh_world other = {0};
         MUST_BE(MH_OUT_OF_RANGE, mh_open(&sizes, &other));
         wrong("whether the handle is empty", other.at == 0, 1);
@@ -132,7 +132,7 @@ static void sizes_of_worlds(void) {
 
 /* A shared world whose mutators have all slots that there are. */
 static void shared_world(void) {
-    mh_sizes sizes = {64, FIELDS, 1, 0, 0, 1, 65536};
+    mh_sizes sizes = {.cells = 64, .fields = FIELDS, .mutators = 1, .shared = 1, .slots = 65536};
     mh_world shared = {0};
     mh_mutator n = {0};
     uint32_t k, out = 77, other = 77, value = 0;
@@ -198,7 +198,7 @@ static void shared_world(void) {
 
 /* Neither kind of world takes a mutator of the other kind, also if both have one name. */
 static void kinds(void) {
-    mh_sizes sizes = {64, 1, 1, 7, 0, 0, 0};
+    mh_sizes sizes = {.cells = 64, .fields = 1, .mutators = 1, .name = 7};
     mh_world own = {0}, shared = {0};
     mh_mutator o = {0}, s = {0};
     MUST(mh_open(&sizes, &own));
@@ -227,7 +227,7 @@ static void stores_into_nothing(void) {
 }
 
 static void handles(void) {
-    mh_sizes sizes = {64, 1, 1, 0, 0, 0, 0};
+    mh_sizes sizes = {.cells = 64, .fields = 1, .mutators = 1};
     mh_world other = {0};
     mh_mutator n = {0};
     MUST_BE(MH_TAKEN, mh_open(&sizes, &world));

@@ -2,9 +2,11 @@
  * Calls at random, right and wrong: numbers out of range, calls in the wrong place or in the wrong kind of world, handles that were given back. Between them each
  * thread takes turns of a tracer of its own. A shadow of each mutator's objects in plain C says what each call is to answer, and from time to time every object
  * that can be reached is compared with its shadow, so that none is lost or changed. In a shared world all threads have the root, which they look at; one thread
- * alone changes it too. Arguments: calls in all, threads, seed, 1 for a shared world.
+ * alone changes it too. Arguments: calls in all, threads, seed, 1 for a shared world, how many cycles have to mark
+ * beside the mutators.
  */
 #include "giving_up.h"
+#include "growing.h"
 #include "shared_calls.h"
 
 static void come_in(struct job *j) {
@@ -19,56 +21,6 @@ static void come_in(struct job *j) {
         MUST(mh_enter(&j->m));
         j->place = INSIDE;
     }
-}
-
-/* The numbers of a new object's references, now and then one out of range, and whether an object may be made with them. */
-static int choose(struct job *j, uint32_t *fields, uint32_t count) {
-    uint32_t k;
-    int fit = count <= FIELDS;
-    for (k = 0; k < count; k++) {
-        fields[k] = random_below(j, 3) ? some_variable(j) : MH_NOTHING;
-        fit = fit && (fields[k] < VARIABLES || fields[k] == MH_NOTHING);
-    }
-    return fit;
-}
-
-/* Makes an object, every other time with references, and else now and then of the mutator's cache alone. */
-static mh_status make_step(struct job *j, uint32_t v, uint32_t value, const uint32_t *fields, uint32_t count) {
-    if (count) return told(j, mh_make_with_step(&j->m, v, value, fields, count));
-    return told(j, random_below(j, 2) ? mh_make_cached(&j->m, v, value) : mh_make_step(&j->m, v, value));
-}
-
-/* Steps of a refill, of a block or of many. Now and then the mutator does something else before the next. */
-static void refill(struct job *j) {
-    mh_status s;
-    do s = told(j, mh_refill_step(&j->m, 1 + random_below(j, random_below(j, 2) ? 3 : 10000)));
-    while (s == MH_NOT_YET && random_below(j, 10));
-    if (j->place != INSIDE) must(s, expected(j, 1), "mh_refill_step", __FILE__, __LINE__);
-    else if (s == MH_STOPPED) j->place = OUTSIDE;
-    else if (s != MH_NOT_YET && s != MH_NO_CELL) must(s, MH_OK, "mh_refill_step", __FILE__, __LINE__);
-    if (s != MH_OK || j->place != INSIDE) return;
-    SAYS(MH_OK, mh_refill_step(&j->m, 1));
-}
-
-static void make(struct job *j) {
-    uint32_t v = some_variable(j), value = random_below(j, 1u << 30), fields[FIELDS + 1], k;
-    uint32_t count = random_below(j, 2) ? 0 : random_below(j, 12) ? random_below(j, FIELDS + 1) : FIELDS + 1;
-    mh_status wanted = expected(j, choose(j, fields, count) && v < VARIABLES), s;
-    int32_t o;
-    if (wanted != MH_OK) { must(make_step(j, v, value, fields, count), wanted, "an object that isn't made", __FILE__, __LINE__); return; }
-    while ((o = unreached(j)) < 0) {
-        uint32_t w = random_below(j, VARIABLES);
-        SAYS(MH_OK, mh_forget(&j->m, w));
-        j->variable[w] = -1;
-    }
-    s = make_step(j, v, value, fields, count);
-    if (s == MH_STOPPED) { j->place = OUTSIDE; return; }
-    if (s == MH_NO_CACHE) refill(j);
-    if (s == MH_NO_CELL || s == MH_NO_CACHE) return;
-    must(s, MH_OK, "an object that is made", __FILE__, __LINE__);
-    begin_shadow(j, o, value, j->made++);
-    j->variable[v] = o;
-    for (k = 0; k < count; k++) if (fields[k] != MH_NOTHING) j->of[o].field[k] = j->variable[fields[k]];
 }
 
 static void operate(struct job *j, uint32_t which) {
@@ -149,12 +101,7 @@ static void move(struct job *j, uint32_t which) {
         SAYS(MH_OUT_OF_RANGE, mh_refill_step(&j->m, 0));
         refill(j);
         return;
-    default:
-        s = told(j, mh_collect_step(&j->m, 1 + random_below(j, random_below(j, 2) ? 10 : 10000)));
-        if (j->place == OUTSIDE) must(s, MH_OUTSIDE, "mh_collect_step", __FILE__, __LINE__);
-        else if (s == MH_NOT_YET) j->place = COLLECTING;
-        else if (s == MH_STOPPED) j->place = OUTSIDE;
-        else { must(s, MH_OK, "mh_collect_step", __FILE__, __LINE__); j->collections += j->place == COLLECTING; j->place = INSIDE; }
+    default: collect(j);
     }
 }
 
@@ -245,13 +192,15 @@ static void *work(void *p) {
     begin_shadows(j);
     while (j->calls < until) {
         uint32_t which = random_below(j, 100);
-        if (!random_below(j, 4)) turn(j);
+        if (!random_below(j, 64)) turn(j);
         if (j->place != INSIDE && !random_below(j, 4)) which = 92 + 3 * (j->place == COLLECTING);
-        if (which < 30) make(j);
-        else if (which < 50) operate(j, 0);
+        if (which < 10) make(j);
+        else if (which < 15) lengthen(j);
+        else if (which < 25) move_reference(j);
+        else if (which < 45) operate(j, 0);
         else if (which < 70) operate(j, which % 8 == 3 && which % 16 == 3 ? 0 : which % 8);
         else if (which < 80) share(j, random_below(j, 8));
-        else if (which < 82) move(j, which % 2 + (random_below(j, 8) ? 0 : 3));
+        else if (which < 82) move(j, which % 2 + (random_below(j, 256) ? 0 : 3));
         else if (which < 92) move(j, 2);
         else if (which < 96) move(j, j->place == INSIDE ? 2 : which % 4 + (which % 4 == 3));
         else if (which < 99) use_gone(j, random_below(j, 29));
@@ -276,9 +225,9 @@ int main(int count_of, char **words) {
     static struct job jobs[THREADS];
     pthread_t threads[THREADS];
     uint32_t calls = number(count_of, words, 1, 1000000), n = number(count_of, words, 2, 1), k, s;
-    uint64_t seed = number(count_of, words, 3, 1), made = 0, walked = 0, walks = 0, collections = 0, answers[STATUSES] = {0};
+    uint64_t seed = number(count_of, words, 3, 1), beside = 0, made = 0, walked = 0, walks = 0, collections = 0, answers[STATUSES] = {0};
     uint32_t tracers = n < TRACERS ? n : TRACERS;
-    mh_sizes sizes = {0, FIELDS, n, 0, tracers, 0, 0};
+    mh_sizes sizes = {.fields = FIELDS, .mutators = n, .tracers = tracers};
     is_shared = number(count_of, words, 4, 0);
     root_is_others = n > 1;
     cells = sizes.cells = (n * OBJECTS + n * 64 + 63) / 64 * 64 + 64 * n;
@@ -286,6 +235,7 @@ int main(int count_of, char **words) {
     sizes.slots = is_shared ? SLOTS : 0;
     MUST(mh_open(&sizes, &world));
     MUST(mh_open(&sizes, &elsewhere));
+    MUST(mh_log_cycles(&world, count_beside, &beside));
     for (k = 0; k < n; k++) {
         jobs[k].seed = seed * 0x9e3779b97f4a7c15u + k + 1;
         jobs[k].calls = calls / n;
@@ -306,6 +256,7 @@ int main(int count_of, char **words) {
     }
     MUST(mh_close(&world));
     MUST(mh_close(&elsewhere));
+    enough_beside(beside, number(count_of, words, 5, 0));
     printf("%-13s %-12s threads %u seed %llu%s: %llu calls, %llu objects compared in %llu walks, %llu collections; answers", "fuzz", COLLECTOR, n,
            (unsigned long long)seed, is_shared ? " shared" : "", (unsigned long long)made, (unsigned long long)walked, (unsigned long long)walks, (unsigned long long)collections);
     for (s = 0; s < STATUSES; s++) if (answers[s]) printf(" %u:%llu", s, (unsigned long long)answers[s]);

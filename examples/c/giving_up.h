@@ -45,7 +45,7 @@ static void abandon(struct job *j) {
 
 /* The last cycle has no smaller number than one that was told before, and no more cells than there are. */
 static void look_at_cycle(struct job *j) {
-    mh_cycle cycle = {0, 77, 77, 0, 0, 0, 0, 0, 0, 0, 0, 0, 0};
+    mh_cycle cycle = {0, 77, 77, 0, 0, 0, 0, 0, 0, 0, 0, 0, 0, 0, 0, 0};
     mh_status s = told(j, mh_last_cycle(&world, &cycle));
     if (s == MH_NOT_YET) { wrong("a cycle that is written where none has ended", cycle.why, 77); wrong("how many were told", j->cycles, 0); return; }
     must(s, MH_OK, "mh_last_cycle", __FILE__, __LINE__);

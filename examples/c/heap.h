@@ -66,11 +66,23 @@ static inline mh_status timed_make(struct pause *p, mh_mutator *m, uint32_t v, u
 enum { THREADS = 32 };
 
 static inline void open_with(mh_world *world, uint32_t cells, uint32_t fields, uint32_t mutators, uint32_t tracers) {
-    mh_sizes sizes = {cells, fields, mutators, 0, tracers, 0, 0};
+    mh_sizes sizes = {.cells = cells, .fields = fields, .mutators = mutators, .tracers = tracers};
     MUST(mh_open(&sizes, world));
 }
 
 static inline void open_world(mh_world *world, uint32_t cells, uint32_t fields, uint32_t mutators) { open_with(world, cells, fields, mutators, 0); }
+
+/* What mh_log_cycles has called: counts the cycles that kept what was marked beside the program. Only these try the barrier. */
+static inline void count_beside(void *count, const mh_cycle *c) {
+    if (c->beside && !c->exact && c->mutators + c->tracers) __atomic_fetch_add((uint64_t *)count, 1, __ATOMIC_SEQ_CST);
+}
+
+/* Ends the program if fewer cycles than so many tried the barrier: then the run shows less than it says. */
+static inline void enough_beside(uint64_t got, uint64_t least) {
+    if (got >= least) return;
+    printf("cycles that marked beside the program: %llu and not %llu\n", (unsigned long long)got, (unsigned long long)least);
+    exit(1);
+}
 
 /* A number of a command line, or this one. */
 static inline uint32_t number(int count, char **words, int at, uint32_t otherwise) {

@@ -3,7 +3,7 @@
  * object in field 0. To raise a key's count is to exchange its object's value for the next one, or to put an object with count 1 before the chain, as long as
  * nothing else was put there. To empty a chain is to exchange it for nothing; whoever did takes each count by exchanging it for 0, which none raises. So a count is
  * taken once, and what was taken and what is left at the end make the number of times that keys were raised. Arguments: threads, raises of each thread, keys,
- * cells, tracers.
+ * cells, tracers, how many cycles have to mark beside the program.
  */
 #include "team.h"
 
@@ -102,6 +102,7 @@ int main(int count_of, char **words) {
     act_together(cells, CHAINS, 0, threads, tracers, nothing, work, end);
     for (sum = left, k = 0; k < threads; k++) sum += taken[k];
     wrong("the counts that were taken", sum, (uint64_t)threads * raises);
+    enough_beside(beside, number(count_of, words, 6, 0));
     printf("%-13s %-12s threads %u tracers %u: %u keys raised %llu times, each counted once, in %u cells\n", "map", COLLECTOR, threads, tracers, keys,
            (unsigned long long)sum, cells);
     return 0;

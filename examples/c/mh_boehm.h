@@ -139,6 +139,11 @@ static inline mh_status mh_exchange_value(mh_mutator *m, uint32_t v, uint32_t ex
     return MH_OK;
 }
 
+/* Cycles aren't told. */
+typedef struct mh_cycle { uint64_t beside, mutators, tracers, exact; } mh_cycle;
+typedef void mh_sink(void *context, const mh_cycle *cycle);
+static inline mh_status mh_log_cycles(mh_world *w, mh_sink *sink, void *context) { (void)sink; (void)context; return w->at ? MH_OK : MH_GIVEN_BACK; }
+
 /* There are no tracers: the collector marks with threads of its own. */
 typedef struct mh_tracer { void *at; } mh_tracer;
 static inline mh_status mh_take_tracer(mh_world *w, mh_tracer *t) { (void)w; (void)t; return MH_NONE_LEFT; }

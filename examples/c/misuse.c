@@ -82,7 +82,7 @@ static void act(struct tally *t, uint32_t n) {
 
 int main(int count_of, char **words) {
     static struct tally t[THREADS];
-    mh_sizes sizes = {1u << 22, 1, 1, 0, 0, 1, 0};
+    mh_sizes sizes = {.cells = 1u << 22, .fields = 1, .mutators = 1, .shared = 1};
     uint64_t refused = 0, done = 0;
     uint32_t k, n = number(count_of, words, 2, 2);
     calls = number(count_of, words, 1, 1000000);

@@ -3,9 +3,12 @@
 # for each run. Ends with status 1 if an answer was wrong.
 #
 #     sh examples/c/run.sh             everything but the long run
+#     sh examples/c/run.sh --quick     neither over Boehm's collector nor under the sanitizers
 #     sh examples/c/run.sh --long      besides, 10^9 objects in 65,536 cells
 #
+# With MH_TRACE=1 in the environment each cycle of each program is written to standard error as a line.
 # The library is the one that c/install.sh installs: it is proved and built if it isn't there. LIBRARY names another archive, KIT the folder of the kit.
+# Each run has a bound, 60 to 600 seconds; on a slow machine BOUND=SECONDS raises all that are less.
 here=$(cd "$(dirname "$0")" && pwd)
 top=$(cd "$here/../.." && pwd)
 work=$(mktemp -d)
@@ -25,18 +28,24 @@ fail() {
 build() {
     name=$1 out=$2
     shift 2
-    cc -O2 $warnings "$@" -o "$work/$out" "$here/$name.c" $libraries -lpthread || fail "$name is not built"
+    cc -O2 $warnings -DMH_TRACED "$@" -o "$work/$out" "$here/$name.c" $libraries -lpthread || fail "$name is not built"
 }
+
+# The seconds that a run has, for these.
+bound() { if [ "${BOUND:-0}" -gt "$1" ]; then echo "$BOUND"; else echo "$1"; fi; }
+
+# How a run ended, by the status of timeout.
+ended() { if [ "$1" -eq 124 ]; then echo "ran out of time (BOUND=SECONDS gives more)"; else echo "ended with status $1"; fi; }
 
 # run SECONDS PROGRAM WORDS..
 run() {
     seconds=$1 program=$2
     shift 2
     [ -x "$work/$program" ] || return
-    timeout "$seconds" "$work/$program" "$@" || fail "$program $* ended with status $?"
+    timeout "$(bound "$seconds")" "$work/$program" "$@" || fail "$program $* $(ended $?)"
 }
 
-programs="binary_trees gcbench rewriter fuzz fills_up edges billion speed queue map counter torture places misuse abandon cycles"
+programs="binary_trees gcbench rewriter fuzz fills_up edges billion speed queue map counter torture places misuse abandon cycles hidden"
 for name in $programs; do build "$name" "$name"; done
 for name in misuse fuzz speed abandon; do build "$name" "$name.guarded" -DMH_CHECKED; done
 
@@ -53,10 +62,10 @@ run 300 rewriter 7 20
 echo "== full heaps, calls at the edge, and calls at random"
 run 60 edges
 for threads in 1 2 4; do run 120 fills_up $threads; done
-run 300 fuzz 1000000 1 1
-run 300 fuzz 1000000 4 3
-run 300 fuzz 1000000 1 1 1
-run 300 fuzz 1000000 4 3 1
+run 300 fuzz 1000000 1 1 0 5
+run 300 fuzz 1000000 4 3 0 1
+run 300 fuzz 1000000 1 1 1 5
+run 300 fuzz 1000000 4 3 1 1
 
 echo "== one handle used by two, and calls that exchange its word"
 run 60 misuse
@@ -70,6 +79,9 @@ run 120 abandon.guarded 60 1
 run 120 cycles 4 300000 16384 1
 run 120 cycles 2 300000 16384 0
 
+echo "== objects that a store hides from the tracers"
+for tracers in 0 1; do run 120 hidden 65536 40 $tracers 3; done
+
 echo "== threads that share objects"
 for tracers in 0 2; do
     run 300 queue 1 1 3000 64 $tracers
@@ -80,17 +92,26 @@ for tracers in 0 2; do
 done
 run 300 queue 4 4 500 512 1
 run 300 map 8 1500 512 2048 1
+run 300 map 4 20000 300 1024 2 1
+run 300 torture 4 60000 1024 1 1 5
 run 300 torture 2 8000 256 1 2
 run 300 torture 8 1500 1024 0 3
 run 300 places 4 5000 320
-if timeout 300 "$work/places" 1 1 320 1 >"$work/log"; then fail "a place is used after its object was forgotten, and nobody notices"; else tail -n 1 "$work/log"; fi
+if timeout "$(bound 300)" "$work/places" 1 1 320 1 >"$work/log"; then fail "a place is used after its object was forgotten, and nobody notices"; else tail -n 1 "$work/log"; fi
 
 echo "== many objects in few cells, and what a call takes"
 run 300 billion 20 65536
 run 300 speed 10
 run 300 speed.guarded 10
 
-if cc -o "$work/gc_there" -x c - -lgc 2>"$work/log" <<'END'
+case ${1:-} in
+    --quick) kinds="" collectors="" ;;
+    *) kinds="address,undefined thread" collectors=both ;;
+esac
+
+if [ -z "$collectors" ]; then
+    echo "== without Boehm's collector and the sanitizers"
+elif cc -o "$work/gc_there" -x c - -lgc 2>"$work/log" <<'END'
 #include <gc.h>
 int main(void) { GC_INIT(); return 0; }
 END
@@ -113,20 +134,20 @@ fi
 
 if command -v cargo >"$work/log" 2>&1; then
     echo "== from Rust"
-    MANAGED_HEAP_PREFIX=$work/prefix CARGO_TARGET_DIR=$work/target timeout 300 cargo run --offline --quiet --release --manifest-path "$top/rust/managed_heap/Cargo.toml" --example queues || fail "the Rust program"
+    MANAGED_HEAP_PREFIX=$work/prefix CARGO_TARGET_DIR=$work/target timeout "$(bound 300)" cargo run --offline --quiet --release --manifest-path "$top/rust/managed_heap/Cargo.toml" --example queues || fail "the Rust program $(ended $?)"
 else
     echo "== no cargo here: the program in Rust is left out"
 fi
 
-for kind in address,undefined thread; do
+for kind in $kinds; do
     if echo 'int main(void) { return 0; }' | cc -fsanitize=$kind -o "$work/there" -x c - 2>"$work/log" && "$work/there"; then
         echo "== under -fsanitize=$kind"
         for name in binary_trees gcbench rewriter fuzz fills_up edges queue map counter torture places abandon cycles; do build "$name" "$name.checked" -g -fsanitize=$kind -fno-sanitize-recover=all; done
         run 600 binary_trees.checked 10 2 1 16384
         run 600 gcbench.checked 10
         run 600 rewriter.checked 5 5
-        run 600 fuzz.checked 1000000 1 4
-        run 600 fuzz.checked 1000000 4 5
+        run 600 fuzz.checked 300000 1 4
+        run 600 fuzz.checked 300000 4 5
         run 600 fills_up.checked 4
         run 600 edges.checked
         run 600 fuzz.checked 300000 1 4 1
@@ -137,7 +158,7 @@ for kind in address,undefined thread; do
         run 600 torture.checked 4 1000 512 1 4
         run 600 places.checked 4 1500 320
         for rule in 2 3; do
-            if timeout 300 "$work/places.checked" 1 1 320 $rule >"$work/log" 2>&1; then fail "what is freed is used, and -fsanitize=$kind doesn't notice"; fi
+            if timeout "$(bound 300)" "$work/places.checked" 1 1 320 $rule >"$work/log" 2>&1; then fail "what is freed is used, and -fsanitize=$kind doesn't notice"; fi
         done
         run 300 abandon.checked 36
         run 300 abandon.checked 36 1
@@ -147,7 +168,7 @@ for kind in address,undefined thread; do
     fi
 done
 
-if [ "$1" = --long ]; then
+if [ "${1:-}" = --long ]; then
     echo "== 10^9 objects in 65,536 cells"
     run 3600 billion 1000 65536
 fi

@@ -8,7 +8,7 @@
 #include "heap.h"
 #include <string.h>
 
-enum { FIELDS = 3, OBJECTS = 500, ROOT = OBJECTS, VARIABLES = 32, FOUND = 31, NEXT = 30, SLOTS = 40, STATUSES = 21, TRACERS = 8 };
+enum { FIELDS = 3, OBJECTS = 6000, ROOT = OBJECTS, VARIABLES = 32, FOUND = 31, NEXT = 30, MOVED = 29, SLOTS = 40, STATUSES = 21, TRACERS = 8 };
 enum place { OUTSIDE, INSIDE, COLLECTING };
 
 /* A place that isn't known yet. */
@@ -27,7 +27,7 @@ struct job {
     struct shadow of[OBJECTS + 1];
     int32_t variable[VARIABLES], slot[SLOTS], waiting[OBJECTS + 1];
     uint64_t seed, calls, answers[STATUSES], walked, walks, collections, cycles;
-    uint32_t round, maker, made;
+    uint32_t round, maker, made, looked, at;
     enum place place;
 };
 
@@ -54,7 +54,7 @@ static uint32_t some_number(struct job *j, uint32_t below) {
     }
 }
 
-static uint32_t some_variable(struct job *j) { return some_number(j, NEXT); }
+static uint32_t some_variable(struct job *j) { return some_number(j, MOVED); }
 static uint32_t some_field(struct job *j) { return some_number(j, FIELDS); }
 
 /* What a root of this number refers to is listed in waiting, if it is found for the first time. */
@@ -80,14 +80,6 @@ static uint32_t reach(struct job *j) {
             j->waiting[n++] = o;
         }
     return n;
-}
-
-/* A shadow that nothing reaches, or -1. */
-static int32_t unreached(struct job *j) {
-    int32_t k;
-    reach(j);
-    for (k = 0; k < OBJECTS; k++) if (j->of[k].seen != j->round) return k;
-    return -1;
 }
 
 /* FOUND becomes the object, by the way on which the shadow was found. */
@@ -154,7 +146,7 @@ static void compare(struct job *j) {
             MUST(mh_is_nil(&j->m, NEXT, &nil));
             wrong("whether a field is nil", nil, j->of[o].field[k] < 0);
         }
-        compare_variable(j, o, random_below(j, NEXT));
+        compare_variable(j, o, random_below(j, MOVED));
     }
     MUST(mh_forget(&j->m, FOUND));
     MUST(mh_forget(&j->m, NEXT));
@@ -169,6 +161,7 @@ static void begin_shadow(struct job *j, int32_t o, uint32_t value, uint32_t numb
     j->of[o].value = value;
     j->of[o].number = number;
     j->of[o].lies_at = NOWHERE;
+    j->of[o].seen = j->round;
     for (i = 0; i < FIELDS; i++) j->of[o].field[i] = -1;
 }
 

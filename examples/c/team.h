@@ -9,6 +9,9 @@ typedef void work_of(mh_mutator *m, uint32_t number);
 
 struct member { mh_mutator m; uint32_t number; work_of *work; };
 
+/* How many cycles marked something beside the program while threads acted together. */
+static uint64_t beside;
+
 /* The world is left while a thread waits for others, since their collections wait for it. */
 static inline void rest(mh_mutator *m) {
     MUST(mh_leave(m));
@@ -82,11 +85,12 @@ static void *mark_beside(void *p) {
 static void act_together(uint32_t cells, uint32_t fields, uint32_t slots, uint32_t threads, uint32_t tracers, work_of *begin, work_of *work, work_of *end) {
     static struct member members[THREADS];
     static mh_tracer marks[8];
-    mh_sizes sizes = {cells, fields, threads, 0, tracers, 1, slots};
+    mh_sizes sizes = {.cells = cells, .fields = fields, .mutators = threads, .tracers = tracers, .shared = 1, .slots = slots};
     mh_world world = {0};
     pthread_t acting[THREADS], marking[8];
     uint32_t k;
     MUST(mh_open(&sizes, &world));
+    MUST(mh_log_cycles(&world, count_beside, &beside));
     for (k = 0; k < threads; k++) {
         MUST(mh_take_mutator(&world, &members[k].m));
         members[k].number = k;

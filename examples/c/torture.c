@@ -5,13 +5,14 @@
  * Afterwards each reference that was read was one that was stored in that field of that object. A walk of what the root reaches agrees with the stores: a field
  * has what some thread stored there last, or nothing if none stored. A field of the root is only exchanged, so that it has the one reference by which the
  * exchanges that were won hang together. Where an object lies, and which one it is, is what its maker was told.
- * Arguments: threads, steps of each thread, cells, tracers, seed.
+ * A third of the cells or more have objects that are kept in slots, so that much is marked beside the program.
+ * Arguments: threads, steps of each thread, cells, tracers, seed, how many cycles have to mark beside the program.
  */
 #include "team.h"
 #include <string.h>
 
-/* ROOT and NIL are always so. A thread keeps what it likes in the variables from OWN on and below FOUND, and in the slots below SLOTS. */
-enum { ROOT, NIL, OWN, FOUND = 28, OTHER, SLOTS = 40, FIELDS = 3 };
+/* ROOT and NIL are always so. A thread keeps what it likes in the variables from OWN on and below FOUND, and in its slots, which are SLOTS or less. */
+enum { ROOT, NIL, OWN, FOUND = 28, OTHER, SLOTS = 4096, FIELDS = 3 };
 
 /* An object's value: who made it from bit BY on, 0 for the root, and below how many that one had made before. NONE stands for nothing. */
 enum { BY = 26, MOST = (1u << BY) - 1 };
@@ -28,10 +29,10 @@ struct thread {
 };
 
 static struct thread threads[THREADS];
-static uint32_t count_of_threads, steps, cells;
+static uint32_t count_of_threads, steps, cells, slots;
 
 /* What lies beside the heap for each cell: the value of the object that was made there last. */
-static uint32_t *beside;
+static uint32_t *lies_beside;
 
 /* All stores, in the order of objects, fields, threads. */
 static struct entry *all;
@@ -58,15 +59,15 @@ static uint32_t which(mh_mutator *m, uint32_t v) {
     wrong("which of its maker's it is", before, value & MOST);
     MUST(mh_place(m, v, &place));
     if (place >= cells) wrong("a place", place, cells - 1);
-    wrong("what lies beside the heap at its place", __atomic_load_n(&beside[place], __ATOMIC_ACQUIRE), value);
+    wrong("what lies beside the heap at its place", __atomic_load_n(&lies_beside[place], __ATOMIC_ACQUIRE), value);
     return value;
 }
 
 static void let_go(mh_mutator *m, struct thread *t) {
     uint32_t v;
     for (v = OWN; v < 32; v++) { MUST(mh_forget(m, v)); t->own[v] = NONE; }
-    MUST(mh_forget_slots(m, 0, SLOTS));
-    for (v = 0; v < SLOTS; v++) t->slots[v] = NONE;
+    MUST(mh_forget_slots(m, 0, slots));
+    for (v = 0; v < slots; v++) t->slots[v] = NONE;
 }
 
 /* Lets go of all, and of what the root refers to. */
@@ -90,7 +91,7 @@ static void make_one(mh_mutator *m, struct thread *t, uint32_t number, uint32_t 
     }
     must(s, MH_OK, "mh_make", __FILE__, __LINE__);
     MUST(mh_place(m, v, &place));
-    __atomic_store_n(&beside[place], value, __ATOMIC_RELEASE);
+    __atomic_store_n(&lies_beside[place], value, __ATOMIC_RELEASE);
     t->made++;
     t->own[v] = value;
 }
@@ -134,19 +135,19 @@ static void swap(mh_mutator *m, struct thread *t, uint32_t number, uint32_t w, u
 
 static void step(mh_mutator *m, struct thread *t, uint32_t number) {
     uint32_t what = random_below(&t->seed, 100), v = OWN + random_below(&t->seed, FOUND - OWN), w = OWN + random_below(&t->seed, FOUND - OWN);
-    uint32_t i = random_below(&t->seed, FIELDS), k = random_below(&t->seed, SLOTS);
+    uint32_t i = random_below(&t->seed, FIELDS), k = random_below(&t->seed, slots);
     if (what < 25) make_one(m, t, number, v);
     else if (what < 40) link_to(m, t, number, v, i, w);
-    else if (what < 50) link_to(m, t, number, v, i, NIL);
-    else if (what < 62) follow(m, t, number, w, v, i);
-    else if (what < 72) hand_over(m, t, number, w, v, i);
-    else if (what < 76) hand_over(m, t, number, w, NIL, i);
-    else if (what < 82) swap(m, t, number, w, v, i);
-    else if (what < 86) { MUST(mh_copy(m, w, v)); t->own[w] = t->own[v]; }
-    else if (what < 92) { MUST(mh_forget(m, v)); t->own[v] = NONE; }
-    else if (what < 94) { MUST(mh_spill(m, v, k)); t->slots[k] = t->own[v]; }
+    else if (what < 45) link_to(m, t, number, v, i, NIL);
+    else if (what < 57) follow(m, t, number, w, v, i);
+    else if (what < 67) hand_over(m, t, number, w, v, i);
+    else if (what < 71) hand_over(m, t, number, w, NIL, i);
+    else if (what < 77) swap(m, t, number, w, v, i);
+    else if (what < 81) { MUST(mh_copy(m, w, v)); t->own[w] = t->own[v]; }
+    else if (what < 84) { MUST(mh_forget(m, v)); t->own[v] = NONE; }
+    else if (what < 92) { MUST(mh_spill(m, v, k)); t->slots[k] = t->own[v]; }
     else if (what < 96) { MUST(mh_fill(m, w, k)); t->own[w] = which(m, w); wrong("what a slot has", t->own[w], t->slots[k]); }
-    else if (what < 97) {
+    else if (what < 97 && k % 4 == 0) {
         uint32_t from = k - k % 8, at;
         MUST(mh_forget_slots(m, from, from + 8));
         for (at = from; at < from + 8; at++) t->slots[at] = NONE;
@@ -160,7 +161,7 @@ static void begin(mh_mutator *m, uint32_t number) {
     (void)number;
     MUST(mh_root(m, ROOT));
     MUST(mh_place(m, ROOT, &place));
-    beside[place] = 0;
+    lies_beside[place] = 0;
 }
 
 /* An object tells the thread by which number it makes. */
@@ -283,8 +284,10 @@ int main(int count, char **words) {
     steps = number(count, words, 2, 100000);
     cells = number(count, words, 3, 512);
     if (count_of_threads < 1 || count_of_threads > THREADS) return 2;
-    beside = calloc(cells, sizeof *beside);
-    if (!beside) return 2;
+    slots = cells / count_of_threads / 8 * 8;
+    if (slots < 8 || slots > SLOTS) return 2;
+    lies_beside = calloc(cells, sizeof *lies_beside);
+    if (!lies_beside) return 2;
     for (k = 0; k < count_of_threads; k++) threads[k].seed = seed * 0x9e3779b97f4a7c15u + k + 1;
     act_together(cells, FIELDS, cells + 1, count_of_threads, tracers, begin, work, end);
     for (k = 0; k < count_of_threads; k++) {
@@ -293,7 +296,8 @@ int main(int count, char **words) {
         free(threads[k].reads.of);
     }
     free(all);
-    free(beside);
+    free(lies_beside);
+    enough_beside(beside, number(count, words, 6, 0));
     printf("%-13s %-12s threads %u tracers %u seed %llu: %u steps each, %llu objects in %u cells; what was read had been stored, and the walk agrees with the logs\n",
            "torture", COLLECTOR, count_of_threads, tracers, (unsigned long long)seed, steps, (unsigned long long)made, cells);
     return 0;

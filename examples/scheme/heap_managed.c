@@ -17,7 +17,7 @@ void heap_refused(int status) {
 }
 
 void heap_open(uint32_t cells, uint32_t threads) {
-    mh_sizes sizes = {0, FIELDS, 0, 0, 0, 1, SLOTS};
+    mh_sizes sizes = {.fields = FIELDS, .shared = 1, .slots = SLOTS};
     sizes.cells = cells;
     sizes.mutators = threads;
     heap_must(mh_open(&sizes, &world));

@@ -6,6 +6,7 @@
 #     sh examples/scheme/run.sh --times    besides, how long each takes: medians of five in turns, real-time priority if allowed
 #
 # The library is the proved one if it is built, and otherwise one that c/unproved.sh makes. LIBRARY names another archive. CELLS is the size of the heap.
+# Each run has 300 seconds, or BOUND.
 here=$(cd "$(dirname "$0")" && pwd)
 top=$(cd "$here/../.." && pwd)
 work=$(mktemp -d)
@@ -33,7 +34,7 @@ fail() {
 build() {
     compiler=$1 out=$2
     shift 2
-    "$compiler" -O2 $warnings "$@" -I "$work/prefix/include" -o "$work/$out" $sources "$here/heap_managed.c" \
+    "$compiler" -O2 $warnings -DMH_TRACED "$@" -I "$work/prefix/include" -o "$work/$out" $sources "$here/heap_managed.c" \
         "$work/prefix/lib/libmanaged_heap.a" -lpthread -lm || fail "$out isn't built by $compiler"
 }
 over_boehm() { cc -O2 $warnings -DOVER_BOEHM -o "$work/$1" $sources "$here/heap_boehm.c" -lgc -lpthread -lm || fail "$1 isn't built"; }
@@ -48,14 +49,16 @@ compare() {
     binary=$1 threads=$2
     shift 2
     for name in "$@"; do
-        (cd "$here/programs" && timeout 300 "$work/$binary" --cells "$cells" --threads "$threads" "$name.scm" >"$work/out" 2>&1)
+        (cd "$here/programs" && timeout "${BOUND:-300}" "$work/$binary" --cells "$cells" --threads "$threads" "$name.scm" >"$work/out" 2>&1)
+        [ $? -ne 124 ] || fail "$name ran out of time (BOUND=SECONDS gives more)"
         known "$name" "$binary, threads $threads"
     done
 }
 
 # fills BINARY THREADS: a heap that gets full while the program is read from the standard input.
 fills() {
-    timeout 300 "$work/$1" --cells 16384 --threads "$2" <"$here/programs/full.scm" >"$work/out" 2>&1
+    timeout "${BOUND:-300}" "$work/$1" --cells 16384 --threads "$2" <"$here/programs/full.scm" >"$work/out" 2>&1
+    [ $? -ne 124 ] || fail "full ran out of time (BOUND=SECONDS gives more)"
     known full "$1, threads $2"
 }
 

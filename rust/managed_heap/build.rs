@@ -3,6 +3,7 @@
 
 use std::env;
 use std::path::{Path, PathBuf};
+use std::process::exit;
 
 fn main() {
     println!("cargo:rerun-if-changed=build.rs");
@@ -32,11 +33,12 @@ fn link_built() {
 
 fn link(folder: &Path, library: &str) {
     let archive = folder.join(format!("lib{library}.a"));
-    assert!(
-        archive.is_file(),
-        "there is no {}: name the folder of libmanaged_heap.a by MANAGED_HEAP_LIB, or a prefix of c/install.sh by MANAGED_HEAP_PREFIX",
-        archive.display()
-    );
+    if !archive.is_file() {
+        eprintln!("managed_heap: there is no {}. At the top of the repository one of these makes the archive:", archive.display());
+        eprintln!("    unproved, in about a minute:  sh c/unproved.sh /tmp/managed_heap/libmanaged_heap.a; export MANAGED_HEAP_LIB=/tmp/managed_heap");
+        eprintln!("    proved, in about an hour:     sh c/install.sh /tmp/managed_heap; export MANAGED_HEAP_PREFIX=/tmp/managed_heap");
+        exit(1);
+    }
     println!("cargo:rerun-if-changed={}", archive.display());
     println!("cargo:rustc-link-search=native={}", folder.display());
     println!("cargo:rustc-link-lib=static={library}");

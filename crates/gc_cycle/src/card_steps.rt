@@ -9,6 +9,7 @@ ghost use Rattle.gc_table.specs.Seats.{Across, did, Sits, view_of};
 ghost use Rattle.gc_table.specs.declared.view.View.{View};
 ghost use Rattle.packet_pools.specs.Counts.{count_of};
 ghost use Rattle.tracer.specs.StepBounds.{recycle_steps, trace_steps};
+ghost use Rattle.card_clean.specs.Leaving.{rescanned_in};
 ghost use Rattle.card_clean.specs.StepBounds.{clean_some_steps};
 ghost use Rattle.gc_cycle.specs.Events.{never};
 ghost use Rattle.gc_cycle.specs.Finishing.{IsPart};
@@ -21,7 +22,7 @@ ghost use Rattle.gc_cycle.specs.Stepping.{Drains, HasMarkedAll, IsExactSince, Ke
 
 use crate::pieces::at_most;
 use crate::tracing::{recycle_deferred, sees_all_empty, trace};
-use card_clean::{clean_some, dirty_between};
+use card_clean::{CleanedCards, clean_some, dirty_between};
 use gc_table::{Heap, HeapSeat};
 use mark_core::CARD_CELLS;
 
@@ -41,6 +42,8 @@ pub struct CleanStep {
     pub passed: u32,
     /// How many of them it cleaned.
     pub cleaned: u32,
+    /// How many objects it scanned again.
+    pub rescanned: u32,
 }
 
 /// Brings back what was deferred, and traces. The answer: how many objects it popped, fewer than `most` only if at
@@ -101,7 +104,7 @@ pub fn finds_all_marked(heap: &Heap, seat: &mut HeapSeat) -> bool
     sees_all_empty(heap, seat)
 }
 
-fn cleans_some(heap: &Heap, seat: &mut HeapSeat, first: u32, end: u32) -> Option<u32>
+fn cleans_some(heap: &Heap, seat: &mut HeapSeat, first: u32, end: u32) -> Option<CleanedCards>
     requires seat { Sits heap.now seat.old }
     requires drains { Drains (view_of seat.old) }
     requires cards { (first ≤ end) × (end ≤ card_count heap.now.shape) }
@@ -111,13 +114,15 @@ fn cleans_some(heap: &Heap, seat: &mut HeapSeat, first: u32, end: u32) -> Option
     ensures unpopped { IsTrue (never pops (did seat.old seat.new)) }
     ensures numbers { Across (Only leaves_numbers) seat.old seat.new }
     ensures cleaned { IfSome result (λ _. Across (CleansCards first (end - first)) seat.old seat.new) }
-    ensures counts { IfSome result (λ n. (n ≤ end - first) × (count_of clears (did seat.old seat.new) ≡ n)) }
+    ensures counts { IfSome result (λ r. (r.cards ≤ end - first) × (count_of clears (did seat.old seat.new) ≡ r.cards)) }
+    ensures rescanned { IfSome result (λ r. rescanned_in (view_of seat.old) (did seat.old seat.new) ≡ r.rescanned) }
     ensures lacks { IfNone result (Across LacksPacket seat.old seat.new) }
     ensures uncleaned { IfNone result (IsTrue (never clears (did seat.old seat.new))) }
+    ensures unscanned { IfNone result (rescanned_in (view_of seat.old) (did seat.old seat.new) ≡ 0) }
     ensures few { length (did seat.old seat.new) ≤ clean_some_steps (end - first) (card_cells * (end - first)) heap.now.shape + recycle_steps heap.now.shape }
 {
     match clean_some(heap, seat, first, end) {
-        Some(cleaned) => Some(cleaned.cards),
+        Some(cleaned) => Some(cleaned),
         None => {
             recycle_deferred(heap, seat);
             None
@@ -138,8 +143,10 @@ pub fn clean_step(heap: &Heap, seat: &mut HeapSeat, from: u32, most: u32) -> Opt
     ensures unpopped { IsTrue (never pops (did seat.old seat.new)) }
     ensures cleaned { IfSome result (λ r. (r.passed ≡ min most (card_count heap.now.shape - from)) × Across (CleansCards from r.passed) seat.old seat.new) }
     ensures counts { IfSome result (λ r. (r.cleaned ≤ r.passed) × (count_of clears (did seat.old seat.new) ≡ r.cleaned)) }
+    ensures rescanned { IfSome result (λ r. rescanned_in (view_of seat.old) (did seat.old seat.new) ≡ r.rescanned) }
     ensures lacks { IfNone result (Across LacksPacket seat.old seat.new) }
     ensures uncleaned { IfNone result (IsTrue (never clears (did seat.old seat.new))) }
+    ensures unscanned { IfNone result (rescanned_in (view_of seat.old) (did seat.old seat.new) ≡ 0) }
     ensures exact { (u : View) → IsExactSince u (view_of seat.old) → IsExactSince u (view_of seat.new) }
     ensures numbers { Across (Only leaves_numbers) seat.old seat.new }
     ensures keeps { Across Keeps seat.old seat.new }
@@ -150,12 +157,14 @@ pub fn clean_step(heap: &Heap, seat: &mut HeapSeat, from: u32, most: u32) -> Opt
         return Some(CleanStep {
             passed: 0,
             cleaned: 0,
+            rescanned: 0,
         });
     }
     match cleans_some(heap, seat, from, from + number) {
         Some(cleaned) => Some(CleanStep {
             passed: number,
-            cleaned,
+            cleaned: cleaned.cards,
+            rescanned: cleaned.rescanned,
         }),
         None => None,
     }

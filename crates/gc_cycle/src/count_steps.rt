@@ -65,22 +65,28 @@ pub fn count_step(heap: &Heap, seat: &mut HeapSeat, from: u32, counted: u32, mos
     CountStep { blocks, counted }
 }
 
-/// Sets the numbers for the next cycle and lets the world go on: the seat runs again. `freed`: how many cells it
-/// freed in all.
-pub fn finish_count(heap: &Heap, seat: &mut HeapSeat, counted: u32, freed: u32) -> Counts
+/// Sets the numbers for the next cycle and lets the world go on: the seat runs again. `rescanned`: how many objects
+/// it scanned again in all, and `freed`: how many cells it freed.
+pub fn finish_count(
+    heap: &Heap,
+    seat: &mut HeapSeat,
+    counted: u32,
+    rescanned: u32,
+    freed: u32,
+) -> Counts
     requires seat { Sits heap.now seat.old }
     requires counted { HasCounted counted (view_of seat.old) }
     ensures seat { Sits heap.now seat.new }
     ensures ran { Across Ran seat.old seat.new }
     ensures runs { RunsAgain (view_of seat.new) }
     ensures ends { Across (EndsCollection result) seat.old seat.new }
-    ensures counts { result ≡ record { marked = counted; freed = freed; rescanned = 0 } }
+    ensures counts { result ≡ record { marked = counted; freed = freed; rescanned = rescanned } }
     ensures collects { (u : View) → HasCollectedSince u (view_of seat.old) → IsTrue (collects_exactly heap.now.shape (begins u) (events u (view_of seat.new))) }
     ensures course { Across (TakesCourse [] (sets_numbers heap.now.shape result)) seat.old seat.new }
     ensures few { length (did seat.old seat.new) ≤ 9 }
     ensures keeps { Across Keeps seat.old seat.new }
 {
-    let counts = set_numbers(heap, seat, counted, 0, freed);
+    let counts = set_numbers(heap, seat, counted, rescanned, freed);
     resume(heap, seat);
     counts
 }

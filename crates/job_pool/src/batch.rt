@@ -5,13 +5,13 @@ ghost use Rattle.job_pool.specs.Scripts.{AreNumbered};
 use crate::reader::Job;
 use std::marker::Model;
 
-/// The jobs of a source, at most 64. Each is a slice of the source.
+/// The jobs of a source, at most 64. Each is a slice of the source, and has the seal `B` of its reading.
 #[derive(Drop)]
-pub struct Batch<'a> {
-    pub(crate) jobs: Vec<Job<'a>>,
+pub struct Batch<'a, B> {
+    pub(crate) jobs: Vec<Job<'a, B>>,
 }
 
-impl<'a> Model for Batch<'a> {
+impl<'a, B> Model for Batch<'a, B> {
     ghost use Rattle.std.specs.Prelude.{ℕ, List, map, ◌≤◌, vec_len};
     ghost use Rattle.job_pool.specs.Scripts.{AreNumbered};
 
@@ -22,9 +22,9 @@ impl<'a> Model for Batch<'a> {
     ghost invariant = { λ b. AreNumbered 0 b.jobs.items × (vec_len b.jobs ≤ 64) };
 }
 
-impl<'a> Batch<'a> {
+impl<'a, B> Batch<'a, B> {
     /// The jobs, in order.
-    pub fn jobs(&self) -> &[Job<'a>]
+    pub fn jobs(&self) -> &[Job<'a, B>]
         ensures jobs { map (λ j. j.script) result.now ≡ self.now }
         ensures order { AreNumbered 0 result.now }
         ensures number { length result.now ≤ 64 }

@@ -26,11 +26,11 @@ pub struct JobDone {
 }
 
 /// Plays the job, and spends it.
-pub fn play_one<P: Player, R: Threads + Wait + Sync>(
+pub fn play_one<B, P: Player<B>, R: Threads + Wait + Sync>(
     rt: &R,
     alloc: Global,
     player: &P,
-    job: Job<'_>,
+    job: Job<'_, B>,
 ) -> JobDone
     ensures job { result.job ≡ job.entry.number }
     ensures fits { P.fits player.now job.entry.script result.status result.text }

@@ -15,7 +15,7 @@ pub struct Hand {
 /// The line of jobs, by its rule.
 pub struct Draws;
 
-impl<'a> Protocol<Job<'a>, Hand> for Draws {
+impl<'a, B> Protocol<Job<'a, B>, Hand> for Draws {
     ghost use Rattle.std.specs.Prelude.{[]};
     ghost use Rattle.job_pool.specs.Draws.{hand, Drawn};
 
@@ -51,14 +51,14 @@ impl Join<Hand> for Back {
 /// The next job is put in line.
 pub struct Put;
 
-impl<'a> Outcome<Job<'a>, Hand> for Put {
+impl<'a, B> Outcome<Job<'a, B>, Hand> for Put {
     ghost use Rattle.std.specs.Prelude.{◌≡◌, ◌++◌, [], ◌∷◌};
     ghost use Rattle.job_pool.specs.Draws.{hand};
 
     ghost then = { λ v x w. w ≡ hand v.parts (v.scripts ++ x.script ∷ []) v.drawn };
 }
 
-impl<'a> Lesson<Job<'a>, Hand> for Put {
+impl<'a, B> Lesson<Job<'a, B>, Hand> for Put {
     ghost use Rattle.std.specs.Prelude.{◌≡◌, length};
 
     ghost fact = { λ v items. length items ≡ length v.scripts };
@@ -67,14 +67,14 @@ impl<'a> Lesson<Job<'a>, Hand> for Put {
 /// A job is drawn. If none is in line, who has every part knows that all were drawn.
 pub struct Draw;
 
-impl<'a> Outcome<Job<'a>, Hand> for Draw {
+impl<'a, B> Outcome<Job<'a, B>, Hand> for Draw {
     ghost use Rattle.std.specs.Prelude.{◌≡◌, ◌++◌, [], ◌∷◌};
     ghost use Rattle.job_pool.specs.Draws.{hand, IsOneOf};
 
     ghost then = { λ v x w. IsOneOf v.scripts x × (w ≡ hand v.parts v.scripts (v.drawn ++ x.number ∷ [])) };
 }
 
-impl<'a> Lesson<Job<'a>, Hand> for Draw {
+impl<'a, B> Lesson<Job<'a, B>, Hand> for Draw {
     ghost use Rattle.std.specs.Prelude.{◌≡◌, ℕ, ◌+◌, length};
     ghost use Rattle.job_pool.specs.Draws.{total, total_from};
 
@@ -82,7 +82,7 @@ impl<'a> Lesson<Job<'a>, Hand> for Draw {
 }
 
 /// The jobs that are in line.
-pub type Line<'a> = RuledArrayQueue<Job<'a>, Hand, Draws>;
+pub type Line<'a, B> = RuledArrayQueue<Job<'a, B>, Hand, Draws>;
 
 /// What one runner knows of the line.
-pub type Drawer<'a> = Pass<Job<'a>, Hand>;
+pub type Drawer<'a, B> = Pass<Job<'a, B>, Hand>;

@@ -10,8 +10,9 @@
 //! Only `read_batch` makes jobs, one for each script (clause `reads`), and nothing copies one. `run_jobs` takes the
 //! batch by value, and a play spends the job that it plays. Nothing but a play makes a [`JobDone`], and `run_jobs`
 //! answers as many as there are jobs. So the types say how often, and no clause: a body that plays a job twice, or
-//! makes up a result, does not compile. They don't keep a body from reading the same bytes as another batch, which
-//! has jobs of its own.
+//! makes up a result, does not compile. Nor does one that reads the same bytes as a second batch and plays its jobs
+//! first: `read_batch` spends a seal, whose type stays with the jobs, and a player plays jobs of one seal. `run_jobs`
+//! is written for every seal, so it has none.
 //!
 //! That entry j is a result of job j is a clause of `run_jobs`. The line is a queue under a rule
 //! (`specs/Draws.antt`): the numbers of the jobs drawn, together with those in line, are the numbers of all jobs,

@@ -10,12 +10,12 @@ use crate::reader::Job;
 use std::sync::Wait;
 
 /// Puts the jobs in line, in order.
-pub fn put_all<'a, R: Wait>(
+pub fn put_all<'a, B, R: Wait>(
     rt: &R,
-    line: &Line<'a>,
-    mut me: Drawer<'a>,
-    jobs: Vec<Job<'a>>,
-) -> Drawer<'a>
+    line: &Line<'a, B>,
+    mut me: Drawer<'a, B>,
+    jobs: Vec<Job<'a, B>>,
+) -> Drawer<'a, B>
     requires me { IsPassOf line.now me × (view me ≡ hand 8 [] []) }
     requires room { length jobs.items ≤ ruled_capacity line.now }
     requires order { AreNumbered 0 jobs.items }
@@ -31,7 +31,11 @@ pub fn put_all<'a, R: Wait>(
 }
 
 /// Draws a job that nobody has drawn. If none is in line, who has every part knows that all were drawn.
-pub fn draw<'a, R: Wait>(rt: &R, line: &Line<'a>, me: &mut Drawer<'a>) -> Option<Job<'a>>
+pub fn draw<'a, B, R: Wait>(
+    rt: &R,
+    line: &Line<'a, B>,
+    me: &mut Drawer<'a, B>,
+) -> Option<Job<'a, B>>
     requires me { IsPassOf line.now me.old × (0 < (view me.old).parts) }
     ensures me { IsPassOf line.now me.new }
     ensures drawn { MatchOption result

@@ -6,6 +6,7 @@ ghost use Rattle.job_pool.specs.Batch.{ReadsBatch, batch, jobs_from, job_line as
 use crate::batch::Batch;
 use crate::fault::BatchError;
 use std::alloc::Global;
+use std::marker::PhantomData;
 
 mod job;
 
@@ -66,7 +67,7 @@ fn job_line(bytes: &[u8]) -> Option<(usize, &[u8])>
 }
 
 /// The jobs of a batch of `all` bytes, from its first job line on.
-fn read_jobs<'a>(alloc: Global, all: u32, first: &'a [u8]) -> Result<Batch<'a>, BatchError>
+fn read_jobs<'a, B>(alloc: Global, all: u32, first: &'a [u8]) -> Result<Batch<'a, B>, BatchError>
     requires { length first.now ≤ all }
     ensures { ReadsBatch result (jobs_from all 64 [] first.now) }
 {
@@ -88,6 +89,7 @@ fn read_jobs<'a>(alloc: Global, all: u32, first: &'a [u8]) -> Result<Batch<'a>, 
         match jobs.push(Job {
             number: job,
             script,
+            seal: PhantomData,
         }) {
             Ok(()) => rest = after,
             Err(_) => return Err(BatchError::OutOfMemory),
@@ -109,7 +111,14 @@ fn read_jobs<'a>(alloc: Global, all: u32, first: &'a [u8]) -> Result<Batch<'a>, 
 /// follows at once. It has at most 16,777,216 bytes, which is told first, even before out of memory, and at most 64
 /// jobs. Of one line a wrong form is told first, then that there are too many jobs, then that fewer than n bytes
 /// are left. Only the list of jobs takes memory.
-pub fn read_batch<'a>(alloc: Global, source: &'a [u8]) -> Result<Batch<'a>, BatchError>
+///
+/// The seal is spent, and its type stays with the jobs. A function that takes a batch of any seal, as `run_jobs`
+/// does, has no seal of that type, so it can't read the same bytes again as more jobs for the same player.
+pub fn read_batch<'a, B: Drop>(
+    alloc: Global,
+    source: &'a [u8],
+    _seal: B,
+) -> Result<Batch<'a, B>, BatchError>
     ensures reads { ReadsBatch result (batch source.now) }
     ensures memory { result ≡ Err BatchError.OutOfMemory → length source.now ≤ 16777216 }
 {

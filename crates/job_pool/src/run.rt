@@ -19,19 +19,19 @@ use std::thread::Threads;
 
 /// A runner: its line, and what it knows of it.
 #[derive(Drop)]
-struct Runner<'l, 'a> {
-    line: &'l Line<'a>,
-    pass: Drawer<'a>,
+struct Runner<'l, 'a, B> {
+    line: &'l Line<'a, B>,
+    pass: Drawer<'a, B>,
 }
 
 /// Plays jobs as long as some are in line. Who has every part then has a result of each job.
-fn draw_jobs<'a, P: Player, R: Threads + Wait + Sync>(
+fn draw_jobs<'a, B, P: Player<B>, R: Threads + Wait + Sync>(
     rt: &R,
     alloc: Global,
     player: &P,
-    me: Runner<'_, 'a>,
+    me: Runner<'_, 'a, B>,
     done: Vec<JobDone>,
-) -> Result<(Drawer<'a>, Vec<JobDone>), OutOfMemory>
+) -> Result<(Drawer<'a, B>, Vec<JobDone>), OutOfMemory>
     requires me { IsPassOf me.line.now me.pass × (0 < (view me.pass).parts) × (view me.pass ≡ hand (view me.pass).parts (view me.pass).scripts (jobs_of_results done.items)) }
     requires done { All (IsPlayed (P.fits player.now) (view me.pass).scripts) done.items }
     ensures me { IfOk result (λ r. IsPassOf me.entry.line.now r.0 × (view r.0 ≡ hand (view me.entry.pass).parts (view me.entry.pass).scripts (jobs_of_results r.1.items))) }
@@ -54,13 +54,13 @@ fn draw_jobs<'a, P: Player, R: Threads + Wait + Sync>(
 
 /// Plays jobs on `runners` runners, the first of them in this thread.
 #[cycle(runners)]
-fn run_on<'a, P: Player + Sync, R: Threads + Wait + Sync>(
+fn run_on<'a, B: Send + Sync, P: Player<B> + Sync, R: Threads + Wait + Sync>(
     rt: &R,
     alloc: Global,
     player: &P,
-    mut me: Runner<'_, 'a>,
+    mut me: Runner<'_, 'a, B>,
     runners: u32,
-) -> Result<(Drawer<'a>, Vec<JobDone>), OutOfMemory>
+) -> Result<(Drawer<'a, B>, Vec<JobDone>), OutOfMemory>
     requires me { IsPassOf me.line.now me.pass × (view me.pass ≡ hand (view me.pass).parts (view me.pass).scripts []) }
     requires runners { (1 ≤ runners) × (runners ≤ (view me.pass).parts) }
     ensures me { IfOk result (λ r. IsPassOf me.entry.line.now r.0 × (view r.0 ≡ hand (view me.entry.pass).parts (view me.entry.pass).scripts (jobs_of_results r.1.items))) }
@@ -83,16 +83,16 @@ fn run_on<'a, P: Player + Sync, R: Threads + Wait + Sync>(
 
 /// One runner in a thread of its own, or in this one if none can be made, beside the others.
 #[cycle(runners)]
-fn beside<'a, P: Player + Sync, R: Threads + Wait + Sync>(
+fn beside<'a, B: Send + Sync, P: Player<B> + Sync, R: Threads + Wait + Sync>(
     rt: &R,
     alloc: Global,
     player: &P,
-    other: Runner<'_, 'a>,
-    me: Runner<'_, 'a>,
+    other: Runner<'_, 'a, B>,
+    me: Runner<'_, 'a, B>,
     rest: u32,
 ) -> (
-    Result<(Drawer<'a>, Vec<JobDone>), OutOfMemory>,
-    Result<(Drawer<'a>, Vec<JobDone>), OutOfMemory>,
+    Result<(Drawer<'a, B>, Vec<JobDone>), OutOfMemory>,
+    Result<(Drawer<'a, B>, Vec<JobDone>), OutOfMemory>,
 )
     requires other { IsPassOf other.line.now other.pass × (view other.pass ≡ hand 1 (view other.pass).scripts []) }
     requires me { IsPassOf me.line.now me.pass × (view me.pass ≡ hand (view me.pass).parts (view me.pass).scripts []) }
@@ -114,10 +114,10 @@ fn beside<'a, P: Player + Sync, R: Threads + Wait + Sync>(
 /// Plays each job of the batch once, on so many runners, which are 1 to 8. Entry j has job j and what its play
 /// answered. Each runner but the caller has a thread of its own; one that can't be started is run by the caller,
 /// after its own. Refused only if there is no memory.
-pub fn run_jobs<P: Player + Sync, R: Threads + Wait + Sync>(
+pub fn run_jobs<B: Send + Sync, P: Player<B> + Sync, R: Threads + Wait + Sync>(
     rt: &R,
     alloc: Global,
-    batch: Batch<'_>,
+    batch: Batch<'_, B>,
     runners: u32,
     player: &P,
 ) -> Result<Vec<JobDone>, OutOfMemory>

@@ -55,23 +55,23 @@ get-one x w v i a b c p q s = (
 )
 
 pub operates-by : (came : Came) (by op : Op) (x y : Stepper) → AreSame x by op → Operates came by x y → Operates came op x y
-operates-by cames.Done by op x y one d = (subst (λ o. StepperDoes o x y) (one.0 d.0.range) d.0, subst (λ o. TakesFew o x y) (one.0 d.0.range) d.1)
+operates-by cames.Done by op x y one d = (subst (λ o. StepperDoes o x y) (one.0 d.0.range) d.0, subst (λ o. TakesFew o x y) (one.0 d.0.range) d.1, d.2)
 operates-by cames.OutOfRange by op x y one d = (λ r. d.0 (subst (λ o. IsInRange (fields_in x) o) (sym (one.1 r)) r), d.1)
 operates-by came by op x y one d = d
 
 pub makes-by : (came : Came) (by op : Op) (x y : Stepper) → AreSame x by op → StepperMakes came by x y → StepperMakes came op x y
-makes-by cames.Done by op x y one d = (subst (λ o. StepperDoes o x y) (one.0 d.0.range) d.0, d.1)
+makes-by cames.Done by op x y one d = (subst (λ o. StepperDoes o x y) (one.0 d.0.range) d.0, d.1, d.2)
 makes-by cames.OutOfRange by op x y one d = (λ r. d.0 (subst (λ o. IsInRange (fields_in x) o) (sym (one.1 r)) r), d.1)
 makes-by came by op x y one d = d
 
 pub caches-by : (came : Came) (by op : Op) (x y : Stepper) → AreSame x by op → MakesCached came by x y → MakesCached came op x y
-caches-by cames.Done by op x y one d = (subst (λ o. StepperDoes o x y) (one.0 d.0.range) d.0, d.1)
+caches-by cames.Done by op x y one d = (subst (λ o. StepperDoes o x y) (one.0 d.0.range) d.0, d.1, d.2)
 caches-by cames.OutOfRange by op x y one d = (λ r. d.0 (subst (λ o. IsInRange (fields_in x) o) (sym (one.1 r)) r), d.1)
 caches-by came by op x y one d = d
 
 pub stores-by : (came : Came) (v b : ℕ) (by op : Op) (x y : Stepper) → AreSame x by op → (IsInRange (fields_in x) by → b ≡ v) → Stores b by came x y → Stores v op came x y
 stores-by cames.Done v b by op x y one same d =
-    (subst (λ o. StepperDoes o x y) (one.0 d.0.range) d.0, subst (λ o. TakesFew o x y) (one.0 d.0.range) d.1, λ n. d.2 (subst (λ k. IsNil k x) (sym (same d.0.range)) n))
+    (subst (λ o. StepperDoes o x y) (one.0 d.0.range) d.0, subst (λ o. TakesFew o x y) (one.0 d.0.range) d.1, (λ n. d.2 (subst (λ k. IsNil k x) (sym (same d.0.range)) n)), d.3)
 stores-by cames.Nil v b by op x y one same d = subst (λ o. StoresNothing v o x y) (one.0 d.range) (subst (λ k. StoresNothing k by x y) (same d.range) d)
 stores-by cames.OutOfRange v b by op x y one same d = (λ r. d.0 (subst (λ o. IsInRange (fields_in x) o) (sym (one.1 r)) r), d.1)
 stores-by came v b by op x y one same d = d

@@ -6,6 +6,7 @@ use Rattle.mutator_ops.specs.Few.{AtMost}
 use Rattle.stop_world.specs.Gates.{TurnsBack}
 use Rattle.seat_turns.specs.TracerTries.{Dismisses}
 use Rattle.seat_turns.specs.declared.background.Tracer.{Tracer}
+use Rattle.seat_steps.specs.Handing.{IsNewStepper}
 use Rattle.seat_steps.specs.Stepping.{heap_of_stepper, shares}
 use Rattle.seat_steps.specs.declared.stepper.Stage.TheVariants.{Outside}
 use Rattle.seat_steps.specs.declared.stepper.Stepper.{Stepper}
@@ -26,12 +27,14 @@ KeepsAllButMutators w x = KeepsRest w x × (x.tracers ≡ w.tracers)
 abbrev pub KeepsAllButTracers : World → World → Type 0
 KeepsAllButTracers w x = KeepsRest w x × (x.mutators ≡ w.mutators)
 
--- the stepper is this mutator for a thread that may not wait: outside the world, with the same objects and variables
+-- the stepper is this mutator for a thread that may not wait: outside the world, with the same objects and variables, and new
 pub record IsInSteps (m : Mutator) (s : Stepper) : Type 0 where
   pub outside : s.stage ≡ Outside
   pub same : heap_of_stepper s ≡ heap_of m
   pub world : (arc_value s.heap ≡ arc_value m.heap) × (s.name ≡ m.name)
   pub owned : IsFalse (shares s)
+  pub stops : s.in_stops ≡ m.in_stops
+  pub new : IsNewStepper s
 
 -- the world had this mutator, which it lends in steps, and has the others still
 abbrev pub LendsSteps : Stepper → World → World → Type 0

@@ -39,7 +39,7 @@ GoesBack m w x = IsBack m w x × KeepsAllButMutators w x
 
 -- the world doesn't take the mutator, which is in steps again, by no step if it was outside, and has all that it had
 abbrev pub StaysOut : SharedMutator → Stepper → SharedWorld → SharedWorld → Type 0
-StaysOut m t w x = Across LeavesHeap m.seat t.seat × (arc_value t.heap ≡ arc_value m.heap) × (x.mutators.items ≡ w.mutators.items) × KeepsAllButMutators w x × (m.place ≡ Outside → t.seat ≡ m.seat)
+StaysOut m t w x = Across LeavesHeap m.seat t.seat × (arc_value t.heap ≡ arc_value m.heap) × (t.name ≡ m.name) × (x.mutators.items ≡ w.mutators.items) × KeepsAllButMutators w x × (m.place ≡ Outside → t.seat ≡ m.seat)
 
 -- the world has the mutator back; no step was taken that a plain heap sees
 abbrev pub TakesBack : Stepper → SharedWorld → SharedWorld → Type 0
@@ -48,7 +48,7 @@ TakesBack s w x = (m : SharedMutator) × IsOfSteps s m × GoesBack m w x
 -- the world doesn't take the mutator, which took no step that a plain heap sees, and five at most, and has all that it had
 pub record Refuses (s t : Stepper) (w x : SharedWorld) : Type 0 where
   pub leaves : Across LeavesHeap s.seat t.seat
-  pub of_world : arc_value t.heap ≡ arc_value s.heap
+  pub of_world : (arc_value t.heap ≡ arc_value s.heap) × (t.name ≡ s.name)
   pub mutators : x.mutators.items ≡ w.mutators.items
   pub rest : KeepsAllButMutators w x
   pub few : Across (AtMost 5) s.seat t.seat

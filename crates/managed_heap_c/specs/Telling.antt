@@ -38,6 +38,8 @@ course_of x = record {
   marking = number_of_answer (saw (state_of x.seat).phase_seen Marking);
   freed = x.freed;
   kept = x.counted;
+  rescanned = x.rescanned;
+  exact = number_of_answer x.exact;
 }
 
 -- it was written how far the mutator's collection is; the mutator is as it was

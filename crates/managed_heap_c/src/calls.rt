@@ -1,7 +1,6 @@
 //! What a call does with the mutator behind a handle: that of the export of its name, or it answers `GIVEN_BACK` if the
 //! handle is empty.
 ghost use Rattle.plain_heap.specs.declared.operation.Op.TheVariants as ops;
-ghost use Rattle.seat_steps.specs.Bounds.{CollectsAtMost};
 ghost use Rattle.seat_steps.specs.Refilling.{MakesCached, StepperRefills};
 ghost use Rattle.seat_steps.specs.Stepping.{Entered, Left, StepperMakes, Operates, Passed};
 ghost use Rattle.managed_heap_c.specs.Answering.{Answers, ReadsTo, SparesGone};
@@ -38,15 +37,6 @@ pub fn pass_by(hand: &mut Hand) -> u32
     match &mut hand.stepper {
         None => GIVEN_BACK,
         Some(stepper) => status(stepper.safe_point()),
-    }
-}
-
-pub fn collect_by(hand: &mut Hand, most: u32) -> u32
-    ensures answers { Answers (CollectsAtMost most) result hand.old.stepper hand.new.stepper }
-{
-    match &mut hand.stepper {
-        None => GIVEN_BACK,
-        Some(stepper) => status(stepper.collect_at_most(most)),
     }
 }
 

@@ -24,6 +24,10 @@ pub struct CCourse {
     pub freed: u32,
     /// How many cells in use it has counted.
     pub kept: u32,
+    /// How many objects it has scanned again.
+    pub rescanned: u32,
+    /// 1 if it leaves no garbage, otherwise 0.
+    pub exact: u32,
 }
 
 fn number_at(stage: Stage) -> u32
@@ -54,6 +58,8 @@ fn course_now(stepper: &Stepper) -> CCourse
         marking: number_of(stepper.saw_marking()),
         freed: counts.freed,
         kept: counts.marked,
+        rescanned: counts.rescanned,
+        exact: number_of(stepper.is_exact()),
     }
 }
 

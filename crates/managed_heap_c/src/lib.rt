@@ -11,6 +11,7 @@ mod asked;
 mod asking;
 mod bytes;
 mod calls;
+mod collecting;
 mod course;
 mod handles;
 mod hands;
@@ -31,7 +32,6 @@ mod work;
 mod worlds;
 
 ghost use Rattle.plain_heap.specs.declared.operation.Op.TheVariants as ops;
-ghost use Rattle.seat_steps.specs.Bounds.{CollectsAtMost};
 ghost use Rattle.seat_steps.specs.Refilling.{MakesCached, StepperRefills};
 ghost use Rattle.seat_steps.specs.Stepping.{Entered, Left, StepperMakes, Operates, Passed};
 ghost use Rattle.managed_heap_c.specs.Answering.{AnswersOnce, ClosesWorld, CountsWorld, GivesOnce, ReadsTo, SparesUnused};
@@ -40,8 +40,8 @@ ghost use Rattle.managed_heap_c.specs.Storing.{Stores};
 ghost use Rattle.managed_heap_c.specs.Taking.{OpensWorld, TakesMutator};
 
 use calls::{
-    collect_by, copy_by, enter_by, forget_by, get_by, leave_by, make_by, make_cached_by,
-    make_with_by, pass_by, put_by, refill_by, set_by, value_by,
+    copy_by, enter_by, forget_by, get_by, leave_by, make_by, make_cached_by, make_with_by, pass_by,
+    put_by, refill_by, set_by, value_by,
 };
 use handles::{MutatorHandle, WorldHandle};
 use lending::{lend_hand, lend_whole};
@@ -231,20 +231,6 @@ pub extern "C" fn mhl_value(h: &mut MutatorHandle, v: u32, out: &mut u32) -> u32
         return IN_USE;
     }
     let answer = value_by(hand, v, out);
-    ends(hand);
-    answer
-}
-
-/// The next step of the mutator's collection, of at most `most` roots, objects, cards or blocks (or one stretch).
-#[unsafe(no_mangle)]
-pub extern "C" fn mhl_collect_step(h: &mut MutatorHandle, most: u32) -> u32
-    ensures answers { AnswersOnce (CollectsAtMost most) result h.old.hand h.new.hand }
-{
-    let hand = lend_hand(h);
-    if !begins(hand) {
-        return IN_USE;
-    }
-    let answer = collect_by(hand, most);
     ends(hand);
     answer
 }

@@ -11,13 +11,7 @@ use std::alloc::{AllocError, Global};
 fn boxed_hand(alloc: Global) -> Result<Box<TracerHand, Global>, AllocError>
     ensures rests { IfOk result (λ hand. IsFalse hand.value.busy) }
 {
-    Ok(Box::new(
-        alloc,
-        TracerHand {
-            tracer: None,
-            busy: false,
-        },
-    )?)
+    Ok(Box::new(alloc, TracerHand::empty())?)
 }
 
 fn tracer_of(whole: &mut Whole) -> Result<Tracer, u32>

@@ -22,13 +22,7 @@ fn boxed_world(alloc: Global, world: AnyWorld) -> Result<Box<Whole, Global>, All
 fn boxed_hand(alloc: Global) -> Result<Box<Hand, Global>, AllocError>
     ensures rests { IfOk result (λ hand. IsFalse hand.value.busy) }
 {
-    Ok(Box::new(
-        alloc,
-        Hand {
-            stepper: None,
-            busy: false,
-        },
-    )?)
+    Ok(Box::new(alloc, Hand::empty())?)
 }
 
 /// Done, and the handle is filled; otherwise `OUT_OF_RANGE` or `OUT_OF_MEMORY`.

@@ -15,7 +15,7 @@ use Rattle.seat_steps.specs.declared.stepper.Stage.TheVariants as stages
 use Rattle.seat_steps.specs.declared.stepper.Stepper.{Stepper}
 
 keeps-same : (x : Stepper) → KeepsAll x x
-keeps-same x = record { heap = refl; leaves = leaves-none (view_of x.seat); world = refl; name_is = refl }
+keeps-same x = record { heap = refl; leaves = leaves-none (view_of x.seat); world = refl; name_is = refl; stops = refl; search = record { paid_is = refl; block = refl; seen = refl } }
 
 -- who is neither outside nor inside collects
 pub collects-now : (stage : Stage) → (stage ≡ stages.Outside → ⊥) → (stage ≡ stages.Inside → ⊥) → is_collecting stage ≡ true

@@ -1,11 +1,11 @@
 -- How many steps are taken with a try to get a cell, and besides.
-use Rattle.std.proofs.Common.{ℕ, ◌≡◌, ◌+◌, inl, inr, arith, subst, Option, Some, None, ◌≤◌, ⊎_elim, ap, ◌∙◌}
+use Rattle.std.proofs.Common.{ℕ, ◌≡◌, ◌+◌, inl, inr, arith, subst, Option, Some, None, ◌≤◌, ⊎_elim, ap, ◌∙◌, refl}
 use Rattle.mark_core.specs.declared.kinds.Shape.{Shape}
 use Rattle.gc_table.specs.Running.{Ran}
 use Rattle.gc_table.specs.declared.seat.Heap.{Heap}
 use Rattle.gc_table.specs.declared.seat.HeapSeat.{HeapSeat}
 use Rattle.gc_table.specs.declared.view.View.{View}
-use Rattle.gc_table.proofs.Running.{ran-join, ran-shape, ran-events}
+use Rattle.gc_table.proofs.Running.{ran-join, ran-shape}
 use Rattle.gc_table.specs.Rule.{KnowsFull}
 use Rattle.gc_cycle.specs.declared.counts.Refill.{Refill}
 use Rattle.gc_cycle.specs.declared.counts.Refill.TheVariants as refills
@@ -13,16 +13,12 @@ use Rattle.gc_table.specs.Seats.{view_of, Sits}
 use Rattle.cache_refills.specs.Getting.{RefillsTo}
 use Rattle.mutator_ops.specs.Few.{AtMost}
 use Rattle.mutator_ops.proofs.Few.{at-most-join, at-most-more}
-use Rattle.seat_steps.specs.Causes.{ArrivesBy, FillsBy, LacksBy, MakesBy, ComesFreely, MakesFreely}
+use Rattle.seat_steps.specs.Causes.{ArrivesBy, FillsBy, LacksBy, MakesBy, ComesFreely, MakesFreely, PassesBy}
 use Rattle.seat_steps.specs.Filling.{TriesOnce, TriesToFill, filling_steps, search_steps, TriesSome, make_steps}
 use Rattle.seat_steps.specs.Arriving.{LeavesWorld, Refills}
 use Rattle.seat_steps.specs.declared.came.Came.{Came}
 use Rattle.seat_steps.specs.declared.came.Came.TheVariants as cames
 use Rattle.seat_steps.proofs.Found.{found-right, full-left, full-right}
-use Rattle.gc_table.specs.Log.{events}
-use Rattle.packet_pools.specs.Seeking.{some_event}
-use Rattle.packet_pools.proofs.Searches.{some-left}
-use Rattle.gc_cycle.specs.Sorts.{sees_no_flag}
 
 -- more before it, and more after it
 pub tries-first : (more before later : ℕ) (o : Option Refill) (u v w : View) → Ran u v → AtMost more u v → TriesOnce before later o v w → TriesOnce (more + before) later o u w
@@ -97,10 +93,11 @@ pub full-refills : (r : Refill) (h : Heap) (s : HeapSeat) → r ≡ refills.Full
 full-refills r h s is p = (subst (λ (z : Refill). Refills z h s) is p).1
 
 -- and before it two looks
-pub arrives-makes : (c : Came) (h : Heap) (s : HeapSeat) (v w : View) → LeavesWorld c h s → ArrivesBy c v w → MakesBy c v w
-arrives-makes cames.Stopped h s v w l g = ((g.0, at-most-more 8 (filling_steps v.shape + 13) v w (omega arith) g.1), inl g.1)
-arrives-makes cames.Full h s v w l g = ((g.0, at-most-more 8 (filling_steps v.shape + 13) v w (omega arith) g.1), inl g.1)
-arrives-makes c h s v w l g = absurd l
+pub passes-makes : (c : Came) (v w : View) → (c ≡ cames.Done → ⊥) → PassesBy c v w → MakesBy c v w
+passes-makes cames.Done v w n g = absurd (n refl)
+passes-makes cames.Stopped v w n g = ((g.0.0, at-most-more 6 (filling_steps v.shape + 13) v w (omega arith) g.0.1), inl (at-most-more 6 8 v w (omega arith) g.0.1))
+passes-makes cames.Full v w n g = ((g.0.0, at-most-more 7 (filling_steps v.shape + 13) v w (omega arith) g.0.1), inl (at-most-more 7 8 v w (omega arith) g.0.1))
+passes-makes c v w n g = absurd g
 
 in_thirteen : (o : Option Refill) (v w : View) → TriesOnce 5 8 o v w → AtMost (filling_steps v.shape + 13) v w
 in_thirteen o v w t = let all = tries-few 5 8 o v w t in omega (arith, all)
@@ -139,7 +136,9 @@ made-free h x v w sits a b c m =
     let same : u.shape.fields ≡ h.shape.fields = ap (λ (sh : Shape). sh.fields) sits.1 in
     let in_all : AtMost 2 u v → AtMost (u.shape.fields + 5) u w = λ few. at-most-more (2 + (h.shape.fields + 3)) (u.shape.fields + 5) u w (omega (arith, same)) (at-most-join 2 (h.shape.fields + 3) u v w a b few m) in
     record {
-      free = ap (some_event sees_no_flag) (ran-events u v w a b) ∙ some-left sees_no_flag (events u v) (events v w) c.free;
+      passed = c.passed;
+      passes = c.passes;
+      ran = ran-join c.passed v w c.ran b;
       few = λ f. in_all (c.few f);
       besides =
           ⊎_elim

@@ -4,18 +4,18 @@ use Rattle.std.specs.Prelude.{if◌then◌else◌, is_some, Result, Ok, Err, IfE
 use Rattle.std.specs.Int.Count.{ones}
 use Rattle.std.proofs.lemmas.Bool.{false≢true, or_left, or_right}
 use Rattle.mark_core.specs.Bits.{has_flag}
-use Rattle.mark_core.specs.Seats.{has_turn}
 use Rattle.mark_core.specs.declared.kinds.Phase.TheVariants.{Full}
 use Rattle.mark_core.specs.declared.kinds.Step.{Step}
 use Rattle.mark_core.specs.declared.kinds.Step.TheVariants.{Observe, ReadPhase, ReadSeason}
 use Rattle.gc_table.specs.Log.{events}
+use Rattle.gc_table.specs.Rule.{KnowsFull}
 use Rattle.gc_table.specs.Running.{after_all, Ran}
 use Rattle.gc_table.specs.Seats.{Found}
 use Rattle.gc_table.specs.declared.seat.Heap.{Heap}
 use Rattle.gc_table.specs.declared.seat.HeapSeat.{HeapSeat}
 use Rattle.gc_table.specs.declared.view.Entry.{Entry}
 use Rattle.gc_table.specs.declared.view.View.{View}
-use Rattle.gc_table.proofs.Running.{ran-events, ran-join, ran-took}
+use Rattle.gc_table.proofs.Running.{ran-events, ran-join, ran-refl, ran-took}
 use Rattle.packet_pools.specs.Seeking.{some_event}
 use Rattle.packet_pools.proofs.Searches.{some-left, some-right}
 use Rattle.alloc_cache.specs.Caching.{IsCached}
@@ -25,16 +25,17 @@ use Rattle.mutator_ops.specs.Few.{AtMost}
 use Rattle.mutator_ops.proofs.Few.{at-most-after, at-most-events, at-most-join, at-most-more, at-most-none}
 use Rattle.gc_cycle.specs.Events.{Sort, first_is}
 use Rattle.gc_cycle.specs.Polling.{poll_found_stop, saw_full}
-use Rattle.gc_cycle.specs.Sorts.{enters_freely, polls, reads_phase, sees_flag, sees_no_flag}
+use Rattle.gc_cycle.specs.Sorts.{polls, reads_phase, sees_flag}
 use Rattle.cache_refills.specs.Trying.{EntersOnce, PassesTo}
 use Rattle.cache_refills.specs.declared.trying.Pass.{Pass}
 use Rattle.cache_refills.specs.declared.trying.Pass.TheVariants as passes
+use Rattle.seat_turns.specs.Coming.{LeavesTurn}
 use Rattle.seat_turns.specs.SeasonLooks.{LooksAtSeason, SeesOther}
 use Rattle.seat_turns.specs.Standing.{LacksFree}
 use Rattle.seat_turns.proofs.Seats.{looks-ran}
-use Rattle.seat_steps.specs.Causes.{ArrivesBy, ComesFreely, EntersBy, FoundStop, GoesFreely, HasFree, LacksBy, LooksBy, LooksFreely, PassesBy, SawOther, finds_flag}
+use Rattle.seat_steps.specs.Causes.{ArrivesBy, ComesFreely, EntersBy, FoundStop, GoesFreely, HasFree, LacksBy, LooksBy, LooksFreely, LooksTo, PassesBy, PassesFreely, SawOther, finds_flag}
 use Rattle.seat_steps.specs.Filling.{TriesSome}
-use Rattle.seat_steps.specs.Arriving.{LacksCell, LeavesWorld}
+use Rattle.seat_steps.specs.Arriving.{Arrives, LacksCell, LeavesWorld}
 use Rattle.seat_steps.specs.declared.came.Came.{Came}
 use Rattle.seat_steps.specs.declared.came.Came.TheVariants as cames
 
@@ -87,8 +88,8 @@ looks_few : (v w : View) → LooksAtSeason v w → AtMost 1 v w
 looks_few v w looks =
     ⊎_elim (λ (same : w ≡ v). subst (λ (x : View). AtMost 1 v x) (sym same) (at-most-none 1 v)) (λ (read : (n : ℕ) × Found ReadSeason n v w). at-most-after v w ReadSeason read.0 read.1.0) looks
 
-two_few : (u v : View) → LooksFreely u v → AtMost 2 u v
-two_few u v l = at-most-events 2 u v _ l.3 (omega arith)
+pub two-few : (u v : View) → LooksFreely u v → AtMost 2 u v
+two-few u v l = at-most-events 2 u v _ l.3 (omega arith)
 
 season_kept : (u v : View) → Ran u v → LooksFreely u v → v.state.season_seen ≡ u.state.season_seen
 season_kept u v r l = ap (λ (x : View). x.state.season_seen) (r.steps ∙ ap (λ (es : List Entry). after_all es u) l.3)
@@ -98,31 +99,35 @@ goes-freely u v w r l s k =
     let q : Ran v w = looks-ran v w s in
     record {
       ran = ran-join u v w r q;
-      free =
-          ap (some_event sees_no_flag) (ran-events u v w r q)
-          ∙ some-left sees_no_flag (events u v) (events v w) (ap (some_event sees_no_flag) l.3 ∙ or_left (not (has_flag l.0)) _ (ap not l.2));
-      few = at-most-join 2 1 u v w r q (two_few u v l) (looks_few v w s);
-      known = λ i. subst (λ (x : View). AtMost 2 u x) (sym (k (ap (λ (o : Option ℕ). is_some o) (season_kept u v r l) ∙ i))) (two_few u v l);
+      looked = v;
+      looks = l;
+      season = s;
+      few = at-most-join 2 1 u v w r q (two-few u v l) (looks_few v w s);
+      known = λ i. subst (λ (x : View). AtMost 2 u x) (sym (k (ap (λ (o : Option ℕ). is_some o) (season_kept u v r l) ∙ i))) (two-few u v l);
     }
 
--- who is at its turn knows the season
-pub turn-known : (o season : Option ℕ) → has_turn o season ≡ true → is_some season ≡ true
-turn-known None season e = absurd (false≢true e)
-turn-known (Some x) None e = absurd (false≢true e)
-turn-known (Some x) (Some n) e = refl
+-- what a safe point did at which nothing hindered the mutator
+pub cache-kept : (v w : View) → PassesFreely v w → w.state.cache ≡ v.state.cache
+cache-kept v w p = ap (λ (x : View). x.state.cache) (p.ran.steps ∙ ap (λ (es : List Entry). after_all es v) p.looks.3)
 
-pub passes-by : (c : Came) (v w : View) → is_some v.state.season_seen ≡ true → ArrivesBy c v w → PassesBy c v w
-passes-by cames.Done v w k g = record { ran = g.ran; free = g.free; few = g.known k }
-passes-by c v w k g = g
+-- and one at which something did
+pub hindered-by : (c : Came) (u v w : View) → (c ≡ cames.Done → ⊥) → LooksTo c u v → Ran u v → LeavesTurn v w → Ran v w → AtMost 5 v w → (KnowsFull v → KnowsFull w) → PassesBy c u w
+hindered-by cames.Done u v w n l a t b few k = absurd (n refl)
+hindered-by cames.Stopped u v w n l a t b few k =
+    let found : FoundStop u v = inl (ap (some_event finds_flag) l.2 ∙ or_left (has_flag l.0) _ l.1) in
+    ((found-left u v w a b found, at-most-join 1 5 u v w a b (at-most-events 1 u v _ l.2 (omega arith)) few), record { looked = v; looks = l; leaves = t })
+hindered-by cames.Full u v w n l a t b few k = (((full-left u v w a b l.1.0, k l.1.1), at-most-join 2 5 u v w a b (two-few u v l.0) few), record { looked = v; looks = l; leaves = t })
+hindered-by c u v w n l a t b few k = absurd l
+
+pub hindered-few : (c : Came) (v w : View) → (c ≡ cames.Done → ⊥) → PassesBy c v w → AtMost 8 v w
+hindered-few cames.Done v w n g = absurd (n refl)
+hindered-few cames.Stopped v w n g = at-most-more 6 8 v w (omega arith) g.0.1
+hindered-few cames.Full v w n g = at-most-more 7 8 v w (omega arith) g.0.1
+hindered-few c v w n g = absurd g
 
 -- on the way in
 pub turns-found : (v w : View) → TurnsBack v w → FoundStop v w
 turns-found v w t = inl (ap (some_event finds_flag) t.events ∙ or_left (has_flag t.word) _ t.flag)
-
-entered_freely : (u v : View) → EntersOnce u v → some_event enters_freely (events u v) ≡ true
-entered_freely u v e =
-    ap (some_event enters_freely) (ran-events u e.entered v e.ran (ran-took e.entered v ReadPhase refl e.reads))
-    ∙ some-left enters_freely (events u e.entered) (events e.entered v) (ap (some_event enters_freely) e.enters.events ∙ or_left (not (has_flag e.enters.word)) _ (ap not e.enters.clear))
 
 entered_few : (u v : View) → EntersOnce u v → AtMost 2 u v
 entered_few u v e =
@@ -132,8 +137,9 @@ pub enters-by : (c : Came) (u v w : View) → Ran u v → EntersOnce u v → Ran
 enters-by cames.Done u v w r e q g =
     record {
       ran = ran-join u v w r q;
-      enters = ap (some_event enters_freely) (ran-events u v w r q) ∙ some-left enters_freely (events u v) (events v w) (entered_freely u v e);
-      free = ap (some_event sees_no_flag) (ran-events u v w r q) ∙ some-right sees_no_flag (events u v) (events v w) g.free;
+      entered = v;
+      enters = e;
+      goes = g;
       few = at-most-join 2 3 u v w r q (entered_few u v e) g.few;
     }
 enters-by cames.Stopped u v w r e q g = (found-right u v w r q g.0, at-most-join 2 8 u v w r q (entered_few u v e) g.1)
@@ -171,21 +177,32 @@ leaves-lacks cames.Stopped h s l = l
 leaves-lacks cames.Full h s l = l
 leaves-lacks c h s l = absurd l
 
+pub arrives-lacks : (c : Came) (h : Heap) (s : HeapSeat) → (c ≡ cames.Done → ⊥) → Arrives c h s → LacksCell c h s
+arrives-lacks cames.Done h s n a = absurd (n refl)
+arrives-lacks cames.Stopped h s n a = a
+arrives-lacks cames.Full h s n a = a
+arrives-lacks c h s n a = absurd a
+
 -- with a cell
-pub comes-free : (v w : View) → is_some v.state.season_seen ≡ true → GoesFreely v w → ComesFreely v w
-comes-free v w k g = record { free = g.free; few = λ _. g.known k; besides = inl (g.known k) }
+pub comes-free : (v w : View) → PassesFreely v w → ComesFreely v w
+comes-free v w p = record { passed = w; passes = p; ran = ran-refl w; few = λ _. p.few; besides = inl p.few }
 
 -- if the cache of the record has a free cell, so does the one in hand
-pub lacking_none : (o kept : Option Cache) (v : View) → IfSome o (λ h. IsCached h v) → IfNone o (v.state.cache ≡ None) → kept ≡ o → LacksFree kept → HasFree v.state.cache → ⊥
+lacking_none : (o kept : Option Cache) (v : View) → IfSome o (λ h. IsCached h v) → IfNone o (v.state.cache ≡ None) → kept ≡ o → LacksFree kept → HasFree v.state.cache → ⊥
 lacking_none None kept v some bare e l f = subst HasFree bare f
 lacking_none (Some h) kept v some bare e l f = not-lacking kept h e (subst HasFree some f) l
 
+pub lacked-before : (o none : Option Cache) (u v : View) → PassesFreely u v → IfSome o (λ h. IsCached h v) → IfNone o (v.state.cache ≡ None) → none ≡ o → LacksFree none → HasFree u.state.cache → ⊥
+lacked-before o none u v p some bare e l f = lacking_none o none v some bare e l (subst HasFree (sym (cache-kept u v p)) f)
+
 pub comes-filled :
-    (o none : Option Cache) (u v w : View) → Ran u v → Ran v w → GoesFreely u v → IfSome o (λ h. IsCached h u) → IfNone o (u.state.cache ≡ None) → none ≡ o → LacksFree none → TriesSome 5 3 u w → ComesFreely u w
-comes-filled o none u v w a b g some bare e l t =
+    (o none : Option Cache) (u v w : View) → PassesFreely u v → Ran v w → IfSome o (λ h. IsCached h v) → IfNone o (v.state.cache ≡ None) → none ≡ o → LacksFree none → TriesSome 5 3 u w → ComesFreely u w
+comes-filled o none u v w p b some bare e l t =
     record {
-      free = ap (some_event sees_no_flag) (ran-events u v w a b) ∙ some-left sees_no_flag (events u v) (events v w) g.free;
-      few = λ f. absurd (lacking_none o none u some bare e l f);
+      passed = v;
+      passes = p;
+      ran = b;
+      few = λ f. absurd (lacked-before o none u v p some bare e l f);
       besides = inr t;
     }
 

@@ -1,5 +1,6 @@
 mod Amounts
 mod Answered
+mod AtTurn
 mod Counted
 pub mod Few
 mod LookedAt

@@ -28,7 +28,7 @@ use Rattle.seat_steps.specs.Arriving.{LeavesWorld}
 use Rattle.seat_steps.specs.declared.came.Came.{Came}
 use Rattle.seat_steps.specs.declared.came.Came.TheVariants as cames
 use Rattle.seat_steps.specs.Refilling.{BeginsSearch, LooksOn, NotesSeen, SeenTo, StepperRefills, blocks_of, looked, reach, refill_steps}
-use Rattle.seat_steps.specs.Stepping.{KeepsAll}
+use Rattle.seat_steps.specs.Stepping.{KeepsHeap, KeepsPlace}
 use Rattle.seat_steps.specs.Steps.{shape_of}
 use Rattle.seat_steps.specs.declared.stepper.Stage.TheVariants as stages
 use Rattle.seat_steps.specs.declared.stepper.Stepper.{Stepper}
@@ -91,22 +91,23 @@ seen-to cames.NotYet number most x m y is seen blocks s = let all = s.0 in let b
 seen-to cames.NoCell number most x m y is seen blocks s = let all = s.1 in (s.0, omega (arith, all, is, seen, blocks))
 seen-to c number most x m y is seen blocks s = absurd s
 
-keeps-noted : (number next : ℕ) (c : Came) (x m y : Stepper) → NotesSeen number next c m y → KeepsAll x m → KeepsAll x y
+keeps-noted : (number next : ℕ) (c : Came) (x m y : Stepper) → NotesSeen number next c m y → KeepsHeap x m → KeepsHeap x y
 keeps-noted number next c x m y n k =
     record {
       heap = ap plain_of n.seat ∙ k.heap;
       leaves = subst (λ (s : HeapSeat). LeavesHeap (view_of x.seat) (view_of s)) (sym n.seat) k.leaves;
       world = ap (λ h. arc_value h) n.heap ∙ k.world;
       name_is = n.name_is ∙ k.name_is;
+      stops = n.stops ∙ k.stops;
     }
 
-refills-on : (most : ℕ) (c : Came) (x y : Stepper) → SeenTo c (looked most x) x y → LooksOn most x y → x.stage ≡ stages.Inside → y.stage ≡ stages.Inside → KeepsAll x y → StepperRefills most c x y
+refills-on : (most : ℕ) (c : Came) (x y : Stepper) → SeenTo c (looked most x) x y → LooksOn most x y → x.stage ≡ stages.Inside → y.stage ≡ stages.Inside → KeepsHeap x y → StepperRefills most c x y
 refills-on most cames.NotYet x y s l e f k = (l, s, e, f, k)
 refills-on most cames.NoCell x y s l e f k = (inl (l, s), e, f, k)
 refills-on most c x y s l e f k = absurd s
 
 -- the piece was to look at this many blocks, and the stepper noted what it saw
-module _ (most n : ℕ) (x m y : Stepper) (reaches : n ≡ reach most x) (shape : (view_of x.seat).shape ≡ shape_of x) (seen : m.seen ≡ x.seen) (blocks : blocks_of m ≡ blocks_of x) (was : x.stage ≡ stages.Inside) (inside : m.stage ≡ stages.Inside) (k : KeepsAll x m) where
+module _ (most n : ℕ) (x m y : Stepper) (reaches : n ≡ reach most x) (shape : (view_of x.seat).shape ≡ shape_of x) (seen : m.seen ≡ x.seen) (blocks : blocks_of m ≡ blocks_of x) (was : x.stage ≡ stages.Inside) (inside : m.stage ≡ stages.Inside) (k : KeepsHeap x m) where
   sought : (p : Piece) → y.seat ≡ m.seat → SeeksOnce 3 GoesFreely x.block n p (view_of x.seat) (view_of m.seat) → SeeksOnce 3 GoesFreely x.block (reach most x) p (view_of x.seat) (view_of y.seat)
   sought p e t = subst (λ (i : ℕ). SeeksOnce 3 GoesFreely x.block i p (view_of x.seat) (view_of y.seat)) reaches (subst (λ (s : HeapSeat). SeeksOnce 3 GoesFreely x.block n p (view_of x.seat) (view_of s)) (sym e) t)
 
@@ -140,7 +141,7 @@ refilled-few most x w shape k =
 -- the mutator has a cache with a free cell
 pub refills-done :
     (most n : ℕ) (x m y : Stepper) → n ≡ reach most x → (view_of x.seat).shape ≡ shape_of x → RefillsBy x.block n soughts.Free (view_of x.seat) (view_of m.seat) → BeginsSearch m y
-    → x.stage ≡ stages.Inside → m.stage ≡ stages.Inside → KeepsAll x m → StepperRefills most cames.Done x y
+    → x.stage ≡ stages.Inside → m.stage ≡ stages.Inside → KeepsHeap x m → StepperRefills most cames.Done x y
 refills-done most n x m y reaches shape r b was inside k =
     let at : RefillsBy x.block (reach most x) soughts.Free (view_of x.seat) (view_of y.seat) = subst (λ (i : ℕ). RefillsBy x.block i soughts.Free (view_of x.seat) (view_of y.seat)) reaches (subst (λ (s : HeapSeat). RefillsBy x.block n soughts.Free (view_of x.seat) (view_of s)) (sym b.seat) r) in (
       at,
@@ -153,6 +154,7 @@ refills-done most n x m y reaches shape r b was inside k =
         leaves = subst (λ (s : HeapSeat). LeavesHeap (view_of x.seat) (view_of s)) (sym b.seat) k.leaves;
         world = ap (λ h. arc_value h) b.heap ∙ k.world;
         name_is = b.name_is ∙ k.name_is;
+        stops = b.stops ∙ k.stops;
       },
     )
 
@@ -172,7 +174,7 @@ ended-of from n s v w is r = subst (λ (t : Sought). RefillsBy from n t v w) is 
 pub free-of : (from n : ℕ) (s : Sought) (v w : View) → s ≡ soughts.Free → RefillsBy from n s v w → RefillsBy from n soughts.Free v w
 free-of from n s v w is r = subst (λ (t : Sought). RefillsBy from n t v w) is r
 
-pub refills-out : (most : ℕ) (c : Came) (h : Heap) (x y : Stepper) → (view_of x.seat).shape ≡ shape_of x → LeavesWorld c h y.seat → FailsBy 3 x.block (reach most x) c (view_of x.seat) (view_of y.seat) → x.stage ≡ stages.Inside → y.stage ≡ stages.Outside → KeepsAll x y → StepperRefills most c x y
-refills-out most cames.Stopped h x y shape l p e f k = (p, longest_in most 8 (AtMost 8) x (view_of y.seat) p.1.0 (omega arith) shape p.1.1 p.1.1.later, e, f, k)
-refills-out most cames.Full h x y shape l p e f k = (p, longest_in most 8 (AtMost 8) x (view_of y.seat) p.1.0 (omega arith) shape p.1.1 p.1.1.later, e, f, k)
-refills-out most c h x y shape l p e f k = absurd l
+pub refills-out : (most : ℕ) (c : Came) (h : Heap) (x y : Stepper) → (view_of x.seat).shape ≡ shape_of x → LeavesWorld c h y.seat → FailsBy 3 x.block (reach most x) c (view_of x.seat) (view_of y.seat) → x.stage ≡ stages.Inside → y.stage ≡ stages.Outside → KeepsHeap x y → KeepsPlace x y → StepperRefills most c x y
+refills-out most cames.Stopped h x y shape l p e f k q = (p, longest_in most 8 (AtMost 8) x (view_of y.seat) p.1.0 (omega arith) shape p.1.1 p.1.1.later, e, f, k, q)
+refills-out most cames.Full h x y shape l p e f k q = (p, longest_in most 8 (AtMost 8) x (view_of y.seat) p.1.0 (omega arith) shape p.1.1 p.1.1.later, e, f, k, q)
+refills-out most c h x y shape l p e f k q = absurd l

@@ -12,9 +12,8 @@ use Rattle.gc_table.specs.declared.view.View.{View}
 use Rattle.gc_table.proofs.Running.{ran-events, ran-join, ran-refl}
 use Rattle.mark_core.specs.declared.kinds.Shape.{Shape}
 use Rattle.packet_pools.specs.Seeking.{some_event}
-use Rattle.packet_pools.proofs.Searches.{some-left}
 use Rattle.plain_heap.specs.declared.operation.Op.{Op}
-use Rattle.gc_cycle.specs.Sorts.{sees_no_flag, pops}
+use Rattle.gc_cycle.specs.Sorts.{pops}
 use Rattle.alloc_cache.specs.Caching.{IsCached}
 use Rattle.alloc_cache.specs.declared.cache.Cache.{Cache}
 use Rattle.gc_cycle.specs.Sparing.{SparesRefill}
@@ -32,14 +31,14 @@ use Rattle.mutator_ops.specs.Few.{AtMost}
 use Rattle.mutator_ops.proofs.Few.{at-most-join, at-most-more, at-most-none}
 use Rattle.seat_turns.specs.Standing.{Works, plain_of, Halts, IsMutatorOutside}
 use Rattle.seat_turns.proofs.Seats.{kept-works, going-seen, mutator-kept}
-use Rattle.seat_steps.specs.Causes.{ArrivesBy, GoesFreely, HasFree}
+use Rattle.seat_steps.specs.Causes.{ArrivesBy, GoesFreely, HasFree, PassesBy, PassesFreely}
 use Rattle.seat_steps.specs.Seeking.{CachedBy, FailsBy, MakesHere, MakesOwn, RefillsBy, SeeksOnce, SoughtBy, StandsAfter, TriesPiece}
 use Rattle.seat_steps.specs.Arriving.{Arrives, LeavesWorld, Passes, Refills, Tries}
 use Rattle.seat_steps.specs.declared.seeking.Sought.{Sought}
 use Rattle.seat_steps.specs.declared.seeking.Sought.TheVariants as soughts
 use Rattle.seat_steps.specs.declared.came.Came.{Came}
 use Rattle.seat_steps.specs.declared.came.Came.TheVariants as cames
-use Rattle.seat_steps.proofs.Found.{found-right, full-left, full-right}
+use Rattle.seat_steps.proofs.Found.{cache-kept, found-right, full-left, full-right}
 use Rattle.std.proofs.lemmas.Bool.{false≢true}
 use Rattle.mark_core.specs.Seats.{has_turn}
 use Rattle.cache_refills.specs.Pace.Paying.{pops_where_paid}
@@ -173,14 +172,16 @@ pub seeks-full : (from most : ℕ) (v w x : View) → Ran v w → TriesPiece fro
 seeks-full from most v w x a t b few known = ((full-left v w x a b t.gets.read, known), (pieces.Full, seeks from most pieces.Full v w x a t b (AtMost 8) (at-most-more 2 8 w x (omega arith) few)))
 
 -- an object was made of a cell of the cache
-pub makes-own : (h : Heap) (x : HeapSeat) (v w : View) → Sits h x → Ran v w → GoesFreely (view_of x) v → is_some (view_of x).state.season_seen ≡ true → HasFree (view_of x).state.cache → AtMost (h.shape.fields + 3) v w → MakesOwn (view_of x) w
-makes-own h x v w sits b g known had m =
+pub makes-own : (h : Heap) (x : HeapSeat) (v w : View) → Sits h x → Ran v w → PassesFreely (view_of x) v → HasFree v.state.cache → AtMost (h.shape.fields + 3) v w → MakesOwn (view_of x) w
+makes-own h x v w sits b p had m =
     let u : View = view_of x in
     let same : u.shape.fields ≡ h.shape.fields = ap (λ (sh : Shape). sh.fields) sits.1 in
     record {
-      had = had;
-      free = ap (some_event sees_no_flag) (ran-events u v w g.ran b) ∙ some-left sees_no_flag (events u v) (events v w) g.free;
-      few = at-most-more (2 + (h.shape.fields + 3)) (u.shape.fields + 5) u w (omega (arith, same)) (at-most-join 2 (h.shape.fields + 3) u v w g.ran b (g.known known) m);
+      had = subst HasFree (cache-kept u v p) had;
+      passed = v;
+      passes = p;
+      ran = b;
+      few = at-most-more (2 + (h.shape.fields + 3)) (u.shape.fields + 5) u w (omega (arith, same)) (at-most-join 2 (h.shape.fields + 3) u v w p.ran b p.few m);
     }
 
 -- or the mutator left
@@ -189,9 +190,10 @@ missed op cames.Stopped h x y l same = (l, same)
 missed op cames.Full h x y l same = (l, same)
 missed op c h x y l same = absurd l
 
-pub misses : (c : Came) (h : Heap) (s : HeapSeat) (v w : View) → LeavesWorld c h s → ArrivesBy c v w → CachedBy c v w
-misses cames.Stopped h s v w l g = g
-misses cames.Full h s v w l g = g
-misses c h s v w l g = absurd l
+pub misses : (c : Came) (v w : View) → (c ≡ cames.Done → ⊥) → PassesBy c v w → CachedBy c v w
+misses cames.Done v w n g = absurd (n refl)
+misses cames.Stopped v w n g = g
+misses cames.Full v w n g = g
+misses c v w n g = absurd g
 
 pub ruleset trying = (has-section, tries-enter, tries-pass)

@@ -102,8 +102,24 @@ pub sits-on : (g h : Heap) (s : HeapSeat) → g ≡ h → Sits g s → Sits h s
 sits-on g h s e sits = subst (λ (i : Heap). Sits i s) e sits
 
 -- so a stepper keeps all
-pub keeps-all : (x y : Stepper) → Kept x.seat y.seat → arc_value y.heap ≡ arc_value x.heap → y.name ≡ x.name → KeepsAll x y
-keeps-all x y k world name = record { heap = k.same; leaves = k.leaves; world = world; name_is = name }
+abbrev rest_of : Stepper → ℕ × Bool × ℕ × ℕ × ℕ
+rest_of x = (x.name, x.in_stops, x.paid, x.block, x.seen)
+
+pub keeps-all : (x y : Stepper) → Kept x.seat y.seat → arc_value y.heap ≡ arc_value x.heap → rest_of y ≡ rest_of x → KeepsAll x y
+keeps-all x y k world rest =
+    record {
+      heap = k.same;
+      leaves = k.leaves;
+      world = world;
+      name_is = ap (λ (t : ℕ × Bool × ℕ × ℕ × ℕ). t.0) rest;
+      stops = ap (λ (t : ℕ × Bool × ℕ × ℕ × ℕ). t.1) rest;
+      search =
+          record {
+            paid_is = ap (λ (t : ℕ × Bool × ℕ × ℕ × ℕ). t.2) rest;
+            block = ap (λ (t : ℕ × Bool × ℕ × ℕ × ℕ). t.3) rest;
+            seen = ap (λ (t : ℕ × Bool × ℕ × ℕ × ℕ). t.4) rest;
+          };
+    }
 
 -- and its collection goes on
 pub goes-on : {Stands Since : View → Type 0} (g h : Heap) (x y : HeapSeat) → g ≡ h → IsMutator (view_of x) → Kept x y → Sits g y → Stands (view_of y) → Since (view_of y) → Collects Stands Since h y

@@ -1,11 +1,11 @@
 -- Where a seat is after it tried to enter, to come to its turn, or to make an object.
-use Rattle.std.specs.Prelude.{◌≡◌, ◌<◌, Option, None}
+use Rattle.std.specs.Prelude.{◌≡◌, ◌<◌, Option, None, IsTrue}
 use Rattle.std.specs.Int.Count.{ones}
 use Rattle.plain_heap.specs.declared.operation.Op.{Op}
 use Rattle.gc_table.specs.PlainSteps.{HasSeenPhase}
 use Rattle.gc_table.specs.Rule.{KnowsFull}
 use Rattle.gc_table.specs.Seats.{view_of}
-use Rattle.alloc_cache.specs.Caching.{IsCached}
+use Rattle.alloc_cache.specs.Caching.{IsCached, is_whole}
 use Rattle.alloc_cache.specs.declared.cache.Cache.{Cache}
 use Rattle.gc_cycle.specs.Answering.{HasCache}
 use Rattle.gc_cycle.specs.declared.counts.Refill.{Refill}
@@ -34,6 +34,13 @@ Passes passes.Out h s kept = IsMutatorOutside h s × (kept ≡ None)
 -- where it is after a safe point at which it goes on
 abbrev pub HasPassed : Heap → HeapSeat → Type 0
 HasPassed h s = (kept : Option Cache) × Passes passes.Going h s kept
+
+-- where it is after it looked at its turn whether anything hinders it
+abbrev pub HasLooked : Came → Heap → HeapSeat → Type 0
+HasLooked cames.Done h s = IsAtTurn h s
+HasLooked cames.Stopped h s = Works h s × IsTrue (is_whole (view_of s).state.cache)
+HasLooked cames.Full h s = Works h s × IsTrue (is_whole (view_of s).state.cache) × KnowsFull (view_of s)
+HasLooked c h s = ⊥
 
 -- where it is after it asked for a cache
 abbrev pub Refills : Refill → Heap → HeapSeat → Type 0

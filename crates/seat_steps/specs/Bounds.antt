@@ -2,7 +2,7 @@
 -- to, how many cells it pops, how many cards it cleans, or how many stretches of blocks it clears or sweeps. Cells are popped only while it traces, and stretches
 -- are drawn only while it clears or sweeps. A bound depends on how many packets the heap has, how many references an object, and how many blocks a stretch, and
 -- not on the number of cells, cards or roots.
-use Rattle.std.specs.Prelude.{ℕ, ◌≡◌, ◌≤◌, ◌+◌, ◌*◌}
+use Rattle.std.specs.Prelude.{ℕ, ◌≡◌, ◌≤◌, ◌+◌, ◌*◌, Bool}
 use Rattle.gc_table.specs.Running.{Ran}
 use Rattle.gc_table.specs.Seats.{Across}
 use Rattle.gc_table.specs.declared.view.View.{View}
@@ -81,7 +81,7 @@ IsBounded s t most x y = ⊥
 abbrev pub IsBoundedStep : ℕ → Stepper → Stepper → Type 0
 IsBoundedStep most x y = IsBounded x.stage y.stage most x y
 
--- what a step with this bound came to
-abbrev pub CollectsAtMost : ℕ → Came → Stepper → Stepper → Type 0
-CollectsAtMost most cames.OutOfRange x y = (most ≡ 0) × (y ≡ x)
-CollectsAtMost most came x y = StepsCollection most came x y × IsBoundedStep most x y
+-- what a step with this bound came to; a collection that it began is to be precise, or not
+abbrev pub CollectsAtMost : Bool → ℕ → Came → Stepper → Stepper → Type 0
+CollectsAtMost precise most cames.OutOfRange x y = (most ≡ 0) × (y ≡ x)
+CollectsAtMost precise most came x y = StepsCollection precise most came x y × IsBoundedStep most x y

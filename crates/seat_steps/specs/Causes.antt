@@ -13,10 +13,11 @@ use Rattle.packet_pools.specs.Seeking.{some_event}
 use Rattle.alloc_cache.specs.declared.cache.Cache.{Cache}
 use Rattle.mutator_ops.specs.Few.{AtMost}
 use Rattle.gc_cycle.specs.Polling.{saw_full}
-use Rattle.gc_cycle.specs.Sorts.{enters_freely, sees_no_flag}
+use Rattle.cache_refills.specs.Trying.{EntersOnce}
 use Rattle.cache_refills.specs.declared.trying.Pass.{Pass}
 use Rattle.cache_refills.specs.declared.trying.Pass.TheVariants as passes
-use Rattle.seat_turns.specs.SeasonLooks.{SeesOther}
+use Rattle.seat_turns.specs.Coming.{LeavesTurn}
+use Rattle.seat_turns.specs.SeasonLooks.{LooksAtSeason, SeesOther}
 use Rattle.seat_steps.specs.Filling.{FewBesides, TriesOnce, TriesSome, filling_steps, make_steps, search_steps}
 use Rattle.seat_steps.specs.declared.came.Came.{Came}
 use Rattle.seat_steps.specs.declared.came.Came.TheVariants as cames
@@ -65,24 +66,40 @@ LooksBy passes.Going handed kept v w = (kept ≡ handed) × LooksFreely v w
 LooksBy passes.Out handed kept v w = IsTrue (some_event finds_flag (events v w))
 LooksBy passes.Full handed kept v w = IsTrue (saw_full (events v w))
 
--- a look at the world found no stop; one step more was taken at most, and a second if the season wasn't known
+-- one look at the world found no stop, one at the phase followed, and one at the season if it wasn't known; nothing else was done
 pub record GoesFreely (v w : View) : Type 0 where
   pub ran : Ran v w
-  pub free : IsTrue (some_event sees_no_flag (events v w))
+  pub looked : View
+  pub looks : LooksFreely v looked
+  pub season : LooksAtSeason looked w
   pub few : AtMost 3 v w
   pub known : IsTrue (is_some v.state.season_seen) → AtMost 2 v w
 
--- a look at the world found no stop, and one step more was taken at most
+-- what the looks of a mutator at its turn came to: nothing hinders it, a stop is under way, or the heap is full
+abbrev pub LooksTo : Came → View → View → Type 0
+LooksTo cames.Done v w = LooksFreely v w
+LooksTo cames.Stopped v w = (found : ℕ) × IsTrue (has_flag found) × (events v w ≡ event Observe found ∷ [])
+LooksTo cames.Full v w = LooksFreely v w × FoundFull v w
+LooksTo c v w = ⊥
+
+-- so it looked, and then it gave up the cache that it had, stored its position, and left
+pub record LeavesAfterLook (c : Came) (v w : View) : Type 0 where
+  pub looked : View
+  pub looks : LooksTo c v looked
+  pub leaves : LeavesTurn looked w
+
+-- one look at the world found no stop, and one at the phase followed, and nothing else was done
 pub record PassesFreely (v w : View) : Type 0 where
   pub ran : Ran v w
-  pub free : IsTrue (some_event sees_no_flag (events v w))
+  pub looks : LooksFreely v w
   pub few : AtMost 2 v w
 
--- the seat entered while no stop was under way, and a look at the world found none after that
+-- the seat entered while no stop was under way and read the phase, and a look at the world found none after that
 pub record EntersFreely (v w : View) : Type 0 where
   pub ran : Ran v w
-  pub enters : IsTrue (some_event enters_freely (events v w))
-  pub free : IsTrue (some_event sees_no_flag (events v w))
+  pub entered : View
+  pub enters : EntersOnce v entered
+  pub goes : GoesFreely entered w
   pub few : AtMost 5 v w
 
 -- the cache has a free cell
@@ -90,16 +107,20 @@ abbrev pub HasFree : Option CacheState → Type 0
 HasFree None = ⊥
 HasFree (Some c) = 0 < ones c.free
 
--- a look at the world found no stop; if the seat had a cache with a free cell, one step more was taken at most; else a try to get one was made besides
+-- a safe point found no stop; if the seat had a cache with a free cell, nothing else was done; else a try to get one was made besides
 pub record ComesFreely (v w : View) : Type 0 where
-  pub free : IsTrue (some_event sees_no_flag (events v w))
+  pub passed : View
+  pub passes : PassesFreely v passed
+  pub ran : Ran passed w
   pub few : HasFree v.state.cache → AtMost 2 v w
   pub besides : FewBesides 2 5 3 v w
 
--- a look at the world found no stop; if the seat had a cache with a free cell, an object was made by this many steps; else by this many, and a try to get a cell;
--- and by this many in all
+-- a safe point found no stop; if the seat had a cache with a free cell, an object was made by this many steps; else by this many, and a try to get a cell; and by
+-- this many in all
 pub record MakesFreely (v w : View) : Type 0 where
-  pub free : IsTrue (some_event sees_no_flag (events v w))
+  pub passed : View
+  pub passes : PassesFreely v passed
+  pub ran : Ran passed w
   pub few : HasFree v.state.cache → AtMost (v.shape.fields + 5) v w
   pub besides : FewBesides (v.shape.fields + 5) 5 (v.shape.fields + 6) v w
   pub longest : AtMost (make_steps v.shape) v w
@@ -114,8 +135,8 @@ ArrivesBy c v w = ⊥
 -- what it found at a safe point
 abbrev pub PassesBy : Came → View → View → Type 0
 PassesBy cames.Done v w = PassesFreely v w
-PassesBy cames.Stopped v w = FoundStopIn 8 v w
-PassesBy cames.Full v w = FoundFullIn 8 v w
+PassesBy cames.Stopped v w = FoundStopIn 6 v w × LeavesAfterLook cames.Stopped v w
+PassesBy cames.Full v w = FoundFullIn 7 v w × LeavesAfterLook cames.Full v w
 PassesBy c v w = ⊥
 
 -- what it found on its way in

@@ -12,14 +12,20 @@ use Rattle.seat_steps.specs.declared.stepper.Stage.{Stage}
 use Rattle.seat_steps.specs.declared.stepper.Stage.TheVariants.{Inside, Outside}
 use Rattle.seat_steps.specs.declared.stepper.Stepper.{Stepper}
 
--- the stepper is this seat's, outside the world, and has paid nothing
+-- the stepper has paid nothing, and its search for a free cell begins at the first block and has seen none
+pub record IsNewStepper (s : Stepper) : Type 0 where
+  pub unpaid : s.paid ≡ 0
+  pub first : s.block ≡ 0
+  pub unseen : s.seen ≡ 0
+
+-- the stepper is this seat's, outside the world; it has paid nothing, and its search for a free cell has seen no block
 pub record IsSteppedBy (r : RestingSeat) (s : Stepper) : Type 0 where
   pub outside : s.stage ≡ Outside
   pub seat : s.seat ≡ r.seat
   pub heap : s.heap ≡ r.heap
   pub name_is : s.name ≡ r.name
   pub stops : s.in_stops ≡ r.in_stops
-  pub unpaid : s.paid ≡ 0
+  pub new : IsNewStepper s
 
 -- what letting go of it did, by where the stepper was: nothing; or the cache was given up, the position stored, and the world left, by 5 steps at most
 abbrev pub StopsFrom : Stage → View → View → Type 0

@@ -17,14 +17,14 @@ use Rattle.seat_steps.specs.Seeking.{CachedBy, FailsBy, RefillsBy, SeeksOnce}
 use Rattle.seat_steps.specs.declared.seeking.Sought.TheVariants as soughts
 use Rattle.seat_steps.specs.declared.came.Came.{Came}
 use Rattle.seat_steps.specs.declared.came.Came.TheVariants as cames
-use Rattle.seat_steps.specs.Stepping.{KeepsAll, StepperDoes, fields_in, heap_of_stepper, is_collecting}
+use Rattle.seat_steps.specs.Stepping.{KeepsAll, KeepsHeap, KeepsPlace, KeepsSearch, StepperDoes, fields_in, heap_of_stepper, is_collecting}
 use Rattle.seat_steps.specs.Steps.{shape_of}
 use Rattle.seat_steps.specs.declared.stepper.Stage.TheVariants.{Inside, Outside}
 use Rattle.seat_steps.specs.declared.stepper.Stepper.{Stepper}
 
 -- what making an object of a cell of the cache came to, if the section may make one
 abbrev pub MakesCached : Came → Op → Stepper → Stepper → Type 0
-MakesCached cames.Done op x y = StepperDoes op x y × Across (CachedBy cames.Done) x.seat y.seat
+MakesCached cames.Done op x y = StepperDoes op x y × Across (CachedBy cames.Done) x.seat y.seat × KeepsSearch x y
 MakesCached cames.OutOfRange op x y = (IsInRange (fields_in x) op → ⊥) × (y ≡ x)
 MakesCached cames.Outside op x y = (x.stage ≡ Outside) × (y ≡ x)
 MakesCached cames.Collecting op x y = IsTrue (is_collecting x.stage) × (y ≡ x)
@@ -57,6 +57,7 @@ pub record NotesSeen (number next : ℕ) (came : Came) (x y : Stepper) : Type 0 
   pub stage : y.stage ≡ x.stage
   pub heap : y.heap ≡ x.heap
   pub name_is : y.name ≡ x.name
+  pub stops : y.in_stops ≡ x.in_stops
   pub paid_is : y.paid ≡ x.paid
   pub block : y.block ≡ next
   pub seen : SeenTo came number x y
@@ -76,6 +77,7 @@ pub record BeginsSearch (x y : Stepper) : Type 0 where
   pub stage : y.stage ≡ x.stage
   pub heap : y.heap ≡ x.heap
   pub name_is : y.name ≡ x.name
+  pub stops : y.in_stops ≡ x.in_stops
   pub paid_is : y.paid ≡ x.paid
   pub search : IsToSearch y
 
@@ -88,10 +90,11 @@ pub record LooksOn (most : ℕ) (x y : Stepper) : Type 0 where
   pub few : Across (AtMost (3 * reach most x + 11)) x.seat y.seat
   pub next : (y.block ≡ x.block + looked most x) ⊎ ((y.block ≡ 0) × (x.block + looked most x ≡ blocks_of x))
 
--- marking was done, and no block was looked at; then a look at the world found no stop
+-- marking was done, and no block was looked at; then a look at the world found no stop; the search stands where it stood
 pub record FindsMarked (most : ℕ) (x y : Stepper) : Type 0 where
   pub seeks : Across (SeeksOnce 3 GoesFreely x.block (reach most x) pieces.MarkingDone) x.seat y.seat
   pub few : Across (AtMost 11) x.seat y.seat
+  pub place : KeepsPlace x y
 
 -- why a collection is called for: as many blocks were seen as there are, in this step and those before it, or marking was done
 abbrev pub LacksAll : ℕ → Stepper → Stepper → Type 0
@@ -103,11 +106,11 @@ refill_steps most x = 3 * reach most x + payment_steps 1024 card_looks (shape_of
 
 -- what a step of a refill came to
 abbrev pub StepperRefills : ℕ → Came → Stepper → Stepper → Type 0
-StepperRefills most cames.Done x y = RefillsBy x.block (reach most x) soughts.Free (view_of x.seat) (view_of y.seat) × Across (AtMost (refill_steps most x)) x.seat y.seat × IsToSearch y × (x.stage ≡ Inside) × (y.stage ≡ Inside) × KeepsAll x y
-StepperRefills most cames.NotYet x y = LooksOn most x y × SeenTo cames.NotYet (looked most x) x y × (x.stage ≡ Inside) × (y.stage ≡ Inside) × KeepsAll x y
-StepperRefills most cames.NoCell x y = LacksAll most x y × (x.stage ≡ Inside) × (y.stage ≡ Inside) × KeepsAll x y
-StepperRefills most cames.Stopped x y = Across (FailsBy 3 x.block (reach most x) cames.Stopped) x.seat y.seat × Across (AtMost (refill_steps most x)) x.seat y.seat × (x.stage ≡ Inside) × (y.stage ≡ Outside) × KeepsAll x y
-StepperRefills most cames.Full x y = Across (FailsBy 3 x.block (reach most x) cames.Full) x.seat y.seat × Across (AtMost (refill_steps most x)) x.seat y.seat × (x.stage ≡ Inside) × (y.stage ≡ Outside) × KeepsAll x y
+StepperRefills most cames.Done x y = RefillsBy x.block (reach most x) soughts.Free (view_of x.seat) (view_of y.seat) × Across (AtMost (refill_steps most x)) x.seat y.seat × IsToSearch y × (x.stage ≡ Inside) × (y.stage ≡ Inside) × KeepsHeap x y
+StepperRefills most cames.NotYet x y = LooksOn most x y × SeenTo cames.NotYet (looked most x) x y × (x.stage ≡ Inside) × (y.stage ≡ Inside) × KeepsHeap x y
+StepperRefills most cames.NoCell x y = LacksAll most x y × (x.stage ≡ Inside) × (y.stage ≡ Inside) × KeepsHeap x y
+StepperRefills most cames.Stopped x y = Across (FailsBy 3 x.block (reach most x) cames.Stopped) x.seat y.seat × Across (AtMost (refill_steps most x)) x.seat y.seat × (x.stage ≡ Inside) × (y.stage ≡ Outside) × KeepsHeap x y × KeepsPlace x y
+StepperRefills most cames.Full x y = Across (FailsBy 3 x.block (reach most x) cames.Full) x.seat y.seat × Across (AtMost (refill_steps most x)) x.seat y.seat × (x.stage ≡ Inside) × (y.stage ≡ Outside) × KeepsHeap x y × KeepsPlace x y
 StepperRefills most cames.OutOfRange x y = (most ≡ 0) × (y ≡ x)
 StepperRefills most cames.Outside x y = (x.stage ≡ Outside) × (y ≡ x)
 StepperRefills most cames.Collecting x y = IsTrue (is_collecting x.stage) × (y ≡ x)

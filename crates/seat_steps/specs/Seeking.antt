@@ -1,5 +1,5 @@
 -- A mutator's search for a cell in pieces: what a piece of it came to, where it left the seat, and how many steps were taken.
-use Rattle.std.specs.Prelude.{ℕ, ◌≡◌, ◌<◌, ◌≤◌, ◌+◌, ◌*◌, ◌⊎◌, length, IfSome, IsTrue}
+use Rattle.std.specs.Prelude.{ℕ, ◌≡◌, ◌<◌, ◌≤◌, ◌+◌, ◌*◌, ◌⊎◌, length, IfSome}
 use Rattle.std.specs.Int.Count.{ones}
 use Rattle.gc_table.specs.Log.{events}
 use Rattle.gc_table.specs.Rule.{KnowsFull}
@@ -11,9 +11,7 @@ use Rattle.gc_table.specs.declared.view.View.{View}
 use Rattle.alloc_cache.specs.Caching.{IsCached}
 use Rattle.alloc_cache.specs.declared.cache.Cache.{Cache}
 use Rattle.mutator_ops.specs.Few.{AtMost}
-use Rattle.gc_cycle.specs.Sorts.{sees_no_flag}
 use Rattle.gc_cycle.specs.declared.counts.Paid.{Paid}
-use Rattle.packet_pools.specs.Seeking.{some_event}
 use Rattle.plain_heap.specs.declared.operation.Op.{Op}
 use Rattle.cache_refills.specs.Getting.{RefillsTo}
 use Rattle.cache_refills.specs.Pace.Pacing.{card_looks}
@@ -22,7 +20,7 @@ use Rattle.cache_refills.specs.Pieces.{IsShort, SeesTo, refill_of}
 use Rattle.cache_refills.specs.declared.pieces.Piece.{Piece}
 use Rattle.cache_refills.specs.declared.pieces.Piece.TheVariants as pieces
 use Rattle.seat_turns.specs.Standing.{Halts, IsAtTurn, Works, plain_of}
-use Rattle.seat_steps.specs.Causes.{FoundFull, FoundFullIn, FoundStop, FoundStopIn, GoesFreely, HasFree, PassesFreely}
+use Rattle.seat_steps.specs.Causes.{FoundFull, FoundStop, GoesFreely, HasFree, PassesBy, PassesFreely}
 use Rattle.seat_steps.specs.Doing.{Does}
 use Rattle.seat_steps.specs.Arriving.{LeavesWorld}
 use Rattle.seat_steps.specs.declared.seeking.Sought.{Sought}
@@ -76,18 +74,20 @@ abbrev pub RefillsBy : ℕ → ℕ → Sought → View → View → Type 0
 RefillsBy from most soughts.Free v w = HasFree w.state.cache × ((w ≡ v) ⊎ ((h : Cache) × (paid : Paid) × SeeksOnce 3 GoesFreely from most (pieces.Cache h paid) v w))
 RefillsBy from most sought v w = SoughtBy 3 from most sought v w
 
--- a look at the world found no stop, and an object was made of a cell that was free in the seat's cache, by this many steps at most
+-- a safe point found no stop, and an object was made of a cell that was free in the seat's cache, by this many steps at most
 pub record MakesOwn (v w : View) : Type 0 where
   pub had : HasFree v.state.cache
-  pub free : IsTrue (some_event sees_no_flag (events v w))
+  pub passed : View
+  pub passes : PassesFreely v passed
+  pub ran : Ran passed w
   pub few : AtMost (v.shape.fields + 5) v w
 
 -- what a mutator found that was to make an object of its cache
 abbrev pub CachedBy : Came → View → View → Type 0
 CachedBy cames.Done v w = MakesOwn v w
 CachedBy cames.NoCache v w = PassesFreely v w × (HasFree v.state.cache → ⊥)
-CachedBy cames.Stopped v w = FoundStopIn 8 v w
-CachedBy cames.Full v w = FoundFullIn 8 v w
+CachedBy cames.Stopped v w = PassesBy cames.Stopped v w
+CachedBy cames.Full v w = PassesBy cames.Full v w
 CachedBy c v w = ⊥
 
 -- where it is then

@@ -12,7 +12,7 @@ use Rattle.seat_turns.specs.Coming.{LeavesTurn}
 use Rattle.seat_turns.specs.Sharing.{LeavesHeap}
 use Rattle.seat_turns.specs.Standing.{plain_of}
 use Rattle.seat_steps.specs.Doing.{Does, FindsNone, FindsSome}
-use Rattle.seat_steps.specs.Causes.{EntersFreely, FoundFullIn, FoundStopIn, MakesBy, MakesFreely, PassesFreely}
+use Rattle.seat_steps.specs.Causes.{EntersFreely, FoundFullIn, FoundStopIn, MakesBy, MakesFreely, PassesBy, PassesFreely}
 use Rattle.seat_steps.specs.declared.came.Came.{Came}
 use Rattle.seat_steps.specs.declared.came.Came.TheVariants as cames
 use Rattle.seat_steps.specs.declared.stepper.Stage.{Stage}
@@ -38,11 +38,32 @@ is_collecting Outside = false
 is_collecting stage = true
 
 -- neither the objects nor the variables changed, no step was taken that a plain heap sees, and the stepper is of the same world
+pub record KeepsHeap (x y : Stepper) : Type 0 where
+  pub heap : heap_of_stepper y ≡ heap_of_stepper x
+  pub leaves : Across LeavesHeap x.seat y.seat
+  pub world : arc_value y.heap ≡ arc_value x.heap
+  pub name_is : y.name ≡ x.name
+  pub stops : y.in_stops ≡ x.in_stops
+
+-- its search for a free cell stands where it stood
+pub record KeepsPlace (x y : Stepper) : Type 0 where
+  pub block : y.block ≡ x.block
+  pub seen : y.seen ≡ x.seen
+
+-- and it has counted what it paid as before
+pub record KeepsSearch (x y : Stepper) : Type 0 where
+  pub paid_is : y.paid ≡ x.paid
+  pub block : y.block ≡ x.block
+  pub seen : y.seen ≡ x.seen
+
+-- all of it is kept
 pub record KeepsAll (x y : Stepper) : Type 0 where
   pub heap : heap_of_stepper y ≡ heap_of_stepper x
   pub leaves : Across LeavesHeap x.seat y.seat
   pub world : arc_value y.heap ≡ arc_value x.heap
   pub name_is : y.name ≡ x.name
+  pub stops : y.in_stops ≡ x.in_stops
+  pub search : KeepsSearch x y
 
 -- one operation was done by a stepper inside the world, and nothing else
 pub record StepperDoes (op : Op) (x y : Stepper) : Type 0 where
@@ -52,6 +73,7 @@ pub record StepperDoes (op : Op) (x y : Stepper) : Type 0 where
   pub does : Does op (arc_value x.heap) x.seat y.seat
   pub world : arc_value y.heap ≡ arc_value x.heap
   pub name_is : y.name ≡ x.name
+  pub stops : y.in_stops ≡ x.in_stops
 
 -- the call took this many steps at most as the operation may
 abbrev pub TakesFew : Op → Stepper → Stepper → Type 0
@@ -59,7 +81,7 @@ TakesFew op x y = Across (AtMost (most_steps (fields_in x) op)) x.seat y.seat
 
 -- what an operation came to: it was done, or the stepper is as it was
 abbrev pub Operates : Came → Op → Stepper → Stepper → Type 0
-Operates cames.Done op x y = StepperDoes op x y × TakesFew op x y
+Operates cames.Done op x y = StepperDoes op x y × TakesFew op x y × KeepsSearch x y
 Operates cames.OutOfRange op x y = (IsInRange (fields_in x) op → ⊥) × (y ≡ x)
 Operates cames.Outside op x y = (x.stage ≡ Outside) × (y ≡ x)
 Operates cames.Collecting op x y = IsTrue (is_collecting x.stage) × (y ≡ x)
@@ -67,14 +89,14 @@ Operates c op x y = ⊥
 
 -- what making an object came to: besides, no cell was free, or the stepper is spent, or it left, as a stop is under way or the heap is full
 abbrev pub StepperMakes : Came → Op → Stepper → Stepper → Type 0
-StepperMakes cames.Done op x y = StepperDoes op x y × Across MakesFreely x.seat y.seat
+StepperMakes cames.Done op x y = StepperDoes op x y × Across MakesFreely x.seat y.seat × KeepsPlace x y
 StepperMakes cames.OutOfRange op x y = (IsInRange (fields_in x) op → ⊥) × (y ≡ x)
 StepperMakes cames.Outside op x y = (x.stage ≡ Outside) × (y ≡ x)
 StepperMakes cames.Collecting op x y = IsTrue (is_collecting x.stage) × (y ≡ x)
-StepperMakes cames.NoCell op x y = Across (MakesBy cames.NoCell) x.seat y.seat × (x.stage ≡ Inside) × (y.stage ≡ Inside) × KeepsAll x y
+StepperMakes cames.NoCell op x y = Across (MakesBy cames.NoCell) x.seat y.seat × (x.stage ≡ Inside) × (y.stage ≡ Inside) × KeepsHeap x y × KeepsPlace x y
 StepperMakes cames.Spent op x y = ((arc_value x.heap).shape.objects ≤ length (heap_of_stepper x).objects) × (x.stage ≡ Inside) × (y ≡ x)
-StepperMakes cames.Stopped op x y = Across (MakesBy cames.Stopped) x.seat y.seat × (x.stage ≡ Inside) × (y.stage ≡ Outside) × KeepsAll x y
-StepperMakes cames.Full op x y = Across (MakesBy cames.Full) x.seat y.seat × (x.stage ≡ Inside) × (y.stage ≡ Outside) × KeepsAll x y
+StepperMakes cames.Stopped op x y = Across (MakesBy cames.Stopped) x.seat y.seat × (x.stage ≡ Inside) × (y.stage ≡ Outside) × KeepsHeap x y × KeepsPlace x y
+StepperMakes cames.Full op x y = Across (MakesBy cames.Full) x.seat y.seat × (x.stage ≡ Inside) × (y.stage ≡ Outside) × KeepsHeap x y × KeepsPlace x y
 StepperMakes c op x y = ⊥
 
 -- what entering did, by where the stepper was
@@ -106,9 +128,9 @@ Left c x y = ⊥
 -- what a safe point came to
 abbrev pub Passed : Came → Stepper → Stepper → Type 0
 Passed cames.Done x y = Across PassesFreely x.seat y.seat × (x.stage ≡ Inside) × (y.stage ≡ Inside) × KeepsAll x y
-Passed cames.Stopped x y = Across (FoundStopIn 8) x.seat y.seat × (x.stage ≡ Inside) × (y.stage ≡ Outside) × KeepsAll x y
+Passed cames.Stopped x y = Across (PassesBy cames.Stopped) x.seat y.seat × (x.stage ≡ Inside) × (y.stage ≡ Outside) × KeepsAll x y
 Passed cames.Outside x y = (x.stage ≡ Outside) × (y ≡ x)
-Passed cames.Full x y = Across (FoundFullIn 8) x.seat y.seat × (x.stage ≡ Inside) × (y.stage ≡ Outside) × KeepsAll x y
+Passed cames.Full x y = Across (PassesBy cames.Full) x.seat y.seat × (x.stage ≡ Inside) × (y.stage ≡ Outside) × KeepsAll x y
 Passed cames.Collecting x y = IsTrue (is_collecting x.stage) × (y ≡ x)
 Passed c x y = ⊥
 
@@ -118,6 +140,8 @@ pub record StaysInside (x y : Stepper) : Type 0 where
   pub inside : y.stage ≡ Inside
   pub world : arc_value y.heap ≡ arc_value x.heap
   pub name_is : y.name ≡ x.name
+  pub stops : y.in_stops ≡ x.in_stops
+  pub search : KeepsSearch x y
 
 -- what reading a value came to: it was read, or what is to hold it is as it was
 abbrev pub ReadsValue : Came → ℕ → Stepper → Stepper → ℕ → ℕ → Type 0

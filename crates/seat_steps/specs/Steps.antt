@@ -1,5 +1,5 @@
 -- What a step of a stepper's collection came to, by the stage that it was in and the one that it is in.
-use Rattle.std.specs.Prelude.{ℕ, ◌≡◌, ◌≤◌, ◌<◌, ◌+◌, ◌-◌, ◌⊎◌, min, true, false, IsTrue, IsFalse}
+use Rattle.std.specs.Prelude.{ℕ, ◌≡◌, ◌≤◌, ◌<◌, ◌+◌, ◌-◌, ◌⊎◌, min, Bool, true, false, IsTrue, IsFalse}
 use Rattle.std.specs.Arc.{arc_value}
 use Rattle.mark_core.specs.Layout.{block_count, card_count, root_count}
 use Rattle.mark_core.specs.declared.kinds.Phase.TheVariants.{Clear}
@@ -8,6 +8,7 @@ use Rattle.gc_table.specs.Log.{steps_of}
 use Rattle.gc_table.specs.Rule.{KnowsFull}
 use Rattle.gc_table.specs.Seats.{Across, did, view_of}
 use Rattle.packet_pools.specs.Counts.{count_of}
+use Rattle.card_clean.specs.Leaving.{rescanned_in}
 use Rattle.sweeper.specs.Freeing.{freed_in}
 use Rattle.gc_cycle.specs.Finishing.{IsPart, most as greatest}
 use Rattle.gc_cycle.specs.Pieces.{CleansCards, LooksAt, stretches_in}
@@ -60,17 +61,33 @@ CountsFreed x y = y.freed ≡ min (x.freed + freed_in (view_of x.seat) (did x.se
 abbrev pub cards_cleaned : Stepper → Stepper → ℕ
 cards_cleaned x y = count_of clears (did x.seat y.seat)
 
--- what its collection has traced and cleaned is counted as before
+-- how many objects were scanned again
+abbrev pub objects_rescanned : Stepper → Stepper → ℕ
+objects_rescanned x y = rescanned_in (view_of x.seat) (did x.seat y.seat)
+
+-- what its collection is to be stays: precise, and exact
+abbrev pub KeepsAim : Stepper → Stepper → Type 0
+KeepsAim x y = (y.precise ≡ x.precise) × (y.exact ≡ x.exact)
+
+-- and whether it is to mark once more
+abbrev pub KeepsCourse : Stepper → Stepper → Type 0
+KeepsCourse x y = KeepsAim x y × (y.again ≡ x.again)
+
+-- what its collection has traced, cleaned and scanned again is counted as before
 abbrev pub KeepsWork : Stepper → Stepper → Type 0
-KeepsWork x y = (y.traced ≡ x.traced) × (y.cleaned ≡ x.cleaned)
+KeepsWork x y = (y.traced ≡ x.traced) × (y.cleaned ≡ x.cleaned) × (y.rescanned ≡ x.rescanned)
 
 -- the objects that the step traced were added to those traced before
 abbrev pub CountsTraced : Stepper → Stepper → Type 0
-CountsTraced x y = (y.traced ≡ min (x.traced + objects_popped x y) greatest) × (y.cleaned ≡ x.cleaned)
+CountsTraced x y = (y.traced ≡ min (x.traced + objects_popped x y) greatest) × (y.cleaned ≡ x.cleaned) × (y.rescanned ≡ x.rescanned)
 
--- the cards that the step cleaned were added to those cleaned before
+-- the cards that the step cleaned, and the objects that it scanned again, were added to those before
 abbrev pub CountsCleaned : Stepper → Stepper → Type 0
-CountsCleaned x y = (y.traced ≡ x.traced) × (y.cleaned ≡ min (x.cleaned + cards_cleaned x y) greatest)
+CountsCleaned x y = (y.traced ≡ x.traced) × (y.cleaned ≡ min (x.cleaned + cards_cleaned x y) greatest) × (y.rescanned ≡ min (x.rescanned + objects_rescanned x y) greatest)
+
+-- nothing is counted yet
+abbrev pub CountsNone : Stepper → Type 0
+CountsNone y = (y.traced ≡ 0) × (y.cleaned ≡ 0) × (y.rescanned ≡ 0)
 
 -- this many roots were seen to, or no packet was found for it
 abbrev pub SeesSome : ℕ → Stepper → Stepper → Type 0
@@ -80,45 +97,45 @@ SeesSome most x y = ((most ≤ roots_left x) × (y.next ≡ x.next + most) × Ac
 abbrev pub CleansSome : ℕ → Stepper → Stepper → Type 0
 CleansSome most x y =
     ((most ≤ cards_left x) × (y.next ≡ x.next + most) × Across (CleansCards x.next most) x.seat y.seat × CountsCleaned x y)
-    ⊎ ((y.next ≡ x.next) × Across LacksPacket x.seat y.seat × (cards_cleaned x y ≡ 0) × KeepsWork x y)
+    ⊎ ((y.next ≡ x.next) × Across LacksPacket x.seat y.seat × (cards_cleaned x y ≡ 0) × (objects_rescanned x y ≡ 0) × KeepsWork x y)
 
--- what a step did after which there is more to do
-abbrev pub StepsOn : Stage → Stage → ℕ → Stepper → Stepper → Type 0
-StepsOn stages.Inside stages.Stopping most x y = Across (AsksForStop true) x.seat y.seat
-StepsOn stages.Stopping stages.Stopping most x y = Across FindsRunning x.seat y.seat
-StepsOn stages.Stopping stages.Rooting most x y = Across (BeginsMarking y.again) x.seat y.seat × (y.next ≡ 0) × (y.traced ≡ 0) × (y.cleaned ≡ 0)
-StepsOn stages.Rooting stages.Rooting most x y = SeesSome most x y × (y.again ≡ x.again) × KeepsWork x y
-StepsOn stages.Rooting stages.Draining most x y = (roots_left x < most) × Across (SeesRoots x.next (roots_left x)) x.seat y.seat × (y.again ≡ x.again) × KeepsWork x y
-StepsOn stages.Draining stages.Draining most x y = (objects_popped x y ≡ most) × Across (TracesFor most) x.seat y.seat × (y.again ≡ x.again) × CountsTraced x y
-StepsOn stages.Draining stages.Looking most x y = (objects_popped x y < most) × Across (TracesFor most) x.seat y.seat × (y.next ≡ 0) × (y.again ≡ x.again) × CountsTraced x y
-StepsOn stages.Looking stages.Looking most x y = LooksAt (shape_of x) x.next most (looks.Clean most) (did x.seat y.seat) × (y.next ≡ x.next + most) × (y.again ≡ x.again) × KeepsWork x y
-StepsOn stages.Looking stages.Cleaning most x y = LooksAt (shape_of x) x.next most (looks.Dirty y.next) (did x.seat y.seat) × (y.again ≡ x.again) × KeepsWork x y
-StepsOn stages.Looking stages.Draining most x y = (cards_left x < most) × Across (FindsPacketLeft x.next) x.seat y.seat × (y.again ≡ x.again) × KeepsWork x y
-StepsOn stages.Looking stages.Clearing most x y = (cards_left x < most) × Across (BeginsClear x.next) x.seat y.seat × IsTrue x.again × (y.again ≡ x.again) × KeepsWork x y
-StepsOn stages.Looking stages.Sweeping most x y = (cards_left x < most) × Across (BeginsSweep x.next) x.seat y.seat × IsFalse x.again × (y.freed ≡ 0) × (y.again ≡ x.again) × KeepsWork x y
-StepsOn stages.Cleaning stages.Cleaning most x y = CleansSome most x y × (y.again ≡ x.again)
-StepsOn stages.Cleaning stages.Draining most x y = (cards_left x < most) × Across (CleansCards x.next (cards_left x)) x.seat y.seat × (y.again ≡ x.again) × CountsCleaned x y
-StepsOn stages.Clearing stages.Clearing most x y = (stretches_drawn x y ≡ draws_for most x) × Across (IsPart Clear) x.seat y.seat × (y.again ≡ x.again) × KeepsWork x y
-StepsOn stages.Clearing stages.Rooting most x y = Across (BeginsAgain (draws_for most x)) x.seat y.seat × (y.next ≡ 0) × IsFalse y.again × KeepsWork x y
-StepsOn stages.Sweeping stages.Sweeping most x y = (stretches_drawn x y ≡ draws_for most x) × CountsFreed x y × (y.again ≡ x.again) × KeepsWork x y
-StepsOn stages.Sweeping stages.Counting most x y = (stretches_drawn x y < draws_for most x) × CountsFreed x y × Across EndsSweep x.seat y.seat × (y.next ≡ 0) × (y.counted ≡ 0) × (y.again ≡ x.again) × KeepsWork x y
-StepsOn stages.Counting stages.Counting most x y = (most ≤ blocks_left x) × (steps_of (did x.seat y.seat) ≡ alloc_reads x.next most) × (y.next ≡ x.next + most) × (y.freed ≡ x.freed) × (y.again ≡ x.again) × KeepsWork x y
-StepsOn stages.Counting stages.Ending most x y = (blocks_left x < most) × (steps_of (did x.seat y.seat) ≡ alloc_reads x.next (blocks_left x)) × (y.freed ≡ x.freed) × (y.again ≡ x.again) × KeepsWork x y
-StepsOn s t most x y = ⊥
+-- what a step did after which there is more to do. A collection that it began is to be precise, or not
+abbrev pub StepsOn : Bool → Stage → Stage → ℕ → Stepper → Stepper → Type 0
+StepsOn precise stages.Inside stages.Stopping most x y = Across (AsksForStop true) x.seat y.seat × (y.precise ≡ precise)
+StepsOn precise stages.Stopping stages.Stopping most x y = Across FindsRunning x.seat y.seat × (y.precise ≡ x.precise)
+StepsOn precise stages.Stopping stages.Rooting most x y = Across (BeginsMarking x.precise y.exact y.again) x.seat y.seat × (y.precise ≡ x.precise) × (y.next ≡ 0) × CountsNone y
+StepsOn precise stages.Rooting stages.Rooting most x y = SeesSome most x y × KeepsCourse x y × KeepsWork x y
+StepsOn precise stages.Rooting stages.Draining most x y = (roots_left x < most) × Across (SeesRoots x.next (roots_left x)) x.seat y.seat × KeepsCourse x y × KeepsWork x y
+StepsOn precise stages.Draining stages.Draining most x y = (objects_popped x y ≡ most) × Across (TracesFor most) x.seat y.seat × KeepsCourse x y × CountsTraced x y
+StepsOn precise stages.Draining stages.Looking most x y = (objects_popped x y < most) × Across (TracesFor most) x.seat y.seat × (y.next ≡ 0) × KeepsCourse x y × CountsTraced x y
+StepsOn precise stages.Looking stages.Looking most x y = LooksAt (shape_of x) x.next most (looks.Clean most) (did x.seat y.seat) × (y.next ≡ x.next + most) × KeepsCourse x y × KeepsWork x y
+StepsOn precise stages.Looking stages.Cleaning most x y = LooksAt (shape_of x) x.next most (looks.Dirty y.next) (did x.seat y.seat) × KeepsCourse x y × KeepsWork x y
+StepsOn precise stages.Looking stages.Draining most x y = (cards_left x < most) × Across (FindsPacketLeft x.next) x.seat y.seat × KeepsCourse x y × KeepsWork x y
+StepsOn precise stages.Looking stages.Clearing most x y = (cards_left x < most) × Across (BeginsClear x.next) x.seat y.seat × IsTrue x.again × KeepsCourse x y × KeepsWork x y
+StepsOn precise stages.Looking stages.Sweeping most x y = (cards_left x < most) × Across (BeginsSweep x.next) x.seat y.seat × IsFalse x.again × (y.freed ≡ 0) × KeepsCourse x y × KeepsWork x y
+StepsOn precise stages.Cleaning stages.Cleaning most x y = CleansSome most x y × KeepsCourse x y
+StepsOn precise stages.Cleaning stages.Draining most x y = (cards_left x < most) × Across (CleansCards x.next (cards_left x)) x.seat y.seat × KeepsCourse x y × CountsCleaned x y
+StepsOn precise stages.Clearing stages.Clearing most x y = (stretches_drawn x y ≡ draws_for most x) × Across (IsPart Clear) x.seat y.seat × KeepsCourse x y × KeepsWork x y
+StepsOn precise stages.Clearing stages.Rooting most x y = Across (BeginsAgain (draws_for most x)) x.seat y.seat × (y.next ≡ 0) × IsFalse y.again × KeepsAim x y × KeepsWork x y
+StepsOn precise stages.Sweeping stages.Sweeping most x y = (stretches_drawn x y ≡ draws_for most x) × CountsFreed x y × KeepsCourse x y × KeepsWork x y
+StepsOn precise stages.Sweeping stages.Counting most x y = (stretches_drawn x y < draws_for most x) × CountsFreed x y × Across EndsSweep x.seat y.seat × (y.next ≡ 0) × (y.counted ≡ 0) × KeepsCourse x y × KeepsWork x y
+StepsOn precise stages.Counting stages.Counting most x y = (most ≤ blocks_left x) × (steps_of (did x.seat y.seat) ≡ alloc_reads x.next most) × (y.next ≡ x.next + most) × (y.freed ≡ x.freed) × KeepsCourse x y × KeepsWork x y
+StepsOn precise stages.Counting stages.Ending most x y = (blocks_left x < most) × (steps_of (did x.seat y.seat) ≡ alloc_reads x.next (blocks_left x)) × (y.freed ≡ x.freed) × KeepsCourse x y × KeepsWork x y
+StepsOn precise s t most x y = ⊥
 
--- what its collection has counted: no object is told as scanned again
+-- what its collection has counted
 abbrev pub counts_of : Stepper → Counts
-counts_of x = record { marked = x.counted; freed = x.freed; rescanned = 0 }
+counts_of x = record { marked = x.counted; freed = x.freed; rescanned = x.rescanned }
 
 -- what the last step did
 abbrev pub Finishes : Came → Stepper → Stepper → Type 0
-Finishes came x y = (x.stage ≡ stages.Ending) × Across (EndsBy (counts_of x) came) x.seat y.seat
+Finishes came x y = (x.stage ≡ stages.Ending) × Across (EndsBy x.exact (counts_of x) came) x.seat y.seat
 
 -- what a step of a collection came to, of this many roots, objects, cards or blocks
-abbrev pub StepsCollection : ℕ → Came → Stepper → Stepper → Type 0
-StepsCollection most cames.NotYet x y = StepsOn x.stage y.stage most x y × KeepsAll x y
-StepsCollection most cames.Done x y = Finishes cames.Done x y × (y.stage ≡ stages.Inside) × KeepsAll x y
-StepsCollection most cames.Stopped x y = (((x.stage ≡ stages.Inside) × Across (AsksForStop false) x.seat y.seat) ⊎ Finishes cames.Stopped x y) × (y.stage ≡ stages.Outside) × KeepsAll x y
-StepsCollection most cames.Full x y = (((x.stage ≡ stages.Stopping) × Across FindsHeapFull x.seat y.seat) ⊎ Finishes cames.Full x y) × KnowsFull (view_of y.seat) × (y.stage ≡ stages.Outside) × KeepsAll x y
-StepsCollection most cames.Outside x y = (x.stage ≡ stages.Outside) × (y ≡ x)
-StepsCollection most c x y = ⊥
+abbrev pub StepsCollection : Bool → ℕ → Came → Stepper → Stepper → Type 0
+StepsCollection precise most cames.NotYet x y = StepsOn precise x.stage y.stage most x y × KeepsAll x y
+StepsCollection precise most cames.Done x y = Finishes cames.Done x y × (y.stage ≡ stages.Inside) × KeepsAll x y
+StepsCollection precise most cames.Stopped x y = (((x.stage ≡ stages.Inside) × Across (AsksForStop false) x.seat y.seat) ⊎ Finishes cames.Stopped x y) × (y.stage ≡ stages.Outside) × KeepsAll x y
+StepsCollection precise most cames.Full x y = (((x.stage ≡ stages.Stopping) × Across FindsHeapFull x.seat y.seat) ⊎ Finishes cames.Full x y) × KnowsFull (view_of y.seat) × (y.stage ≡ stages.Outside) × KeepsAll x y
+StepsCollection precise most cames.Outside x y = (x.stage ≡ stages.Outside) × (y ≡ x)
+StepsCollection precise most c x y = ⊥

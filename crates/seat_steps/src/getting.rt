@@ -19,7 +19,7 @@ ghost use Rattle.seat_steps.specs.Arriving.{LacksCell, LeavesWorld, MakesOne, Re
 use crate::came::Came;
 use crate::operations::makes;
 use crate::payments::count_paid;
-use crate::tries::{arrive, point};
+use crate::tries::{arrive, pass_once, point};
 use alloc_cache::{Cache, cache_of};
 use cache_refills::try_refill;
 use gc_cycle::Refill;
@@ -124,13 +124,12 @@ fn come_once(heap: &Heap, seat: &mut HeapSeat, paid: &mut u64) -> Result<Cache, 
     ensures found { IfErr result (λ came. Across (MakesBy came) seat.old seat.new) }
     ensures pays { Across (CountsBeside 8 5 8 paid.old paid.new) seat.old seat.new }
 {
-    let cache = cache_of(seat);
-    match point(heap, seat, cache) {
-        Err(came) => Err(came),
-        Ok(kept) => match with_free(kept) {
+    match pass_once(heap, seat) {
+        Came::Done => match with_free(cache_of(seat)) {
             Ok(free) => Ok(free),
             Err(none) => fill(heap, seat, none, paid),
         },
+        came => Err(came),
     }
 }
 

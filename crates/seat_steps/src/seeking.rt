@@ -17,7 +17,7 @@ use crate::came::Came;
 use crate::getting::point_with;
 use crate::operations::makes;
 use crate::payments::count_paid;
-use crate::tries::{arrive, point};
+use crate::tries::{arrive, pass_once};
 use alloc_cache::{cache_of, leave_with_seat};
 use cache_refills::{Piece, try_refill_some};
 use gc_table::{Heap, HeapSeat};
@@ -144,10 +144,8 @@ pub fn make_here(heap: &Heap, seat: &mut HeapSeat, v: u8, value: u32) -> Came
     ensures leaves { (result ≡ cames.Done → ⊥) → Across LeavesHeap seat.old seat.new }
     ensures found { Across (CachedBy result) seat.old seat.new }
 {
-    let cache = cache_of(seat);
-    match point(heap, seat, cache) {
-        Err(came) => came,
-        Ok(kept) => match with_free(kept) {
+    match pass_once(heap, seat) {
+        Came::Done => match with_free(cache_of(seat)) {
             Ok(free) => {
                 makes(heap, seat, free, v, value);
                 Came::Done
@@ -157,5 +155,6 @@ pub fn make_here(heap: &Heap, seat: &mut HeapSeat, v: u8, value: u32) -> Came
                 Came::NoCache
             }
         },
+        came => came,
     }
 }

@@ -50,12 +50,18 @@ pub struct Stepper {
     pub(crate) name: u32,
     /// Whether the mutator that it was collects only in stops.
     pub(crate) in_stops: bool,
-    /// Whether its collection is to mark once more, since a cycle was marking when it began.
+    /// Whether its collection is to be precise: if a cycle was marking, all is marked anew.
+    pub(crate) precise: bool,
+    /// Whether its collection leaves no garbage: it is precise, or no cycle was marking as the world stopped.
+    pub(crate) exact: bool,
+    /// Whether its collection is to mark once more, since it is precise and a cycle was marking.
     pub(crate) again: bool,
-    /// How many cells its sweep has freed, as far as 32 bits hold, like the next two.
+    /// How many cells its sweep has freed, as far as 32 bits hold, like the next three.
     pub(crate) freed: u32,
     pub(crate) traced: u32,
     pub(crate) cleaned: u32,
+    /// How many objects it has scanned again, since their cards were dirty.
+    pub(crate) rescanned: u32,
     /// How many objects it has traced to pay for its caches, as far as 64 bits hold.
     pub(crate) paid: u64,
     /// The root, card or block from which the pass of its stage goes on.
@@ -69,12 +75,12 @@ pub struct Stepper {
     ghost outside: { stage ≡ stages.Outside → IsMutatorOutside (arc_value heap) seat },
     ghost inside: { stage ≡ stages.Inside → IsAtTurn (arc_value heap) seat },
     ghost stopping: { stage ≡ stages.Stopping → Collects AwaitsStop WaitsSinceAsked (arc_value heap) seat },
-    ghost rooting: { stage ≡ stages.Rooting → Collects (SeesRootsFrom next) (MarksSinceAsked again) (arc_value heap) seat },
-    ghost draining: { stage ≡ stages.Draining → Collects Drains (MarksSinceAsked again) (arc_value heap) seat },
-    ghost looking: { stage ≡ stages.Looking → Collects (LooksFrom next) (MarksSinceAsked again) (arc_value heap) seat },
-    ghost cleaning: { stage ≡ stages.Cleaning → Collects Drains (MarksSinceAsked again) (arc_value heap) seat },
+    ghost rooting: { stage ≡ stages.Rooting → Collects (SeesRootsFrom next) (MarksSinceAsked exact again) (arc_value heap) seat },
+    ghost draining: { stage ≡ stages.Draining → Collects Drains (MarksSinceAsked exact again) (arc_value heap) seat },
+    ghost looking: { stage ≡ stages.Looking → Collects (LooksFrom next) (MarksSinceAsked exact again) (arc_value heap) seat },
+    ghost cleaning: { stage ≡ stages.Cleaning → Collects Drains (MarksSinceAsked exact again) (arc_value heap) seat },
     ghost clearing: { stage ≡ stages.Clearing → Collects IsAtClear WaitsSinceAsked (arc_value heap) seat },
-    ghost sweeping: { stage ≡ stages.Sweeping → Collects IsAtSweep SweepsSinceAsked (arc_value heap) seat },
-    ghost counting: { stage ≡ stages.Counting → Collects (CountsFrom next counted) CountsSinceAsked (arc_value heap) seat },
-    ghost ending: { stage ≡ stages.Ending → Collects (HasCounted counted) CountsSinceAsked (arc_value heap) seat },
+    ghost sweeping: { stage ≡ stages.Sweeping → Collects IsAtSweep (SweepsSinceAsked exact) (arc_value heap) seat },
+    ghost counting: { stage ≡ stages.Counting → Collects (CountsFrom next counted) (CountsSinceAsked exact) (arc_value heap) seat },
+    ghost ending: { stage ≡ stages.Ending → Collects (HasCounted counted) (CountsSinceAsked exact) (arc_value heap) seat },
 }

@@ -1,5 +1,5 @@
 //! A stepper collects.
-ghost use Rattle.std.specs.Prelude.{ℕ, ◌≡◌};
+ghost use Rattle.std.specs.Prelude.{ℕ, ◌≡◌, ◌&&◌, ◌||◌, Bool, true, false, not};
 ghost use Rattle.std.specs.Bool.{OnFalse, OnTrue};
 ghost use Rattle.gc_table.specs.Seats.{Across, state_of};
 ghost use Rattle.gc_cycle.specs.Pieces.{HasCounted};
@@ -19,9 +19,9 @@ use crate::stepper::{Stage, Stepper};
 use crate::telling::read_marking;
 use crate::tries::arrive;
 use gc_cycle::{
-    Look, ask_to_stop, begin_collection, clean_step, clear_step, count_step, finds_all_marked,
-    finds_stopped, finish_clear, finish_count, look_step, root_piece, start_clear, start_count,
-    start_sweep, stretches_of, sweep_step, trace_step,
+    Counts, Look, ask_to_stop, begin_collection, clean_step, clear_step, count_step,
+    finds_all_marked, finds_stopped, finish_clear, finish_count, look_step, root_piece,
+    start_clear, start_count, start_sweep, stretches_of, sweep_step, trace_step,
 };
 use gc_table::{Heap, HeapSeat};
 use seat_turns::{leave, retire_own_cache};
@@ -41,15 +41,29 @@ fn asks(heap: &Heap, seat: &mut HeapSeat) -> bool
     ask_to_stop(heap, seat, made)
 }
 
-fn end_to_turn(heap: &Heap, seat: &mut HeapSeat, counted: u32, freed: u32) -> Came
-    requires counted { Collects (HasCounted counted) CountsSinceAsked heap.now seat.old }
+/// Whether a collection marks once more: a precise one does, if a cycle was marking.
+fn marks_again(precise: bool, marking: bool) -> bool
+    ensures again { result ≡ precise && marking }
+{
+    precise && marking
+}
+
+/// Whether a collection leaves no garbage: a precise one, or one before which no cycle was marking.
+fn leaves_none(precise: bool, marking: bool) -> bool
+    ensures exact { result ≡ precise || not marking }
+{
+    precise || !marking
+}
+
+fn end_to_turn(heap: &Heap, seat: &mut HeapSeat, exact: bool, counts: Counts) -> Came
+    requires counted { Collects (HasCounted counts.marked) (CountsSinceAsked exact) heap.now seat.old }
     ensures arrives { Arrives result heap.now seat.new }
     ensures same { plain_of seat.new ≡ plain_of seat.old }
     ensures leaves { Across LeavesHeap seat.old seat.new }
-    ensures ends { Across (EndsBy (record { marked = counted; freed = freed; rescanned = 0 }) result) seat.old seat.new }
+    ensures ends { Across (EndsBy exact counts result) seat.old seat.new }
     ensures few { Across EndsInFew seat.old seat.new }
 {
-    finish_count(heap, seat, counted, freed);
+    finish_count(heap, seat, counts.marked, counts.rescanned, counts.freed);
     arrive(heap, seat)
 }
 
@@ -57,29 +71,45 @@ impl Stepper {
     /// The next step of a precise collection, with 4,096 for `most`: `NotYet` if there is more to do. Meanwhile the world
     /// stands still.
     pub fn collect_step(&mut self) -> Came
-        ensures collects { CollectsAtMost 4096 result self.old self.new }
+        ensures collects { CollectsAtMost true 4096 result self.old self.new }
     {
-        self.take_step(STEP)
+        self.take_step(true, STEP)
     }
 
-    /// The next step of a collection, of at most `most` roots, objects, cards or blocks; 0 is out of range. Blocks are
-    /// cleared and swept in stretches (of 1 to 128, by the heap's size): one at least.
+    /// The next step of a precise collection, of at most `most` roots, objects, cards or blocks; 0 is out of range.
+    /// Blocks are cleared and swept in stretches (of 1 to 128, by the heap's size): one at least.
+    ///
+    /// If a cycle was marking, what it marked is finished, all marks are cleared, and all is marked anew. So no garbage
+    /// is left at the end.
     pub fn collect_at_most(&mut self, most: u32) -> Came
-        ensures collects { CollectsAtMost most result self.old self.new }
+        ensures collects { CollectsAtMost true most result self.old self.new }
     {
         if most == 0 {
             return Came::OutOfRange;
         }
-        self.take_step(most)
+        self.take_step(true, most)
     }
 
-    fn take_step(&mut self, most: u32) -> Came
-        ensures collects { StepsCollection most result self.old self.new }
+    /// The next step of an ordinary collection, as `collect_at_most`: if a cycle was marking, what it marked stays marked.
+    /// So what died since it began may be kept until the next collection.
+    ///
+    /// A collection that is under way goes on as it was begun, by whichever of the two its steps are taken.
+    pub fn finish_at_most(&mut self, most: u32) -> Came
+        ensures collects { CollectsAtMost false most result self.old self.new }
+    {
+        if most == 0 {
+            return Came::OutOfRange;
+        }
+        self.take_step(false, most)
+    }
+
+    fn take_step(&mut self, precise: bool, most: u32) -> Came
+        ensures collects { StepsCollection precise most result self.old self.new }
         ensures bounded { IsBoundedStep most self.old self.new }
     {
         match self.stage {
             Stage::Outside => Came::Outside,
-            Stage::Inside => self.ask(),
+            Stage::Inside => self.ask(precise),
             Stage::Stopping => self.begin(),
             Stage::Rooting => self.scan(most),
             Stage::Draining => self.trace(most),
@@ -92,13 +122,14 @@ impl Stepper {
         }
     }
 
-    fn ask(&mut self) -> Came
+    fn ask(&mut self, precise: bool) -> Came
         requires inside { self.old.stage ≡ stages.Inside }
-        ensures collects { (most : ℕ) → StepsCollection most result self.old self.new }
+        ensures collects { (most : ℕ) → StepsCollection precise most result self.old self.new }
         ensures bounded { (most : ℕ) → IsBoundedStep most self.old self.new }
     {
         retire_own_cache(&self.heap, &mut self.seat);
         if asks(&self.heap, &mut self.seat) {
+            self.precise = precise;
             self.stage = Stage::Stopping;
             return Came::NotYet;
         }
@@ -108,17 +139,20 @@ impl Stepper {
 
     fn begin(&mut self) -> Came
         requires stopping { self.old.stage ≡ stages.Stopping }
-        ensures collects { (most : ℕ) → StepsCollection most result self.old self.new }
+        ensures collects { (precise : Bool) (most : ℕ) → StepsCollection precise most result self.old self.new }
         ensures bounded { (most : ℕ) → IsBoundedStep most self.old self.new }
     {
         if !finds_stopped(&self.heap, &mut self.seat) {
             return Came::NotYet;
         }
-        self.again = read_marking(&self.seat);
+        let marking = read_marking(&self.seat);
+        self.again = marks_again(self.precise, marking);
+        self.exact = leaves_none(self.precise, marking);
         if begin_collection(&self.heap, &mut self.seat) {
             self.next = 0;
             self.traced = 0;
             self.cleaned = 0;
+            self.rescanned = 0;
             self.stage = Stage::Rooting;
             return Came::NotYet;
         }
@@ -129,7 +163,7 @@ impl Stepper {
 
     fn scan(&mut self, most: u32) -> Came
         requires rooting { self.old.stage ≡ stages.Rooting }
-        ensures collects { StepsCollection most result self.old self.new }
+        ensures collects { (precise : Bool) → StepsCollection precise most result self.old self.new }
         ensures bounded { IsBoundedStep most self.old self.new }
     {
         let Some(number) = root_piece(&self.heap, &mut self.seat, self.next, most) else {
@@ -145,7 +179,7 @@ impl Stepper {
 
     fn trace(&mut self, most: u32) -> Came
         requires draining { self.old.stage ≡ stages.Draining }
-        ensures collects { StepsCollection most result self.old self.new }
+        ensures collects { (precise : Bool) → StepsCollection precise most result self.old self.new }
         ensures bounded { IsBoundedStep most self.old self.new }
     {
         let popped = trace_step(&self.heap, &mut self.seat, most);
@@ -160,7 +194,7 @@ impl Stepper {
     /// If all is marked it begins to sweep, or to clear all marks.
     fn look(&mut self, most: u32) -> Came
         requires looking { self.old.stage ≡ stages.Looking }
-        ensures collects { StepsCollection most result self.old self.new }
+        ensures collects { (precise : Bool) → StepsCollection precise most result self.old self.new }
         ensures bounded { IsBoundedStep most self.old self.new }
     {
         let number = match look_step(&self.heap, &mut self.seat, self.next, most) {
@@ -193,13 +227,14 @@ impl Stepper {
     /// After the last card it traces again.
     fn clean(&mut self, most: u32) -> Came
         requires cleaning { self.old.stage ≡ stages.Cleaning }
-        ensures collects { StepsCollection most result self.old self.new }
+        ensures collects { (precise : Bool) → StepsCollection precise most result self.old self.new }
         ensures bounded { IsBoundedStep most self.old self.new }
     {
         let Some(step) = clean_step(&self.heap, &mut self.seat, self.next, most) else {
             return Came::NotYet;
         };
         self.cleaned = self.cleaned.saturating_add(step.cleaned);
+        self.rescanned = self.rescanned.saturating_add(step.rescanned);
         if step.passed == most {
             self.next += step.passed;
             return Came::NotYet;
@@ -210,7 +245,7 @@ impl Stepper {
 
     fn clear(&mut self, most: u32) -> Came
         requires clearing { self.old.stage ≡ stages.Clearing }
-        ensures collects { StepsCollection most result self.old self.new }
+        ensures collects { (precise : Bool) → StepsCollection precise most result self.old self.new }
         ensures bounded { IsBoundedStep most self.old self.new }
     {
         let draws = stretches_of(&self.heap, most);
@@ -226,7 +261,7 @@ impl Stepper {
 
     fn sweep(&mut self, most: u32) -> Came
         requires sweeping { self.old.stage ≡ stages.Sweeping }
-        ensures collects { StepsCollection most result self.old self.new }
+        ensures collects { (precise : Bool) → StepsCollection precise most result self.old self.new }
         ensures bounded { IsBoundedStep most self.old self.new }
     {
         let draws = stretches_of(&self.heap, most);
@@ -244,7 +279,7 @@ impl Stepper {
 
     fn count(&mut self, most: u32) -> Came
         requires counting { self.old.stage ≡ stages.Counting }
-        ensures collects { StepsCollection most result self.old self.new }
+        ensures collects { (precise : Bool) → StepsCollection precise most result self.old self.new }
         ensures bounded { IsBoundedStep most self.old self.new }
     {
         let step = count_step(&self.heap, &mut self.seat, self.next, self.counted, most);
@@ -259,10 +294,11 @@ impl Stepper {
 
     fn end(&mut self) -> Came
         requires ending { self.old.stage ≡ stages.Ending }
-        ensures collects { (most : ℕ) → StepsCollection most result self.old self.new }
+        ensures collects { (precise : Bool) (most : ℕ) → StepsCollection precise most result self.old self.new }
         ensures bounded { (most : ℕ) → IsBoundedStep most self.old self.new }
     {
-        match end_to_turn(&self.heap, &mut self.seat, self.counted, self.freed) {
+        let counts = self.counts();
+        match end_to_turn(&self.heap, &mut self.seat, self.exact, counts) {
             Came::Done => {
                 self.stage = Stage::Inside;
                 Came::Done

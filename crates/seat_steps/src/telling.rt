@@ -27,15 +27,15 @@ impl Stepper {
         self.stage
     }
 
-    /// How many cells its collection freed, from the sweep on, and how many are in use, once it is at
-    /// [`Stage::Ending`]. No object is counted as scanned again.
+    /// How many cells its collection freed, from the sweep on; how many are in use, once it is at [`Stage::Ending`];
+    /// and how many objects it scanned again, from the roots on.
     pub fn counts(&self) -> Counts
         ensures counts { result ≡ counts_of self.now }
     {
         Counts {
             marked: self.counted,
             freed: self.freed,
-            rescanned: 0,
+            rescanned: self.rescanned,
         }
     }
 
@@ -58,6 +58,14 @@ impl Stepper {
         ensures paid { result ≡ self.now.paid }
     {
         self.paid
+    }
+
+    /// Whether its collection leaves no garbage, from the roots on: it is precise, or no cycle was marking as the world
+    /// stopped.
+    pub fn is_exact(&self) -> bool
+        ensures exact { result ≡ self.now.exact }
+    {
+        self.exact
     }
 
     /// Whether its collection is to mark once more.

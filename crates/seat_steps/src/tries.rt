@@ -1,23 +1,27 @@
 //! Into the world, to the mutator's turn, and past a safe point, each as one try.
 ghost use Rattle.std.specs.Prelude.{◌≡◌, ◌<◌, IfErr, IfOk, IsTrue, is_some, None};
 ghost use Rattle.std.specs.Bool.{OnFalse, OnTrue};
+ghost use Rattle.alloc_cache.specs.Caching.{is_whole};
 ghost use Rattle.gc_cycle.specs.Answering.{HasCache};
 ghost use Rattle.cache_refills.specs.Trying.{EntersTo};
+ghost use Rattle.gc_table.specs.Rule.{KnowsFull};
 ghost use Rattle.gc_table.specs.Running.{Ran};
 ghost use Rattle.gc_table.specs.Seats.{Across, state_of, view_of};
 ghost use Rattle.mutator_ops.specs.Few.{AtMost};
+ghost use Rattle.seat_turns.specs.Coming.{LeavesTurn};
 ghost use Rattle.seat_turns.specs.SeasonLooks.{LooksAtSeason, SeesOther};
 ghost use Rattle.seat_turns.specs.Sharing.{LeavesHeap};
 ghost use Rattle.seat_turns.specs.Standing.{Halts, IsAtTurn, Plays, IsMutatorOutside, Works, plain_of};
-ghost use Rattle.seat_steps.specs.Causes.{ArrivesBy, EntersBy, GoesFreely, LooksBy, PassesBy};
-ghost use Rattle.seat_steps.specs.Arriving.{Arrives, HasPassed, LeavesWorld, Passes, Tries};
+ghost use Rattle.seat_steps.specs.Causes.{ArrivesBy, EntersBy, GoesFreely, LooksBy, LooksTo, PassesBy};
+ghost use Rattle.seat_steps.specs.Arriving.{Arrives, HasLooked, HasPassed, LeavesWorld, Passes, Tries};
 
 use crate::came::Came;
 use alloc_cache::{Cache, cache_of};
 use cache_refills::{Pass, try_enter, try_safe_point};
-use gc_cycle::spend_none;
+use gc_cycle::{reads_full, spend_none};
 use gc_table::{Heap, HeapSeat};
 use seat_turns::{TURN, is_turn, keep_some, leave, retire_some};
+use stop_world::poll;
 
 #[tactic(auto, using(seat_turns::proofs::Leaving::leaving, crate::proofs::Searched::trying))]
 fn try_in(heap: &Heap, seat: &mut HeapSeat) -> Pass
@@ -69,10 +73,49 @@ fn leave_with(heap: &Heap, seat: &mut HeapSeat, cache: Option<Cache>)
     ensures same { plain_of seat.new ≡ plain_of seat.old }
     ensures leaves { Across LeavesHeap seat.old seat.new }
     ensures ran { Across Ran seat.old seat.new }
+    ensures full { KnowsFull (view_of seat.old) → KnowsFull (view_of seat.new) }
+    ensures out { Across LeavesTurn seat.old seat.new }
     ensures few { Across (AtMost 5) seat.old seat.new }
 {
     retire_some(heap, seat, cache);
     leave(heap, seat);
+}
+
+/// Looks at the world and at the phase. Done: nothing hinders the mutator, which is at its turn still. It has only
+/// looked, whatever it found.
+#[inline(always)]
+fn look(heap: &Heap, seat: &mut HeapSeat) -> Came
+    requires turn { IsAtTurn heap.now seat.old }
+    ensures looked { HasLooked result heap.now seat.new }
+    ensures same { plain_of seat.new ≡ plain_of seat.old }
+    ensures leaves { Across LeavesHeap seat.old seat.new }
+    ensures ran { Across Ran seat.old seat.new }
+    ensures looks { Across (LooksTo result) seat.old seat.new }
+{
+    if poll(heap, seat) {
+        return Came::Stopped;
+    }
+    if reads_full(heap, seat) {
+        return Came::Full;
+    }
+    Came::Done
+}
+
+#[cold]
+#[inline(never)]
+fn leave_hindered(heap: &Heap, seat: &mut HeapSeat)
+    requires works { Works heap.now seat.old }
+    requires whole { IsTrue (is_whole (state_of seat.old).cache) }
+    ensures waits { IsMutatorOutside heap.now seat.new }
+    ensures same { plain_of seat.new ≡ plain_of seat.old }
+    ensures leaves { Across LeavesHeap seat.old seat.new }
+    ensures ran { Across Ran seat.old seat.new }
+    ensures full { KnowsFull (view_of seat.old) → KnowsFull (view_of seat.new) }
+    ensures out { Across LeavesTurn seat.old seat.new }
+    ensures few { Across (AtMost 5) seat.old seat.new }
+{
+    let cache = cache_of(seat);
+    leave_with(heap, seat, cache);
 }
 
 pub fn point(heap: &Heap, seat: &mut HeapSeat, cache: Option<Cache>) -> Result<Option<Cache>, Came>
@@ -142,19 +185,21 @@ pub fn enter_once(heap: &Heap, seat: &mut HeapSeat) -> Came
     }
 }
 
+/// A safe point at its turn.
+#[inline(always)]
 pub fn pass_once(heap: &Heap, seat: &mut HeapSeat) -> Came
     requires turn { IsAtTurn heap.now seat.old }
     ensures arrives { Arrives result heap.now seat.new }
     ensures same { plain_of seat.new ≡ plain_of seat.old }
     ensures leaves { Across LeavesHeap seat.old seat.new }
+    ensures ran { Across Ran seat.old seat.new }
     ensures found { Across (PassesBy result) seat.old seat.new }
 {
-    let cache = cache_of(seat);
-    match point(heap, seat, cache) {
-        Ok(kept) => {
-            keep_some(kept);
-            Came::Done
+    match look(heap, seat) {
+        Came::Done => Came::Done,
+        other => {
+            leave_hindered(heap, seat);
+            other
         }
-        Err(came) => came,
     }
 }

@@ -36,6 +36,7 @@ pub record SharerActs (range : Type 0) (P : View → View → Type 0) (x y : Sha
   pub inside : y.place ≡ Inside
   pub does : Across P x.seat y.seat
   pub world : arc_value y.heap ≡ arc_value x.heap
+  pub name_is : y.name ≡ x.name
 
 -- an operation went so
 abbrev pub SharerDoes : (View → View → Type 0) → Op → SharedMutator → SharedMutator → Type 0
@@ -46,6 +47,10 @@ abbrev pub CantAct : Refused → Type 0 → SharedMutator → Type 0
 CantAct refusals.OutOfRange range x = range → ⊥
 CantAct refusals.Outside range x = x.place ≡ Outside
 CantAct e range x = ⊥
+
+-- the numbers of the operation are in range, and the mutator is inside
+abbrev pub MayAsk : Op → SharedMutator → Type 0
+MayAsk op x = IsInRange (field_count_of x) op × (x.place ≡ Inside)
 
 -- why an operation isn't done
 abbrev pub Refuses : Refused → Op → SharedMutator → Type 0
@@ -66,10 +71,11 @@ pub record ActRefused (e : Refused) (range : Type 0) (x y : SharedMutator) : Typ
 abbrev pub SharerRefused : Refused → Op → SharedMutator → SharedMutator → Type 0
 SharerRefused e op x y = ActRefused e (IsInRange (field_count_of x) op) x y
 
--- no step was taken that a plain heap sees; the variables are as they were
+-- no step was taken that a plain heap sees; the variables are as they were, and the mutator is of the same world
 pub record IsSame (x y : SharedMutator) : Type 0 where
   pub leaves : Across LeavesHeap x.seat y.seat
   pub world : arc_value y.heap ≡ arc_value x.heap
+  pub name_is : y.name ≡ x.name
 
 -- the heap was found full, for good
 abbrev pub IsFull : SharedMutator → Type 0

@@ -4,13 +4,14 @@ use Rattle.std.specs.Arc.{arc_value}
 use Rattle.gc_table.specs.Seats.{Across}
 use Rattle.mutator_ops.specs.Few.{AtMost}
 use Rattle.seat_turns.specs.Sharing.{LeavesHeap}
+use Rattle.seat_steps.specs.Handing.{IsNewStepper}
 use Rattle.seat_steps.specs.Stepping.{is_collecting, shares}
 use Rattle.seat_steps.specs.declared.stepper.Stage.TheVariants as stages
 use Rattle.seat_steps.specs.declared.stepper.Stepper.{Stepper}
 use Rattle.shared_heap.specs.declared.mutator.Place.TheVariants.{Outside}
 use Rattle.shared_heap.specs.declared.mutator.SharedMutator.{SharedMutator}
 
--- the stepper is this mutator, outside the world; no step was taken that a plain heap sees, and none if the mutator was outside
+-- the stepper is this mutator, outside the world, and new; no step was taken that a plain heap sees, and none if the mutator was outside
 pub record IsInSteps (m : SharedMutator) (s : Stepper) : Type 0 where
   pub outside : s.stage ≡ stages.Outside
   pub rests : m.place ≡ Outside → s.seat ≡ m.seat
@@ -18,6 +19,8 @@ pub record IsInSteps (m : SharedMutator) (s : Stepper) : Type 0 where
   pub world : arc_value s.heap ≡ arc_value m.heap
   pub name_is : s.name ≡ m.name
   pub shared : IsTrue (shares s)
+  pub stops : IsFalse s.in_stops
+  pub new : IsNewStepper s
 
 -- the mutator is this stepper, outside the world; no step was taken that a plain heap sees, and five at most
 pub record IsOfSteps (s : Stepper) (m : SharedMutator) : Type 0 where

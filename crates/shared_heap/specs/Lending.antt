@@ -1,7 +1,9 @@
 -- What is so of a new shared world, and of one that lends its mutators and takes them back.
-use Rattle.std.specs.Prelude.{ℕ, ◌≡◌, ◌⊎◌, ◌≤◌, ◌<◌, ◌+◌, ◌++◌, List, [], ◌∷◌, IsFalse, IsTrue, Some, replicate, slice_get, vec_len}
+use Rattle.std.specs.Prelude.{ℕ, ◌≡◌, ◌⊎◌, ◌≤◌, ◌<◌, ◌+◌, ◌++◌, List, [], ◌∷◌, true, IsFalse, Some, replicate, slice_get, vec_len}
 use Rattle.std.specs.Arc.{arc_value}
 use Rattle.mark_core.specs.Numbers.{section_variables}
+use Rattle.mark_core.specs.Shapes.{usual_stretch}
+use Rattle.mark_core.specs.declared.kinds.Shape.{Shape}
 use Rattle.gc_table.specs.Seats.{state_of, view_of}
 use Rattle.gc_table.specs.declared.seat.Heap.{Heap}
 use Rattle.shared_heap.specs.Calls.{SharerLeft}
@@ -32,13 +34,14 @@ pub record IsFreshSharer (h : Heap) (name k : ℕ) (m : SharedMutator) : Type 0 
 abbrev pub AreFresh : Heap → ℕ → ℕ → List SharedMutator → Type 0
 AreFresh h name k ms = (i : ℕ) (m : SharedMutator) → slice_get ms i ≡ Some m → IsFreshSharer h name (k + i) m
 
+-- the heap of a world of these sizes: a section for each mutator besides section 0, which has the root; objects are shared
+abbrev pub shared_shape_for : Sizes → Shape
+shared_shape_for s = record { cells = s.cells; packets = s.packets; entries = s.entries; sections = 1 + s.mutators; fields = s.fields; objects = 4294967295; sharing = true; slots = s.slots; stretch = usual_stretch s.cells }
+
 -- a new world of these sizes: nobody has one of its mutators or tracers, and section 0 has ended its turn once, so that the mutators' season has come
 pub record IsSharedOpened (sizes : Sizes) (w : SharedWorld) : Type 0 where
   pub sizes_are : w.sizes ≡ sizes
-  pub cells : (arc_value w.heap).shape.cells ≡ sizes.cells
-  pub fields : (arc_value w.heap).shape.fields ≡ sizes.fields
-  pub slots : (arc_value w.heap).shape.slots ≡ sizes.slots
-  pub shared : IsTrue (arc_value w.heap).shape.sharing
+  pub shape : (arc_value w.heap).shape ≡ shared_shape_for sizes
   pub season : (view_of w.zero).own.seasons ≡ 1
   pub fresh : AreFresh (arc_value w.heap) sizes.name 1 w.mutators.items
   pub count : vec_len w.mutators ≡ sizes.mutators

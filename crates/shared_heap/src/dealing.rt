@@ -4,7 +4,7 @@ ghost use Rattle.std.specs.Prelude.{ℕ, ◌≡◌, ◌+◌, ◌<◌, ◌≤◌,
 ghost use Rattle.gc_table.specs.Seats.{view_of};
 ghost use Rattle.seat_turns.specs.Standing.{RestsOutside};
 ghost use Rattle.seat_turns.specs.declared.refused.NotOpened.TheVariants.{OutOfMemory};
-ghost use Rattle.shared_heap.specs.Lending.{AreFresh, IsFreshSharer, IsSharedOpened};
+ghost use Rattle.shared_heap.specs.Lending.{AreFresh, IsFreshSharer, IsSharedOpened, shared_shape_for};
 ghost use Rattle.shared_heap.specs.Opening.{AreNew, IsNewSeat};
 ghost use Rattle.shared_heap.specs.Rooting.{HasSeats, IsRootSeat};
 ghost use Rattle.managed_heap.specs.Sizing.{Fits};
@@ -74,9 +74,7 @@ fn share(
     requires opened { HasSeats heap sizes.tracers zero }
     requires new { AreNew heap 1 seats.old.items }
     requires count { vec_len seats.old ≡ sizes.mutators + sizes.tracers }
-    requires shared { IsTrue heap.shape.sharing }
-    requires cells { heap.shape.cells ≡ sizes.cells }
-    requires shape { (heap.shape.fields ≡ sizes.fields) × (heap.shape.sections ≡ 1 + sizes.mutators) × (heap.shape.slots ≡ sizes.slots) }
+    requires shape { heap.shape ≡ shared_shape_for sizes }
     ensures opened { IfOk result (λ w. IsSharedOpened sizes w) }
 {
     let heap = Arc::new(alloc, heap)?;

@@ -7,6 +7,7 @@ ghost use Rattle.gc_table.specs.Seats.{Across, Found, state_of};
 ghost use Rattle.mutator_ops.specs.Few.{AtMost};
 ghost use Rattle.shared_heap.specs.Calls.{SharerActs};
 ghost use Rattle.shared_heap.specs.Wanting.{IsVariable, WantsObject};
+ghost use Rattle.shared_heap.specs.declared.mutator.Place.TheVariants as places;
 
 use crate::mutator::{Place, SharedMutator};
 use mark_core::VARIABLES;
@@ -16,6 +17,7 @@ impl SharedMutator {
     /// The cell of variable v's object, by no step: a number below the world's number of cells. It is the object's as
     /// long as that is reachable, and so may be the place of something beside the heap.
     pub fn place(&self, v: u8) -> Result<u32, Refused>
+        ensures may { IfOk result (λ _. IsVariable v × (self.now.place ≡ places.Inside)) }
         ensures place { IfOk result (λ c. word_in (state_of self.now.seat) v ≡ c + 1) }
         ensures inside { IfOk result (λ c. c < (arc_value self.now.heap).shape.cells) }
         ensures refused { IfErr result (λ e. WantsObject e (IsVariable v) v self.now self.now) }

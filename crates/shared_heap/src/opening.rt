@@ -5,6 +5,7 @@ ghost use Rattle.mark_core.specs.Shapes.{IsShape};
 ghost use Rattle.gc_table.specs.Seats.{Across, view_of};
 ghost use Rattle.gc_table.specs.declared.seat.HeapSeat.{HeapSeat};
 ghost use Rattle.seat_turns.specs.Standing.{RestsOutside};
+ghost use Rattle.shared_heap.specs.Lending.{shared_shape_for};
 ghost use Rattle.shared_heap.specs.Opening.{AreNew, HasFirstCache, HasRoot, IsAloneInIdle, IsAtFirstTurn, IsNewSeat, StopsWithRoot};
 ghost use Rattle.shared_heap.specs.Rooting.{MakesRoot, Spares, SparesSeason};
 ghost use Rattle.managed_heap.specs.Sizing.{Fits};
@@ -25,12 +26,7 @@ use stop_world::{leave, resume};
 fn shape_of(sizes: &Sizes) -> Shape
     requires fits { Fits sizes.now }
     ensures shape { IsShape result }
-    ensures cells { result.cells ≡ sizes.now.cells }
-    ensures fields { result.fields ≡ sizes.now.fields }
-    ensures shared { IsTrue result.sharing }
-    ensures sections { result.sections ≡ 1 + sizes.now.mutators }
-    ensures slots { result.slots ≡ sizes.now.slots }
-    ensures objects { result.objects ≡ 4294967295 }
+    ensures sizes { result ≡ shared_shape_for sizes.now }
 {
     Shape {
         cells: sizes.cells,
@@ -48,13 +44,8 @@ fn shape_of(sizes: &Sizes) -> Shape
 /// The heap, with a seat for each section and each tracer.
 pub fn open(alloc: Global, sizes: &Sizes) -> Result<(Heap, Vec<HeapSeat>), NotOpened>
     requires fits { Fits sizes.now }
-    ensures cells { IfOk result (λ r. r.0.shape.cells ≡ sizes.now.cells) }
-    ensures fields { IfOk result (λ r. r.0.shape.fields ≡ sizes.now.fields) }
-    ensures shared { IfOk result (λ r. IsTrue r.0.shape.sharing) }
-    ensures objects { IfOk result (λ r. r.0.shape.objects ≡ 4294967295) }
-    ensures sections { IfOk result (λ r. r.0.shape.sections ≡ 1 + sizes.now.mutators) }
+    ensures shape { IfOk result (λ r. r.0.shape ≡ shared_shape_for sizes.now) }
     ensures count { IfOk result (λ r. vec_len r.1 ≡ 1 + sizes.now.mutators + sizes.now.tracers) }
-    ensures slots { IfOk result (λ r. r.0.shape.slots ≡ sizes.now.slots) }
     ensures seats { IfOk result (λ r. AreNew r.0 0 r.1.items) }
     ensures first { IfOk result (λ r. (s : HeapSeat) → slice_get r.1.items 0 ≡ Some s → (view_of s).opened ≡ r.0.shape.sections + sizes.now.tracers) }
 {

@@ -22,7 +22,7 @@ pub struct Cycle {
     pub number: u64,
     /// Why it ended.
     pub why: Why,
-    /// Whether a cycle was marking beside the program as the world stopped. What it had marked was finished, and marked anew.
+    /// Whether a cycle was marking beside the program as the world stopped. What it had marked was finished.
     pub beside: bool,
     /// How long a cycle was seen to mark beside the program, until the stop was asked for. A mutator looks with each 64th object that it makes.
     pub marked: Duration,
@@ -44,12 +44,21 @@ pub struct Cycle {
     pub traced: u32,
     /// How many cards of 16 cells were cleaned then, since they were dirty.
     pub cleaned: u32,
+    /// How many objects of those cards were scanned again.
+    pub rescanned: u32,
+    /// Whether it left no garbage, since it was precise or no cycle was marking beside the program. If not, what died since the cycle began may be kept until
+    /// the next one.
+    pub exact: bool,
+    /// How many objects were traced for nothing beside the program, since a precise collection marked all anew: `tracers` and `mutators` together if `beside`
+    /// and `exact` are true, else 0.
+    pub wasted: u64,
 }
 
 const STOP: u32 = 2;
 const ROOTS: u32 = 3;
 const SWEEP: u32 = 8;
-const END: u32 = 10;
+/// The stage before the last step of a collection.
+pub(crate) const END: u32 = 10;
 
 /// The collection under way, and the last cycle.
 struct Course {
@@ -136,7 +145,7 @@ impl Cycles {
             }
             ROOTS if before == STOP => {
                 course.stopped = Instant::now();
-                course.beside = now.again == 1;
+                course.beside = now.marking == 1;
             }
             SWEEP => course.swept = Instant::now(),
             END => {
@@ -152,20 +161,26 @@ impl Course {
     /// The cycle is about to end by these counts.
     fn end(&mut self, counts: &RawCourse, work: &RawWork, traced: u64, paid: u64) {
         let now = Instant::now();
+        let tracers = traced - self.traced_before;
+        let mutators = paid - self.paid_before;
+        let exact = counts.exact == 1;
         self.last = Some(Cycle {
             number: self.last.map_or(0, |cycle| cycle.number) + 1,
             why: self.why,
             beside: self.beside,
             marked: self.began.map_or(Duration::ZERO, |began| self.asked.saturating_duration_since(began)),
-            tracers: traced - self.traced_before,
+            tracers,
             waited: self.stopped - self.asked,
             stopped: now - self.stopped,
             swept: now - self.swept,
             freed: counts.freed,
             kept: counts.kept,
-            mutators: paid - self.paid_before,
+            mutators,
             traced: work.traced,
             cleaned: work.cleaned,
+            rescanned: counts.rescanned,
+            exact,
+            wasted: if self.beside && exact { tracers + mutators } else { 0 },
         });
         self.traced_before = traced;
         self.paid_before = paid;

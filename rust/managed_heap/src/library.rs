@@ -34,6 +34,8 @@ pub(crate) struct RawCourse {
     pub marking: u32,
     pub freed: u32,
     pub kept: u32,
+    pub rescanned: u32,
+    pub exact: u32,
 }
 
 /// How much a mutator has traced and cleaned, as the library writes it.
@@ -80,6 +82,7 @@ extern "C" {
     fn mhl_is_nil(m: *mut Handle, v: u32, out: *mut u32) -> u32;
     fn mhl_same(m: *mut Handle, v: u32, w: u32, out: *mut u32) -> u32;
     fn mhl_collect_step(m: *mut Handle, most: u32) -> u32;
+    fn mhl_finish_step(m: *mut Handle, most: u32) -> u32;
     fn mhl_is_stopping(m: *mut Handle, out: *mut u32) -> u32;
     fn mhl_root(m: *mut Handle, v: u32) -> u32;
     fn mhl_exchange(m: *mut Handle, v: u32, i: u32, expected: u32, next: u32, won: *mut u32) -> u32;
@@ -215,6 +218,10 @@ impl Handle {
 
     pub fn collect_step(&mut self, most: u32) -> u32 {
         unsafe { mhl_collect_step(self, most) }
+    }
+
+    pub fn finish_step(&mut self, most: u32) -> u32 {
+        unsafe { mhl_finish_step(self, most) }
     }
 
     pub fn is_stopping(&mut self) -> bool {

@@ -1,8 +1,8 @@
 //! Mutators.
 
-use crate::cycles::Why;
+use crate::cycles::{Why, END};
 use crate::error::{Error, NOT_YET, NO_CACHE, NO_CELL, STOPPED};
-use crate::library::Handle;
+use crate::library::{Handle, RawCourse};
 use crate::resting::Rests;
 use crate::world::Shared;
 use std::ops::Range;
@@ -23,7 +23,7 @@ const NOTHING: u32 = u32::MAX;
 /// With each of so many objects it looks whether a cycle is marking: it gets cells for as many at most at a time, and reads the phase then.
 const LOOK: u64 = 64;
 
-/// How many collections it makes for one object.
+/// How many collections of its own it makes for one object. The first is ordinary, and the others are precise.
 const TRIES: u32 = 3;
 
 /// What a thread acts on a world through. It has 32 variables, 0 to 31, which are its roots: an object that can be reached from them is kept, and all else is
@@ -33,6 +33,8 @@ const TRIES: u32 = 3;
 /// fn shared<T: Sync>() {}
 /// shared::<managed_heap::Mutator>();
 /// ```
+// It is written with each object, so it shares no line of the processor's cache with another, nor two lines that are fetched together.
+#[repr(align(128))]
 pub struct Mutator {
     handle: Handle,
     shared: Arc<Shared>,
@@ -94,8 +96,8 @@ impl Mutator {
             match make(&mut self.handle) {
                 STOPPED => self.come_back()?,
                 NO_CELL if tries < TRIES => {
-                    tries += 1;
-                    self.collect_for(Why::Lacked)?;
+                    let last = self.collect_once(tries > 0, Why::Lacked)?;
+                    tries += u32::from(last.stage == END);
                 }
                 other => return self.counts(other),
             }
@@ -138,7 +140,8 @@ impl Mutator {
     }
 
     /// The next step on the way to a cache with a free cell: it looks at no more than so many blocks of 64 cells, which are at least 1. True if the mutator has
-    /// such a cache, and false if it is to take the next step. [`Error::NoCell`] if no block has a free cell, or a cycle is done with marking: it is to collect.
+    /// such a cache, and false if it is to take the next step. [`Error::NoCell`] if no block has a free cell, or a cycle is done with marking: [`Mutator::finish`], and
+    /// if that leaves none, [`Mutator::collect`].
     pub fn refill_step(&mut self, most: u32) -> Result<bool, Error> {
         match self.handle.refill_step(most) {
             NOT_YET => Ok(false),
@@ -254,24 +257,39 @@ impl Mutator {
         }
     }
 
-    /// A collection, after which exactly the objects that can be reached are kept; or another's, if that comes first.
+    /// A precise collection: exactly the objects that can be reached are kept. What a cycle had marked beside the program is marked anew, so the world stands still
+    /// for as long as it takes to trace all that is kept. If another's collection comes first it begins anew.
     pub fn collect(&mut self) -> Result<(), Error> {
-        self.collect_for(Why::Asked)
+        loop {
+            let last = self.collect_once(true, Why::Asked)?;
+            if last.stage == END && last.exact == 1 {
+                return Ok(());
+            }
+        }
     }
 
-    fn collect_for(&mut self, why: Why) -> Result<(), Error> {
+    /// An ordinary collection, in a short stop: it finishes the cycle that is marking, if one is, and what died since that began may be kept. Or another's, if
+    /// that comes first.
+    pub fn finish(&mut self) -> Result<(), Error> {
+        self.collect_once(false, Why::Asked).map(|_| ())
+    }
+
+    /// A collection. The answer: how far it was before its last step, at [`END`] unless another's came first.
+    fn collect_once(&mut self, precise: bool, why: Why) -> Result<RawCourse, Error> {
         let mut rests = Rests::default();
+        let mut last = RawCourse::default();
         loop {
-            match self.handle.collect_step(STEP) {
+            match if precise { self.handle.collect_step(STEP) } else { self.handle.finish_step(STEP) } {
                 NOT_YET => {
                     self.tell();
-                    self.shared.cycles.note(&self.handle.course(), &self.handle.work(), why);
+                    last = self.handle.course();
+                    self.shared.cycles.note(&last, &self.handle.work(), why);
                     if self.handle.is_stopping() {
                         rests.rest();
                     }
                 }
-                STOPPED => return self.come_back(),
-                other => return Error::of(other),
+                STOPPED => return self.come_back().map(|()| last),
+                other => return Error::of(other).map(|()| last),
             }
         }
     }

@@ -27,6 +27,8 @@ pub enum Turn {
 /// fn shared<T: Sync>() {}
 /// shared::<managed_heap::Tracer>();
 /// ```
+// It is written with each turn, so it shares no line of the processor's cache with another, nor two lines that are fetched together.
+#[repr(align(128))]
 pub struct Tracer {
     handle: Handle,
     shared: Arc<Shared>,

@@ -95,6 +95,51 @@ fn the_last_cycle_is_told() {
 }
 
 #[test]
+fn an_ordinary_cycle_traces_each_object_once_and_a_precise_one_tells_what_was_wasted() {
+    const KEPT: u32 = 2000;
+    let world = World::open(Sizes::of_cells(8192)).unwrap();
+    let mut m = inside(&world);
+    for value in 0..KEPT {
+        m.make(1, value).unwrap();
+        m.set(1, 0, 0).unwrap();
+        m.copy(0, 1).unwrap();
+    }
+    m.collect().unwrap();
+    let mut last = world.last_cycle().unwrap();
+    assert_eq!((last.beside, last.exact, last.wasted, last.kept), (false, true, 0, KEPT));
+    let mut ordinary = 0;
+    while ordinary < 10 {
+        m.make(1, 0).unwrap();
+        let cycle = world.last_cycle().unwrap();
+        if cycle.number > last.number {
+            assert_eq!((cycle.why, cycle.beside, cycle.exact, cycle.wasted), (Why::Lacked, true, false, 0));
+            assert_eq!(cycle.mutators + u64::from(cycle.traced), u64::from(cycle.kept));
+            assert!(cycle.kept >= KEPT && 50 * cycle.traced <= cycle.kept);
+            ordinary += 1;
+            last = cycle;
+        }
+    }
+    m.finish().unwrap();
+    let idle = world.last_cycle().unwrap();
+    assert_eq!((idle.why, idle.beside, idle.exact, idle.kept), (Why::Asked, false, true, KEPT + 1));
+    let mut wasted = 0;
+    for objects in (0..8192).step_by(64) {
+        for _ in 0..objects {
+            m.make(1, 0).unwrap();
+        }
+        m.collect().unwrap();
+        let cycle = world.last_cycle().unwrap();
+        assert_eq!((cycle.exact, cycle.kept), (true, KEPT + 1));
+        assert_eq!(cycle.wasted, if cycle.beside { cycle.mutators } else { 0 });
+        wasted += cycle.wasted;
+        if wasted > 0 {
+            break;
+        }
+    }
+    assert!(wasted > 0);
+}
+
+#[test]
 fn an_object_is_made_with_its_references() {
     let world = World::open(Sizes::of_cells(64).fields(3)).unwrap();
     let mut m = inside(&world);

@@ -2,6 +2,7 @@
 
 use managed_heap::{Error, Mutator, Sizes, World};
 use std::collections::HashSet;
+use std::sync::atomic::{AtomicBool, Ordering};
 use std::thread;
 
 /// The variables: the root, and others.
@@ -107,6 +108,9 @@ fn a_world_that_isnt_shared_refuses_by_name() {
     assert_eq!(m.value(0), Ok(7));
 }
 
+/// Whether somebody has the lock. It is no part of the lock: who has it finds nobody else, also after others had their turn.
+static LOCKED: AtomicBool = AtomicBool::new(false);
+
 /// Takes the lock that the root's value is, waiting outside.
 fn lock(m: &mut Mutator) {
     while !m.exchange_value(ROOT, 0, 1).unwrap() {
@@ -114,6 +118,13 @@ fn lock(m: &mut Mutator) {
         thread::yield_now();
         m.enter().unwrap();
     }
+    assert!(!LOCKED.swap(true, Ordering::SeqCst), "two have the lock");
+    thread::yield_now();
+}
+
+/// Says that nobody has the lock, before it is given back.
+fn before_unlock() {
+    assert!(LOCKED.swap(false, Ordering::SeqCst), "two had the lock");
 }
 
 #[test]
@@ -132,11 +143,13 @@ fn threads_push_and_pop_behind_a_lock_beside_a_tracer() {
                     m.get(2, ROOT, 0).unwrap();
                     m.set(1, 0, 2).unwrap();
                     m.set(ROOT, 0, 1).unwrap();
+                    before_unlock();
                     assert_eq!(m.exchange_value(ROOT, 1, 0), Ok(true));
                     lock(&mut m);
                     m.get(2, ROOT, 0).unwrap();
                     m.get(3, 2, 0).unwrap();
                     m.set(ROOT, 0, 3).unwrap();
+                    before_unlock();
                     m.put(ROOT, 0).unwrap();
                     popped.push(m.value(2).unwrap());
                 }

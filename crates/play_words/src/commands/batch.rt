@@ -16,7 +16,7 @@ use gc_play::{BATCH, Status, Unread, read_source};
 use job_pool::{Batch, BatchError, read_batch, run_jobs};
 use play_end::Options;
 use play_report::{Sink, Source};
-use player::ScriptPlayer;
+use player::{ScriptPlayer, Seal};
 use std::alloc::Global;
 use std::sync::Wait;
 use std::thread::Threads;
@@ -25,7 +25,7 @@ use text::{write_batch_fault, write_jobs};
 fn play_jobs<R: Threads + Wait + Sync, K: Sink>(
     rt: &R,
     alloc: Global,
-    batch: Batch<'_>,
+    batch: Batch<'_, Seal>,
     options: &Options,
     runners: u32,
     sink: &mut K,
@@ -60,7 +60,7 @@ fn batch_bytes<R: Threads + Wait + Sync, K: Sink>(
     requires runners { (1 ≤ runners) × (runners ≤ 8) }
     ensures { AcrossSink K.written K.faults (TextEnds (IsBatchAnswer (options_of options.now) bytes.now) result) sink.old sink.new }
 {
-    match read_batch(alloc, bytes) {
+    match read_batch(alloc, bytes, Seal) {
         Err(BatchError::OutOfMemory) => Status::Memory,
         Err(fault) => tell_batch_fault(&fault, sink),
         Ok(batch) => play_jobs(rt, alloc, batch, options, runners, sink),

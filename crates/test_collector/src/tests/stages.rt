@@ -194,7 +194,7 @@ fn counts(heap: &Heap, seat: &mut HeapSeat, most: u32, freed: u32) -> Option<(u3
         let step = count_step(heap, seat, from, counted, most);
         counted = step.counted;
         if step.blocks != most {
-            return Some((full, finish_count(heap, seat, counted, freed)));
+            return Some((full, finish_count(heap, seat, counted, 0, freed)));
         }
         from = from.checked_add(step.blocks)?;
     }

@@ -1,5 +1,6 @@
 //! Batches and their faults, and runners that play beside each other.
-ghost use Rattle.std.specs.Prelude.{◌≤◌};
+ghost use Rattle.std.specs.Prelude.{◌≡◌, ◌≤◌, ◌⊎◌, []};
+ghost use Rattle.std.specs.Thread.{IsSync};
 
 use super::cases::{Kind, all_hold};
 use job_pool::{Job, Player, Text, read_batch, run_jobs};
@@ -23,7 +24,7 @@ struct Watching {
     late: AtomicU64,
 }
 
-impl Player for Watching {
+impl Player<()> for Watching {
     ghost use Rattle.std.specs.Prelude.{◌≡◌, ◌⊎◌, []};
 
     ghost fits = { λ player script status text. ((status ≡ 0) × (text ≡ script)) ⊎ ((status ≡ 6) × (text ≡ [])) };
@@ -32,8 +33,11 @@ impl Player for Watching {
         &self,
         rt: &R,
         alloc: Global,
-        job: Job<'_>,
-    ) -> (u8, Text) {
+        job: Job<'_, ()>,
+    ) -> (u8, Text)
+        requires { IsSync R.row }
+        ensures { ((result.0 ≡ 0) × (result.1 ≡ job.entry.script)) ⊎ ((result.0 ≡ 6) × (result.1 ≡ [])) }
+    {
         self.watch(rt, &job);
         let mut text = Text::make(alloc);
         match text.append(job.script()) {
@@ -53,7 +57,7 @@ impl Watching {
         }
     }
 
-    fn watch<R: Wait>(&self, rt: &R, job: &Job<'_>) {
+    fn watch<R: Wait>(&self, rt: &R, job: &Job<'_, ()>) {
         self.plays.fetch_add(1, Ordering::SeqCst);
         self.numbers
             .fetch_add(u64::from(job.number()), Ordering::SeqCst);
@@ -89,8 +93,8 @@ fn echoed<R: AllocGlobal + Threads + Wait + Sync>(
     requires { (1 ≤ runners) × (runners ≤ 8) }
 {
     let player = Watching::new();
-    let played = read_batch(rt.alloc(), source).ok()?;
-    let batch = read_batch(rt.alloc(), source).ok()?;
+    let played = read_batch(rt.alloc(), source, ()).ok()?;
+    let batch = read_batch(rt.alloc(), source, ()).ok()?;
     let done = run_jobs(rt, rt.alloc(), played, runners, &player).ok()?;
     let mut echoed = 0usize;
     for (job, result) in batch.jobs().iter().zip(done.iter()) {
@@ -146,7 +150,7 @@ fn a_batch_without_jobs_has_no_results(rt: HostRuntime) {
 
 /// The jobs of a batch in order, or its fault.
 pub fn said(alloc: Global, source: &[u8]) -> Option<String> {
-    let batch = match read_batch(alloc, source) {
+    let batch = match read_batch(alloc, source, ()) {
         Ok(batch) => batch,
         Err(e) => return format!(in alloc; "{e:?}").ok(),
     };

@@ -14,6 +14,7 @@ use Rattle.gc_cycle.proofs.Exactly.{exact-part}
 use Rattle.gc_cycle.proofs.Parts.{part-none}
 use Rattle.gc_cycle.proofs.Stepped.{part-keeps}
 use Rattle.mark_core.specs.Cards.{card_cells}
+use Rattle.card_clean.specs.Leaving.{rescanned_in}
 use Rattle.card_clean.specs.StepBounds.{clean_some_steps}
 use Rattle.tracer.specs.StepBounds.{recycle_steps}
 use Rattle.gc_cycle.proofs.Few.{cards-fewer}
@@ -34,6 +35,9 @@ returns-then-number-eq0-clause-cleaned c =
 
 pub returns-then-number-eq0-clause-counts : goal.returns-then-number-eq0-clause-counts
 returns-then-number-eq0-clause-counts c = (omega arith, ap (count_of clears) (events-none (view_of c.args.seat.now)))
+
+pub returns-then-number-eq0-clause-rescanned : goal.returns-then-number-eq0-clause-rescanned
+returns-then-number-eq0-clause-rescanned c = let v : View = view_of c.args.seat.now in ap (rescanned_in v) (events-none v)
 
 pub returns-then-number-eq0-clause-numbers : goal.returns-then-number-eq0-clause-numbers
 returns-then-number-eq0-clause-numbers c = only-none leaves_numbers (view_of c.args.seat.now)

@@ -22,7 +22,7 @@ use Rattle.gc_cycle.proofs.Ends.Rooted.{rest-room}
 use Rattle.gc_cycle.proofs.Idling.{rest-parts, traces-of}
 use Rattle.gc_cycle.proofs.Leaving.{traces-leave}
 use Rattle.gc_cycle.proofs.Turns.{has-traced}
-use Rattle.gc_cycle.proofs.Traced.{alone-traces}
+use Rattle.gc_cycle.proofs.Traced.{alone-traces, rescans-none}
 use Rattle.gc_cycle.proofs.Stops.Admitted.{uncleared}
 use Rattle.gc_cycle.proofs.card_steps.cleans_some.Goals.{After-clean_some, After-recycle_deferred}
 use Rattle.mark_core.specs.Cards.{card_cells}
@@ -72,6 +72,9 @@ returns-in-Some-clause-cleaned c =
 pub returns-in-Some-clause-counts : goal.returns-in-Some-clause-counts
 returns-in-Some-clause-counts c = c.in-Some.ensures.cleared
 
+pub returns-in-Some-clause-rescanned : goal.returns-in-Some-clause-rescanned
+returns-in-Some-clause-rescanned c = c.in-Some.ensures.some.1
+
 pub recycle_deferred-requires-clause-seat : goal.recycle_deferred-requires-clause-seat
 recycle_deferred-requires-clause-seat c =
     let w : View = view_of c.clean_some.new.seat in
@@ -107,6 +110,14 @@ returns-in-None-clause-uncleaned c =
     let r = c.recycle_deferred.ensures in
     ap (never clears) (ran-events v w x c.clean_some.ensures.only.ran r.traced.ran)
     ∙ never-both clears (events v w) (events w x) (uncleared (events v w) (moved-untaken output_pools draws_or_clears (moves-uncleaned output_pools) (events v w) c.in-None.ensures.none.1)) (uncleared (events w x) r.uncleaned)
+
+pub returns-in-None-clause-unscanned : goal.returns-in-None-clause-unscanned
+returns-in-None-clause-unscanned c =
+    let v : View = view_of c.args.seat.now in
+    let w : View = view_of c.clean_some.new.seat in
+    let x : View = view_of c.recycle_deferred.new.seat in
+    let r = c.recycle_deferred.ensures in
+    rescans-none v w x c.clean_some.ensures.only.ran r.traced.ran c.in-None.ensures.none.2 r.rescanned
 
 pub returns-in-None-clause-numbers : goal.returns-in-None-clause-numbers
 returns-in-None-clause-numbers c = only-more traces_or_cleans leaves_numbers traces-leave (view_of c.args.seat.now) (view_of c.recycle_deferred.new.seat) (both-traced c).only

@@ -13,6 +13,7 @@ returns-in-Err-clause-refused c =
     let steps = c.into_steps.ensures.steps in (
       leaves-join (view_of c.args.mutator.seat) (view_of i.mutator.seat) (view_of c.into_steps.result.seat) left.leaves steps.leaves,
       steps.world ∙ left.world,
+      steps.name_is ∙ left.name_is,
       i.ensures.kept,
       c.take_mutator.ensures.rest,
       λ out. steps.rests r.outside ∙ subst (λ (p : Place). LeavesFrom p c.args.mutator.seat i.mutator.seat) out r.leaves,

@@ -22,7 +22,7 @@ returns-in-Ok-clause-refused c =
     let x = c.give_shared.new.world in
     let ok = c.in-Ok.ensures.ok in
     on-err (λ (t : Stepper). StaysOut m t w x) (λ (t : Stepper). Refuses s t w x) c.give_shared.result
-    (λ t a. record { leaves = leaves-join (view_of s.seat) (view_of m.seat) (view_of t.seat) ok.leaves a.0; of_world = a.1 ∙ ok.world; mutators = a.2; rest = a.3; few = subst (λ (y : HeapSeat). AtMost 5 (view_of s.seat) (view_of y)) (sym (a.4 ok.outside)) ok.few })
+    (λ t a. record { leaves = leaves-join (view_of s.seat) (view_of m.seat) (view_of t.seat) ok.leaves a.0; of_world = (a.1 ∙ ok.world, a.2 ∙ ok.name_is); mutators = a.3; rest = a.4; few = subst (λ (y : HeapSeat). AtMost 5 (view_of s.seat) (view_of y)) (sym (a.5 ok.outside)) ok.few })
     c.give_shared.ensures.refused
 
 pub returns-in-Err-clause-refused : goal.returns-in-Err-clause-refused
@@ -31,7 +31,7 @@ returns-in-Err-clause-refused c =
     let same = c.in-Err.ensures.err.1 in
     record {
       leaves = subst (λ (t : Stepper). LeavesHeap (view_of s.seat) (view_of t.seat)) (sym same) (leaves-none (view_of s.seat));
-      of_world = ap (λ (t : Stepper). arc_value t.heap) same;
+      of_world = (ap (λ (t : Stepper). arc_value t.heap) same, ap (λ (t : Stepper). t.name) same);
       mutators = refl;
       rest = (record { heap = refl; zero = refl; sizes_are = refl }, refl);
       few = none-taken 5 s c.in-Err.stepper same;

@@ -1,4 +1,7 @@
+ghost use Rattle.std.specs.Thread.{IsSync};
+ghost use Rattle.command_words.specs.Commands.{options_of};
 ghost use Rattle.play_end.specs.Answers.{AreInRange};
+ghost use Rattle.play_words.specs.Batching.{FitsJob};
 
 use gc_play::{OpenGate, Status, play_bytes};
 use job_pool::{Job, Player, Text};
@@ -33,6 +36,10 @@ impl Sink for TextSink {
     }
 }
 
+/// The seal of the batch that the command plays.
+#[derive(Drop)]
+pub struct Seal;
+
 /// Plays scripts as the options say.
 #[derive(Drop)]
 pub struct ScriptPlayer {
@@ -40,7 +47,7 @@ pub struct ScriptPlayer {
     pub ghost range: { AreInRange options },
 }
 
-impl Player for ScriptPlayer {
+impl Player<Seal> for ScriptPlayer {
     ghost use Rattle.command_words.specs.Commands.{options_of};
     ghost use Rattle.play_words.specs.Batching.{FitsJob};
 
@@ -51,8 +58,11 @@ impl Player for ScriptPlayer {
         &self,
         rt: &R,
         alloc: Global,
-        job: Job<'_>,
-    ) -> (u8, Text) {
+        job: Job<'_, Seal>,
+    ) -> (u8, Text)
+        requires { IsSync R.row }
+        ensures { FitsJob (options_of self.now.options) job.entry.script result.0 result.1 }
+    {
         let mut sink = TextSink {
             text: Text::make(alloc),
             faults: 0,

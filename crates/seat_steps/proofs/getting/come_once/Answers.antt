@@ -1,55 +1,67 @@
 use Rattle.seat_turns.proofs.Leaving.{leaves-join}
-use Rattle.std.proofs.Common.{◌∙◌, arith, inl, inr, refl}
+use Rattle.seat_turns.proofs.Seats.{turn-plays}
+use Rattle.std.proofs.Common.{arith, inl, inr, refl, subst, Option}
+use Rattle.std.specs.Prelude.{IfSome}
+use Rattle.alloc_cache.specs.Caching.{IsCached}
+use Rattle.alloc_cache.specs.declared.cache.Cache.{Cache}
 use Rattle.mutator_ops.proofs.Few.{at-most-more}
 use Rattle.std.proofs.lemmas.Result.{IfOk-weaker}
 use Rattle.gc_table.specs.Seats.{view_of}
 use Rattle.gc_table.specs.declared.view.View.{View}
 use Rattle.gc_table.proofs.Running.{ran-join}
 use Rattle.seat_steps.proofs.PaidCounts.{counts-first}
-use Rattle.seat_steps.proofs.Filled.{arrives-makes, fills-makes, tries-first}
-use Rattle.seat_steps.proofs.Found.{arrives-few, comes-filled, comes-free, err-weaker, turn-known}
+use Rattle.seat_steps.proofs.Filled.{fills-makes, passes-makes, tries-first}
+use Rattle.seat_steps.proofs.Found.{arrives-lacks, comes-filled, comes-free, err-weaker, hindered-few}
 use Rattle.seat_steps.proofs.getting.come_once.Goals as goal
 
-pub returns-in-Err-clause-found : goal.returns-in-Err-clause-found
-returns-in-Err-clause-found c = arrives-makes c.in-Err.came c.args.heap.now c.point.new.seat (view_of c.args.seat.now) (view_of c.point.new.seat) c.in-Err.ensures.err c.in-Err.ensures.found
+pub returns-in-Ok-clause-ok : goal.returns-in-Ok-clause-ok
+returns-in-Ok-clause-ok c =
+    let y = c.pass_once.new.seat in
+    (turn-plays c.args.heap.now y c.in-Done.ensures.arrives, subst (λ (o : Option Cache). IfSome o (λ k. IsCached k (view_of y))) c.in-Ok.ensures.ok.0 c.cache_of.ensures.some)
 
-pub returns-in-Ok-with_free-clause-freely : goal.returns-in-Ok-with_free-clause-freely
-returns-in-Ok-with_free-clause-freely c = comes-free (view_of c.args.seat.now) (view_of c.point.new.seat) (turn-known (view_of c.args.seat.now).state.section (view_of c.args.seat.now).state.season_seen c.requires.turn.turn) c.in-Ok.ensures.freely.1
+pub returns-in_default-clause-err : goal.returns-in_default-clause-err
+returns-in_default-clause-err c = arrives-lacks c.pass_once.result c.args.heap.now c.pass_once.new.seat c.in_default.not-Done c.pass_once.ensures.arrives
 
-pub returns-in-Err-with_free-clause-ran : goal.returns-in-Err-with_free-clause-ran
-returns-in-Err-with_free-clause-ran c = ran-join (view_of c.args.seat.now) (view_of c.point.new.seat) (view_of c.fill.new.seat) c.point.ensures.ran c.fill.ensures.ran
+pub returns-in_default-clause-found : goal.returns-in_default-clause-found
+returns-in_default-clause-found c = passes-makes c.pass_once.result (view_of c.args.seat.now) (view_of c.pass_once.new.seat) c.in_default.not-Done c.pass_once.ensures.found
 
-pub returns-in-Err-with_free-clause-freely : goal.returns-in-Err-with_free-clause-freely
-returns-in-Err-with_free-clause-freely c =
+pub returns-in_default-clause-pays : goal.returns-in_default-clause-pays
+returns-in_default-clause-pays c = inl (hindered-few c.pass_once.result (view_of c.args.seat.now) (view_of c.pass_once.new.seat) c.in_default.not-Done c.pass_once.ensures.found, refl)
+
+pub returns-in-Ok-clause-freely : goal.returns-in-Ok-clause-freely
+returns-in-Ok-clause-freely c = comes-free (view_of c.args.seat.now) (view_of c.pass_once.new.seat) c.in-Done.ensures.found
+
+pub returns-in-Ok-clause-pays : goal.returns-in-Ok-clause-pays
+returns-in-Ok-clause-pays c = inl (at-most-more 2 8 (view_of c.args.seat.now) (view_of c.pass_once.new.seat) (omega arith) c.in-Done.ensures.found.few, refl)
+
+pub returns-in-Err-clause-ran : goal.returns-in-Err-clause-ran
+returns-in-Err-clause-ran c = ran-join (view_of c.args.seat.now) (view_of c.pass_once.new.seat) (view_of c.fill.new.seat) c.pass_once.ensures.ran c.fill.ensures.ran
+
+pub returns-in-Err-clause-freely : goal.returns-in-Err-clause-freely
+returns-in-Err-clause-freely c =
     let u : View = view_of c.args.seat.now in
-    let v : View = view_of c.point.new.seat in
+    let v : View = view_of c.pass_once.new.seat in
     let w : View = view_of c.fill.new.seat in
-    let e = c.in-Err-with_free.ensures in
-    let l = c.in-Ok.ensures.freely in
-    let k = turn-known u.state.section u.state.season_seen c.requires.turn.turn in
+    let e = c.in-Err.ensures in
+    let p = c.in-Done.ensures.found in
     IfOk-weaker c.fill.result _ _
-    (λ free t. comes-filled c.cache_of-cache.result c.in-Err-with_free.none u v w c.point.ensures.ran c.fill.ensures.ran l.1 c.cache_of-cache.ensures.some c.cache_of-cache.ensures.none (e.err ∙ l.0) e.lacks (t.0, tries-first 2 3 3 t.0 u v w c.point.ensures.ran (l.1.known k) t.1))
+    (λ free t. comes-filled c.cache_of.result c.in-Err.none u v w p c.fill.ensures.ran c.cache_of.ensures.some c.cache_of.ensures.none e.err e.lacks (t.0, tries-first 2 3 3 t.0 u v w p.ran p.few t.1))
     c.fill.ensures.besides
 
-pub returns-in-Err-with_free-clause-found : goal.returns-in-Err-with_free-clause-found
-returns-in-Err-with_free-clause-found c =
+pub returns-in-Err-clause-found : goal.returns-in-Err-clause-found
+returns-in-Err-clause-found c =
     let u : View = view_of c.args.seat.now in
-    let v : View = view_of c.point.new.seat in
+    let v : View = view_of c.pass_once.new.seat in
     let w : View = view_of c.fill.new.seat in
-    let k = turn-known u.state.section u.state.season_seen c.requires.turn.turn in
-    err-weaker c.fill.result _ _ (λ came m. fills-makes came u v w c.point.ensures.ran (c.in-Ok.ensures.freely.1.known k) c.fill.ensures.ran m) c.fill.ensures.found
+    let p = c.in-Done.ensures.found in
+    err-weaker c.fill.result _ _ (λ came m. fills-makes came u v w p.ran p.few c.fill.ensures.ran m) c.fill.ensures.found
 
-pub returns-in-Err-with_free-clause-leaves : goal.returns-in-Err-with_free-clause-leaves
-returns-in-Err-with_free-clause-leaves c = leaves-join (view_of c.args.seat.now) (view_of c.point.new.seat) (view_of c.fill.new.seat) c.point.ensures.leaves c.fill.ensures.leaves
+pub returns-in-Err-clause-leaves : goal.returns-in-Err-clause-leaves
+returns-in-Err-clause-leaves c = leaves-join (view_of c.args.seat.now) (view_of c.pass_once.new.seat) (view_of c.fill.new.seat) c.pass_once.ensures.leaves c.fill.ensures.leaves
 
 pub returns-in-Err-clause-pays : goal.returns-in-Err-clause-pays
-returns-in-Err-clause-pays c = inl (arrives-few c.in-Err.came (view_of c.args.seat.now) (view_of c.point.new.seat) c.in-Err.ensures.found, refl)
-
-pub returns-in-Ok-with_free-clause-pays : goal.returns-in-Ok-with_free-clause-pays
-returns-in-Ok-with_free-clause-pays c = inl (at-most-more 3 8 (view_of c.args.seat.now) (view_of c.point.new.seat) (omega arith) c.in-Ok.ensures.freely.1.few, refl)
-
-pub returns-in-Err-with_free-clause-pays : goal.returns-in-Err-with_free-clause-pays
-returns-in-Err-with_free-clause-pays c =
+returns-in-Err-clause-pays c =
     let u : View = view_of c.args.seat.now in
-    let k = turn-known u.state.section u.state.season_seen c.requires.turn.turn in
-    inr (counts-first 2 3 8 c.args.paid.now c.fill.new.paid u (view_of c.point.new.seat) (view_of c.fill.new.seat) c.point.ensures.ran (c.in-Ok.ensures.freely.1.known k) c.fill.ensures.pays)
+    let v : View = view_of c.pass_once.new.seat in
+    let p = c.in-Done.ensures.found in
+    inr (counts-first 2 3 8 c.args.paid.now c.fill.new.paid u v (view_of c.fill.new.seat) p.ran p.few c.fill.ensures.pays)

@@ -6,7 +6,7 @@ use Rattle.seat_steps.proofs.Filled.{made-free}
 use Rattle.seat_steps.proofs.getting.make_once.Goals as goal
 
 pub returns-in-Ok-clause-makes : goal.returns-in-Ok-clause-makes
-returns-in-Ok-clause-makes c = (c.makes.ensures.turn, makes-after _ c.args.v c.args.value c.args.heap.now c.args.seat.now c.come_once.new.seat c.makes.new.seat refl c.come_once.ensures.leaves c.come_once.ensures.same c.makes.ensures.made)
+returns-in-Ok-clause-makes c = (c.makes.ensures.turn, makes-after _ c.args.v c.args.value c.args.heap.now c.args.seat.now c.come_once.new.seat c.makes.new.seat refl c.come_once.ensures.leaves c.come_once.ensures.same c.makes.ensures.ran c.makes.ensures.made)
 
 pub returns-in-Ok-clause-leaves : goal.returns-in-Ok-clause-leaves
 returns-in-Ok-clause-leaves c = λ other. absurd (other refl)

@@ -15,6 +15,7 @@ pub returns-else-shape-clause-does : goal.returns-else-shape-clause-does
 returns-else-shape-clause-does c =
     does-own c.args.heap.now c.args.seat.now c.assign.new.seat (ops.Let c.args.w c.args.v) (alone-of c.args.heap.now c.shape.result c.shape.ensures c.if-shape.false)
     (operated (ops.Let c.args.w c.args.v) 0 c.args.heap.now c.args.seat.now c.assign.new.seat refl c.requires.turn (alone-of c.args.heap.now c.shape.result c.shape.ensures c.if-shape.false) c.assign.ensures.seat c.assign.ensures.does).steps
+    c.assign.ensures.steps
 
 pub share_copy-requires-clause-seat : goal.share_copy-requires-clause-seat
 share_copy-requires-clause-seat c = turn-shares c.args.heap.now c.args.seat.now c.requires.turn (shared-of c.args.heap.now c.shape.result c.shape.ensures c.if-shape.true)

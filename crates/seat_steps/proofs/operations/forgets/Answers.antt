@@ -15,6 +15,7 @@ pub returns-else-shape-clause-does : goal.returns-else-shape-clause-does
 returns-else-shape-clause-does c =
     does-own c.args.heap.now c.args.seat.now c.clear.new.seat (ops.Nil c.args.v) (alone-of c.args.heap.now c.shape.result c.shape.ensures c.if-shape.false)
     (operated (ops.Nil c.args.v) 0 c.args.heap.now c.args.seat.now c.clear.new.seat refl c.requires.turn (alone-of c.args.heap.now c.shape.result c.shape.ensures c.if-shape.false) c.clear.ensures.seat c.clear.ensures.does).steps
+    c.clear.ensures.steps
 
 pub share_forget-requires-clause-seat : goal.share_forget-requires-clause-seat
 share_forget-requires-clause-seat c = turn-shares c.args.heap.now c.args.seat.now c.requires.turn (shared-of c.args.heap.now c.shape.result c.shape.ensures c.if-shape.true)

@@ -14,3 +14,4 @@ pub returns-else-shape-clause-does : goal.returns-else-shape-clause-does
 returns-else-shape-clause-does c =
     does-own c.args.heap.now c.args.seat.now c.follow.new.seat (ops.Get c.args.w c.args.v c.args.i) (alone-of c.args.heap.now c.shape.result c.shape.ensures c.if-shape.false)
     (operated (ops.Get c.args.w c.args.v c.args.i) 0 c.args.heap.now c.args.seat.now c.follow.new.seat refl c.requires.turn (alone-of c.args.heap.now c.shape.result c.shape.ensures c.if-shape.false) c.follow.ensures.seat c.follow.ensures.does).steps
+    c.follow.ensures.events

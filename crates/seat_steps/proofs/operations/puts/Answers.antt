@@ -15,6 +15,7 @@ pub returns-else-shape-clause-does : goal.returns-else-shape-clause-does
 returns-else-shape-clause-does c =
     does-own c.args.heap.now c.args.seat.now c.put.new.seat (ops.Put c.args.v c.args.value) (alone-of c.args.heap.now c.shape.result c.shape.ensures c.if-shape.false)
     (operated (ops.Put c.args.v c.args.value) _ c.args.heap.now c.args.seat.now c.put.new.seat refl c.requires.turn (alone-of c.args.heap.now c.shape.result c.shape.ensures c.if-shape.false) c.put.ensures.seat c.put.ensures.does).steps
+    c.put.ensures.steps
 
 pub share_put-requires-clause-seat : goal.share_put-requires-clause-seat
 share_put-requires-clause-seat c = turn-shares c.args.heap.now c.args.seat.now c.requires.turn (shared-of c.args.heap.now c.shape.result c.shape.ensures c.if-shape.true)

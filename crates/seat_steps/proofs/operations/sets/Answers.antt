@@ -15,6 +15,7 @@ pub returns-else-shape-clause-does : goal.returns-else-shape-clause-does
 returns-else-shape-clause-does c =
     does-own c.args.heap.now c.args.seat.now c.set.new.seat (ops.Set c.args.v c.args.i c.args.w) (alone-of c.args.heap.now c.shape.result c.shape.ensures c.if-shape.false)
     (operated (ops.Set c.args.v c.args.i c.args.w) _ c.args.heap.now c.args.seat.now c.set.new.seat refl c.requires.turn (alone-of c.args.heap.now c.shape.result c.shape.ensures c.if-shape.false) c.set.ensures.seat c.set.ensures.does).steps
+    c.set.ensures.steps
 
 pub share_set-requires-clause-seat : goal.share_set-requires-clause-seat
 share_set-requires-clause-seat c = turn-shares c.args.heap.now c.args.seat.now c.requires.turn (shared-of c.args.heap.now c.shape.result c.shape.ensures c.if-shape.true)

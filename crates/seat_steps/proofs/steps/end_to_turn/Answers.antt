@@ -29,12 +29,12 @@ returns-clause-ends c =
     let w = view_of c.finish_count.new.seat in
     record {
       ended = w;
-      exact = c.requires.counted.since.1;
+      exactly = c.requires.counted.since.1;
       ends = subst (λ (counts : Counts). EndsCollection counts v w) e.counts e.ends;
       course =
-          subst (λ (sh : Shape). TakesCourse [] (sets_numbers sh (record { marked = c.args.counted; freed = c.args.freed; rescanned = 0 })) v w) (sym c.requires.counted.sits.1)
+          subst (λ (sh : Shape). TakesCourse [] (sets_numbers sh c.args.counts) v w) (sym c.requires.counted.sits.1)
           (subst (λ (counts : Counts). TakesCourse [] (sets_numbers c.args.heap.now.shape counts) v w) e.counts e.course);
-      collected = collects-all c.args.heap.now v c.finish_count.new.seat e.seat e.ran e.course.only e.collects c.requires.counted.since;
+      collected = collects-all c.args.exact c.args.heap.now _ v c.finish_count.new.seat e.seat e.course e.collects c.requires.counted.since;
       arrives = c.arrive.ensures.found;
     }
 

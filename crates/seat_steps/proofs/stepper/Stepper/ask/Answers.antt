@@ -17,9 +17,9 @@ returns-then-asks c =
     let w = view_of c.asks.new.seat in
     record {
       collects = λ most.
-          step-on most x _ stages.Inside stages.Stopping c.requires.inside refl
-          (record { retired = v; gives = r.gives; asks = subst (λ (b : Bool). AsksOnce v.state.made b v w) c.if-asks.true a.asks })
-          (record { heap = a.same ∙ r.same; leaves = leaves-join u v w r.leaves a.leaves; world = refl; name_is = refl });
+          step-on c.args.precise most x _ stages.Inside stages.Stopping c.requires.inside refl
+          (record { retired = v; gives = r.gives; asks = subst (λ (b : Bool). AsksOnce v.state.made b v w) c.if-asks.true a.asks }, refl)
+          (record { heap = a.same ∙ r.same; leaves = leaves-join u v w r.leaves a.leaves; world = refl; name_is = refl; stops = refl; search = record { paid_is = refl; block = refl; seen = refl } });
       bounded = λ most. bounded-on most x _ stages.Inside stages.Stopping c.requires.inside refl (asks-few v.state.made c.asks.result u v w r.ran r.gives r.few a.leaves.ran a.asks);
     }
 
@@ -35,7 +35,7 @@ returns c =
       collects = λ most. (
         inl (c.requires.inside, record { retired = v; gives = r.gives; asks = subst (λ (b : Bool). AsksOnce v.state.made b v w) c.if-asks.false a.asks }),
         refl,
-        record { heap = a.same ∙ r.same; leaves = leaves-join u v w r.leaves a.leaves; world = refl; name_is = refl },
+        record { heap = a.same ∙ r.same; leaves = leaves-join u v w r.leaves a.leaves; world = refl; name_is = refl; stops = refl; search = record { paid_is = refl; block = refl; seen = refl } },
       );
       bounded = λ most. bounded-on most x _ stages.Inside stages.Outside c.requires.inside refl (asks-few v.state.made c.asks.result u v w r.ran r.gives r.few a.leaves.ran a.asks);
     }

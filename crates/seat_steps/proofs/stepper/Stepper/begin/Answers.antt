@@ -1,6 +1,8 @@
-use Rattle.std.proofs.Common.{◌∙◌, Bool, inl, refl, subst, sym}
-use Rattle.std.specs.Prelude.{if◌then◌else◌}
-use Rattle.gc_table.specs.Seats.{view_of}
+use Rattle.std.proofs.Common.{◌∙◌, Bool, ap, inl, refl, subst, sym}
+use Rattle.std.specs.Prelude.{◌&&◌, ◌||◌, if◌then◌else◌, not}
+use Rattle.gc_table.specs.Seats.{state_of, view_of}
+use Rattle.mark_core.specs.Seats.{saw}
+use Rattle.mark_core.specs.declared.kinds.Phase.TheVariants.{Marking}
 use Rattle.gc_table.proofs.Running.{ran-join}
 use Rattle.mutator_ops.specs.Few.{AtMost}
 use Rattle.seat_turns.proofs.Leaving.{leaves-join}
@@ -33,7 +35,7 @@ returns-then-not-finds_stopped c =
     let x = c.args.self.now in
     let running = c.if-not-finds_stopped.ensures.not_yet.1 in
     record {
-      collects = λ most. step-on most x _ stages.Stopping stages.Stopping c.requires.stopping c.requires.stopping running (keeps-all x _ (kept (goal.at.returns-then-not-finds_stopped c).After-finds_stopped) refl refl);
+      collects = λ precise most. step-on precise most x _ stages.Stopping stages.Stopping c.requires.stopping c.requires.stopping (running, refl) (keeps-all x _ (kept (goal.at.returns-then-not-finds_stopped c).After-finds_stopped) refl refl);
       bounded = λ most. bounded-on most x _ stages.Stopping stages.Stopping c.requires.stopping c.requires.stopping (looks-once (view_of x.seat) (view_of c.finds_stopped.new.seat) running);
     }
 
@@ -53,11 +55,12 @@ returns-then-begin_collection c =
     let b = c.begin_collection.ensures in
     let course = c.if-begin_collection.ensures.course in
     let found = kept (goal.at.returns-then-begin_collection c).After-finds_stopped in
+    let read = c.read_marking-marking.ensures.marking in
     let begun = course-kept c.finds_stopped.new.seat c.begin_collection.new.seat b.ran course.only b.keeps in
     record {
-      collects = λ most.
-          step-on most x _ stages.Stopping stages.Rooting c.requires.stopping refl
-          (record { stopped = v; finds = stopped.1; course = course; marking = c.read_marking-self.ensures.marking }, refl, refl, refl)
+      collects = λ precise most.
+          step-on precise most x _ stages.Stopping stages.Rooting c.requires.stopping refl
+          (record { stopped = v; finds = stopped.1; course = course; once_more = c.marks_again-self.ensures.again ∙ ap (λ (m : Bool). x.precise && m) read; exactly = c.leaves_none-self.ensures.exact ∙ ap (λ (m : Bool). x.precise || not m) read }, refl, refl, (refl, refl, refl))
           (keeps-all x _ (kept-join x.seat c.finds_stopped.new.seat c.begin_collection.new.seat found begun) refl refl);
       bounded = λ most.
           bounded-on most x _ stages.Stopping stages.Rooting c.requires.stopping refl
@@ -72,9 +75,10 @@ invariant_of-self-then-begin_collection-clause-rooting c = λ is.
     let here = (goal.at.invariant_of-self-then-begin_collection-clause-rooting c).After-finds_stopped in
     let b = c.begin_collection.ensures in
     let i = c.if-begin_collection.ensures in
-    let marks = marks-begun (view_of y) (view_of z) c.if-not-finds_stopped.ensures.stopped.0 i.begun.1 (waits here) b.ran i.course.only i.exact in
+    let marks = marks-begun x.precise _ (view_of y) (view_of z) c.if-not-finds_stopped.ensures.stopped.0 i.begun.1 (waits here) i.course i.exact in
     goes-on _ _ x.seat z c.deref-2.ensures (x.stopping c.requires.stopping).mutator (kept-join x.seat y z (kept here) (course-kept y z b.ran i.course.only b.keeps)) b.seat (sees-first (view_of z) i.begun.0)
-    (subst (λ (again : Bool). MarksSinceAsked again (view_of z)) (sym c.read_marking-self.ensures.marking) marks)
+    (subst (λ (a : Bool). MarksSinceAsked c.leaves_none-self.result a (view_of z)) (sym (c.marks_again-self.ensures.again ∙ ap (λ (m : Bool). x.precise && m) c.read_marking-marking.ensures.marking))
+    (subst (λ (e : Bool). MarksSinceAsked e (x.precise && saw (state_of y).phase_seen Marking) (view_of z)) (sym (c.leaves_none-self.ensures.exact ∙ ap (λ (m : Bool). x.precise || not m) c.read_marking-marking.ensures.marking)) marks))
 
 pub leave-requires : goal.leave-requires
 leave-requires c =
@@ -103,11 +107,11 @@ returns c =
     let found = kept (goal.at.returns c).After-finds_stopped in
     let all = kept-join x.seat c.finds_stopped.new.seat c.begin_collection.new.seat found (course-kept c.finds_stopped.new.seat c.begin_collection.new.seat b.ran i.over.only b.keeps) in
     record {
-      collects = λ most. (
+      collects = λ precise most. (
         inl (c.requires.stopping, record { stopped = u; finds = stopped.1; resumed = v; course = i.over; leaves = l.out; full = begins-full t u v w found.leaves.ran stopped.1 i.over known l.ran (l.full known) }),
         l.full known,
         refl,
-        record { heap = l.same ∙ all.same; leaves = leaves-join t v w all.leaves l.leaves; world = refl; name_is = refl },
+        record { heap = l.same ∙ all.same; leaves = leaves-join t v w all.leaves l.leaves; world = refl; name_is = refl; stops = refl; search = record { paid_is = refl; block = refl; seen = refl } },
       );
       bounded = λ most.
           bounded-on most x _ stages.Stopping stages.Outside c.requires.stopping refl

@@ -9,6 +9,7 @@ use Rattle.gc_table.specs.declared.seat.Heap.{Heap}
 use Rattle.gc_table.specs.declared.view.View.{View}
 use Rattle.packet_pools.specs.Counts.{count_of}
 use Rattle.tracer.specs.StepBounds.{recycle_steps}
+use Rattle.card_clean.specs.Leaving.{rescanned_in}
 use Rattle.card_clean.specs.StepBounds.{clean_some_steps}
 use Rattle.mutator_ops.specs.Few.{AtMost}
 use Rattle.gc_cycle.specs.Finishing.{most as greatest}
@@ -41,12 +42,12 @@ few c =
     let r = (x.cleaning c.requires.cleaning).stands in
     drain-few (cleaning_steps c.args.most x) u v e.unpopped e.part r.owner r.drain (subst (λ (h : Heap). AtMost (clean_some_steps c.args.most (card_cells * c.args.most) h.shape + recycle_steps h.shape) u v) c.deref.ensures e.few)
 
-on : (c : After-clean_step) → Collects Drains (MarksSinceAsked c.args.self.now.again) (arc_value c.args.self.now.heap) c.clean_step.new.seat
+on : (c : After-clean_step) → Collects Drains (MarksSinceAsked c.args.self.now.exact c.args.self.now.again) (arc_value c.args.self.now.heap) c.clean_step.new.seat
 on c =
     let x = c.args.self.now in
     let s = x.cleaning c.requires.cleaning in
     let e = c.clean_step.ensures in
-    goes-on _ _ x.seat c.clean_step.new.seat c.deref.ensures s.mutator (kept c) e.seat e.drains (marks-on x.again (view_of x.seat) (view_of c.clean_step.new.seat) e.part e.exact s.since)
+    goes-on _ _ x.seat c.clean_step.new.seat c.deref.ensures s.mutator (kept c) e.seat e.drains (marks-on x.exact x.again (view_of x.seat) (view_of c.clean_step.new.seat) e.part e.exact s.since)
 
 pub clean_step-requires : goal.clean_step-requires
 clean_step-requires c = let x = c.args.self.now in let s = x.cleaning c.requires.cleaning in record { seat = sits-in _ _ x.seat c.deref.ensures s.sits; drains = s.stands }
@@ -58,7 +59,7 @@ returns-in_default c =
     let e = c.in_default.ensures in
     record {
       collects =
-          step-on c.args.most x _ stages.Cleaning stages.Cleaning c.requires.cleaning c.requires.cleaning (inr (refl, e.lacks, count-none clears (did x.seat c.clean_step.new.seat) e.uncleaned, (refl, refl)), refl)
+          λ precise. step-on precise c.args.most x _ stages.Cleaning stages.Cleaning c.requires.cleaning c.requires.cleaning (inr (refl, e.lacks, count-none clears (did x.seat c.clean_step.new.seat) e.uncleaned, e.unscanned, (refl, refl, refl)), ((refl, refl), refl))
           (keeps-all x _ (kept here) refl refl);
       bounded = bounded-on c.args.most x _ stages.Cleaning stages.Cleaning c.requires.cleaning c.requires.cleaning (inr e.lacks, few here);
     }
@@ -77,8 +78,11 @@ returns-then-step-most-clause-collects c =
     let sum = c.saturating_add-self.ensures in
     let counts = e.counts.1 in
     let cleaned : c.saturating_add-self.result ≡ min (x.cleaned + count_of clears (did x.seat c.clean_step.new.seat)) greatest = omega (arith, sum, counts) in
-    step-on c.args.most x _ stages.Cleaning stages.Cleaning c.requires.cleaning c.requires.cleaning
-    (inl (as-many n c.args.most (cards_left x) count is, ap (λ k. x.next + k) is, subst (λ k. Across (CleansCards x.next k) x.seat c.clean_step.new.seat) is e.cleaned.1, (refl, cleaned)), refl)
+    let scanned = c.saturating_add-self-2.ensures in
+    let objects = e.rescanned in
+    let rescanned : c.saturating_add-self-2.result ≡ min (x.rescanned + rescanned_in (view_of x.seat) (did x.seat c.clean_step.new.seat)) greatest = omega (arith, scanned, objects) in
+    λ precise. step-on precise c.args.most x _ stages.Cleaning stages.Cleaning c.requires.cleaning c.requires.cleaning
+    (inl (as-many n c.args.most (cards_left x) count is, ap (λ k. x.next + k) is, subst (λ k. Across (CleansCards x.next k) x.seat c.clean_step.new.seat) is e.cleaned.1, (refl, cleaned, rescanned)), ((refl, refl), refl))
     (keeps-all x _ (kept here) refl refl)
 
 pub returns-then-step-most-clause-bounded : goal.returns-then-step-most-clause-bounded
@@ -99,8 +103,11 @@ returns-clause-collects c =
     let sum = c.saturating_add-self.ensures in
     let counts = e.counts.1 in
     let cleaned : c.saturating_add-self.result ≡ min (x.cleaned + count_of clears (did x.seat c.clean_step.new.seat)) greatest = omega (arith, sum, counts) in
+    let scanned = c.saturating_add-self-2.ensures in
+    let objects = e.rescanned in
+    let rescanned : c.saturating_add-self-2.result ≡ min (x.rescanned + rescanned_in (view_of x.seat) (did x.seat c.clean_step.new.seat)) greatest = omega (arith, scanned, objects) in
     let all = all-left n c.args.most (cards_left x) count c.if-step-most.false in
-    step-on c.args.most x _ stages.Cleaning stages.Draining c.requires.cleaning refl (all.0, subst (λ k. Across (CleansCards x.next k) x.seat c.clean_step.new.seat) all.1 e.cleaned.1, refl, (refl, cleaned)) (keeps-all x _ (kept here) refl refl)
+    λ precise. step-on precise c.args.most x _ stages.Cleaning stages.Draining c.requires.cleaning refl (all.0, subst (λ k. Across (CleansCards x.next k) x.seat c.clean_step.new.seat) all.1 e.cleaned.1, ((refl, refl), refl), (refl, cleaned, rescanned)) (keeps-all x _ (kept here) refl refl)
 
 pub returns-clause-bounded : goal.returns-clause-bounded
 returns-clause-bounded c =

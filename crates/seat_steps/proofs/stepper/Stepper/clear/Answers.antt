@@ -50,7 +50,7 @@ returns-then-clear_step-draws c =
     let here = (goal.at.returns-then-clear_step-draws c).After-clear_step in
     let all = drawn here ∙ (c.if-clear_step-draws.true ∙ draws here) in
     record {
-      collects = step-on c.args.most x _ stages.Clearing stages.Clearing c.requires.clearing c.requires.clearing (all, c.clear_step.ensures.part, refl, (refl, refl)) (keeps-all x _ (kept here) refl refl);
+      collects = λ precise. step-on precise c.args.most x _ stages.Clearing stages.Clearing c.requires.clearing c.requires.clearing (all, c.clear_step.ensures.part, ((refl, refl), refl), (refl, refl, refl)) (keeps-all x _ (kept here) refl refl);
       bounded = bounded-on c.args.most x _ stages.Clearing stages.Clearing c.requires.clearing c.requires.clearing (omega (arith, all), few here);
     }
 
@@ -73,7 +73,7 @@ returns-clause-collects c =
     let e = c.clear_step.ensures in
     let b = c.finish_clear.ensures in
     let fewer = fewer-of _ c.clear_step.result c.stretches_of-draws.result (draws_for c.args.most x) (drawn here) e.stretches.0 c.if-clear_step-draws.false (draws here) in
-    step-on c.args.most x _ stages.Clearing stages.Rooting c.requires.clearing refl (
+    λ precise. step-on precise c.args.most x _ stages.Clearing stages.Rooting c.requires.clearing refl (
       record {
         cleared = view_of y;
         part = e.part;
@@ -83,6 +83,7 @@ returns-clause-collects c =
       refl,
       refl,
       (refl, refl),
+      (refl, refl, refl),
     )
     (keeps-all x _ (kept-join x.seat y z (kept here) (course-kept y z b.ran b.course.only b.keeps)) refl refl)
 
@@ -115,4 +116,4 @@ invariant_of-self-2-clause-rooting c = λ is.
     let e = c.clear_step.ensures in
     let b = c.finish_clear.ensures in
     goes-on _ _ x.seat z c.deref-3.ensures s.mutator (kept-join x.seat y z (kept (goal.at.invariant_of-self-2-clause-rooting c).After-clear_step) (course-kept y z b.ran b.course.only b.keeps)) b.seat (sees-first (view_of z) b.roots)
-    (marks-again (view_of y) (view_of z) b.ran b.course.only b.exact (clears-on (view_of x.seat) (view_of y) e.part s.since))
+    (marks-again x.exact _ (view_of y) (view_of z) b.course b.exact (clears-on (view_of x.seat) (view_of y) e.part s.since))

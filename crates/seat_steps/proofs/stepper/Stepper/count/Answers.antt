@@ -29,12 +29,12 @@ few c =
     let e = c.count_step-step.ensures in
     count-few c.args.most x.next x.counted (view_of x.seat) (view_of c.count_step-step.new.seat) e.part (x.counting c.requires.counting).stands e.few
 
-on : (c : After-count_step-step) (Stands : View → Type 0) → Stands (view_of c.count_step-step.new.seat) → Collects Stands CountsSinceAsked (arc_value c.args.self.now.heap) c.count_step-step.new.seat
+on : (c : After-count_step-step) (Stands : View → Type 0) → Stands (view_of c.count_step-step.new.seat) → Collects Stands (CountsSinceAsked c.args.self.now.exact) (arc_value c.args.self.now.heap) c.count_step-step.new.seat
 on c Stands stands =
     let x = c.args.self.now in
     let s = x.counting c.requires.counting in
     let e = c.count_step-step.ensures in
-    goes-on _ _ x.seat c.count_step-step.new.seat c.deref.ensures s.mutator (kept c) e.seat stands (counts-on (view_of x.seat) (view_of c.count_step-step.new.seat) e.part e.collects s.since)
+    goes-on _ _ x.seat c.count_step-step.new.seat c.deref.ensures s.mutator (kept c) e.seat stands (counts-on x.exact (view_of x.seat) (view_of c.count_step-step.new.seat) e.part e.collects s.since)
 
 pub count_step-step-requires : goal.count_step-step-requires
 count_step-step-requires c = let x = c.args.self.now in let s = x.counting c.requires.counting in record { seat = sits-in _ _ x.seat c.deref.ensures s.sits; counts = s.stands }
@@ -46,8 +46,8 @@ returns-then-step-most-clause-collects c =
     let n : ℕ = c.count_step-step.result.blocks in
     let is = c.if-step-most.true in
     let count : n ≡ min c.args.most (blocks_left x) = subst (λ (h : Heap). n ≡ min c.args.most (block_count h.shape - x.next)) c.deref.ensures e.blocks in
-    step-on c.args.most x _ stages.Counting stages.Counting c.requires.counting c.requires.counting
-    (as-many n c.args.most (blocks_left x) count is, subst (λ k. steps_of (did x.seat c.count_step-step.new.seat) ≡ alloc_reads x.next k) is e.reads, ap (λ k. x.next + k) is, refl, refl, (refl, refl))
+    λ precise. step-on precise c.args.most x _ stages.Counting stages.Counting c.requires.counting c.requires.counting
+    (as-many n c.args.most (blocks_left x) count is, subst (λ k. steps_of (did x.seat c.count_step-step.new.seat) ≡ alloc_reads x.next k) is e.reads, ap (λ k. x.next + k) is, refl, ((refl, refl), refl), (refl, refl, refl))
     (keeps-all x _ (kept (goal.at.returns-then-step-most-clause-collects c).After-count_step-step) refl refl)
 
 pub returns-then-step-most-clause-bounded : goal.returns-then-step-most-clause-bounded
@@ -64,8 +64,8 @@ returns-clause-collects c =
     let n : ℕ = c.count_step-step.result.blocks in
     let count : n ≡ min c.args.most (blocks_left x) = subst (λ (h : Heap). n ≡ min c.args.most (block_count h.shape - x.next)) c.deref.ensures e.blocks in
     let all = all-left n c.args.most (blocks_left x) count c.if-step-most.false in
-    step-on c.args.most x _ stages.Counting stages.Ending c.requires.counting refl
-    (all.0, subst (λ k. steps_of (did x.seat c.count_step-step.new.seat) ≡ alloc_reads x.next k) all.1 e.reads, refl, refl, (refl, refl))
+    λ precise. step-on precise c.args.most x _ stages.Counting stages.Ending c.requires.counting refl
+    (all.0, subst (λ k. steps_of (did x.seat c.count_step-step.new.seat) ≡ alloc_reads x.next k) all.1 e.reads, refl, ((refl, refl), refl), (refl, refl, refl))
     (keeps-all x _ (kept (goal.at.returns-clause-collects c).After-count_step-step) refl refl)
 
 pub returns-clause-bounded : goal.returns-clause-bounded

@@ -34,6 +34,8 @@ returns-else-word_of-eq0-clause-done c =
       few = exchanged-few c.args.v c.args.i c.args.expected c.args.new c.share_exchange.result v w acts;
       world = refl;
       name_is = refl;
+      stops = refl;
+      search = record { paid_is = refl; block = refl; seen = refl };
     }
 
 pub returns-in_default : goal.returns-in_default

@@ -25,6 +25,8 @@ returns-in-Inside c =
         few = cleared-few c.args.from (c.args.to - c.args.from) (view_of c.args.self.now.seat) (view_of c.clear_slots_shared.new.seat) c.clear_slots_shared.ensures.takes;
         world = refl;
         name_is = refl;
+        stops = refl;
+        search = record { paid_is = refl; block = refl; seen = refl };
       };
     }
 

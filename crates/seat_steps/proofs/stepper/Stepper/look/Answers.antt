@@ -24,8 +24,8 @@ use Rattle.seat_steps.proofs.stepper.Stepper.look.Goals.{After-finds_all_marked,
 kept : (c : After-look_step) → Kept c.args.self.now.seat c.look_step.new.seat
 kept c = let e = c.look_step.ensures in part-kept Drain c.args.self.now.seat c.look_step.new.seat e.part e.keeps
 
-marks : (c : After-look_step) → MarksSinceAsked c.args.self.now.again (view_of c.look_step.new.seat)
-marks c = let x = c.args.self.now in let e = c.look_step.ensures in marks-on x.again (view_of x.seat) (view_of c.look_step.new.seat) e.part e.exact (x.looking c.requires.looking).since
+marks : (c : After-look_step) → MarksSinceAsked c.args.self.now.exact c.args.self.now.again (view_of c.look_step.new.seat)
+marks c = let x = c.args.self.now in let e = c.look_step.ensures in marks-on x.exact x.again (view_of x.seat) (view_of c.look_step.new.seat) e.part e.exact (x.looking c.requires.looking).since
 
 few : (c : After-look_step) → Across (DoesFew c.args.most) c.args.self.now.seat c.look_step.new.seat
 few c =
@@ -33,7 +33,7 @@ few c =
     let e = c.look_step.ensures in
     (looks-neither c.deref.result.now.shape x.next c.args.most c.look_step.result (view_of x.seat) (view_of c.look_step.new.seat) e.looked, e.few)
 
-on : (c : After-look_step) (Stands : View → Type 0) → Stands (view_of c.look_step.new.seat) → Collects Stands (MarksSinceAsked c.args.self.now.again) (arc_value c.args.self.now.heap) c.look_step.new.seat
+on : (c : After-look_step) (Stands : View → Type 0) → Stands (view_of c.look_step.new.seat) → Collects Stands (MarksSinceAsked c.args.self.now.exact c.args.self.now.again) (arc_value c.args.self.now.heap) c.look_step.new.seat
 on c Stands stands = let x = c.args.self.now in goes-on _ _ x.seat c.look_step.new.seat c.deref.ensures (x.looking c.requires.looking).mutator (kept c) c.look_step.ensures.seat stands (marks c)
 
 pub look_step-requires : goal.look_step-requires
@@ -42,8 +42,8 @@ look_step-requires c = let x = c.args.self.now in let s = x.looking c.requires.l
 pub returns-in-Dirty-clause-collects : goal.returns-in-Dirty-clause-collects
 returns-in-Dirty-clause-collects c =
     let x = c.args.self.now in
-    step-on c.args.most x _ stages.Looking stages.Cleaning c.requires.looking refl
-    (subst (λ (h : Heap). LooksAt h.shape x.next c.args.most (looks.Dirty c.in-Dirty.card) (did x.seat c.look_step.new.seat)) c.deref.ensures c.in-Dirty.ensures.looked, refl, (refl, refl))
+    λ precise. step-on precise c.args.most x _ stages.Looking stages.Cleaning c.requires.looking refl
+    (subst (λ (h : Heap). LooksAt h.shape x.next c.args.most (looks.Dirty c.in-Dirty.card) (did x.seat c.look_step.new.seat)) c.deref.ensures c.in-Dirty.ensures.looked, ((refl, refl), refl), (refl, refl, refl))
     (keeps-all x _ (kept (goal.at.returns-in-Dirty-clause-collects c).After-look_step) refl refl)
 
 pub returns-in-Dirty-clause-bounded : goal.returns-in-Dirty-clause-bounded
@@ -56,12 +56,12 @@ pub returns-then-number-most-clause-collects : goal.returns-then-number-most-cla
 returns-then-number-most-clause-collects c =
     let x = c.args.self.now in
     let is = c.if-number-most.true in
-    step-on c.args.most x _ stages.Looking stages.Looking c.requires.looking c.requires.looking (
+    λ precise. step-on precise c.args.most x _ stages.Looking stages.Looking c.requires.looking c.requires.looking (
       subst (λ (h : Heap). LooksAt h.shape x.next c.args.most (looks.Clean c.args.most) (did x.seat c.look_step.new.seat)) c.deref.ensures
           (subst (λ k. LooksAt c.deref.result.now.shape x.next c.args.most (looks.Clean k) (did x.seat c.look_step.new.seat)) is c.in-Clean.ensures.looked),
       ap (λ k. x.next + k) is,
-      refl,
-      (refl, refl),
+      ((refl, refl), refl),
+      (refl, refl, refl),
     )
     (keeps-all x _ (kept (goal.at.returns-then-number-most-clause-collects c).After-look_step) refl refl)
 
@@ -81,13 +81,13 @@ read c =
     let e = c.look_step.ensures in
     kept-join c.args.self.now.seat c.look_step.new.seat c.finds_all_marked.new.seat (part-kept Drain c.args.self.now.seat c.look_step.new.seat e.part e.keeps) (part-kept Drain c.look_step.new.seat c.finds_all_marked.new.seat f.part f.keeps)
 
-marked : (c : After-finds_all_marked) → MarksSinceAsked c.args.self.now.again (view_of c.finds_all_marked.new.seat)
+marked : (c : After-finds_all_marked) → MarksSinceAsked c.args.self.now.exact c.args.self.now.again (view_of c.finds_all_marked.new.seat)
 marked c =
     let x = c.args.self.now in
     let e = c.look_step.ensures in
     let f = c.finds_all_marked.ensures in
     let v = view_of c.look_step.new.seat in
-    marks-on x.again v (view_of c.finds_all_marked.new.seat) f.part f.exact (marks-on x.again (view_of x.seat) v e.part e.exact (x.looking c.requires.looking).since)
+    marks-on x.exact x.again v (view_of c.finds_all_marked.new.seat) f.part f.exact (marks-on x.exact x.again (view_of x.seat) v e.part e.exact (x.looking c.requires.looking).since)
 
 left : (c : After-finds_all_marked) → card_count (arc_value c.args.self.now.heap).shape - c.args.self.now.next < c.args.most
 left c =
@@ -104,11 +104,11 @@ returns-then-not-finds_all_marked-clause-collects c =
     let e = c.look_step.ensures in
     let f = c.finds_all_marked.ensures in
     let shape = (sits-in _ _ x.seat c.deref.ensures (x.looking c.requires.looking).sits).1 in
-    step-on c.args.most x _ stages.Looking stages.Draining c.requires.looking refl (
+    λ precise. step-on precise c.args.most x _ stages.Looking stages.Draining c.requires.looking refl (
       left here,
       packet-left c.finds_all_marked.result c.deref.result.now.shape x.next c.in-Clean.number c.args.most (view_of x.seat) (view_of c.look_step.new.seat) (view_of c.finds_all_marked.new.seat) shape e.part.ran f.part.ran c.in-Clean.ensures.looked c.if-number-most.false f.reads c.if-not-finds_all_marked.true,
-      refl,
-      (refl, refl),
+      ((refl, refl), refl),
+      (refl, refl, refl),
     )
     (keeps-all x _ (read here) refl refl)
 
@@ -139,7 +139,7 @@ returns-then-self-clause-collects c =
     let f = c.finds_all_marked.ensures in
     let b = c.start_clear.ensures in
     let shape = (sits-in _ _ x.seat c.deref.ensures (x.looking c.requires.looking).sits).1 in
-    step-on c.args.most x _ stages.Looking stages.Clearing c.requires.looking refl (
+    λ precise. step-on precise c.args.most x _ stages.Looking stages.Clearing c.requires.looking refl (
       left here,
       record {
         drained = w;
@@ -147,8 +147,8 @@ returns-then-self-clause-collects c =
         moved = b.moved;
       },
       c.if-self.true,
-      refl,
-      (refl, refl),
+      ((refl, refl), refl),
+      (refl, refl, refl),
     )
     (keeps-all x _ (kept-join x.seat c.finds_all_marked.new.seat c.start_clear.new.seat (read here) (move-kept Drain Clear c.finds_all_marked.new.seat c.start_clear.new.seat b.moved b.keeps)) refl refl)
 
@@ -169,7 +169,7 @@ invariant_of-self-then-self-clause-clearing c = λ is.
     let z = c.start_clear.new.seat in
     let here = (goal.at.invariant_of-self-then-self-clause-clearing c).After-finds_all_marked in
     let b = c.start_clear.ensures in
-    goes-on _ _ x.seat z c.deref-then-self.ensures (x.looking c.requires.looking).mutator (kept-join x.seat y z (read here) (move-kept Drain Clear y z b.moved b.keeps)) b.seat b.clears (clears-begun x.again (view_of y) (view_of z) b.moved (marked here))
+    goes-on _ _ x.seat z c.deref-then-self.ensures (x.looking c.requires.looking).mutator (kept-join x.seat y z (read here) (move-kept Drain Clear y z b.moved b.keeps)) b.seat b.clears (clears-begun x.exact x.again (view_of y) (view_of z) b.moved (marked here))
 
 pub returns-clause-collects : goal.returns-clause-collects
 returns-clause-collects c =
@@ -180,7 +180,7 @@ returns-clause-collects c =
     let f = c.finds_all_marked.ensures in
     let b = c.start_sweep.ensures in
     let shape = (sits-in _ _ x.seat c.deref.ensures (x.looking c.requires.looking).sits).1 in
-    step-on c.args.most x _ stages.Looking stages.Sweeping c.requires.looking refl (
+    λ precise. step-on precise c.args.most x _ stages.Looking stages.Sweeping c.requires.looking refl (
       left here,
       record {
         drained = w;
@@ -189,8 +189,8 @@ returns-clause-collects c =
       },
       c.if-self.false,
       refl,
-      refl,
-      (refl, refl),
+      ((refl, refl), refl),
+      (refl, refl, refl),
     )
     (keeps-all x _ (kept-join x.seat c.finds_all_marked.new.seat c.start_sweep.new.seat (read here) (move-kept Drain Sweep c.finds_all_marked.new.seat c.start_sweep.new.seat b.moved b.keeps)) refl refl)
 
@@ -212,7 +212,7 @@ invariant_of-self-2-clause-sweeping c = λ is.
     let here = (goal.at.invariant_of-self-2-clause-sweeping c).After-finds_all_marked in
     let b = c.start_sweep.ensures in
     goes-on _ _ x.seat z c.deref-3.ensures (x.looking c.requires.looking).mutator (kept-join x.seat y z (read here) (move-kept Drain Sweep y z b.moved b.keeps)) b.seat b.sweeps
-    (sweeps-begun (view_of y) (view_of z) b.moved b.exact (subst (λ (again : Bool). MarksSinceAsked again (view_of y)) c.if-self.false (marked here)))
+    (sweeps-begun x.exact (view_of y) (view_of z) b.moved b.exact (subst (λ (again : Bool). MarksSinceAsked x.exact again (view_of y)) c.if-self.false (marked here)))
 
 pub overflow_add-self : goal.overflow_add-self
 overflow_add-self c =

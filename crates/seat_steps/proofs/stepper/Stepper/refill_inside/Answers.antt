@@ -35,7 +35,7 @@ returns-in-Ok-Free c =
           c.begin_search.ensures.begins
           c.requires.inside
           c.requires.inside
-          (record { heap = c.refill_once.ensures.same; leaves = c.refill_once.ensures.leaves; world = refl; name_is = refl });
+          (record { heap = c.refill_once.ensures.same; leaves = c.refill_once.ensures.leaves; world = refl; name_is = refl; stops = refl });
       pays = let b = c.begin_search.ensures.begins in pays-refill c.args.most c.min-most.result c.refill_once.new.paid c.refill_once.new.seat x c.begin_search.new.self reaches b.seat b.paid_is c.refill_once.ensures.pays;
     }
 
@@ -50,7 +50,7 @@ returns-in-Ok-Next c =
     record {
       refills =
           refills-next c.args.most c.min-most.result x _ c.note_seen.new.self reaches (x.inside c.requires.inside).works.sits.1 refl refl c.requires.inside c.requires.inside
-          (record { heap = c.refill_once.ensures.same; leaves = c.refill_once.ensures.leaves; world = refl; name_is = refl })
+          (record { heap = c.refill_once.ensures.same; leaves = c.refill_once.ensures.leaves; world = refl; name_is = refl; stops = refl })
           _
           a.next
           c.note_seen.result
@@ -72,7 +72,7 @@ returns-in-Ok-Ended c =
     record {
       refills =
           refills-ended c.args.most c.min-most.result x _ c.note_seen-in-Ok-Ended.new.self reaches (x.inside c.requires.inside).works.sits.1 refl refl c.requires.inside c.requires.inside
-          (record { heap = c.refill_once.ensures.same; leaves = c.refill_once.ensures.leaves; world = refl; name_is = refl })
+          (record { heap = c.refill_once.ensures.same; leaves = c.refill_once.ensures.leaves; world = refl; name_is = refl; stops = refl })
           _
           c.note_seen-in-Ok-Ended.result
           left
@@ -93,7 +93,8 @@ returns-in-Err c =
     record {
       refills =
           refills-out c.args.most c.in-Err.came c.deref.result.now x _ (x.inside c.requires.inside).works.sits.1 e.err (fails-at c.min-most.result c.args.most c.in-Err.came x (view_of c.refill_once.new.seat) reaches e.found) c.requires.inside refl
-          (record { heap = c.refill_once.ensures.same; leaves = c.refill_once.ensures.leaves; world = refl; name_is = refl });
+          (record { heap = c.refill_once.ensures.same; leaves = c.refill_once.ensures.leaves; world = refl; name_is = refl; stops = refl })
+          (record { block = refl; seen = refl });
       pays = refill-at c.args.most c.min-most.result c.refill_once.new.paid x (view_of c.refill_once.new.seat) reaches c.refill_once.ensures.pays;
     }
 

@@ -35,12 +35,12 @@ few c =
     let r = (x.rooting c.requires.rooting).stands.roots in
     drain-few (rooting_steps c.args.most x) u v e.unpopped e.part r.owner r.alone.alone (subst (λ (h : Heap). AtMost (see_to_steps c.args.most h.shape + recycle_steps h.shape) u v) c.deref.ensures e.few)
 
-on : (c : After-root_piece) (Stands : View → Type 0) → Stands (view_of c.root_piece.new.seat) → Collects Stands (MarksSinceAsked c.args.self.now.again) (arc_value c.args.self.now.heap) c.root_piece.new.seat
+on : (c : After-root_piece) (Stands : View → Type 0) → Stands (view_of c.root_piece.new.seat) → Collects Stands (MarksSinceAsked c.args.self.now.exact c.args.self.now.again) (arc_value c.args.self.now.heap) c.root_piece.new.seat
 on c Stands stands =
     let x = c.args.self.now in
     let s = x.rooting c.requires.rooting in
     let e = c.root_piece.ensures in
-    goes-on _ _ x.seat c.root_piece.new.seat c.deref.ensures s.mutator (kept c) e.seat stands (marks-on x.again (view_of x.seat) (view_of c.root_piece.new.seat) e.part e.exact s.since)
+    goes-on _ _ x.seat c.root_piece.new.seat c.deref.ensures s.mutator (kept c) e.seat stands (marks-on x.exact x.again (view_of x.seat) (view_of c.root_piece.new.seat) e.part e.exact s.since)
 
 pub root_piece-requires : goal.root_piece-requires
 root_piece-requires c = let x = c.args.self.now in let s = x.rooting c.requires.rooting in record { seat = sits-in _ _ x.seat c.deref.ensures s.sits; roots = s.stands }
@@ -51,7 +51,7 @@ returns-in_default c =
     let here = (goal.at.returns-in_default c).After-root_piece in
     let lacks = c.in_default.ensures.not_yet.1 in
     record {
-      collects = step-on c.args.most x _ stages.Rooting stages.Rooting c.requires.rooting c.requires.rooting (inr (refl, lacks), refl, (refl, refl)) (keeps-all x _ (kept here) refl refl);
+      collects = λ precise. step-on precise c.args.most x _ stages.Rooting stages.Rooting c.requires.rooting c.requires.rooting (inr (refl, lacks), ((refl, refl), refl), (refl, refl, refl)) (keeps-all x _ (kept here) refl refl);
       bounded = bounded-on c.args.most x _ stages.Rooting stages.Rooting c.requires.rooting c.requires.rooting (inr lacks, few here);
     }
 
@@ -72,8 +72,8 @@ returns-then-number-most-clause-collects c =
     let n : ℕ = c.in-Some.number in
     let is = c.if-number-most.true in
     let count : n ≡ min c.args.most (roots_left x) = subst (λ (h : Heap). n ≡ min c.args.most (root_count h.shape - x.next)) c.deref.ensures c.in-Some.ensures.some.1 in
-    step-on c.args.most x _ stages.Rooting stages.Rooting c.requires.rooting c.requires.rooting
-    (inl (as-many n c.args.most (roots_left x) count is, ap (λ k. x.next + k) is, subst (λ k. Across (SeesRoots x.next k) x.seat c.root_piece.new.seat) is (sees here.In-Some)), refl, (refl, refl))
+    λ precise. step-on precise c.args.most x _ stages.Rooting stages.Rooting c.requires.rooting c.requires.rooting
+    (inl (as-many n c.args.most (roots_left x) count is, ap (λ k. x.next + k) is, subst (λ k. Across (SeesRoots x.next k) x.seat c.root_piece.new.seat) is (sees here.In-Some)), ((refl, refl), refl), (refl, refl, refl))
     (keeps-all x _ (kept here.After-root_piece) refl refl)
 
 pub returns-then-number-most-clause-bounded : goal.returns-then-number-most-clause-bounded
@@ -91,7 +91,7 @@ returns-clause-collects c =
     let n : ℕ = c.in-Some.number in
     let count : n ≡ min c.args.most (roots_left x) = subst (λ (h : Heap). n ≡ min c.args.most (root_count h.shape - x.next)) c.deref.ensures c.in-Some.ensures.some.1 in
     let all = all-left n c.args.most (roots_left x) count c.if-number-most.false in
-    step-on c.args.most x _ stages.Rooting stages.Draining c.requires.rooting refl (all.0, subst (λ k. Across (SeesRoots x.next k) x.seat c.root_piece.new.seat) all.1 (sees here.In-Some), refl, (refl, refl)) (keeps-all x _ (kept here.After-root_piece) refl refl)
+    λ precise. step-on precise c.args.most x _ stages.Rooting stages.Draining c.requires.rooting refl (all.0, subst (λ k. Across (SeesRoots x.next k) x.seat c.root_piece.new.seat) all.1 (sees here.In-Some), ((refl, refl), refl), (refl, refl, refl)) (keeps-all x _ (kept here.After-root_piece) refl refl)
 
 pub returns-clause-bounded : goal.returns-clause-bounded
 returns-clause-bounded c =

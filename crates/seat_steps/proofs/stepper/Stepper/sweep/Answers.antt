@@ -31,8 +31,8 @@ use Rattle.seat_steps.proofs.stepper.Stepper.sweep.Goals.{After-sweep_step-step}
 kept : (c : After-sweep_step-step) → Kept c.args.self.now.seat c.sweep_step-step.new.seat
 kept c = let e = c.sweep_step-step.ensures in part-kept Sweep c.args.self.now.seat c.sweep_step-step.new.seat e.part e.keeps
 
-sweeps : (c : After-sweep_step-step) → SweepsSinceAsked (view_of c.sweep_step-step.new.seat)
-sweeps c = let x = c.args.self.now in let e = c.sweep_step-step.ensures in sweeps-on (view_of x.seat) (view_of c.sweep_step-step.new.seat) e.part e.exact (x.sweeping c.requires.sweeping).since
+sweeps : (c : After-sweep_step-step) → SweepsSinceAsked c.args.self.now.exact (view_of c.sweep_step-step.new.seat)
+sweeps c = let x = c.args.self.now in let e = c.sweep_step-step.ensures in sweeps-on x.exact (view_of x.seat) (view_of c.sweep_step-step.new.seat) e.part e.exact (x.sweeping c.requires.sweeping).since
 
 draws : (c : After-sweep_step-step) → c.stretches_of-draws.result ≡ draws_for c.args.most c.args.self.now
 draws c = subst (λ (h : Heap). c.stretches_of-draws.result ≡ stretches_in h.shape c.args.most) c.deref.ensures c.stretches_of-draws.ensures
@@ -59,7 +59,7 @@ returns-then-step-draws-clause-collects c =
     let sum = c.saturating_add-self.ensures in
     let more = c.sweep_step-step.ensures.freed in
     let freed : c.saturating_add-self.result ≡ min (x.freed + freed_in (view_of x.seat) (did x.seat c.sweep_step-step.new.seat)) greatest = omega (arith, sum, more) in
-    step-on c.args.most x _ stages.Sweeping stages.Sweeping c.requires.sweeping c.requires.sweeping (drawn here ∙ (c.if-step-draws.true ∙ draws here), freed, refl, (refl, refl)) (keeps-all x _ (kept here) refl refl)
+    λ precise. step-on precise c.args.most x _ stages.Sweeping stages.Sweeping c.requires.sweeping c.requires.sweeping (drawn here ∙ (c.if-step-draws.true ∙ draws here), freed, ((refl, refl), refl), (refl, refl, refl)) (keeps-all x _ (kept here) refl refl)
 
 pub returns-then-step-draws-clause-bounded : goal.returns-then-step-draws-clause-bounded
 returns-then-step-draws-clause-bounded c =
@@ -99,7 +99,7 @@ returns-clause-collects c =
     let total = freed-run u v w e.part.ran m.moved.ran in
     let unfreed = freed-move Sweep Idle v w m.moved in
     let freed : c.saturating_add-self.result ≡ min (x.freed + freed_in u (did x.seat z)) greatest = omega (arith, sum, more, total, unfreed) in
-    step-on c.args.most x _ stages.Sweeping stages.Counting c.requires.sweeping refl (drawn, freed, record { swept = v; part = e.part; moved = m.moved }, refl, refl, refl, (refl, refl))
+    λ precise. step-on precise c.args.most x _ stages.Sweeping stages.Counting c.requires.sweeping refl (drawn, freed, record { swept = v; part = e.part; moved = m.moved }, refl, refl, ((refl, refl), refl), (refl, refl, refl))
     (keeps-all x _ (kept-join x.seat y z (kept here) (move-kept Sweep Idle y z m.moved m.keeps)) refl refl)
 
 pub returns-clause-bounded : goal.returns-clause-bounded
@@ -130,4 +130,4 @@ invariant_of-self-2-clause-counting c = λ is.
     let z = c.start_count.new.seat in
     let here = (goal.at.invariant_of-self-2-clause-counting c).After-sweep_step-step in
     let m = c.start_count.ensures in
-    goes-on _ _ x.seat z c.deref-3.ensures (x.sweeping c.requires.sweeping).mutator (kept-join x.seat y z (kept here) (move-kept Sweep Idle y z m.moved m.keeps)) m.seat m.counts (counts-begun (view_of y) (view_of z) m.moved m.collects (sweeps here))
+    goes-on _ _ x.seat z c.deref-3.ensures (x.sweeping c.requires.sweeping).mutator (kept-join x.seat y z (kept here) (move-kept Sweep Idle y z m.moved m.keeps)) m.seat m.counts (counts-begun x.exact (view_of y) (view_of z) m.moved m.collects (sweeps here))

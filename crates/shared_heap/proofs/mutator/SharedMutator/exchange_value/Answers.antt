@@ -21,6 +21,7 @@ returns-else-word_of-eq0-clause-done c =
       inside = c.in-Inside.is;
       does = exchanges-value a.v a.expected a.new c.share_count.result (view_of a.self.now.seat) (view_of c.share_count.new.seat) e.ran e.view;
       world = refl;
+      name_is = refl;
     }
 
 pub returns-else-word_of-eq0-clause-few : goal.returns-else-word_of-eq0-clause-few

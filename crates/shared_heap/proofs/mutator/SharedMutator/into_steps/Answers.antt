@@ -20,5 +20,7 @@ returns c =
         world = ap (λ h. arc_value h) e.heap ∙ l.world;
         name_is = e.name_is ∙ l.name;
         shared = ap (λ (h : Heap). h.shape.sharing) (ap (λ h. arc_value h) e.heap) ∙ c.leave.new.self.shared;
+        stops = e.stops;
+        new = e.new;
       };
     }

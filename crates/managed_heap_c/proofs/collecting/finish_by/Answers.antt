@@ -1,0 +1,7 @@
+use Rattle.std.proofs.Common.{false}
+use Rattle.seat_steps.specs.Bounds.{CollectsAtMost}
+use Rattle.managed_heap_c.proofs.Answered.{answered}
+use Rattle.managed_heap_c.proofs.collecting.finish_by.Goals as goal
+
+pub returns-in-Some : goal.returns-in-Some
+returns-in-Some c = record { answers = answered (CollectsAtMost false c.args.most) c.status.result c.args.hand.now.stepper c.in-Some.stepper c.finish_at_most.new.self c.finish_at_most.result c.in-Some.is c.status.ensures.number c.finish_at_most.ensures.collects }

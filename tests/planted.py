@@ -1,0 +1,144 @@
+"""Plants faults in the collector, and tells which programs in C notice them: python3 tests/planted.py [FAULT..], or all faults.
+
+Each fault is a change of some lines that a proof would refuse. It is put into a copy of the repository, from which c/unproved.sh makes the library, and the programs
+of examples/c run over that. A program notices the fault if it ends with another status than 0, crashes, or doesn't end in 30 seconds, of which it wants one or two. First all of them run over the library without a fault, where each has to pass. ROUNDS says how often each runs, 3 times if it isn't set; a fault counts as
+noticed if it was each time.
+
+It prints a row for each fault. The status is 1 if a program fails without a fault, or one that has to notice a fault doesn't. It wants the kit and a C compiler, and
+takes two processor minutes a fault.
+"""
+import os
+import re
+import shutil
+import subprocess
+import sys
+import tempfile
+
+TOP = os.path.dirname(os.path.dirname(os.path.abspath(__file__)))
+ROUNDS = int(os.environ.get("ROUNDS", "3"))
+SECONDS = 30
+
+# The programs, each with its words: sizes at which cycles mark beside the program, and how many have to.
+PROGRAMS = {
+    "hidden": "65536 40 0 3",
+    "hidden, a tracer": "65536 40 1 3",
+    "map": "4 20000 300 1024 2 1",
+    "torture": "4 60000 1024 1 1 5",
+    "fuzz": "600000 1 1 0 5",
+    "fuzz, 4 threads": "2000000 4 3 0 5",
+    "fuzz, shared": "2000000 4 1 1 5",
+    "binary_trees": "16 2 0 524288",
+    "cycles": "4 300000 16384 1",
+    "queue": "2 2 3000 128 2",
+    "counter": "4 4000 2",
+    "places": "4 5000 320",
+    "rewriter": "7 20",
+    "gcbench": "14",
+}
+
+STORE = "        heap.dirty_card(seat, card);"
+
+
+class Fault:
+    """What it does, the changes that plant it, and the programs that have to notice it. A change is a file below crates, the function, a line in it, and what
+    stands there in its place."""
+
+    def __init__(self, what, noticed_by, *changes):
+        self.what, self.noticed_by, self.changes = what, noticed_by, changes
+
+    def plant(self, crates):
+        for file, function, old, new in self.changes:
+            path = os.path.join(crates, file)
+            with open(path, encoding="utf-8") as it:
+                text = it.read()
+            start = text.index(f"fn {function}")
+            end = text.find("\n}\n", start)
+            if text.count(old, start, end) != 1:
+                sys.exit(f"{file}, {function}: not once: {old.strip()}")
+            with open(path, "w", encoding="utf-8") as it:
+                it.write(text[:start] + text[start:end].replace(old, new) + text[end:])
+
+
+FAULTS = {
+    "card": Fault(
+        "the barrier leaves the card out",
+        ["hidden", "hidden, a tracer", "map", "torture", "binary_trees"],
+        ("card_clean/src/barrier.rt", "store_ref", STORE, "        let _ = card;"),
+        ("card_clean/src/sharing.rt", "share_ref", STORE, "        let _ = card;"),
+        ("card_clean/src/sharing.rt", "exchange_ref", STORE, "        let _ = card;"),
+    ),
+    "root": Fault(
+        "variable 2 of each mutator isn't marked",
+        ["fuzz", "fuzz, 4 threads", "fuzz, shared", "torture"],
+        ("card_clean/src/roots.rt", "mark_root", "if word != 0 {", "if word != 0 && v != 2 {"),
+        ("tracer/src/roots.rt", "scan_root", "if word == 0 {", "if word == 0 || variable == 2 {"),
+    ),
+    "slot": Fault(
+        "slot 0 of each mutator isn't marked",
+        ["fuzz, shared", "torture"],
+        ("card_clean/src/roots.rt", "mark_slot", "if word != 0 {", "if word != 0 && k != 0 {"),
+    ),
+    "sweep": Fault(
+        "the sweep begins after one step of the drain",
+        ["fuzz", "fuzz, 4 threads", "fuzz, shared", "binary_trees", "hidden"],
+        ("seat_steps/src/steps.rt", "trace", "if popped != most {", "if popped <= most {"),
+        ("seat_steps/src/steps.rt", "look", "if !finds_all_marked(&self.heap, &mut self.seat) {", "if !finds_all_marked(&self.heap, &mut self.seat) && most == 0 {"),
+    ),
+}
+
+
+def build_library(work, fault):
+    """The archive of a copy with the fault, or of the repository as it is."""
+    copy = os.path.join(work, "copy")
+    shutil.rmtree(copy, ignore_errors=True)
+    shutil.copytree(TOP, copy, symlinks=True, ignore=shutil.ignore_patterns("out", ".git", "target"))
+    if fault:
+        fault.plant(os.path.join(copy, "crates"))
+    archive = os.path.join(work, "library.a")
+    subprocess.run(["sh", "c/unproved.sh", archive], cwd=copy, env=dict(os.environ, WITHOUT_TESTS="1"), check=True)
+    return archive
+
+
+def build_programs(work, archive):
+    for name in {it.partition(",")[0] for it in PROGRAMS}:
+        source = os.path.join(TOP, "examples", "c", f"{name}.c")
+        flags = ["-O2", "-std=c11", "-D_GNU_SOURCE", "-I", os.path.join(TOP, "c", "include")]
+        subprocess.run(["cc", *flags, "-o", os.path.join(work, name), source, archive, "-lpthread"], check=True)
+
+
+def run(work, program):
+    """What a run came to: nothing if it passed, else what it says last, or how it ended."""
+    command = [os.path.join(work, program.partition(",")[0]), *PROGRAMS[program].split()]
+    try:
+        ran = subprocess.run(command, stdout=subprocess.PIPE, stderr=subprocess.STDOUT, text=True, errors="replace", timeout=SECONDS)
+    except subprocess.TimeoutExpired:
+        return "no answer"
+    said = ran.stdout.strip().split("\n")[-1]
+    return "" if ran.returncode == 0 else f"killed by signal {-ran.returncode}" if ran.returncode < 0 else re.sub(r"^\S*/examples", "examples", said)
+
+
+def try_fault(work, name):
+    """Runs all programs over the library with this fault, and prints which notice it. How many answers weren't as they have to be."""
+    fault = FAULTS.get(name)
+    build_programs(work, build_library(work, fault))
+    wrong = 0
+    print(f"{fault.what if fault else 'no fault'}:", flush=True)
+    for program in PROGRAMS:
+        said = [run(work, program) for _ in range(ROUNDS)]
+        times = sum(it != "" for it in said)
+        print(f"    {program} ({PROGRAMS[program]}): {times} of {ROUNDS}{next((': ' + it for it in said if it), '')}", flush=True)
+        has_to = fault and program in fault.noticed_by
+        bad = times < ROUNDS if has_to else any(said) if not fault else False
+        if bad:
+            print("    WRONG: it " + ("has to notice" if fault else "has to pass"), flush=True)
+        wrong += bad
+    return wrong
+
+
+def main():
+    with tempfile.TemporaryDirectory() as work:
+        return sum(try_fault(work, name) for name in ["", *(sys.argv[1:] or FAULTS)])
+
+
+if __name__ == "__main__":
+    sys.exit(1 if main() else 0)
