@@ -3,6 +3,7 @@
 # work over Boehm's collector, in Go and in Java. From the top of the repository: chrt -f 10 sh bench/pauses.sh [RUNS [PROGRAM]] prints two tables, 5 runs if no
 # number is given. Without a program, ours is proved and built. A peer that can't be built is left out with a word, and so is one that finds no memory.
 # SIZES in the environment has CELLS/WORKERS/CYCLES, the last of which is how often a run uses up the free cells, and TRACERS how many tracers ours has.
+# LIBRARY is the archive for C, if not the proved one; its stops are those before its first mutator is done.
 # Every heap has 48 bytes for each cell, which an object takes in ours, in Boehm's and in Go. PERCENT has how much of it Boehm's gets, if the live set doesn't fit.
 set -eu
 cd "$(dirname "$0")/.."
@@ -18,6 +19,8 @@ trap 'rm -rf "$folder"' EXIT
 
 [ -n "$program" ] || (cd crates/bench_heaps && rt run >/dev/null 2>&1)
 program=${program:-crates/bench_heaps/out/bench_heaps}
+archive=${LIBRARY:-crates/managed_heap_c/out/libmanaged_heap_c.a}
+{ [ -f "$archive" ] && cc -std=gnu11 -O2 -pthread -I c/include -o "$folder/c" bench/pauses/pauses.c "$archive"; } || echo 'C left out: bench/pauses/pauses.c is built where the library is, or LIBRARY names it' >&2
 g++ -std=c++20 -O2 -pthread -o "$folder/boehm" bench/pauses/pauses.cpp -lgc 2>/dev/null || echo 'boehm left out: bench/pauses/pauses.cpp is built where there is libgc' >&2
 { command -v go >/dev/null 2>&1 && go build -o "$folder/go" bench/pauses/pauses.go 2>/dev/null; } || echo 'go left out: bench/pauses/pauses.go is built where there is Go' >&2
 { command -v javac >/dev/null 2>&1 && javac -d "$folder/java" bench/pauses/Pauses.java 2>/dev/null; } || echo 'java left out: bench/pauses/Pauses.java is built where there is Java' >&2
@@ -50,6 +53,12 @@ ours() {
     # shellcheck disable=SC2086
     "$program" pauses --cells "$1" --live $live --workers "$2" --tracers "$3" --transactions "$(transactions "$1")" $([ "$4" = stops ] && echo --stops) >"$folder/told"
     numbers <"$folder/told" >>"$folder/$4-$3.$1.$2"
+}
+
+# The library for C.
+c_calls() {
+    "$folder/c" "$1" $live "$2" "$3" "$(transactions "$1")" >"$folder/told"
+    numbers <"$folder/told" >>"$folder/c-$3.$1.$2"
 }
 
 # Boehm's collector, in the smallest heap in which it finds room, and in a larger one from where it doesn't any more.
@@ -88,6 +97,7 @@ round() {
     for tracers in $tracers_of; do
         ours "$1" "$2" "$tracers" beside
         ours "$1" "$2" "$tracers" stops
+        [ ! -x "$folder/c" ] || c_calls "$1" "$2" "$tracers"
     done
     [ ! -x "$folder/boehm" ] || boehm stop "$1" "$2"
     [ ! -x "$folder/boehm" ] || boehm incremental "$1" "$2"
@@ -118,6 +128,7 @@ pauses_lines() {
     for way in beside stops; do
         for tracers in $tracers_of; do line "$1 | $2 | $way, $tracers" "$way-$tracers.$1.$2"; done
     done
+    for tracers in $tracers_of; do line "$1 | $2 | C, $tracers" "c-$tracers.$1.$2"; done
     for mode in stop incremental; do
         [ ! -s "$folder/$mode.$1.$2" ] || line "$1 | $2 | Boehm, $mode, $(cut -d ' ' -f 1 "$folder/$mode.$1.$2.shares") %" "$mode.$1.$2"
     done

@@ -1,8 +1,9 @@
 """Plants faults in the collector, and tells which programs in C notice them: python3 tests/planted.py [FAULT..], or all faults.
 
 Each fault is a change of some lines that a proof would refuse. It is put into a copy of the repository, from which c/unproved.sh makes the library, and the programs
-of examples/c run over that. A program notices the fault if it ends with another status than 0, crashes, or doesn't end in 30 seconds, of which it wants one or two. First all of them run over the library without a fault, where each has to pass. ROUNDS says how often each runs, 3 times if it isn't set; a fault counts as
-noticed if it was each time.
+of examples/c run over that. A program notices the fault if it ends with another status than 0, crashes, or doesn't end in 60 seconds, where it wants some two
+without a fault. First all of them run over the library without a fault, where each has to pass. ROUNDS says how often each runs, 3 times if it isn't set; a fault
+counts as noticed if it was each time.
 
 It prints a row for each fault. The status is 1 if a program fails without a fault, or one that has to notice a fault doesn't. It wants the kit and a C compiler, and
 takes two processor minutes a fault.
@@ -16,19 +17,19 @@ import tempfile
 
 TOP = os.path.dirname(os.path.dirname(os.path.abspath(__file__)))
 ROUNDS = int(os.environ.get("ROUNDS", "3"))
-SECONDS = 30
+SECONDS = 60
 
-# The programs, each with its words: sizes at which cycles mark beside the program, and how many have to.
+# The programs, each with its words: sizes at which cycles mark beside the program.
 PROGRAMS = {
-    "hidden": "65536 40 0 3",
-    "hidden, a tracer": "65536 40 1 3",
-    "map": "4 20000 300 1024 2 1",
-    "torture": "4 60000 1024 1 1 5",
-    "fuzz": "600000 1 1 0 5",
-    "fuzz, 4 threads": "2000000 4 3 0 5",
-    "fuzz, shared": "2000000 4 1 1 5",
-    "binary_trees": "16 2 0 524288",
+    "hidden": "65536 40",
+    "hidden, a tracer": "65536 40 1",
+    "map": "4 20000 300 1024 2",
+    "torture": "4 60000 1024 1",
+    "fuzz": "600000 1 1",
+    "fuzz, 4 threads": "1000000 4 3",
+    "fuzz, shared": "1000000 4 1 1",
     "cycles": "4 300000 16384 1",
+    "binary_trees": "16 2 0 524288",
     "queue": "2 2 3000 128 2",
     "counter": "4 4000 2",
     "places": "4 5000 320",
@@ -62,25 +63,25 @@ class Fault:
 FAULTS = {
     "card": Fault(
         "the barrier leaves the card out",
-        ["hidden", "hidden, a tracer", "map", "torture", "binary_trees"],
+        ["hidden", "hidden, a tracer", "map", "cycles"],
         ("card_clean/src/barrier.rt", "store_ref", STORE, "        let _ = card;"),
         ("card_clean/src/sharing.rt", "share_ref", STORE, "        let _ = card;"),
         ("card_clean/src/sharing.rt", "exchange_ref", STORE, "        let _ = card;"),
     ),
     "root": Fault(
         "variable 2 of each mutator isn't marked",
-        ["fuzz", "fuzz, 4 threads", "fuzz, shared", "torture"],
+        ["fuzz", "fuzz, shared"],
         ("card_clean/src/roots.rt", "mark_root", "if word != 0 {", "if word != 0 && v != 2 {"),
         ("tracer/src/roots.rt", "scan_root", "if word == 0 {", "if word == 0 || variable == 2 {"),
     ),
     "slot": Fault(
         "slot 0 of each mutator isn't marked",
-        ["fuzz, shared", "torture"],
+        ["torture"],
         ("card_clean/src/roots.rt", "mark_slot", "if word != 0 {", "if word != 0 && k != 0 {"),
     ),
     "sweep": Fault(
         "the sweep begins after one step of the drain",
-        ["fuzz", "fuzz, 4 threads", "fuzz, shared", "binary_trees", "hidden"],
+        ["fuzz", "fuzz, 4 threads", "fuzz, shared", "hidden", "binary_trees"],
         ("seat_steps/src/steps.rt", "trace", "if popped != most {", "if popped <= most {"),
         ("seat_steps/src/steps.rt", "look", "if !finds_all_marked(&self.heap, &mut self.seat) {", "if !finds_all_marked(&self.heap, &mut self.seat) && most == 0 {"),
     ),

@@ -27,6 +27,14 @@ static void *work(void *p) {
     return 0;
 }
 
+/* What is called with each cycle: how many were told, and the sum of their numbers. */
+static uint64_t told, numbers;
+static void note(void *context, const mh_cycle *c) {
+    wrong("the context", context == &world, 1);
+    __atomic_fetch_add(&told, 1, __ATOMIC_SEQ_CST);
+    __atomic_fetch_add(&numbers, c->number, __ATOMIC_SEQ_CST);
+}
+
 static void *mark_beside(void *p) {
     MUST_BE(MH_DISMISSED, mh_trace((mh_tracer *)p));
     return 0;
@@ -235,6 +243,7 @@ int main(int count_of, char **words) {
     alone();
     MUST_BE(MH_GIVEN_BACK, mh_last_cycle(&world, &none));
     MUST(mh_open(&sizes, &world));
+    MUST(mh_log_cycles(&world, note, &world));
     MUST_BE(MH_NOT_YET, mh_last_cycle(&world, &none));
     wrong("what is written of no cycle", none.why, 77);
     for (k = 0; k < threads; k++) MUST(mh_take_mutator(&world, &m[k]));
@@ -246,6 +255,9 @@ int main(int count_of, char **words) {
     MUST(mh_dismiss(&world));
     for (k = 0; k < tracers; k++) pthread_join(marking[k], 0);
     end_alone(&m[0], found);
+    MUST(mh_last_cycle(&world, &none));
+    wrong("how many cycles were logged", told, none.number);
+    wrong("the sum of their numbers", numbers, none.number * (none.number + 1) / 2);
     for (k = 0; k < tracers; k++) MUST(mh_give_back_tracer(&world, &t[k]));
     for (k = 0; k < threads; k++) MUST(mh_give_back(&world, &m[k]));
     MUST(mh_close(&world));

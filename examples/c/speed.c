@@ -1,8 +1,9 @@
-/* What a call takes, on one thread. Arguments: millions of calls, cells. */
+/* What a call takes, on one thread. An object is published, and a store into it dirties a card, from its mutator's next collection on at the latest. Arguments:
+   millions of calls, cells. */
 #include "heap.h"
 
 static void tell(const char *what, double from, uint64_t many) {
-    printf("%-13s %-12s %-12s %6.1f ns\n", "speed", COLLECTOR, what, (now() - from) * 1e9 / (double)many);
+    printf("%-13s %-12s %-14s %6.1f ns\n", "speed", COLLECTOR, what, (now() - from) * 1e9 / (double)many);
 }
 
 int main(int count_of, char **words) {
@@ -31,6 +32,10 @@ int main(int count_of, char **words) {
     from = now();
     for (k = 0; k < many; k++) MUST(mh_set(&m, 0, (uint32_t)(k & 1), 1));
     tell("set", from, many);
+    MUST(mh_collect(&m));
+    from = now();
+    for (k = 0; k < many; k++) MUST(mh_set(&m, 0, (uint32_t)(k & 1), 1));
+    tell("set, published", from, many);
     from = now();
     for (k = 0; k < many; k++) MUST(mh_get(&m, 2, 0, (uint32_t)(k & 1)));
     tell("get", from, many);
