@@ -1,12 +1,11 @@
-"""Runs the gate `rt ci`, tells how far it is, and ends with its status. What fails is told at once.
+"""Reads what the gate `rt ci` says, and tells how far it is. What fails is told at once.
 
-    python3 tests/check/gate.py LOG
+    rt ci 2>&1 | python3 tests/check/gate.py LOG
 
 LOG is the file to which all that the gate says goes. How long the rest takes is estimated by what each crate cost once (bench/results/2026-11-gate.md).
 """
 import os
 import re
-import subprocess
 import sys
 import threading
 import time
@@ -86,9 +85,9 @@ class Progress:
 def main():
     progress, said = Progress(), []
     threading.Thread(target=progress.look, daemon=True).start()
-    gate = subprocess.Popen(["rt", "ci"], stdout=subprocess.PIPE, stderr=subprocess.STDOUT, text=True, errors="replace")
+    sys.stdin.reconfigure(errors="replace")
     with open(sys.argv[1], "w", encoding="utf-8") as log:
-        for line in gate.stdout:
+        for line in sys.stdin:
             log.write(line)
             log.flush()
             said = [] if line.startswith("== ") else said + [line]
@@ -97,8 +96,7 @@ def main():
                 print("".join(f"    | {it}" for it in shown if not it.endswith(": proved\n")), end="", flush=True)
                 said = []
             progress.see(line)
-    return gate.wait()
 
 
 if __name__ == "__main__":
-    sys.exit(main())
+    main()

@@ -7,7 +7,8 @@ part "a clean copy" clean_copy
 part "./play of the clean copy" sh tests/examples.sh "$work/clone"
 
 if begin "rt ci"; then
-    python3 tests/check/gate.py "$work/gate" || found=$?
+    { gate 2>&1; echo $? >"$work/ended"; } | python3 tests/check/gate.py "$work/gate"
+    found=$(cat "$work/ended")
     counts=$(tail -n 1 "$work/gate" | sed -n 's/^\([0-9]*\) passed, \([0-9]*\) failed.*/\1 \2/p')
     count "rt ci" $found ${counts:-0 1}
     [ $found -eq 0 ] || tail -n 40 "$work/gate" | sed 's/^/    | /'
