@@ -6,3 +6,4 @@ mod ShareCreating
 mod Stepping
 pub mod Storing
 pub mod Walking
+pub mod Upgrading

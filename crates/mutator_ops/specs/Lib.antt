@@ -7,3 +7,4 @@ pub mod Sharing
 pub mod Placing
 pub mod Listing
 pub mod Few
+pub mod Upgrading

@@ -40,6 +40,7 @@ mod planning;
 mod reading;
 mod slots;
 mod tracing;
+mod weak;
 mod world;
 
 pub use gc_table::Words;
