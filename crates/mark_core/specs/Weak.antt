@@ -1,14 +1,14 @@
 -- Weak references: what is known of an object by its identity and its cell, whether or not anything leads to it.
 use Rattle.std.specs.Prelude.{ℕ, ◌≡◌, ◌≢◌, ◌⊎◌, ◌+◌, ◌/◌, ◌%◌, ◌<◌, List, length, IsTrue, IsFalse, None, Some, slice_get, slice_index}
-use Rattle.std.specs.List.{All}
+use Rattle.std.specs.List.{All, list_any}
 use Rattle.mark_core.specs.Shapes.{EachCell}
 use Rattle.mark_core.specs.Layout.{Words, words_of}
 use Rattle.mark_core.specs.Bits.{cell_bit}
-use Rattle.mark_core.specs.Seats.{is_the}
+use Rattle.mark_core.specs.Seats.{is_the, used_in}
 use Rattle.mark_core.specs.Views.{makers}
-use Rattle.mark_core.specs.Cells.{in_use}
+use Rattle.mark_core.specs.Cells.{in_use, used_by}
 use Rattle.mark_core.specs.Closed.{IsReachableIn, is_published}
-use Rattle.mark_core.specs.Steps.MutatorSteps.{weak_reference}
+use Rattle.mark_core.specs.Steps.MutatorSteps.{knows_cell, weak_reference}
 use Rattle.mark_core.specs.Steps.{Core, failing_part, after_event, run_of}
 use Rattle.mark_core.specs.Laws.{IsCore, AllNumbersFit}
 use Rattle.mark_core.specs.Cards.{block_cells}
@@ -68,6 +68,8 @@ pub record FindsWeak (c : Core) (s : SeatState) (x r : ℕ) : Type 0 where
   -- nil, or a cell in use
   pub found : (r ≡ 0) ⊎ ((r ≡ x + 1) × IsTrue (in_use (words_of c.shape c.words).allocs (makers c.seats) x))
   pub none : r ≡ 0 → (id : ℕ) → MayConclude c s id x → IsGone c id
+  -- a cell that the seat knows and is given no reference to: another seat made it, and hasn't published it
+  pub unpublished : r ≡ 0 → IsTrue (knows_cell s x) → IsTrue (list_any (used_by x) (makers c.seats)) × IsFalse (used_in s.cache x)
   -- if another object is there, this one is gone
   pub another : (id : ℕ) → IsAt c id x → (slice_index (words_of c.shape c.words).identities x ≡ id → ⊥) → IsGone c id
 

@@ -25,7 +25,7 @@ use Rattle.mark_core.proofs.Caches.CachesKept.{section-seat}
 use Rattle.mark_core.proofs.Consequences.Closing.{goes-to, path-kept, either-way}
 use Rattle.mark_core.proofs.Formed.FormedLearns.{one-of, used-exists}
 use Rattle.mark_core.proofs.References.ReferencesKept.{kept-used}
-use Rattle.mark_core.proofs.References.ReferencesRoots.{Used, own-used}
+use Rattle.mark_core.proofs.References.ReferencesRoots.{Used, known-used, own-used}
 use Rattle.mark_core.specs.declared.kinds.Shape.{Shape}
 use Rattle.mark_core.specs.declared.kinds.Event.{Event}
 use Rattle.mark_core.specs.declared.kinds.Phase.TheVariants.{Sweep}
@@ -144,6 +144,16 @@ finds-at c i s x k =
                 (or_cases (cell_bit w.allocs y) (list_any (used_by y) (makers c.seats)) u);
           })
           may;
+      unpublished =
+          λ z e.
+          let no = neither bit mine (none_chosen (bit || mine) (reference_in (x + 1)) x whole z) in
+          let others : Bool = list_any (used_by x) (makers c.seats) in (
+            ⊎_elim
+                (λ (a : bit ≡ true). absurd (true≢false (sym a ∙ no.0)))
+                (λ (b : others ≡ true). b)
+                (or_cases bit others (known-used c i s (ReadWeak x) x k e)),
+            no.1,
+          );
       another =
           λ id a other.
           record {
