@@ -1,5 +1,5 @@
 -- What is told of objects to which nothing need lead: that one is there, or that it is lost for good.
-use Rattle.std.proofs.Common.{ℕ, ◌≡◌, ◌+◌, ◌*◌, ◌/◌, ◌%◌, ◌<◌, List, [], ◌∷◌, arith, refl, sym, ap, ◌∙◌, subst, true, false, ⊎_elim, ◌⊎◌, Option, Some, None, if◌then◌else◌}
+use Rattle.std.proofs.Common.{ℕ, ◌≡◌, ◌+◌, ◌*◌, ◌/◌, ◌%◌, ◌<◌, List, [], ◌∷◌, arith, refl, sym, ap, ◌∙◌, subst, true, false, ⊎_elim, ◌⊎◌, inl, Option, Some, None, if◌then◌else◌}
 use Rattle.std.specs.Prelude.{IsTrue, slice_get, slice_index, is_none}
 use Rattle.std.specs.List.{All}
 use Rattle.std.proofs.lemmas.List.Elements.{All-head, All-tail}
@@ -9,7 +9,7 @@ use Rattle.mark_core.specs.Numbers.{section_span}
 use Rattle.mark_core.specs.Steps.{Core, failing_part, after_event, run_of}
 use Rattle.mark_core.specs.Steps.MutatorSteps.{weak_reference}
 use Rattle.mark_core.specs.Laws.{IsCore, NumbersFit, AllNumbersFit}
-use Rattle.mark_core.specs.Weak.{IsAt, IsGone, MayConclude, FindsWeak}
+use Rattle.mark_core.specs.Weak.{IsAt, IsGone, IsWeak, MayConclude, FindsWeak}
 use Rattle.mark_core.specs.declared.kinds.Event.{Event}
 use Rattle.mark_core.specs.declared.kinds.Step.{Step}
 use Rattle.mark_core.specs.declared.kinds.Step.TheVariants.{ReadWeak}
@@ -19,14 +19,16 @@ use Rattle.mark_core.proofs.CoreKept.{core_kept}
 use Rattle.mark_core.proofs.Blocks.BlocksStopped.{Taken, in-place}
 use Rattle.mark_core.proofs.Writing.Places.{words-get}
 use Rattle.mark_core.proofs.References.ReferencesRoots.{Used}
-use Rattle.mark_core.proofs.Consequences.WeakFound.{finds-at}
-use Rattle.mark_core.proofs.Consequences.WeakKept.{gone-kept}
+use Rattle.mark_core.proofs.Consequences.WeakFound.{finds-at, weak_reads_tell}
+use Rattle.mark_core.proofs.Consequences.WeakKept.{gone-kept, weak_stays}
+use Rattle.mark_core.proofs.Consequences.WeakTold.{weak_is_told}
 use Rattle.gc_table.specs.RunWorlds.{World, name_in, name_at}
 use Rattle.gc_table.specs.Agreement.{AgreesWith}
-use Rattle.gc_table.specs.AgreementLaws.{IsReached, IsCellFor, IsLost, FindsCell, LostForGood, world_run, world_after}
+use Rattle.gc_table.specs.AgreementLaws.{DeathTold, IsReached, IsCellFor, IsLost, FindsCell, LostForGood, world_run, world_after}
 use Rattle.gc_table.proofs.Frame.{used-exists}
 use Rattle.gc_table.proofs.Kept.{agrees-kept}
 use Rattle.gc_table.proofs.Reached.{along}
+use Rattle.gc_table.proofs.Winning.{run_whole}
 
 -- a name has one identity
 one_identity : (id other : ℕ) → name_in other ≡ name_in id → other ≡ id
@@ -61,6 +63,7 @@ finds-cell c i s x world k a =
           (λ (u : (weak_reference s x (found c s step) ≡ x + 1) × (Used c x ≡ true)). (u.0, u.1, a.cells_agree x (used-exists c k.core x u.1) u.1))
           f.found;
       none = λ z id may. lost c world id k.core a (f.none z id may);
+      unpublished = f.unpublished;
       another = λ id at other. lost c world id k.core a (f.another id at other);
     }
 
@@ -81,3 +84,21 @@ lost_from (e ∷ es) c world id k a fit g =
 
 pub lost_for_good : LostForGood
 lost_for_good c world es id k a fit g = lost_from es c world id k a fit g
+
+-- who took a weak reference has what tells its object's death
+pub death_told : DeathTold
+death_told c world i j x between later k a bit fits others later_fits f g s got h =
+    let asked : Event = record { seat = i; step = ReadWeak x } in
+    let first : Core = after_event c asked in
+    let met : World = world_after c asked world in
+    let one = run_whole between first met (core_kept c asked k tt f) (agrees-kept c asked world k a f) fits in
+    let d : Core = run_of between first in
+    let id : ℕ = slice_index (words_of d.shape d.words).identities x in
+    let weak : IsWeak d id x = weak_is_told c i x between k f bit fits others g in
+    let two = run_whole later d (world_run between first met) one.0 one.1 later_fits in
+    let last : Core = run_of later d in
+    let kept : IsWeak last id x = weak_stays.weak id x d later one.0 later_fits weak in
+    let finds = weak_reads_tell last j s x two.0 got h in
+    let at : IsAt last id x = record { given = kept.given; seated = kept.seated; only = λ y l u e. (kept.only y l u e).0 } in
+    let ends = λ (gone : IsGone last id). lost last (world_run later d (world_run between first met)) id two.0 two.1 gone in
+    (λ z. ends (finds.none z id (inl kept)), λ other. ends (finds.another id at other))

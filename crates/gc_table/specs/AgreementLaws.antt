@@ -1,17 +1,20 @@
 -- What is claimed of the one heap of all sections, as statements for proofs to meet.
-use Rattle.mark_core.specs.Steps.MutatorSteps.{variable_or_nil, weak_reference}
-use Rattle.std.specs.Prelude.{ℕ, ◌≡◌, ◌⊎◌, ◌+◌, ◌<◌, ◌≤◌, List, [], ◌∷◌, length, if◌then◌else◌, is_none, IsTrue, IsFalse, Option, Some, None, slice_get, slice_index, ◌==◌}
+use Rattle.std.specs.Prelude.{ℕ, ◌≡◌, ◌≢◌, ◌⊎◌, ◌+◌, ◌/◌, ◌<◌, ◌≤◌, List, [], ◌∷◌, length, if◌then◌else◌, is_none, IsTrue, IsFalse, Option, Some, None, slice_get, slice_index, ◌==◌}
+use Rattle.std.specs.List.{All, list_any}
 use Rattle.plain_heap.specs.Paths.{Name}
 use Rattle.mark_core.specs.Layout.{Words, words_of, address}
+use Rattle.mark_core.specs.Cards.{block_cells}
 use Rattle.mark_core.specs.Numbers.{most_seats, section_variables}
+use Rattle.mark_core.specs.Seats.{used_in}
 use Rattle.mark_core.specs.Shapes.{IsShape}
 use Rattle.mark_core.specs.Bits.{nil_or}
 use Rattle.mark_core.specs.Views.{makers}
-use Rattle.mark_core.specs.Cells.{in_use}
-use Rattle.mark_core.specs.Closed.{IsReachableIn}
+use Rattle.mark_core.specs.Cells.{in_use, used_by}
+use Rattle.mark_core.specs.Closed.{IsReachableIn, is_published}
 use Rattle.mark_core.specs.Effects.{place}
 use Rattle.mark_core.specs.Weak.{IsAt, IsGone, MayConclude}
 use Rattle.mark_core.specs.Steps.{Core, failing_part, after_event, start_core, run_of}
+use Rattle.mark_core.specs.Steps.MutatorSteps.{knows_cell, variable_or_nil, weak_reference}
 use Rattle.mark_core.specs.Laws.{IsCore, NumbersFit, AllNumbersFit}
 use Rattle.mark_core.specs.declared.kinds.Event.{Event}
 use Rattle.mark_core.specs.declared.kinds.Shape.{Shape}
@@ -154,6 +157,8 @@ pub record FindsCell (c : Core) (world : World) (s : SeatState) (x r : ℕ) : Ty
   pub some : 0 < r → (r ≡ x + 1) × IsTrue (in_use (words_of c.shape c.words).allocs (makers c.seats) x) × HoldsObject c.shape (words_of c.shape c.words).identities (words_of c.shape c.words).values (words_of c.shape c.words).fields world x
   -- or none: then all is lost that was published there, and all of the seat's own section that was made there
   pub none : r ≡ 0 → (id : ℕ) → MayConclude c s id x → IsLost c world id
+  -- a cell that the seat knows and is given no reference to: another seat made it, and hasn't published it
+  pub unpublished : r ≡ 0 → IsTrue (knows_cell s x) → IsTrue (list_any (used_by x) (makers c.seats)) × IsFalse (used_in s.cache x)
   -- if another object is there, what was made there before is lost
   pub another : (id : ℕ) → IsAt c id x → (slice_index (words_of c.shape c.words).identities x ≡ id → ⊥) → IsLost c world id
 
@@ -255,3 +260,19 @@ abbrev pub LostForGood : Type 0
 LostForGood =
     (c : Core) (world : World) (es : List Event) (id : ℕ) → IsCore c → AgreesWith c world → AllNumbersFit es → IsGone c id
     → IsLost (run_of es c) (world_run es c world) id
+
+-- a seat asks for cell x, finds it published, and then reads this identity there, without a step of its own between: it has a weak reference. Whoever asks for the
+-- cell later, and is given no reference or finds another identity, finds that the object is lost
+abbrev pub DeathTold : Type 0
+DeathTold =
+    (c : Core) (world : World) (i j x : ℕ) (between later : List Event) → IsCore c → AgreesWith c world → IsTrue (is_published c x) → AllNumbersFit between
+    → All (λ (e : Event). i ≢ e.seat) between → AllNumbersFit later
+    → let asked : Event = record { seat = i; step = ReadWeak x } in
+    let d = run_of between (after_event c asked) in
+    let f = run_of later d in
+    let w = words_of f.shape f.words in
+    let id = slice_index (words_of d.shape d.words).identities x in
+    let lost = IsLost f (world_run later d (world_run between (after_event c asked) (world_after c asked world))) id in
+    failing_part c asked ≡ None → failing_part d (record { seat = i; step = ReadIdent x }) ≡ None → (s : SeatState) → slice_get f.seats j ≡ Some s
+    → failing_part f (record { seat = j; step = ReadWeak x }) ≡ None
+    → (weak_reference s x (slice_index w.allocs (x / block_cells)) ≡ 0 → lost) × ((slice_index w.identities x ≡ id → ⊥) → lost)
