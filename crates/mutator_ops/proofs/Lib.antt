@@ -6,4 +6,3 @@ mod ShareCreating
 mod Stepping
 pub mod Storing
 pub mod Walking
-pub mod Upgrading

@@ -7,4 +7,3 @@ pub mod Sharing
 pub mod Placing
 pub mod Listing
 pub mod Few
-pub mod Upgrading

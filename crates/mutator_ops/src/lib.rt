@@ -18,7 +18,6 @@ mod objects;
 mod placing;
 mod reading;
 mod sharing;
-mod upgrading;
 mod variables;
 
 pub use commands::{Done, command};
@@ -30,5 +29,4 @@ pub use sharing::{
     share_copy, share_count, share_create, share_exchange, share_fill, share_follow, share_forget,
     share_lend, share_put, share_set, share_spill, share_value_of,
 };
-pub use upgrading::share_upgrade;
 pub use variables::{assign, clear, follow, lend};

@@ -11,4 +11,3 @@ pub mod Rooting
 pub mod Spilling
 pub mod Threads
 pub mod Wanting
-pub mod Weak

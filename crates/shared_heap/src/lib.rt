@@ -40,7 +40,6 @@ mod planning;
 mod reading;
 mod slots;
 mod tracing;
-mod weak;
 mod world;
 
 pub use gc_table::Words;
