@@ -4,7 +4,7 @@ use Rattle.std.proofs.lemmas.Bool.{false≢true}
 use Rattle.mark_core.specs.Effects.{seat_after}
 use Rattle.mark_core.specs.declared.kinds.Shape.{Shape}
 use Rattle.mark_core.specs.declared.kinds.Step.{Step}
-use Rattle.mark_core.specs.declared.kinds.Step.TheVariants.{ClaimBlock, NextSeason, RaiseStep, ReadCat, ReadOwn, StoreField, StoreNew, StorePhase, StoreRoot, StoreValue, ReadStat, ReadSlot}
+use Rattle.mark_core.specs.declared.kinds.Step.TheVariants.{ClaimBlock, NextSeason, RaiseStep, ReadCat, ReadOwn, StoreField, StoreNew, StorePhase, StoreRoot, StoreValue, ReadStat, ReadSlot, ReadWeak}
 use Rattle.mark_core.specs.declared.seat.SeatState.{SeatState}
 use Rattle.gc_table.specs.Taking.{after}
 use Rattle.gc_table.specs.declared.view.Entry.{Entry}
@@ -35,6 +35,7 @@ section-step : (v x : View) (step : Step) (n : ℕ) → keeps_section step ≡ t
 section-step v x (ReadOwn c i) n e k = absurd (false≢true e)
 section-step v x (ReadCat u) n e k = absurd (false≢true e)
 section-step v x (ReadSlot j) n e k = absurd (false≢true e)
+section-step v x (ReadWeak c) n e k = absurd (false≢true e)
 section-step v x (StoreField u i w) n e k = absurd (false≢true e)
 section-step v x (StoreValue u m) n e k = absurd (false≢true e)
 section-step v x (StoreRoot u r) n e k = absurd (false≢true e)

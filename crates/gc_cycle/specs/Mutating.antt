@@ -3,7 +3,7 @@ use Rattle.std.specs.Prelude.{Bool, true, false, not, ◌==◌, ◌≡◌, ◌�
 use Rattle.mark_core.specs.declared.kinds.Phase.{Phase}
 use Rattle.mark_core.specs.declared.kinds.Phase.TheVariants.{Idle, Marking, Full}
 use Rattle.mark_core.specs.declared.kinds.Step.{Step}
-use Rattle.mark_core.specs.declared.kinds.Step.TheVariants.{ClaimBlock, RaiseStep, ReadCat, ReadOwn, ReadStat, StorePhase, ReadSlot}
+use Rattle.mark_core.specs.declared.kinds.Step.TheVariants.{ClaimBlock, RaiseStep, ReadCat, ReadOwn, ReadStat, StorePhase, ReadSlot, ReadWeak}
 use Rattle.gc_table.specs.declared.view.Entry.{Entry}
 use Rattle.gc_table.specs.declared.view.View.{View}
 use Rattle.packet_pools.specs.Seeking.{some_event}
@@ -22,6 +22,7 @@ abbrev pub keeps_section : Step → Bool
 keeps_section (ReadOwn c i) = false
 keeps_section (ReadCat v) = false
 keeps_section (ReadSlot k) = false
+keeps_section (ReadWeak c) = false
 keeps_section step = fills_part step
 
 -- the step keeps the section as `keeps_section` says, and neither claims a block, nor raises the flag, nor moves the phase,

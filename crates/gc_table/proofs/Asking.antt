@@ -13,7 +13,7 @@ use Rattle.mark_core.proofs.References.ReferencesEnv.{section-is}
 use Rattle.mark_core.proofs.Notes.NotesKept.{single-word}
 use Rattle.mark_core.specs.declared.kinds.Shape.{Shape}
 use Rattle.mark_core.specs.declared.kinds.Step.{Step}
-use Rattle.mark_core.specs.declared.kinds.Step.TheVariants.{StoreField, StoreValue, StoreRoot, StoreNew, StorePhase, NextSeason, ExchangeField, ExchangeValue, StoreSlot}
+use Rattle.mark_core.specs.declared.kinds.Step.TheVariants.{StoreField, StoreValue, StoreRoot, StoreNew, StorePhase, NextSeason, ExchangeField, ExchangeValue, StoreSlot, ReadWeak}
 use Rattle.mark_core.specs.declared.seat.SeatState.{SeatState}
 use Rattle.plain_heap.specs.declared.operation.Op.{Op}
 use Rattle.gc_table.specs.declared.view.SectionState.{SectionState}
@@ -62,4 +62,5 @@ asked-in x i v NextSeason k a ok h = asked_same x i v 0 NextSeason a h.0 h
 asked-in x i v (ExchangeField u j w y) k a ok h = h
 asked-in x i v (ExchangeValue u m n) k a ok h = h
 asked-in x i v (StoreSlot u r) k a ok h = subst (λ (sh : Shape). HasSeenPhase v.state × IsTrue sh.sharing) a.shape h
+asked-in x i v (ReadWeak u) k a ok h = subst (λ (sh : Shape). IsTrue sh.sharing) a.shape h
 asked-in x i v step k a ok h = tt

@@ -1,10 +1,11 @@
 -- No step forgets an object, and none changes one but a store in it.
-use Rattle.std.proofs.Common.{ℕ, ◌≡◌, ◌≢◌, ◌⊎◌, ◌<◌, ◌≤◌, zero, suc, List, [], ◌∷◌, set, length, arith, refl, sym, ap, ◌∙◌, subst, Bool, true, false, cond, eqb, Option, Some, None, inl, inr, ⊎_elim, ◌+◌}
-use Rattle.std.specs.Prelude.{nat_lt}
+use Rattle.mark_core.specs.Steps.MutatorSteps.{weak_reference}
+use Rattle.std.proofs.Common.{ℕ, ◌≡◌, ◌≢◌, ◌⊎◌, ◌<◌, ◌≤◌, zero, suc, List, [], ◌∷◌, set, length, arith, refl, sym, ap, ◌∙◌, subst, Bool, true, false, cond, eqb, Option, Some, None, inl, inr, ⊎_elim, ◌+◌, ◌/◌}
+use Rattle.std.specs.Prelude.{nat_lt, slice_index}
 use Rattle.std.proofs.lemmas.Bool.{false≢true, and_parts, eqb-true, cases_eq, cases_lt, cases_Bool}
 use Rattle.plain_heap.specs.Paths.{Name}
 use Rattle.mark_core.specs.declared.kinds.Step.{Step}
-use Rattle.mark_core.specs.declared.kinds.Step.TheVariants.{ReadOwn, ReadCat, StoreField, StoreValue, StoreRoot, StoreNew, ExchangeField, ExchangeValue, StoreSlot, ReadSlot}
+use Rattle.mark_core.specs.declared.kinds.Step.TheVariants.{ReadOwn, ReadCat, StoreField, StoreValue, StoreRoot, StoreNew, ExchangeField, ExchangeValue, StoreSlot, ReadSlot, ReadWeak}
 use Rattle.gc_table.specs.RunWorlds.{World, WorldObject, WorldSection, variable_of, object_of, reference_of, is_same, in_section, section_of, followed, with_register, with_variable, with_reference, with_value, with_new, with_part, with_object, stored, name_at, referred, own_section, with_exchanged, with_exchanged_value}
 use Rattle.gc_table.specs.AgreementLaws.{StoresIn, HasReference, HasValue, NoneForgotten}
 use Rattle.gc_table.proofs.Reading.{object-kept, object-changed, object-other}
@@ -113,6 +114,8 @@ none_forgotten sh w s (ReadSlot j) world name object e =
 none_forgotten sh w s (ReadOwn c i) world name object e =
     let f : WorldSection → WorldSection = with_register (followed (object_of world (name_at w.identities c)) i) in
     keeps world (own_section s) (own_section s) (ReadOwn c i) f name object (λ h. object-kept world (own_section s) f name h refl ∙ e) e
+none_forgotten sh w s (ReadWeak c) world name object e =
+    let f : WorldSection → WorldSection = with_register (referred w.identities (weak_reference s c (slice_index w.allocs (c / 64)))) in keeps world (own_section s) (own_section s) (ReadWeak c) f name object (λ h. object-kept world (own_section s) f name h refl ∙ e) e
 none_forgotten sh w s (ReadCat v) world name object e =
     let f : WorldSection → WorldSection = with_register (variable_of world 0 v) in keeps world (own_section s) (own_section s) (ReadCat v) f name object (λ h. object-kept world (own_section s) f name h refl ∙ e) e
 none_forgotten sh w s (StoreNew c part word) world name object e =

@@ -15,11 +15,11 @@ use Rattle.mark_core.proofs.Known.{found, words_left, seats_left}
 use Rattle.mark_core.proofs.HeldBlock.{roots-length}
 use Rattle.mark_core.proofs.Blocks.BlocksStopped.{Taken, in-place, kept-after}
 use Rattle.mark_core.specs.declared.kinds.Step.{Step}
-use Rattle.mark_core.specs.declared.kinds.Step.TheVariants.{StoreRoot, StoreSlot, ReadOwn, ReadCat, StoreField, StoreValue, ClaimBlock, ReleaseBlock, ReadFree, StoreNew, PublishCells, Split, Join, ExchangeField, ExchangeValue, ReadSlot}
+use Rattle.mark_core.specs.declared.kinds.Step.TheVariants.{StoreRoot, StoreSlot, ReadOwn, ReadCat, StoreField, StoreValue, ClaimBlock, ReleaseBlock, ReadFree, StoreNew, PublishCells, Split, Join, ExchangeField, ExchangeValue, ReadSlot, ReadWeak}
 use Rattle.mark_core.specs.declared.seat.SeatState.{SeatState}
 use Rattle.gc_table.specs.RunWorlds.{World, WorldSection, section_of, variable_of, in_section, with_variable, name_at, referred, own_section, new_section, world_by, start_world, start_section}
 use Rattle.gc_table.specs.Agreement.{SeatAgrees, AgreesIn, AgreesWith}
-use Rattle.gc_table.proofs.Reading.{section-same, section-other, sections-kept, view-kept, object-kept, read-own, read-cat, read-slot}
+use Rattle.gc_table.proofs.Reading.{section-same, section-other, sections-kept, view-kept, object-kept, read-own, read-cat, read-slot, read-weak}
 use Rattle.gc_table.proofs.Frame.{holds-on, Moves, moved, had-object, Mutates, mutates}
 use Rattle.gc_table.proofs.Exchanges.{exchange-field, exchange-value}
 use Rattle.std.proofs.lemmas.List.Elements.{All-head, All-tail}
@@ -170,6 +170,7 @@ agrees_at c i s (ExchangeValue v m n) world k a = exchange-value c i s v m n wor
 agrees_at c i s (StoreRoot v r) world k a = store-root c i s v r world k a
 agrees_at c i s (StoreSlot j r) world k a = store-slot c i s j r world k a
 agrees_at c i s (ReadSlot j) world k a = read-slot c i s j world k a
+agrees_at c i s (ReadWeak x) world k a = read-weak c i s x world k a
 agrees_at c i s (StoreNew x part word) world k a = store-new c i s x part word world k a
 agrees_at c i s Split world k a = still-split c i s world k a
 agrees_at c i s (Join other) world k a = still-join c i s other world k a

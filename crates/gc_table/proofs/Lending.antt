@@ -11,7 +11,7 @@ use Rattle.mark_core.specs.Steps.{Core, after_event, failing_part, start_core, r
 use Rattle.mark_core.specs.declared.kinds.Event.{Event}
 use Rattle.mark_core.specs.declared.kinds.Shape.{Shape}
 use Rattle.mark_core.specs.declared.kinds.Step.{Step}
-use Rattle.mark_core.specs.declared.kinds.Step.TheVariants.{ExchangeField, ExchangeValue, Join, ReadCat, ReadOwn, ReadSlot, Split, StoreField, StoreNew, StoreRoot, StoreSlot, StoreValue}
+use Rattle.mark_core.specs.declared.kinds.Step.TheVariants.{ExchangeField, ExchangeValue, Join, ReadCat, ReadOwn, ReadSlot, Split, StoreField, StoreNew, StoreRoot, StoreSlot, StoreValue, ReadWeak}
 use Rattle.mark_core.specs.declared.seat.SeatState.{SeatState}
 use Rattle.mark_core.proofs.Known.{Acted, acts}
 use Rattle.mark_core.proofs.Blocks.BlocksStopped.{Taken}
@@ -123,6 +123,7 @@ step_keeps c i s (StoreRoot u r) world v k leaves below =
     (cases_eq i 0)
 step_keeps c i s (StoreSlot j r) world v k leaves below = other_kept world (own_section s) 0 (32 + j) v _ (λ e. omega (arith, e, below))
 step_keeps c i s (ReadSlot j) world v k leaves below = kept world (own_section s) 0 v (with_register _) (λ x. refl)
+step_keeps c i s (ReadWeak x) world v k leaves below = kept world (own_section s) 0 v (with_register _) (λ y. refl)
 step_keeps c i s (ReadOwn x j) world v k leaves below = kept world (own_section s) 0 v (with_register _) (λ x. refl)
 step_keeps c i s (ReadCat u) world v k leaves below = kept world (own_section s) 0 v (with_register _) (λ x. refl)
 step_keeps c i s (StoreNew x part word) world v k leaves below =

@@ -36,3 +36,5 @@ pub mod Single
 pub mod Counting
 pub mod Counted
 pub mod Locked
+pub mod Reached
+pub mod Losing

@@ -1,5 +1,6 @@
 -- What a mutator reads into its register refers to what the heap has there.
-use Rattle.std.proofs.Common.{ℕ, ◌≡◌, ◌+◌, ◌*◌, ◌<◌, List, set, length, arith, refl, sym, ap, ◌∙◌, subst, true, ◌&&◌, Option, Some, None, ◌≢◌, ◌≤◌, zero, suc, [], ◌∷◌, ◌++◌, get_or, ⊎_elim}
+use Rattle.mark_core.specs.Steps.MutatorSteps.{weak_reference}
+use Rattle.std.proofs.Common.{ℕ, ◌≡◌, ◌+◌, ◌*◌, ◌/◌, ◌<◌, List, set, length, arith, refl, sym, ap, ◌∙◌, subst, true, ◌&&◌, Option, Some, None, ◌≢◌, ◌≤◌, zero, suc, [], ◌∷◌, ◌++◌, get_or, ⊎_elim}
 use Rattle.std.specs.Prelude.{IsTrue, slice_index, slice_index_or, nat_lt, slice_get}
 use Rattle.std.proofs.lemmas.Bool.{and_parts, ltb-true, cases_eq, cases_lt}
 use Rattle.plain_heap.specs.Paths.{Name}
@@ -16,7 +17,7 @@ use Rattle.mark_core.proofs.Writing.Writes.{only_reads}
 use Rattle.mark_core.proofs.References.ReferencesRoots.{known-used, Used, UsedAfter, read-whole, read-field}
 use Rattle.mark_core.proofs.Used.UsedSeats.{IsMadeBy}
 use Rattle.mark_core.specs.declared.kinds.Step.{Step}
-use Rattle.mark_core.specs.declared.kinds.Step.TheVariants.{ReadOwn, ReadCat, ReadSlot}
+use Rattle.mark_core.specs.declared.kinds.Step.TheVariants.{ReadOwn, ReadCat, ReadSlot, ReadWeak}
 use Rattle.mark_core.specs.declared.seat.SeatState.{SeatState}
 use Rattle.gc_table.specs.RunWorlds.{World, WorldObject, WorldSection, variable_of, object_of, followed, in_section, with_register, name_at, referred, own_section, new_section, no_object, section_of, replaced, with_object}
 use Rattle.gc_table.specs.Agreement.{HoldsObject, SeatAgrees, Agrees, AgreesIn, AgreesWith}
@@ -220,3 +221,14 @@ read-slot c i s j world k a =
     let mu : Mutates c i s = mutates c i s step k (and_parts (nat_lt j c.shape.slots) (may_mutate s) k.ok.0).1 in
     let r = slot-found c i s j world k a in
     got_read c i s step world (reference_in (found c s step)) (variable_of world (own_section s) (32 + j)) k a mu (λ y e. e) refl refl (ap (referred (words_of c.shape c.words).identities) r.0 ∙ r.1)
+
+-- 54: a cell that the seat asks for
+pub read-weak : (c : Core) (i : ℕ) (s : SeatState) (x : ℕ) (world : World) → Taken c i s (ReadWeak x) → AgreesWith c world
+    → AgreesIn c.shape (words_left c s (ReadWeak x)) (seats_left c i s (ReadWeak x))
+    (in_section world (own_section s) (with_register (referred (words_of c.shape c.words).identities (weak_reference s x (slice_index (words_of c.shape c.words).allocs (x / 64))))))
+read-weak c i s x world k a =
+    let w : Words = words_of c.shape c.words in
+    let step : Step = ReadWeak x in
+    let mu : Mutates c i s = mutates c i s step k (and_parts (nat_lt x c.shape.cells) (may_mutate s) k.ok.0).1 in
+    let old : found c s step ≡ slice_index w.allocs (x / 64) = words-get (region_sizes c.shape) 4 c.words (x / 64) 0 (in-place c i s step k) in
+    got_read c i s step world (weak_reference s x (found c s step)) (referred w.identities (weak_reference s x (slice_index w.allocs (x / 64)))) k a mu (λ y e. e) refl refl (ap (λ (word : ℕ). referred w.identities (weak_reference s x word)) old)

@@ -1,4 +1,5 @@
 -- Whatever a mutator reads of an object is what the heap has there.
+use Rattle.gc_table.proofs.Losing.{finds-cell}
 use Rattle.gc_table.proofs.Winning.{finds-reference, finds-value}
 use Rattle.std.proofs.Common.{ℕ, ◌≡◌, ◌+◌, ◌-◌, ◌*◌, ◌<◌, zero, suc, List, [], ◌∷◌, get_or, length, arith, sym, ap, ◌∙◌, subst, true, not, ◌||◌, ◌&&◌, eqb, Option, Some, None, inl, inr, ⊎_elim}
 use Rattle.std.specs.Prelude.{slice_get, slice_index, nat_lt}
@@ -18,7 +19,7 @@ use Rattle.mark_core.proofs.Writing.Places.{words-get}
 use Rattle.mark_core.proofs.References.ReferencesRoots.{known-used, seat-formed}
 use Rattle.mark_core.specs.declared.kinds.Event.{Event}
 use Rattle.mark_core.specs.declared.kinds.Step.{Step}
-use Rattle.mark_core.specs.declared.kinds.Step.TheVariants.{ReadOwn, ReadValue, ReadIdent, ReadCat, StoreRoot, ExchangeField, ExchangeValue, StoreSlot, ReadSlot}
+use Rattle.mark_core.specs.declared.kinds.Step.TheVariants.{ReadOwn, ReadValue, ReadIdent, ReadCat, StoreRoot, ExchangeField, ExchangeValue, StoreSlot, ReadSlot, ReadWeak}
 use Rattle.mark_core.specs.declared.seat.SeatState.{SeatState}
 use Rattle.gc_table.specs.RunWorlds.{World, WorldObject, section_of, variable_of, object_of, followed, name_in, name_at, referred, own_section, start_world}
 use Rattle.gc_table.specs.Agreement.{HoldsObject, SeatAgrees, AgreesWith}
@@ -128,6 +129,7 @@ tells_at c i s (StoreSlot j r) world k a =
     let mu : Mutates c i s = mutates c i s (StoreSlot j r) k (and_parts (nat_lt j c.shape.slots) (may_mutate s) k.ok.0).1 in
     subst (λ (o : ℕ). MayHold world o (referred (words_of c.shape c.words).identities r)) (sym mu.own) (held c i s (StoreSlot j r) world r k a mu k.ok.1.0)
 tells_at c i s (ReadSlot j) world k a = (slot-found c i s j world k a).1
+tells_at c i s (ReadWeak x) world k a = finds-cell c i s x world k a
 tells_at c i s (ExchangeField v j x o) world k a = finds-reference c i s v j x o world k a
 tells_at c i s (ExchangeValue v m n) world k a = finds-value c i s v m n world k a
 tells_at c i s step world k a = tt

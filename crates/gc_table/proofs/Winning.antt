@@ -140,7 +140,7 @@ run_by : (e : Event) (es : List Event) (c : Core) (world : World) → IsCore c �
 run_by e es c world k a later None f = later f
 run_by e es c world k a later (Some part) f = (k, a)
 
-run_whole : (es : List Event) (c : Core) (world : World) → IsCore c → AgreesWith c world → AllNumbersFit es → IsCore (run_of es c) × AgreesWith (run_of es c) (world_run es c world)
+pub run_whole : (es : List Event) (c : Core) (world : World) → IsCore c → AgreesWith c world → AllNumbersFit es → IsCore (run_of es c) × AgreesWith (run_of es c) (world_run es c world)
 run_whole [] c world k a fit = (k, a)
 run_whole (e ∷ es) c world k a fit =
     run_by e es c world k a

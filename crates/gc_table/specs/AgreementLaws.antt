@@ -1,21 +1,25 @@
 -- What is claimed of the one heap of all sections, as statements for proofs to meet.
-use Rattle.mark_core.specs.Steps.MutatorSteps.{variable_or_nil}
-use Rattle.std.specs.Prelude.{ℕ, ◌≡◌, ◌⊎◌, ◌+◌, ◌<◌, ◌≤◌, List, [], ◌∷◌, length, if◌then◌else◌, is_none, IsTrue, IsFalse, Option, Some, None, slice_get, slice_index, ◌==◌}
+use Rattle.std.specs.Prelude.{ℕ, ◌≡◌, ◌≢◌, ◌⊎◌, ◌+◌, ◌/◌, ◌<◌, ◌≤◌, List, [], ◌∷◌, length, if◌then◌else◌, is_none, IsTrue, IsFalse, Option, Some, None, slice_get, slice_index, ◌==◌}
+use Rattle.std.specs.List.{All, list_any}
 use Rattle.plain_heap.specs.Paths.{Name}
 use Rattle.mark_core.specs.Layout.{Words, words_of, address}
+use Rattle.mark_core.specs.Cards.{block_cells}
 use Rattle.mark_core.specs.Numbers.{most_seats, section_variables}
+use Rattle.mark_core.specs.Seats.{used_in}
 use Rattle.mark_core.specs.Shapes.{IsShape}
 use Rattle.mark_core.specs.Bits.{nil_or}
 use Rattle.mark_core.specs.Views.{makers}
-use Rattle.mark_core.specs.Cells.{in_use}
-use Rattle.mark_core.specs.Closed.{IsReachableIn}
+use Rattle.mark_core.specs.Cells.{in_use, used_by}
+use Rattle.mark_core.specs.Closed.{IsReachableIn, is_published}
 use Rattle.mark_core.specs.Effects.{place}
+use Rattle.mark_core.specs.Weak.{IsAt, IsGone, MayConclude}
 use Rattle.mark_core.specs.Steps.{Core, failing_part, after_event, start_core, run_of}
+use Rattle.mark_core.specs.Steps.MutatorSteps.{knows_cell, variable_or_nil, weak_reference}
 use Rattle.mark_core.specs.Laws.{IsCore, NumbersFit, AllNumbersFit}
 use Rattle.mark_core.specs.declared.kinds.Event.{Event}
 use Rattle.mark_core.specs.declared.kinds.Shape.{Shape}
 use Rattle.mark_core.specs.declared.kinds.Step.{Step}
-use Rattle.mark_core.specs.declared.kinds.Step.TheVariants.{ReadOwn, ReadValue, ReadIdent, ReadCat, StoreField, StoreValue, StoreRoot, ExchangeField, ExchangeValue, StoreSlot, ReadSlot}
+use Rattle.mark_core.specs.declared.kinds.Step.TheVariants.{ReadOwn, ReadValue, ReadIdent, ReadCat, StoreField, StoreValue, StoreRoot, ExchangeField, ExchangeValue, StoreSlot, ReadSlot, ReadWeak}
 use Rattle.mark_core.specs.declared.seat.SeatState.{SeatState}
 use Rattle.gc_table.specs.RunWorlds.{World, WorldObject, section_of, variable_of, object_of, reference_of, name_in, name_at, referred, own_section, world_by, start_world, stored, is_same, with_reference, with_value}
 use Rattle.gc_table.specs.Agreement.{HoldsObject, AgreesWith}
@@ -129,6 +133,35 @@ pub record FindsValue (c : Core) (world : World) (s : SeatState) (v m n word : �
   -- the value is replaced exactly if it was the expected one
   pub after : object_of (world_by c.shape (words_of c.shape c.words) s (ExchangeValue v m n) world) name ≡ Some (if word == m then with_value n object else object)
 
+-- the object `to` is what a field of the object `from` refers to
+abbrev pub LeadsTo : World → Name → Name → Type 0
+LeadsTo world from to = (object : WorldObject) × (object_of world from ≡ Some object) × ((i : ℕ) × (i < length object.refs) × (reference_of object i ≡ Some to))
+
+-- a path from a variable or a slot of some section, with its last object first
+abbrev pub IsWorldPath : World → Name → List Name → Type 0
+IsWorldPath world name [] = (w v : ℕ) × (w < length world) × (v < length (section_of world w).variables) × (variable_of world w v ≡ Some name)
+IsWorldPath world name (before ∷ path) = LeadsTo world before name × IsWorldPath world before path
+
+-- a path ends with this object
+abbrev pub IsReached : World → Name → Type 0
+IsReached world name = (path : List Name) × IsWorldPath world name path
+
+-- no object of this identity is in use, and no path leads to one
+pub record IsLost (c : Core) (world : World) (id : ℕ) : Type 0 where
+  pub gone : IsGone c id
+  pub unreached : IsReached world (name_in id) → ⊥
+
+-- what a seat finds in cell x, which it needn't know, if r is the reference that it is given
+pub record FindsCell (c : Core) (world : World) (s : SeatState) (x r : ℕ) : Type 0 where
+  -- an object of the heap, whole
+  pub some : 0 < r → (r ≡ x + 1) × IsTrue (in_use (words_of c.shape c.words).allocs (makers c.seats) x) × HoldsObject c.shape (words_of c.shape c.words).identities (words_of c.shape c.words).values (words_of c.shape c.words).fields world x
+  -- or none: then all is lost that was published there, and all of the seat's own section that was made there
+  pub none : r ≡ 0 → (id : ℕ) → MayConclude c s id x → IsLost c world id
+  -- a cell that the seat knows and is given no reference to: another seat made it, and hasn't published it
+  pub unpublished : r ≡ 0 → IsTrue (knows_cell s x) → IsTrue (list_any (used_by x) (makers c.seats)) × IsFalse (used_in s.cache x)
+  -- if another object is there, what was made there before is lost
+  pub another : (id : ℕ) → IsAt c id x → (slice_index (words_of c.shape c.words).identities x ≡ id → ⊥) → IsLost c world id
+
 -- the word that the step finds is what the heap has there, and what it stores in a variable the section has
 abbrev pub TellsIn : Core → World → SeatState → Step → ℕ → Type 0
 TellsIn c world s (ReadValue x) word =
@@ -139,6 +172,7 @@ TellsIn c world s (ReadIdent x) word = (object : WorldObject) × KnownObject wor
 TellsIn c world s (ReadCat v) word = referred (words_of c.shape c.words).identities word ≡ variable_of world 0 v
 TellsIn c world s (StoreRoot v r) word = MayHold world (own_section s) (referred (words_of c.shape c.words).identities r)
 TellsIn c world s (StoreSlot k r) word = MayHold world (own_section s) (referred (words_of c.shape c.words).identities r)
+TellsIn c world s (ReadWeak x) word = FindsCell c world s x (weak_reference s x word)
 TellsIn c world s (ReadSlot k) word = referred (words_of c.shape c.words).identities word ≡ variable_of world (own_section s) (section_variables + k)
 TellsIn c world s (ExchangeField v i x y) word = FindsReference c world s v i x y word
 TellsIn c world s (ExchangeValue v m n) word = FindsValue c world s v m n word
@@ -195,19 +229,6 @@ FieldWonOnce =
     (f : Event) (asked given : Option Name) (found : ℕ) → ExchangesField d (world_run es (after_event c e) (world_after c e world)) f name i asked given found
     → referred (words_of d.shape d.words).identities found ≡ to
 
--- the object `to` is what a field of the object `from` refers to
-abbrev pub LeadsTo : World → Name → Name → Type 0
-LeadsTo world from to = (object : WorldObject) × (object_of world from ≡ Some object) × ((i : ℕ) × (i < length object.refs) × (reference_of object i ≡ Some to))
-
--- a path from a variable or a slot of some section, with its last object first
-abbrev pub IsWorldPath : World → Name → List Name → Type 0
-IsWorldPath world name [] = (w v : ℕ) × (w < length world) × (v < length (section_of world w).variables) × (variable_of world w v ≡ Some name)
-IsWorldPath world name (before ∷ path) = LeadsTo world before name × IsWorldPath world before path
-
--- a path ends with this object
-abbrev pub IsReached : World → Name → Type 0
-IsReached world name = (path : List Name) × IsWorldPath world name path
-
 -- the cell x is in use, is reachable, and has the words of the object of this name
 abbrev pub IsCellFor : Core → World → Name → ℕ → Type 0
 IsCellFor c world name x =
@@ -233,3 +254,25 @@ UnsharedStores =
     (λ c world.
     (e : Event) (s : SeatState) → failing_part c e ≡ None → slice_get c.seats e.seat ≡ Some s → IsFalse c.shape.sharing → (name : Name) → StoresIn world (own_section s) e.step name
     → name.section ≡ own_section s)
+
+-- what is lost stays lost, whatever anyone does: no path will ever lead there
+abbrev pub LostForGood : Type 0
+LostForGood =
+    (c : Core) (world : World) (es : List Event) (id : ℕ) → IsCore c → AgreesWith c world → AllNumbersFit es → IsGone c id
+    → IsLost (run_of es c) (world_run es c world) id
+
+-- a seat asks for cell x, finds it published, and then reads this identity there, without a step of its own between: it has a weak reference. Whoever asks for the
+-- cell later, and is given no reference or finds another identity, finds that the object is lost
+abbrev pub DeathTold : Type 0
+DeathTold =
+    (c : Core) (world : World) (i j x : ℕ) (between later : List Event) → IsCore c → AgreesWith c world → IsTrue (is_published c x) → AllNumbersFit between
+    → All (λ (e : Event). i ≢ e.seat) between → AllNumbersFit later
+    → let asked : Event = record { seat = i; step = ReadWeak x } in
+    let d = run_of between (after_event c asked) in
+    let f = run_of later d in
+    let w = words_of f.shape f.words in
+    let id = slice_index (words_of d.shape d.words).identities x in
+    let lost = IsLost f (world_run later d (world_run between (after_event c asked) (world_after c asked world))) id in
+    failing_part c asked ≡ None → failing_part d (record { seat = i; step = ReadIdent x }) ≡ None → (s : SeatState) → slice_get f.seats j ≡ Some s
+    → failing_part f (record { seat = j; step = ReadWeak x }) ≡ None
+    → (weak_reference s x (slice_index w.allocs (x / block_cells)) ≡ 0 → lost) × ((slice_index w.identities x ≡ id → ⊥) → lost)

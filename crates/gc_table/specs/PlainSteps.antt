@@ -6,7 +6,7 @@ use Rattle.mark_core.specs.declared.kinds.Shape.{Shape}
 use Rattle.mark_core.specs.declared.kinds.Phase.{Phase}
 use Rattle.mark_core.specs.declared.kinds.Phase.TheVariants.{Full}
 use Rattle.mark_core.specs.declared.kinds.Step.{Step}
-use Rattle.mark_core.specs.declared.kinds.Step.TheVariants.{ReadOwn, ReadCat, StoreField, StoreValue, StoreRoot, StoreNew, StoreSlot, ReadSlot}
+use Rattle.mark_core.specs.declared.kinds.Step.TheVariants.{ReadOwn, ReadCat, StoreField, StoreValue, StoreRoot, StoreNew, StoreSlot, ReadSlot, ReadWeak}
 use Rattle.mark_core.specs.declared.seat.SeatState.{SeatState}
 use Rattle.plain_heap.specs.declared.object.Ref.{Ref}
 use Rattle.plain_heap.specs.declared.object.Ref.TheVariants as refs
@@ -116,6 +116,8 @@ Asks s m catalogue (StoreValue v n) op = HasSeenPhase s × (op ≡ ops.Put v n) 
 Asks s m catalogue (StoreRoot v r) op = HasSeenPhase s × IsAssignment s m catalogue v r op
 -- a plain heap has no slots
 Asks s m catalogue (StoreSlot k r) op = ⊥
+-- and nothing leads back to what it doesn't reach
+Asks s m catalogue (ReadWeak c) op = ⊥
 Asks s m catalogue (StoreNew c part word) op = part ≡ 0 → length m.heap.objects ≡ s.made
 Asks s m catalogue step op = Unit {0}
 

@@ -1,12 +1,14 @@
 -- One heap of all sections that forgets nothing: each object that was ever made, by its name, and for each section its variables and its register. And what a
 -- step does to it.
+use Rattle.mark_core.specs.Cards.{block_cells}
+use Rattle.mark_core.specs.Steps.MutatorSteps.{weak_reference}
 use Rattle.std.specs.Prelude.{ℕ, zero, suc, ◌/◌, ◌%◌, ◌==◌, nat_lt, if◌then◌else◌, List, [], ◌∷◌, ◌++◌, replicate, Option, Some, None, unwrap_or, slice_get, slice_set, slice_index, slice_index_or, Bool, true, false, ◌&&◌, ◌+◌}
 use Rattle.plain_heap.specs.Paths.{Name}
 use Rattle.mark_core.specs.Layout.{Words}
 use Rattle.mark_core.specs.Numbers.{section_variables, section_span}
 use Rattle.mark_core.specs.declared.kinds.Shape.{Shape}
 use Rattle.mark_core.specs.declared.kinds.Step.{Step}
-use Rattle.mark_core.specs.declared.kinds.Step.TheVariants.{ReadOwn, ReadCat, StoreField, StoreValue, StoreRoot, StoreNew, ExchangeField, ExchangeValue, StoreSlot, ReadSlot}
+use Rattle.mark_core.specs.declared.kinds.Step.TheVariants.{ReadOwn, ReadCat, StoreField, StoreValue, StoreRoot, StoreNew, ExchangeField, ExchangeValue, StoreSlot, ReadSlot, ReadWeak}
 use Rattle.mark_core.specs.declared.seat.SeatState.{SeatState}
 
 -- an object: its value, and what each of its fields refers to, if it isn't nil
@@ -140,7 +142,7 @@ abbrev pub with_part : ℕ → ℕ → ℕ → WorldSection → WorldSection
 with_part fields part word x = if nat_lt part fields then x else if part == fields then record x { coming = word } else with_new fields x
 
 -- what a seat's step does to the heap: what it stores, where and what it reads follows from the heap, and the words of the state before tell only which
--- objects are in which cells
+-- objects are in which cells, and to who asks for a cell whether one is there
 abbrev pub world_by : Shape → Words → SeatState → Step → World → World
 world_by sh w s (StoreField v i x) world = with_object world (variable_of world (own_section s) v) (with_reference i (stored world (own_section s) x))
 world_by sh w s (StoreValue v n) world = with_object world (variable_of world (own_section s) v) (with_value n)
@@ -150,6 +152,7 @@ world_by sh w s (ExchangeValue v m n) world = with_object world (variable_of wor
 world_by sh w s (StoreRoot v r) world = in_section world (own_section s) (with_variable v (referred w.identities r))
 world_by sh w s (StoreSlot k r) world = in_section world (own_section s) (with_variable (section_variables + k) (referred w.identities r))
 world_by sh w s (ReadSlot k) world = in_section world (own_section s) (with_register (variable_of world (own_section s) (section_variables + k)))
+world_by sh w s (ReadWeak c) world = in_section world (own_section s) (with_register (referred w.identities (weak_reference s c (slice_index w.allocs (c / block_cells)))))
 world_by sh w s (ReadOwn c i) world = in_section world (own_section s) (with_register (followed (object_of world (name_at w.identities c)) i))
 world_by sh w s (ReadCat v) world = in_section world (own_section s) (with_register (variable_of world 0 v))
 world_by sh w s (StoreNew c part word) world = in_section world (own_section s) (with_part sh.fields part word)

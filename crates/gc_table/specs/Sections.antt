@@ -7,7 +7,7 @@ use Rattle.mark_core.specs.Seats.{is_the, saw}
 use Rattle.mark_core.specs.declared.kinds.Shape.{Shape}
 use Rattle.mark_core.specs.declared.kinds.Phase.TheVariants.{Idle, Full}
 use Rattle.mark_core.specs.declared.kinds.Step.{Step}
-use Rattle.mark_core.specs.declared.kinds.Step.TheVariants.{ReadOwn, ReadCat, StoreField, StoreValue, StoreRoot, StoreNew, StorePosition, StorePhase, NextSeason, ExchangeField, ExchangeValue, StoreSlot, ReadSlot}
+use Rattle.mark_core.specs.declared.kinds.Step.TheVariants.{ReadOwn, ReadCat, StoreField, StoreValue, StoreRoot, StoreNew, StorePosition, StorePhase, NextSeason, ExchangeField, ExchangeValue, StoreSlot, ReadSlot, ReadWeak}
 use Rattle.mark_core.specs.declared.seat.SeatState.{SeatState}
 use Rattle.plain_heap.specs.declared.object.Ref.{Ref}
 use Rattle.plain_heap.specs.declared.object.Ref.TheVariants as refs
@@ -101,6 +101,8 @@ AskedOf sh plan s x named (ExchangeField v i y z) = HasSeenPhase s
 AskedOf sh plan s x named (ExchangeValue v m n) = HasSeenPhase s
 -- slots are for heaps whose objects are shared
 AskedOf sh plan s x named (StoreSlot k r) = HasSeenPhase s × IsTrue sh.sharing
+-- a cell is asked for where objects are shared
+AskedOf sh plan s x named (ReadWeak c) = IsTrue sh.sharing
 AskedOf sh plan s x named (StoreNew c part word) = part ≡ 0 → length x.meaning.heap.objects ≡ s.made
 -- the seat has named its section before it says that the heap is full
 AskedOf sh plan s x named (StorePhase to) = IsTrue (saw (Some to) Full) → (w : ℕ) × (s.section ≡ Some w) × (named ≡ Some w)

@@ -58,10 +58,10 @@ pub use laws::{
     stands_is_kept, stands_starts,
 };
 pub use run_laws::{
-    counter_told, events_agree, field_won_once, lock_held, none_forgotten, none_freed,
-    objects_stay, one_object_lent, raises_counted, reached_have_cells, reads_tell, root_found,
-    runs_agree, same_words, start_agrees, steps_find, threads_free_none, threads_share_one_heap,
-    unshared_stores, wins_told, won_once,
+    counter_told, death_told, events_agree, field_won_once, lock_held, lost_for_good,
+    none_forgotten, none_freed, objects_stay, one_object_lent, raises_counted, reached_have_cells,
+    reads_tell, root_found, runs_agree, same_words, start_agrees, steps_find, threads_free_none,
+    threads_share_one_heap, unshared_stores, wins_told, won_once,
 };
 pub use seat::{Heap, HeapSeat};
 pub use words::Words;

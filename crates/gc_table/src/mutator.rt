@@ -155,6 +155,18 @@ impl Heap {
         self.take_step(seat, Operation::Load, Step::ReadSlot { k })
     }
 
+    /// The allocation bits of cell c's block. The register names c if its bit is set, or if the seat made it and hasn't
+    /// published it; else the register is nil. Objects must be shared.
+    pub fn read_weak(&self, seat: &mut HeapSeat, c: Cell) -> u64
+        requires seat { Sits self.now seat.old }
+        requires may { May (Step.ReadWeak c) (view_of seat.old) }
+        requires asked { Asked (Step.ReadWeak c) (view_of seat.old) }
+        ensures seat { Sits self.now seat.new }
+        ensures view { Across (Found (Step.ReadWeak c) result) seat.old seat.new }
+    {
+        self.take_step(seat, Operation::Load, Step::ReadWeak { c })
+    }
+
     /// Claims block b to make cells in: true if nobody had it.
     pub fn claim_block(&self, seat: &mut HeapSeat, b: u32) -> bool
         requires seat { Sits self.now seat.old }

@@ -1,6 +1,6 @@
 ghost use Rattle.gc_table.specs.Counting.{RaisesCounted, WinsTold};
 ghost use Rattle.gc_table.specs.Finding.{StepsFind};
-ghost use Rattle.gc_table.specs.AgreementLaws.{StartAgrees, EventsAgree, RunsAgree, NoneForgotten, ReadsTell, ReachedHaveCells, SameWords, UnsharedStores, ObjectsStay, WonOnce, FieldWonOnce};
+ghost use Rattle.gc_table.specs.AgreementLaws.{DeathTold, StartAgrees, EventsAgree, RunsAgree, NoneForgotten, ReadsTell, ReachedHaveCells, SameWords, UnsharedStores, ObjectsStay, WonOnce, FieldWonOnce, LostForGood};
 ghost use Rattle.gc_table.specs.Lending.{OneObjectLent};
 ghost use Rattle.gc_table.specs.Rooted.{RootFound};
 ghost use Rattle.gc_table.specs.Runs.{NoneFreed};
@@ -90,6 +90,19 @@ pub fn reads_tell()
 /// After every run each object that roots reach has a reachable cell in use with its words.
 pub fn reached_have_cells()
     ensures { ReachedHaveCells }
+{}
+
+/// What a mutator may conclude to be gone, since it asked for its cell and found nothing or another object there, no
+/// path leads to, then or ever after.
+#[tactic(auto, using(crate::proofs::Losing::lost_for_good))]
+pub fn lost_for_good()
+    ensures { LostForGood }
+{}
+
+/// Who asks for a cell, finds it published and then reads the identity of its object has a weak reference: whoever asks
+/// for the cell later, and finds nothing or another object there, knows that this one is lost.
+pub fn death_told()
+    ensures { DeathTold }
 {}
 
 /// No step forgets an object, and only a store in it, or an exchange that finds what it expects, changes one.

@@ -2,3 +2,6 @@
 pub mod QuietReading
 pub mod Closing
 pub mod SomePasses
+pub mod WeakKept
+pub mod WeakFound
+pub mod WeakTold

@@ -111,6 +111,7 @@ fn of_mutator(bases: &Bases, s: &SeatState, step: &Step) -> usize
             s.section.unwrap_or(0),
             k,
         ),
+        Step::ReadWeak { c } => bases.alloc_at(c.number() / BLOCK_CELLS),
         Step::ExchangeField {
             v,
             i,

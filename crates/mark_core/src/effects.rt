@@ -97,6 +97,7 @@ fn of_mutator(s: &mut SeatState, step: &Step, old: u64) -> u64
         Step::ReadOwn { c: _, i: _ } | Step::ReadCat { v: _ } | Step::ReadSlot { k: _ } =>
             mutator::read_reference(s, old),
         Step::ReadValue { c: _ } | Step::ReadIdent { c: _ } => old,
+        Step::ReadWeak { c } => mutator::read_weak(s, c, old),
         Step::StoreField { v, i: _, w } => mutator::store_field(s, v, w),
         Step::StoreValue { v: _, n } => u64::from(n),
         Step::StoreRoot { v, r } => mutator::store_root(s, v, r),

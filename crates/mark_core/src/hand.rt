@@ -78,6 +78,7 @@ pub fn free_in(cache: Option<CacheState>, c: Cell) -> bool
     }
 }
 
+/// Whether a seat with this cache made cell c and hasn't published it.
 pub fn used_in(cache: Option<CacheState>, c: Cell) -> bool
     ensures { result ≡ used_in_of cache c }
 {

@@ -1,5 +1,6 @@
 // Laws: the contract of each function, which does nothing, is a theorem on every state and event.
 ghost use Rattle.mark_core.specs.Laws.{StartIsCore, EventsKeepCore, RunsAreSound, StartMeetsPackets, EventsKeepPackets, CountShowsQuiet, ClosedMarksAll, FullIsReachable, ReachableStay, StartIsSwept, EventsKeepSwept, EventsKeepNotes, EventsKeepBounds};
+ghost use Rattle.mark_core.specs.Weak.{WeakIsMade, WeakStays, GoneIsUnreachable, WeakReadsTell, WeakIsTold};
 
 /// The state in which nothing has happened is sound, for all shapes and any number of seats.
 pub fn start_is_core()
@@ -78,4 +79,38 @@ pub fn notes_are_kept()
 #[tactic(auto, using(crate::proofs::Notes::NotesBounds::bounds_kept))]
 pub fn bounds_are_kept()
     ensures { EventsKeepBounds }
+{}
+
+/// Whoever knows a cell in use by its identity knows where this object is, or that it is gone; and whether it was
+/// published, if it is there.
+#[tactic(auto, using(crate::proofs::Consequences::WeakFound::weak_is_made))]
+pub fn weak_is_made()
+    ensures { WeakIsMade }
+{}
+
+/// A run leaves what is known of an object by its identity: no object comes to another cell, and none that is gone
+/// comes back.
+#[tactic(auto, using(crate::proofs::Consequences::WeakKept::weak_stays))]
+pub fn weak_stays()
+    ensures { WeakStays }
+{}
+
+/// No path leads to an object that is gone.
+#[tactic(auto, using(crate::proofs::Consequences::WeakFound::gone_is_unreachable))]
+pub fn gone_is_unreachable()
+    ensures { GoneIsUnreachable }
+{}
+
+/// Whoever reads a cell that it needn't know finds an object there that isn't freed, or may conclude that the one that
+/// was there is gone.
+#[tactic(auto, using(crate::proofs::Consequences::WeakFound::weak_reads_tell))]
+pub fn weak_reads_tell()
+    ensures { WeakReadsTell }
+{}
+
+/// Whoever finds a cell published, and then the identity of its object, knows for good where this object is, whatever
+/// others do between.
+#[tactic(auto, using(crate::proofs::Consequences::WeakTold::weak_is_told))]
+pub fn weak_is_told()
+    ensures { WeakIsTold }
 {}

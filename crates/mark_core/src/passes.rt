@@ -51,6 +51,7 @@ pub fn pass_of(step: &Step) -> Pass
         | Step::StoreRoot { v: _, r: _ }
         | Step::StoreSlot { k: _, r: _ }
         | Step::ReadSlot { k: _ }
+        | Step::ReadWeak { c: _ }
         | Step::ExchangeField {
             v: _,
             i: _,
@@ -181,6 +182,7 @@ fn of_mutator(step: &Step) -> u8
         } => 51,
         Step::StoreSlot { k: _, r: _ } => 52,
         Step::ReadSlot { k: _ } => 53,
+        Step::ReadWeak { c: _ } => 54,
         _ => unreachable!(),
     }
 }

@@ -8,8 +8,9 @@ ghost use Rattle.mark_core.specs.Steps.{Core, failing_part, after_event, start_c
 ghost use Rattle.mark_core.specs.Numbers.{most_seats};
 
 use crate::addresses::address;
-use crate::kinds::{Event, NotAllowed, Rule, Shape};
+use crate::kinds::{Event, Shape};
 use crate::records::{change_others, seat_at};
+use crate::refused::{NotAllowed, Rule};
 use crate::seat::SeatState;
 use crate::start::{start_seats, start_words};
 use crate::words::word_at;

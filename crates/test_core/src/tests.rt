@@ -30,6 +30,7 @@ fn each_run_goes_as_told(rt: HostRuntime) {
         sharing::STORING,
         sharing::EXCHANGING,
         sharing::SLOTS,
+        sharing::WEAK,
     ] {
         all_hold(&rt, runs);
     }

@@ -4,7 +4,7 @@ use Rattle.std.specs.Prelude.{◌==◌, if◌then◌else◌}
 use Rattle.std.proofs.lemmas.Bool.{and_parts, false≢true}
 use Rattle.mark_core.specs.declared.kinds.Phase.TheVariants.{Full}
 use Rattle.mark_core.specs.declared.kinds.Step.{Step}
-use Rattle.mark_core.specs.declared.kinds.Step.TheVariants.{AddStat, ClaimBlock, DropStep, NextSeason, RaiseStep, ReadCat, ReadOwn, ReadPhase, ReadSeason, ReadStat, StoreField, StoreNew, StorePhase, StoreRoot, StoreValue, ExchangeField, ExchangeValue, ReadSlot, StoreSlot}
+use Rattle.mark_core.specs.declared.kinds.Step.TheVariants.{AddStat, ClaimBlock, DropStep, NextSeason, RaiseStep, ReadCat, ReadOwn, ReadPhase, ReadSeason, ReadStat, StoreField, StoreNew, StorePhase, StoreRoot, StoreValue, ExchangeField, ExchangeValue, ReadSlot, StoreSlot, ReadWeak}
 use Rattle.gc_table.specs.Log.{all_steps}
 use Rattle.gc_table.specs.declared.view.Entry.{Entry}
 use Rattle.mark_core.specs.Numbers.{done_count, free_count, traced_count}
@@ -22,6 +22,7 @@ pays-calm (StorePhase to) e = absurd (false≢true e)
 pays-calm (ReadOwn c i) e = absurd (false≢true e)
 pays-calm (ReadCat v) e = absurd (false≢true e)
 pays-calm (ReadSlot k) e = absurd (false≢true e)
+pays-calm (ReadWeak c) e = absurd (false≢true e)
 pays-calm (StoreSlot k r) e = absurd (false≢true e)
 pays-calm (StoreField v i w) e = absurd (false≢true e)
 pays-calm (StoreValue v n) e = absurd (false≢true e)

@@ -3,7 +3,7 @@ use Rattle.std.proofs.Common.{ℕ, ◌≡◌, [], ap, ◌∙◌, subst, true, So
 use Rattle.std.proofs.lemmas.Bool.{false≢true}
 use Rattle.mark_core.specs.declared.kinds.Shape.{Shape}
 use Rattle.mark_core.specs.declared.kinds.Step.{Step}
-use Rattle.mark_core.specs.declared.kinds.Step.TheVariants.{ReadCat, ReadOwn, ReadSlot, DropStep, ReadPhase}
+use Rattle.mark_core.specs.declared.kinds.Step.TheVariants.{ReadCat, ReadOwn, ReadSlot, DropStep, ReadPhase, ReadWeak}
 use Rattle.gc_table.specs.Log.{events, Only}
 use Rattle.gc_table.specs.Running.{Ran}
 use Rattle.gc_table.specs.declared.view.View.{View}
@@ -146,6 +146,7 @@ keeps-fill : (step : Step) → keeps_section step ≡ true → fills_part step �
 keeps-fill (ReadOwn c i) e = absurd (false≢true e)
 keeps-fill (ReadCat v) e = absurd (false≢true e)
 keeps-fill (ReadSlot k) e = absurd (false≢true e)
+keeps-fill (ReadWeak c) e = absurd (false≢true e)
 keeps-fill step e = e
 
 -- what a call of rounds leaves, once one of them has an answer

@@ -3,7 +3,7 @@ use Rattle.std.proofs.Common.{ℕ, ◌≡◌, List, [], ◌∷◌, refl, ap, ◌
 use Rattle.std.proofs.lemmas.Bool.{and_from, and_parts, false≢true, not-true, or_from, or_parts, true≢false}
 use Rattle.mark_core.specs.declared.kinds.Phase.TheVariants.{Clear, Drain, Full, Idle, Marking, Sweep}
 use Rattle.mark_core.specs.declared.kinds.Step.{Step}
-use Rattle.mark_core.specs.declared.kinds.Step.TheVariants.{DropStep, JoinHelpStep, LeaveHelpStep, RaiseStep, ReadCat, ReadOwn, ReadPhase, StorePhase, StorePosition, ReadSlot}
+use Rattle.mark_core.specs.declared.kinds.Step.TheVariants.{DropStep, JoinHelpStep, LeaveHelpStep, RaiseStep, ReadCat, ReadOwn, ReadPhase, StorePhase, StorePosition, ReadSlot, ReadWeak}
 use Rattle.gc_table.specs.Log.{all_steps, events, Only}
 use Rattle.gc_table.specs.declared.view.Entry.{Entry}
 use Rattle.gc_table.specs.declared.view.View.{View}
@@ -39,6 +39,7 @@ spared LeaveHelpStep n e h = absurd (false≢true e)
 spared (ReadOwn c i) n e h = absurd (false≢true e)
 spared (ReadCat v) n e h = absurd (false≢true e)
 spared (ReadSlot k) n e h = absurd (false≢true e)
+spared (ReadWeak c) n e h = absurd (false≢true e)
 spared step n e h = e
 
 all-spared : (es : List Entry) → all_steps finishes es ≡ true → some_event (moves_to Full) es ≡ false → all_steps spares_part es ≡ true

@@ -39,7 +39,7 @@ use Rattle.gc_cycle.proofs.Sequences.{followed-later, none-of-steps, some-none}
 use Rattle.gc_cycle.proofs.Ends.Spared.{finish-position, keeps as finishes-keep}
 use Rattle.gc_cycle.proofs.Traced.{nothing-rest}
 use Rattle.mark_core.specs.declared.kinds.Step.{Step}
-use Rattle.mark_core.specs.declared.kinds.Step.TheVariants.{ClaimBlock, DropStep, JoinHelpStep, LeaveHelpStep, RaiseStep, ReadCat, ReadOwn, ReadPhase, StorePhase, ReadStat, ReadSlot}
+use Rattle.mark_core.specs.declared.kinds.Step.TheVariants.{ClaimBlock, DropStep, JoinHelpStep, LeaveHelpStep, RaiseStep, ReadCat, ReadOwn, ReadPhase, StorePhase, ReadStat, ReadSlot, ReadWeak}
 use Rattle.gc_cycle.specs.Collecting.{EndsStop, HoldsWorld, spares_section, TriesAgain}
 use Rattle.gc_cycle.specs.Mutating.{keeps_section, stays_calm, StopsWorld, tries_stopping, TriesToStop}
 use Rattle.gc_cycle.specs.Sparing.{spares_part}
@@ -52,6 +52,7 @@ section-spares (StorePhase to) e = e
 section-spares (ReadOwn c i) e = absurd (false≢true e)
 section-spares (ReadCat v) e = absurd (false≢true e)
 section-spares (ReadSlot k) e = absurd (false≢true e)
+section-spares (ReadWeak c) e = absurd (false≢true e)
 section-spares step e = e
 
 pub section-keeps : (step : Step) → spares_section step ≡ true → keeps_section step ≡ true
@@ -72,6 +73,7 @@ calm-spares (StorePhase to) e = absurd (false≢true e)
 calm-spares (ReadOwn c i) e = absurd (false≢true e)
 calm-spares (ReadCat v) e = absurd (false≢true e)
 calm-spares (ReadSlot k) e = absurd (false≢true e)
+calm-spares (ReadWeak c) e = absurd (false≢true e)
 calm-spares (ReadStat which) e = refl
 calm-spares step e = e
 

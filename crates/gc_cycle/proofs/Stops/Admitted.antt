@@ -7,7 +7,7 @@ use Rattle.mark_core.specs.Held.{Slot, Slots}
 use Rattle.mark_core.specs.Seats.{work_in_hand}
 use Rattle.mark_core.specs.declared.kinds.Shape.{Shape}
 use Rattle.mark_core.specs.declared.kinds.Step.{Step}
-use Rattle.mark_core.specs.declared.kinds.Step.TheVariants.{ClearCard, Give, NextOfCards, NextSeason, Push, ReadCat, ReadOwn, StoreField, StoreNew, StorePhase, StorePosition, StoreRoot, StoreValue, ReadSlot, StoreSlot, ExchangeField, ExchangeValue}
+use Rattle.mark_core.specs.declared.kinds.Step.TheVariants.{ClearCard, Give, NextOfCards, NextSeason, Push, ReadCat, ReadOwn, StoreField, StoreNew, StorePhase, StorePosition, StoreRoot, StoreValue, ReadSlot, StoreSlot, ExchangeField, ExchangeValue, ReadWeak}
 use Rattle.mark_core.specs.declared.seat.SeatState.{SeatState}
 use Rattle.gc_table.specs.Taking.{after}
 use Rattle.gc_table.specs.declared.view.Entry.{Entry}
@@ -152,6 +152,7 @@ pub traces-kept : (step : Step) → traces_or_cleans step ≡ true → changes_s
 traces-kept (ReadOwn c i) e = absurd (false≢true e)
 traces-kept (ReadCat v) e = absurd (false≢true e)
 traces-kept (ReadSlot k) e = absurd (false≢true e)
+traces-kept (ReadWeak c) e = absurd (false≢true e)
 traces-kept (StoreSlot k r) e = absurd (false≢true e)
 traces-kept (ExchangeField v i x y) e = absurd (false≢true e)
 traces-kept (ExchangeValue v m n) e = absurd (false≢true e)

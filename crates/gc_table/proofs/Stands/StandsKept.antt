@@ -22,7 +22,7 @@ use Rattle.mark_core.proofs.References.ReferencesRoots.{Used, UsedAfter, stores_
 use Rattle.mark_core.proofs.Used.UsedSeats.{IsMadeBy}
 use Rattle.mark_core.proofs.Used.UsedKept.{used-back}
 use Rattle.mark_core.specs.declared.kinds.Step.{Step}
-use Rattle.mark_core.specs.declared.kinds.Step.TheVariants.{Split, Join, ReadOwn, ReadCat, StoreField, StoreValue, StoreRoot, ClaimBlock, ReleaseBlock, ReadFree, StoreNew, PublishCells, ExchangeField, ExchangeValue, StoreSlot, ReadSlot, ReadField, ReadValue, ReadIdent, Reset, AddStat, ReadStat}
+use Rattle.mark_core.specs.declared.kinds.Step.TheVariants.{Split, Join, ReadOwn, ReadCat, StoreField, StoreValue, StoreRoot, ClaimBlock, ReleaseBlock, ReadFree, StoreNew, PublishCells, ExchangeField, ExchangeValue, StoreSlot, ReadSlot, ReadField, ReadValue, ReadIdent, Reset, AddStat, ReadStat, ReadWeak}
 use Rattle.gc_table.proofs.Stands.StandsFrame.{stands-same}
 use Rattle.std.proofs.lemmas.Option.{same_Some}
 use Rattle.plain_heap.specs.declared.operation.Op.{Op}
@@ -209,6 +209,7 @@ stands_at c i s (ReadOwn x j) op ms alone k st asks = read-own c i s x j ms k st
 stands_at c i s (ReadCat v) op ms alone k st asks = read-cat c i s v ms k st
 stands_at c i s (ReadSlot j) op ms alone k st asks = read-slot c i s j ms k st
 stands_at c i s (StoreSlot j r) op ms alone k st asks = absurd asks
+stands_at c i s (ReadWeak x) op ms alone k st asks = absurd asks
 stands_at c i s (StoreField v j o) op ms alone k st asks = store-field c i s v j o op ms alone k st asks
 stands_at c i s (StoreValue v n) op ms alone k st asks = store-value c i s v n op ms alone k st asks
 stands_at c i s (ExchangeField v j y o) op ms alone k st asks = absurd (true≢false (sym (and_parts _ c.shape.sharing k.ok.1.0).1 ∙ alone))

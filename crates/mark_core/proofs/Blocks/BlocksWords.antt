@@ -11,7 +11,7 @@ use Rattle.mark_core.proofs.Writing.Writes.{phase-kept, next_block-kept}
 use Rattle.mark_core.proofs.Writing.RegionWrites.{roots-kept, allocs-kept, marks-kept, fields-kept}
 use Rattle.mark_core.proofs.Blocks.BlocksStopped.{Taken, words-read}
 use Rattle.mark_core.specs.declared.kinds.Step.{Step}
-use Rattle.mark_core.specs.declared.kinds.Step.TheVariants.{ReadAlloc, ReadField, ReadRoot, SetMark, ReadMarks, ReadPhase, ReadOwn, ReadCat, StoreField, StoreRoot, ReadFree, StoreNew, PublishCells, StorePhase, NextBlock, ReadBlockMarks, StoreAlloc, ClearMarks, Reset, AddStat, ReadStat, ExchangeField, LoadSlot, StoreSlot, ReadSlot}
+use Rattle.mark_core.specs.declared.kinds.Step.TheVariants.{ReadAlloc, ReadField, ReadRoot, SetMark, ReadMarks, ReadPhase, ReadOwn, ReadCat, StoreField, StoreRoot, ReadFree, StoreNew, PublishCells, StorePhase, NextBlock, ReadBlockMarks, StoreAlloc, ClearMarks, Reset, AddStat, ReadStat, ExchangeField, LoadSlot, StoreSlot, ReadSlot, ReadWeak}
 use Rattle.mark_core.specs.declared.seat.SeatState.{SeatState}
 use Rattle.mark_core.specs.Numbers.{done_count, last_count, named_number}
 
@@ -84,6 +84,7 @@ heap-left c i s ReadPhase t e = same_words _ _ (words-read c i s ReadPhase t ref
 heap-left c i s (ReadOwn x f) t e = same_words _ _ (words-read c i s (ReadOwn x f) t refl)
 heap-left c i s (ReadCat v) t e = same_words _ _ (words-read c i s (ReadCat v) t refl)
 heap-left c i s (ReadSlot k) t e = same_words _ _ (words-read c i s (ReadSlot k) t refl)
+heap-left c i s (ReadWeak x) t e = same_words _ _ (words-read c i s (ReadWeak x) t refl)
 heap-left c i s ReadFree t e = same_words _ _ (words-read c i s ReadFree t refl)
 heap-left c i s ReadBlockMarks t e = same_words _ _ (words-read c i s ReadBlockMarks t refl)
 heap-left c i s (ReadStat which) t e = same_words _ _ (words-read c i s (ReadStat which) t refl)

@@ -1,5 +1,5 @@
 -- Each event that is allowed keeps the rule of caches.
-use Rattle.std.proofs.Common.{ℕ, ◌≡◌, ◌+◌, ◌-◌, ◌*◌, ◌<◌, ◌≤◌, List, set, get_or, length, arith, sym, ap, ◌∙◌, subst, Bool, true, false, not, ◌&&◌, Option, Some, None, cond, eqb, ⊎_elim, [], ◌∷◌, ◌++◌, refl}
+use Rattle.std.proofs.Common.{ℕ, ◌≡◌, ◌+◌, ◌-◌, ◌*◌, ◌/◌, ◌<◌, ◌≤◌, List, set, get_or, length, arith, sym, ap, ◌∙◌, subst, Bool, true, false, not, ◌&&◌, Option, Some, None, cond, eqb, ⊎_elim, [], ◌∷◌, ◌++◌, refl}
 use Rattle.std.specs.Prelude.{IfSome, IsTrue, slice_get, slice_index, unwrap_or, is_some, nat_lt, nat_le, bit_and}
 use Rattle.std.proofs.lemmas.Bool.{and_parts, or_cases, cases_lt, ltb-true, ltb-false, le-leb, lt-leb, eqb-true, eqb-false, not-true, false≢true}
 use Rattle.std.proofs.lemmas.List.{get_or_past, map-set, map-append, set-get_or, length-map}
@@ -24,7 +24,7 @@ use Rattle.mark_core.proofs.Caches.CachesStores.{Storing, part-kept, made-kept}
 use Rattle.mark_core.proofs.Caches.CachesPublish.{free-kept, field-kept, push-kept, end-kept}
 use Rattle.mark_core.proofs.Caches.CachesAt.{CachesOf, caching, maker-at, claim-at, release-at, read_free-at, publish-at}
 use Rattle.mark_core.specs.declared.kinds.Shape.{Shape}
-use Rattle.mark_core.specs.declared.kinds.Step.TheVariants.{StoreField, StoreNew, StoreAlloc, ExchangeField, ReadAlloc, ReadField, ReadOwn, ReadIdent, ClaimBlock, ReleaseBlock, ReadFree, PublishCells, Split, Join}
+use Rattle.mark_core.specs.declared.kinds.Step.TheVariants.{StoreField, StoreNew, StoreAlloc, ExchangeField, ReadAlloc, ReadField, ReadOwn, ReadIdent, ClaimBlock, ReleaseBlock, ReadFree, PublishCells, Split, Join, ReadWeak}
 use Rattle.mark_core.specs.declared.seat.SeatState.{SeatState}
 use Rattle.mark_core.specs.declared.seat.BlockState.{BlockState}
 use Rattle.mark_core.specs.Numbers.{section_span, value_bound}
@@ -187,7 +187,7 @@ section_next m n z true h e = let s : z ≡ n = section-seat m n z true e in (s,
 section_next m n z false h e = absurd (false≢true e)
 
 -- a new seat has the next section, or none
-next_section : (sh : Shape) (n z : ℕ) → is_the (start_seat sh n).section z ≡ true → (z ≡ n) × (z < sh.sections)
+pub next_section : (sh : Shape) (n z : ℕ) → is_the (start_seat sh n).section z ≡ true → (z ≡ n) × (z < sh.sections)
 next_section sh n z e = section_next sh.sections n z (nat_lt n sh.sections) (λ h. ltb-true n sh.sections h) e
 
 -- 31: a further seat
@@ -242,6 +242,10 @@ caches_at c i s (ReadIdent x) k g live ok at =
     let w : Words = words_of c.shape c.words in
     unmoved c.shape (words_left c s (ReadIdent x)) c.seats i s _ g refl
     (same_words c.shape w (words_left c s (ReadIdent x)) (makers c.seats) refl refl (written_back x w.identities _ (words-get (region_sizes c.shape) 9 c.words x 0 at)) refl k.sound.caches)
+caches_at c i s (ReadWeak x) k g live ok at =
+    let w : Words = words_of c.shape c.words in
+    unmoved c.shape (words_left c s (ReadWeak x)) c.seats i s _ g refl
+    (same_words c.shape w (words_left c s (ReadWeak x)) (makers c.seats) refl (written_back (x / 64) w.allocs _ (words-get (region_sizes c.shape) 4 c.words (x / 64) 0 at)) refl refl k.sound.caches)
 caches_at c i s step k g live ok at =
     let sh : Shape = c.shape in
     let w : Words = words_of sh c.words in

@@ -14,7 +14,7 @@ use Rattle.mark_core.specs.Views.{makers, maker_of, Maker}
 use Rattle.mark_core.specs.Cells.{in_use, used_by, field, AllGo}
 use Rattle.mark_core.specs.Rules.WorldRules.{is_stopped_phase}
 use Rattle.mark_core.specs.Rules.HeapRules.{NamesInUse, EnvIsRoots, References}
-use Rattle.mark_core.specs.Steps.MutatorSteps.{has_reference, names_last, knows_cell}
+use Rattle.mark_core.specs.Steps.MutatorSteps.{has_reference, names_last, knows_cell, weak_reference}
 use Rattle.mark_core.specs.WellFormed.{IsSeat, IsCache}
 use Rattle.mark_core.specs.Effects.{written, seat_after, place}
 use Rattle.mark_core.specs.Steps.{Core}
@@ -27,7 +27,7 @@ use Rattle.mark_core.proofs.World.WorldReading.{any-passes, some-passes}
 use Rattle.mark_core.specs.declared.kinds.Shape.{Shape}
 use Rattle.mark_core.specs.declared.kinds.Phase.TheVariants.{Sweep}
 use Rattle.mark_core.specs.declared.kinds.Step.{Step}
-use Rattle.mark_core.specs.declared.kinds.Step.TheVariants.{ReadRoot, ReadCat, StoreRoot, LoadSlot, StoreSlot, ReadSlot, ReadOwn}
+use Rattle.mark_core.specs.declared.kinds.Step.TheVariants.{ReadRoot, ReadCat, StoreRoot, LoadSlot, StoreSlot, ReadSlot, ReadOwn, ReadWeak}
 use Rattle.mark_core.specs.declared.seat.SeatState.{SeatState}
 use Rattle.mark_core.specs.declared.seat.CacheState.{CacheState}
 use Rattle.mark_core.specs.Start.{start_seat, start_words, start_seats, full_pool}
@@ -201,6 +201,28 @@ root_read c i s step at k h p =
     let e : nil_or (Used c) (found c s step) ≡ true = subst (λ (r : ℕ). nil_or (Used c) r ≡ true) (sym old) (k.core.sound.references.roots_in_use at 0 (subst (λ (n : ℕ). at < n) (sym (roots-length c k.core)) h)) in
     ((own_names c i s step k).0, subst (λ (r : ℕ). nil_or (Used c) r ≡ true) (sym (read-whole c i s step (found c s step) k e)) e)
 
+-- the allocation bit that the seat finds is the cell's
+pub weak-bit : (c : Core) (i : ℕ) (s : SeatState) (x : ℕ) → Taken c i s (ReadWeak x) → has_bit (found c s (ReadWeak x)) (x % 64) ≡ cell_bit (words_of c.shape c.words).allocs x
+weak-bit c i s x k = ap (λ (word : ℕ). has_bit word (x % 64)) (words-get (region_sizes c.shape) 4 c.words (x / 64) 0 (in-place c i s (ReadWeak x) k))
+
+-- a cell whose bit is set, or that the seat made, is in use
+weak_used : (c : Core) (i : ℕ) (s : SeatState) (x : ℕ) → Taken c i s (ReadWeak x) → (has_bit (found c s (ReadWeak x)) (x % 64) || used_in s.cache x) ≡ true → Used c x ≡ true
+weak_used c i s x k e =
+    ⊎_elim
+    (λ (a : has_bit (found c s (ReadWeak x)) (x % 64) ≡ true). or_left (cell_bit (words_of c.shape c.words).allocs x) (list_any (used_by x) (makers c.seats)) (sym (weak-bit c i s x k) ∙ a))
+    (λ (a : used_in s.cache x ≡ true). own-used c i s (ReadWeak x) x k a)
+    (or_cases (has_bit (found c s (ReadWeak x)) (x % 64)) (used_in s.cache x) e)
+
+-- a reference to a cell in use, or nil
+chosen_goes : (p : ℕ → Bool) (b : Bool) (r x : ℕ) → r ≡ x + 1 → (b ≡ true → p x ≡ true) → nil_or p (cond b r 0) ≡ true
+chosen_goes p true r x e f = names-cell p r (subst (λ (y : ℕ). p y ≡ true) (omega (arith, e)) (f refl))
+chosen_goes p false r x e f = refl
+
+weak_goes : (c : Core) (i : ℕ) (s : SeatState) (x : ℕ) → Taken c i s (ReadWeak x) → nil_or (Used c) (weak_reference s x (found c s (ReadWeak x))) ≡ true
+weak_goes c i s x k =
+    let h : x < c.shape.cells = ltb-true x c.shape.cells (and_parts _ _ k.ok.0).0 in
+    chosen_goes (Used c) (has_bit (found c s (ReadWeak x)) (x % 64) || used_in s.cache x) (reference_in (x + 1)) x (omega (arith, h, k.core.formed.shaped.cells)) (weak_used c i s x k)
+
 -- what the seat names before, by the record that it has afterwards
 names_then : (c : Core) (i : ℕ) (s : SeatState) (step : Step) → Taken c i s step → Goes (Used c) (names_of (seat_after c.shape s step (found c s step)))
 names_then c i s (ReadOwn x j) k =
@@ -215,6 +237,7 @@ names_then c i s (ReadOwn x j) k =
 names_then c i s (ReadCat v) k = root_read c i s (ReadCat v) (0 * 32 + v) k (in-place c i s (ReadCat v) k) refl
 names_then c i s (ReadSlot j) k = root_read c i s (ReadSlot j) (c.shape.sections * 32 + (unwrap_or s.section 0 * c.shape.slots + j)) k (in-place c i s (ReadSlot j) k) refl
 names_then c i s (StoreSlot j r) k = ((own_names c i s (StoreSlot j r) k).0, refl)
+names_then c i s (ReadWeak x) k = ((own_names c i s (ReadWeak x) k).0, weak_goes c i s x k)
 names_then c i s (StoreRoot v r) k =
     let e : nil_or (Used c) r ≡ true = has-use c i s (StoreRoot v r) r k k.ok.1.0 in
     let whole : nil_or (Used c) (reference_in r) ≡ true = subst (λ (y : ℕ). nil_or (Used c) y ≡ true) (sym (read-whole c i s (StoreRoot v r) r k e)) e in

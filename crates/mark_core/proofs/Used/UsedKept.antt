@@ -26,7 +26,7 @@ use Rattle.mark_core.proofs.Used.UsedSeats.{IsMadeBy, seat-on, seat-back}
 use Rattle.mark_core.proofs.Basics.{none-is}
 use Rattle.mark_core.specs.declared.kinds.Shape.{Shape}
 use Rattle.mark_core.specs.declared.kinds.Step.{Step}
-use Rattle.mark_core.specs.declared.kinds.Step.TheVariants.{PublishCells, Split, Join, ReadAlloc, ReadFree, StoreAlloc}
+use Rattle.mark_core.specs.declared.kinds.Step.TheVariants.{PublishCells, Split, Join, ReadAlloc, ReadFree, StoreAlloc, ReadWeak}
 use Rattle.mark_core.specs.declared.seat.SeatState.{SeatState}
 use Rattle.mark_core.specs.declared.seat.CacheState.{CacheState}
 use Rattle.mark_core.specs.Strong.{IsStrongBlock}
@@ -45,6 +45,7 @@ pub alloc-on : (c : Core) (i : ℕ) (s : SeatState) (step : Step) (x : ℕ) → 
 alloc-on c i s StoreAlloc x k f e = absurd (true≢false f)
 alloc-on c i s (ReadAlloc b) x k f e = rw (ap (λ (w : Words). w.allocs) (words-read c i s (ReadAlloc b) k refl)) e
 alloc-on c i s ReadFree x k f e = rw (ap (λ (w : Words). w.allocs) (words-read c i s ReadFree k refl)) e
+alloc-on c i s (ReadWeak y) x k f e = rw (ap (λ (w : Words). w.allocs) (words-read c i s (ReadWeak y) k refl)) e
 alloc-on c i s PublishCells x k f e =
     let w : Words = words_of c.shape c.words in
     let b : ℕ = cached_block s in
@@ -72,6 +73,7 @@ published_use (Some y) x h a e = rw (eq-eqb y.block (x / 64) (sym a)) e
 pub alloc-back : (c : Core) (i : ℕ) (s : SeatState) (step : Step) (x : ℕ) → Taken c i s step → cell_bit (words_left c s step).allocs x ≡ true → (cell_bit (words_of c.shape c.words).allocs x ≡ true) ⊎ (used_in s.cache x ≡ true)
 alloc-back c i s (ReadAlloc b) x k e = inl (subst (λ (w : Words). cell_bit w.allocs x ≡ true) (words-read c i s (ReadAlloc b) k refl) e)
 alloc-back c i s ReadFree x k e = inl (subst (λ (w : Words). cell_bit w.allocs x ≡ true) (words-read c i s ReadFree k refl) e)
+alloc-back c i s (ReadWeak y) x k e = inl (subst (λ (w : Words). cell_bit w.allocs x ≡ true) (words-read c i s (ReadWeak y) k refl) e)
 alloc-back c i s PublishCells x k e =
     let w : Words = words_of c.shape c.words in
     let b : ℕ = cached_block s in
@@ -147,7 +149,7 @@ makers_on c i s step x k f e =
     rw (map-set maker_of c.seats i t) (any-set (used_by x) (makers c.seats) i (maker_of t) (maker_of s) (rw length-map (within c i s step k)) e (λ a. f (sym (ap (used_by x) mine) ∙ a)))
 
 -- if some seat has made the cell after the step, some seat had before, or the step gives it its last word
-makers_back : (c : Core) (i : ℕ) (s : SeatState) (step : Step) (x : ℕ) → Taken c i s step → list_any (used_by x) (makers (seats_left c i s step)) ≡ true → (list_any (used_by x) (makers c.seats) ≡ true) ⊎ IsMadeBy c.shape step x
+pub makers_back : (c : Core) (i : ℕ) (s : SeatState) (step : Step) (x : ℕ) → Taken c i s step → list_any (used_by x) (makers (seats_left c i s step)) ≡ true → (list_any (used_by x) (makers c.seats) ≡ true) ⊎ IsMadeBy c.shape step x
 makers_back c i s Split x k e =
     let t : SeatState = start_seat c.shape (length (set c.seats i s)) in
     let both : list_any (used_by x) (makers (set c.seats i s ++ t ∷ [])) ≡ (list_any (used_by x) (makers (set c.seats i s)) || false) =

@@ -19,7 +19,7 @@ use Rattle.mark_core.proofs.World.WorldNumbers.{Local, inside, stays, mutates, t
 use Rattle.mark_core.proofs.Basics.{none-is, or-second}
 use Rattle.mark_core.specs.declared.kinds.Shape.{Shape}
 use Rattle.mark_core.specs.declared.kinds.Step.{Step}
-use Rattle.mark_core.specs.declared.kinds.Step.TheVariants.{Reserve, Take, Give, Credit, Push, Pop, ReadAlloc, ReadField, ReadRoot, SetMark, DirtyCard, ClearCard, ReadMarks, ReadPhase, ReadOwn, ReadCat, StoreField, StoreRoot, ClaimBlock, ReleaseBlock, ReadFree, StoreNew, PublishCells, EnterStep, LeaveStep, Observe, DropStep, NextBlock, ReadBlockMarks, StoreAlloc, ClearMarks, StoreLength, ReadLength, JoinHelpStep, LeaveHelpStep, ExchangeField, LoadSlot, StoreSlot, ReadSlot}
+use Rattle.mark_core.specs.declared.kinds.Step.TheVariants.{Reserve, Take, Give, Credit, Push, Pop, ReadAlloc, ReadField, ReadRoot, SetMark, DirtyCard, ClearCard, ReadMarks, ReadPhase, ReadOwn, ReadCat, StoreField, StoreRoot, ClaimBlock, ReleaseBlock, ReadFree, StoreNew, PublishCells, EnterStep, LeaveStep, Observe, DropStep, NextBlock, ReadBlockMarks, StoreAlloc, ClearMarks, StoreLength, ReadLength, JoinHelpStep, LeaveHelpStep, ExchangeField, LoadSlot, StoreSlot, ReadSlot, ReadWeak}
 use Rattle.mark_core.specs.declared.seat.SeatState.{SeatState}
 use Rattle.mark_core.specs.declared.seat.CacheState.{CacheState}
 use Rattle.mark_core.specs.Bits.{flag}
@@ -135,6 +135,9 @@ local-at sh w seats s (StoreSlot j r) old k f b ok =
 local-at sh w seats s (ReadSlot j) old k f b ok =
     let run = (and_parts s.active _ (and_parts _ _ ok.0).1).0 in
     mutates sh s (seat_after sh s (ReadSlot j) old) k run (runner-in s run) refl refl k.uncached refl
+local-at sh w seats s (ReadWeak c) old k f b ok =
+    let run = (and_parts s.active _ (and_parts _ _ ok.0).1).0 in
+    mutates sh s (seat_after sh s (ReadWeak c) old) k run (runner-in s run) refl refl k.uncached refl
 local-at sh w seats s (ClaimBlock g) old k f b ok =
     let who = (and_parts (s.active || s.knows) _ ok.1.0).0 in
     record {

@@ -6,7 +6,7 @@ use Rattle.mark_core.specs.Effects.{place}
 use Rattle.mark_core.proofs.Writing.Writes.{at_part, at_counter}
 use Rattle.mark_core.specs.declared.kinds.Shape.{Shape}
 use Rattle.mark_core.specs.declared.kinds.Step.{Step}
-use Rattle.mark_core.specs.declared.kinds.Step.TheVariants.{Take, Give, Push, Pop, Look, ReadAlloc, ReadField, ReadRoot, SetMark, DirtyCard, ClearCard, ReadMarks, ReadCard, ReadOwn, ReadIdent, ReadCat, StoreField, StoreRoot, ClaimBlock, ReleaseBlock, ReadFree, StoreNew, PublishCells, ReadBlockMarks, StoreAlloc, ClearMarks, WipeCard, Reset, AddStat, ReadStat, StoreLength, ReadLength, ExchangeField, LoadSlot, StoreSlot, ReadSlot}
+use Rattle.mark_core.specs.declared.kinds.Step.TheVariants.{Take, Give, Push, Pop, Look, ReadAlloc, ReadField, ReadRoot, SetMark, DirtyCard, ClearCard, ReadMarks, ReadCard, ReadOwn, ReadIdent, ReadCat, StoreField, StoreRoot, ClaimBlock, ReleaseBlock, ReadFree, StoreNew, PublishCells, ReadBlockMarks, StoreAlloc, ClearMarks, WipeCard, Reset, AddStat, ReadStat, StoreLength, ReadLength, ExchangeField, LoadSlot, StoreSlot, ReadSlot, ReadWeak}
 use Rattle.mark_core.specs.declared.seat.SeatState.{SeatState}
 
 -- the roots
@@ -51,6 +51,7 @@ owners-kept sh s step x w e = refl
 abbrev pub touches_allocs : Step → Bool
 touches_allocs (ReadAlloc b) = true
 touches_allocs ReadFree = true
+touches_allocs (ReadWeak c) = true
 touches_allocs PublishCells = true
 touches_allocs StoreAlloc = true
 touches_allocs step = false
@@ -58,6 +59,7 @@ touches_allocs step = false
 pub allocs-kept : (sh : Shape) (s : SeatState) (step : Step) (v : ℕ) (w : Words) → touches_allocs step ≡ false → (put_word (place sh s step) v w).allocs ≡ w.allocs
 allocs-kept sh s (ReadAlloc b) x w e = absurd (true≢false e)
 allocs-kept sh s ReadFree x w e = absurd (true≢false e)
+allocs-kept sh s (ReadWeak c) x w e = absurd (true≢false e)
 allocs-kept sh s PublishCells x w e = absurd (true≢false e)
 allocs-kept sh s StoreAlloc x w e = absurd (true≢false e)
 allocs-kept sh s (StoreNew c part word) x w e = at_part (λ at. (put_word at x w).allocs ≡ w.allocs) sh c part (λ i. refl) (λ i. refl) (λ i. refl)

@@ -9,9 +9,9 @@ use Rattle.mark_core.specs.Shapes.{IsShape}
 use Rattle.mark_core.specs.Layout.{Words, block_count}
 use Rattle.mark_core.specs.Bits.{has_bit, reference_in}
 use Rattle.mark_core.specs.Held.{has_length, length_in_hand, put_packet, Slot, Slots, known_length, slot_without, drop_packet, slot_with, set_length}
-use Rattle.mark_core.specs.Seats.{is_the, last_made}
+use Rattle.mark_core.specs.Seats.{is_the, last_made, used_in}
 use Rattle.mark_core.specs.Bounds.{IsReference, SlotFits, CacheFits, IsStretch, SeatBounds}
-use Rattle.mark_core.specs.Steps.MutatorSteps.{fits_part, has_reference, names_last, seat_variable, variable_or_nil, with_free, with_making, with_made, without_used}
+use Rattle.mark_core.specs.Steps.MutatorSteps.{fits_part, has_reference, names_last, seat_variable, variable_or_nil, with_free, with_making, with_made, without_used, weak_reference}
 use Rattle.mark_core.specs.Steps.ColourSteps.{with_alloc_word}
 use Rattle.mark_core.specs.Steps.SweepSteps.{with_mark_word, with_stored, untouched, stretch_end, next_in_stretch}
 use Rattle.mark_core.specs.Parts.{parts}
@@ -22,7 +22,7 @@ use Rattle.mark_core.proofs.Writing.Ranges.{section-below}
 use Rattle.mark_core.proofs.Blocks.BlocksStretch.{some-taken, end-within}
 use Rattle.mark_core.specs.declared.kinds.Shape.{Shape}
 use Rattle.mark_core.specs.declared.kinds.Step.{Step}
-use Rattle.mark_core.specs.declared.kinds.Step.TheVariants.{Take, Give, Push, Pop, ReadAlloc, ReadOwn, ReadCat, StoreRoot, ClaimBlock, ReleaseBlock, ReadFree, StoreNew, PublishCells, NextBlock, ReadBlockMarks, StoreAlloc, ClearMarks, StoreLength, ReadLength, Reserve, ExchangeField, StoreSlot, ReadSlot}
+use Rattle.mark_core.specs.declared.kinds.Step.TheVariants.{Take, Give, Push, Pop, ReadAlloc, ReadOwn, ReadCat, StoreRoot, ClaimBlock, ReleaseBlock, ReadFree, StoreNew, PublishCells, NextBlock, ReadBlockMarks, StoreAlloc, ClearMarks, StoreLength, ReadLength, Reserve, ExchangeField, StoreSlot, ReadSlot, ReadWeak}
 use Rattle.mark_core.specs.declared.seat.SeatState.{SeatState}
 use Rattle.mark_core.specs.declared.seat.CacheState.{CacheState}
 use Rattle.mark_core.specs.declared.seat.BlockState.{BlockState}
@@ -135,13 +135,17 @@ env-after : (sh : Shape) (w : Words) (seats : List SeatState) (s : SeatState) (s
 env-after sh w seats s (StoreRoot v r) old k ok = All-set (IsReference sh) s.env v (reference_in r) (reference_fits sh r (root-fits sh s r k ok.1.0)) k.env
 env-after sh w seats s step old k ok = k.env
 
-got-after : (sh : Shape) (s : SeatState) (step : Step) (old : ℕ) → IsReference sh s.got → Finds sh step old → IsReference sh (seat_after sh s step old).got
-got-after sh s (ReadOwn c i) old k f = reference_fits sh old f
-got-after sh s (ReadCat v) old k f = reference_fits sh old f
-got-after sh s (StoreRoot v r) old k f = omega arith
-got-after sh s (StoreSlot j r) old k f = omega arith
-got-after sh s (ReadSlot j) old k f = reference_fits sh old f
-got-after sh s step old k f = k
+weak_fits : (sh : Shape) (s : SeatState) (c old : ℕ) → c < sh.cells → IsReference sh (weak_reference s c old)
+weak_fits sh s c old h = choose (IsReference sh) (has_bit old (c % 64) || used_in s.cache c) (reference_in (c + 1)) 0 (omega (arith, h)) (omega arith)
+
+got-after : (sh : Shape) (w : Words) (seats : List SeatState) (s : SeatState) (step : Step) (old : ℕ) → IsReference sh s.got → AllTrue (parts sh w seats s step) → Finds sh step old → IsReference sh (seat_after sh s step old).got
+got-after sh w seats s (ReadOwn c i) old k ok f = reference_fits sh old f
+got-after sh w seats s (ReadCat v) old k ok f = reference_fits sh old f
+got-after sh w seats s (StoreRoot v r) old k ok f = omega arith
+got-after sh w seats s (StoreSlot j r) old k ok f = omega arith
+got-after sh w seats s (ReadSlot j) old k ok f = reference_fits sh old f
+got-after sh w seats s (ReadWeak c) old k ok f = weak_fits sh s c old (ltb-true c sh.cells (and_parts _ _ ok.0).0)
+got-after sh w seats s step old k ok f = k
 
 free_fits : (sh : Shape) (o : Option CacheState) (old : ℕ) → IfSome o (CacheFits sh) → IfSome (with_free o old) (CacheFits sh)
 free_fits sh None old k = tt
@@ -227,7 +231,7 @@ seat-bounds sh w seats s step old z k ok f =
       section = section-after sh s step old k.section;
       held = held-after sh w seats s step old k.held ok f;
       env = env-after sh w seats s step old k ok;
-      got = got-after sh s step old k.got f;
+      got = got-after sh w seats s step old k.got ok f;
       cache = cache-after sh w seats s step old k.cache ok;
       block = block-after sh s step old z k.block;
       made = made-after sh w seats s step old k.made ok;

@@ -1,9 +1,9 @@
--- The steps of a mutator: kinds 17 to 24, and 50 to 53. They read and change objects and roots, and make cells in a cached block.
+-- The steps of a mutator: kinds 17 to 24, and 50 to 54. They read and change objects and roots, and make cells in a cached block.
 use Rattle.std.specs.Prelude.{ℕ, ◌+◌, ◌-◌, ◌*◌, ◌/◌, ◌%◌, List, [], ◌∷◌, Bool, true, false, not, ◌&&◌, ◌||◌, if◌then◌else◌, ◌==◌, nat_lt, nat_le, is_some, is_none, Some, None, Option, unwrap_or, slice_index, slice_set, bit_or}
 use Rattle.std.specs.List.{list_any}
 use Rattle.mark_core.specs.Layout.{block_count}
 use Rattle.mark_core.specs.Places.{root_at, slot_at, owner_at, alloc_at, identity_at, value_at, field_at}
-use Rattle.mark_core.specs.Bits.{with_bit, without_bit, complement, cell_of, reference_in}
+use Rattle.mark_core.specs.Bits.{has_bit, with_bit, without_bit, complement, cell_of, reference_in}
 use Rattle.mark_core.specs.Seats.{is_phase, is_the, may_mutate, free_in, used_in, has_used, is_unread, has_making, makes, last_made, cache_block}
 use Rattle.mark_core.specs.Effect.{Effect, reads, stores, changes}
 use Rattle.mark_core.specs.declared.kinds.Shape.{Shape}
@@ -139,6 +139,18 @@ read_slot_parts sh s k = (nat_lt k sh.slots && may_mutate s) ∷ []
 -- 53: the register has the reference in the slot
 abbrev pub read_slot_effect : Shape → SeatState → ℕ → Effect
 read_slot_effect sh s k = reads (slot_at sh (unwrap_or s.section 0) k) (λ old. record s { got = reference_in old })
+
+-- 54: a mutator asks for a cell, whether or not it knows it
+abbrev pub read_weak_parts : Shape → SeatState → ℕ → List Bool
+read_weak_parts sh s c = (nat_lt c sh.cells && may_mutate s) ∷ []
+
+-- the reference to cell c, if its allocation bit is set or the seat itself made it, and nil otherwise
+abbrev pub weak_reference : SeatState → ℕ → ℕ → ℕ
+weak_reference s c word = if has_bit word (c % block_cells) || used_in s.cache c then reference_in (c + 1) else 0
+
+-- 54: the register has this reference
+abbrev pub read_weak_effect : SeatState → ℕ → Effect
+read_weak_effect s c = reads (alloc_at (c / block_cells)) (λ old. record s { got = weak_reference s c old })
 
 -- 20: a seat with a section takes a block for itself to make cells in
 abbrev pub claim_block_parts : Shape → ℕ → SeatState → ℕ → List Bool

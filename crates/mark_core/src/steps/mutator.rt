@@ -3,13 +3,13 @@ ghost use Rattle.std.specs.Prelude.{◌≡◌, ◌<◌, ◌-◌, ◌/◌, ◌==�
 ghost use Rattle.std.specs.List.{list_any};
 ghost use Rattle.mark_core.specs.Bits.{cell_of, reference_in};
 ghost use Rattle.mark_core.specs.Cards.{card_of as card_of_cell};
-ghost use Rattle.mark_core.specs.Steps.MutatorSteps.{read_object_parts, read_own_parts, read_cat_parts, store_field_parts, store_value_parts, store_root_parts, store_slot_parts, read_slot_parts, exchange_field_parts, exchange_value_parts};
-ghost use Rattle.mark_core.specs.Steps.MutatorSteps.{knows_cell as knows_cell_of, seat_variable as variable_of, may_change as may_change_of, in_variables as in_variables_of, variable_or_nil as variable_or_nil_of, names_last as names_last_of, has_reference as has_reference_of};
+ghost use Rattle.mark_core.specs.Steps.MutatorSteps.{read_object_parts, read_own_parts, read_cat_parts, store_field_parts, store_value_parts, store_root_parts, store_slot_parts, read_slot_parts, exchange_field_parts, exchange_value_parts, read_weak_parts};
+ghost use Rattle.mark_core.specs.Steps.MutatorSteps.{knows_cell as knows_cell_of, seat_variable as variable_of, may_change as may_change_of, in_variables as in_variables_of, variable_or_nil as variable_or_nil_of, names_last as names_last_of, has_reference as has_reference_of, weak_reference as weak_reference_of};
 ghost use Rattle.mark_core.specs.Seats.{used_in};
 ghost use Rattle.mark_core.specs.Steps.{first_false as first_false_of};
 ghost use Rattle.mark_core.specs.Numbers.{section_variables};
 
-use crate::cards::card_of;
+use crate::cards::{BLOCK_CELLS, card_of};
 use crate::cell::Cell;
 use crate::failing_part::first_false;
 use crate::kinds::Shape;
@@ -268,4 +268,32 @@ pub fn check_read_slot(shape: &Shape, s: &SeatState, k: u16) -> Option<u8>
     ensures { result ≡ first_false_of 1 (read_slot_parts shape.now s.now k) }
 {
     first_false(&[u32::from(k) < shape.slots && s.may_mutate()])
+}
+
+/// Only while the world is stopped cells are freed, and a mutator is outside a stop. Outside its turn a seat has no
+/// register that would keep what was read.
+pub fn check_read_weak(shape: &Shape, s: &SeatState, c: Cell) -> Option<u8>
+    ensures { result ≡ first_false_of 1 (read_weak_parts shape.now s.now c) }
+{
+    first_false(&[c.number() < shape.cells && s.may_mutate()])
+}
+
+/// `old` has the allocation bits of the cell's block. A cell without its bit is free, or was made by a seat that
+/// hasn't published it, which knows so.
+fn weak_reference(s: &SeatState, c: Cell, old: u64) -> u32
+    ensures { result ≡ weak_reference_of s.now c old }
+{
+    if bits::has_bit(old, c.number() % BLOCK_CELLS) || hand::used_in(s.cache, c) {
+        bits::reference_in(u64::from(c.number()) + 1)
+    } else {
+        0
+    }
+}
+
+pub fn read_weak(s: &mut SeatState, c: Cell, old: u64) -> u64
+    ensures word { result ≡ old }
+    ensures seat { s.new ≡ record s.old { got = weak_reference_of s.old c old } }
+{
+    s.got = weak_reference(s, c, old);
+    old
 }

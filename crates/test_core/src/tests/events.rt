@@ -103,6 +103,7 @@ fn of_mutators(name: &str, told: Parameters) -> Option<Step> {
             i: told.byte(1),
         },
         "read_value" => Step::ReadValue { c: told.cell(0) },
+        "read_ident" => Step::ReadIdent { c: told.cell(0) },
         "read_cat" => Step::ReadCat { v: told.byte(0) },
         "store_field" => Step::StoreField {
             v: told.byte(0),
@@ -144,6 +145,7 @@ fn of_sharers(name: &str, told: Parameters) -> Option<Step> {
             r: told.long(1),
         },
         "read_slot" => Step::ReadSlot { k: told.slot(0) },
+        "read_weak" => Step::ReadWeak { c: told.cell(0) },
         _ => return None,
     })
 }

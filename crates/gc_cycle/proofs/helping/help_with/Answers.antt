@@ -7,7 +7,7 @@ use Rattle.mark_core.specs.Seats.{saw}
 use Rattle.mark_core.specs.declared.kinds.Phase.{Phase}
 use Rattle.mark_core.specs.declared.kinds.Phase.TheVariants.{Drain, Sweep}
 use Rattle.mark_core.specs.declared.kinds.Step.{Step}
-use Rattle.mark_core.specs.declared.kinds.Step.TheVariants.{AddStat, ClaimBlock, ClearMarks, JoinHelpStep, LeaveStep, NextBlock, NextSeason, Pop, RaiseStep, ReadAlloc, ReadBlockMarks, ReadCat, ReadField, ReadOwn, ReadSeason, ReadStat, StoreAlloc, StoreField, StoreNew, StorePhase, StoreRoot, StoreValue, ReadSlot, StoreSlot, ExchangeField, ExchangeValue}
+use Rattle.mark_core.specs.declared.kinds.Step.TheVariants.{AddStat, ClaimBlock, ClearMarks, JoinHelpStep, LeaveStep, NextBlock, NextSeason, Pop, RaiseStep, ReadAlloc, ReadBlockMarks, ReadCat, ReadField, ReadOwn, ReadSeason, ReadStat, StoreAlloc, StoreField, StoreNew, StorePhase, StoreRoot, StoreValue, ReadSlot, StoreSlot, ExchangeField, ExchangeValue, ReadWeak}
 use Rattle.mark_core.specs.declared.seat.SeatState.{SeatState}
 use Rattle.gc_table.specs.Log.{events}
 use Rattle.gc_table.specs.Running.{changes_section}
@@ -74,6 +74,7 @@ traces-calm (StorePhase to) e = absurd (false≢true e)
 traces-calm (ReadOwn c i) e = absurd (false≢true e)
 traces-calm (ReadCat v) e = absurd (false≢true e)
 traces-calm (ReadSlot k) e = absurd (false≢true e)
+traces-calm (ReadWeak c) e = absurd (false≢true e)
 traces-calm (StoreSlot k r) e = absurd (false≢true e)
 traces-calm (ExchangeField v i x y) e = absurd (false≢true e)
 traces-calm (ExchangeValue v m n) e = absurd (false≢true e)

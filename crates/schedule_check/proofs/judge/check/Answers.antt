@@ -4,7 +4,7 @@ use Rattle.mark_core.specs.Kinds.{kind_of}
 use Rattle.mark_core.specs.Layout.{words_of}
 use Rattle.mark_core.specs.Seats.{is_phase, phase_of}
 use Rattle.mark_core.specs.Steps.{Core, failing_part, after_event}
-use Rattle.mark_core.specs.declared.kinds.Rule.{Rule}
+use Rattle.mark_core.specs.declared.refused.Rule.{Rule}
 use Rattle.schedule_check.specs.declared.line.Line.{Line}
 use Rattle.schedule_check.specs.Schedule.{Schedule}
 use Rattle.schedule_check.specs.Verdicts.{IsRunOfLines, IsAccepted, IsRefusedAt, start_of, at_end, by_part, verdict_from, verdict, Says}
