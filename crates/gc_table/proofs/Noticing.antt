@@ -8,7 +8,7 @@ use Rattle.mark_core.specs.Seats.{phase_number}
 use Rattle.mark_core.specs.declared.kinds.Phase.{Phase}
 use Rattle.mark_core.specs.declared.kinds.Shape.{Shape}
 use Rattle.mark_core.specs.declared.kinds.Step.{Step}
-use Rattle.mark_core.specs.declared.kinds.Step.TheVariants.{Pop, Look, ReadCount, ReadLength, ReadAlloc, ReadField, ReadRoot, ReadMarks, ReadCard, ReadPhase, ReadOwn, ReadValue, ReadIdent, ReadCat, ReadFree, StoreNew, Observe, DropStep, StorePhase, ReadBlockMarks, Reset, AddStat, ReadStat, OpenStep, SeeHelp, ReadSeason, LoadSlot, ReadSlot, ReadWeak}
+use Rattle.mark_core.specs.declared.kinds.Step.TheVariants.{Pop, Look, ReadCount, ReadLength, ReadAlloc, ReadField, ReadRoot, ReadMarks, ReadCard, ReadPhase, ReadOwn, ReadValue, ReadIdent, ReadCat, ReadFree, StoreNew, Observe, DropStep, StorePhase, ReadBlockMarks, Reset, AddStat, ReadStat, OpenStep, SeeHelp, ReadSeason, LoadSlot, ReadSlot, ReadWeak, CheckCard}
 use Rattle.mark_core.specs.declared.seat.SeatState.{SeatState}
 use Rattle.mark_core.proofs.Writing.Writes.{at_part, at_counter}
 use Rattle.gc_table.specs.declared.view.View.{View}
@@ -62,6 +62,7 @@ is_load (ReadField c i) = true
 is_load (ReadRoot section v) = true
 is_load (ReadMarks b) = true
 is_load (ReadCard card) = true
+is_load (CheckCard card) = true
 is_load ReadPhase = true
 is_load (ReadOwn c i) = true
 is_load (ReadValue c) = true
@@ -88,6 +89,7 @@ load-leaves sh s (ReadField c i) n e = refl
 load-leaves sh s (ReadRoot section v) n e = refl
 load-leaves sh s (ReadMarks b) n e = refl
 load-leaves sh s (ReadCard card) n e = refl
+load-leaves sh s (CheckCard card) n e = refl
 load-leaves sh s ReadPhase n e = refl
 load-leaves sh s (ReadOwn c i) n e = refl
 load-leaves sh s (ReadValue c) n e = refl
@@ -114,6 +116,7 @@ load-found (ReadField c i) e = refl
 load-found (ReadRoot section v) e = refl
 load-found (ReadMarks b) e = refl
 load-found (ReadCard card) e = refl
+load-found (CheckCard card) e = refl
 load-found ReadPhase e = refl
 load-found (ReadOwn c i) e = refl
 load-found (ReadValue c) e = refl

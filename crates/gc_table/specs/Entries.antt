@@ -6,7 +6,7 @@ use Rattle.mark_core.specs.Seats.{is_phase}
 use Rattle.mark_core.specs.declared.kinds.Phase.{Phase}
 use Rattle.mark_core.specs.declared.kinds.Phase.TheVariants.{Idle, Marking}
 use Rattle.mark_core.specs.declared.kinds.Step.{Step}
-use Rattle.mark_core.specs.declared.kinds.Step.TheVariants.{Take, SetMark, ClearCard, ReadCard, ClaimBlock, EnterStep, RaiseStep, StorePhase, JoinHelpStep, Split, Join, Push, DirtyCard, StoreField, StoreValue, StoreRoot, ReleaseBlock, StoreNew, StoreAlloc, ClearMarks, WipeCard, StorePosition, StoreNamed, Reset, StoreLength, ExchangeValue, StoreSlot}
+use Rattle.mark_core.specs.declared.kinds.Step.TheVariants.{Take, SetMark, ClearCard, ReadCard, ClaimBlock, EnterStep, RaiseStep, StorePhase, JoinHelpStep, Split, Join, Push, DirtyCard, StoreField, StoreValue, StoreRoot, ReleaseBlock, StoreNew, StoreAlloc, ClearMarks, WipeCard, StorePosition, StoreNamed, Reset, StoreLength, ExchangeValue, StoreSlot, CheckCard}
 use Rattle.gc_table.specs.declared.view.Entry.{Entry}
 use Rattle.mark_core.specs.Numbers.{word_bits}
 
@@ -21,6 +21,7 @@ won (Take q p) n = has_bit n (p % word_bits)
 won (SetMark c) n = not (has_bit n (c % block_cells))
 won (ClearCard card) n = n == 1
 won (ReadCard card) n = n == 1
+won (CheckCard card) n = n == 1
 won (ClaimBlock b) n = n == 0
 won EnterStep n = not (has_flag n)
 won RaiseStep n = not (has_flag n)

@@ -75,6 +75,19 @@ impl Heap {
         self.store_step(seat, Step::DirtyCard { card });
     }
 
+    /// Checks a card that the seat owes: true if it is dirty already. Then the seat owes it no more, and else it owes
+    /// what it owed.
+    #[inline(always)]
+    pub fn check_card(&self, seat: &mut HeapSeat, card: u32) -> bool
+        requires seat { Sits self.now seat.old }
+        requires may { May (Step.CheckCard card) (view_of seat.old) }
+        ensures seat { Sits self.now seat.new }
+        ensures view { Across (Answered (Step.CheckCard card) (λ n. result ≡ won (Step.CheckCard card) n)) seat.old seat.new }
+    {
+        let found = self.take_step(seat, Operation::Load, Step::CheckCard { card });
+        found == 1
+    }
+
     /// Clears a card: true if it was dirty, and its marked cells are to be scanned.
     pub fn clear_card(&self, seat: &mut HeapSeat, card: u32) -> bool
         requires seat { Sits self.now seat.old }

@@ -2,7 +2,7 @@
 use Rattle.mark_core.specs.declared.passes.Pass.{Pass}
 use Rattle.mark_core.specs.declared.passes.Pass.TheVariants.{Packets, Colour, Mutator, Making, World, Sweep, Counters, Help}
 use Rattle.mark_core.specs.declared.kinds.Step.{Step}
-use Rattle.mark_core.specs.declared.kinds.Step.TheVariants.{Reserve, Take, Give, Credit, Push, Pop, Look, ReadCount, ReadAlloc, ReadField, ReadRoot, SetMark, DirtyCard, ClearCard, ReadMarks, ReadCard, ReadPhase, ReadOwn, ReadValue, ReadIdent, ReadCat, StoreField, StoreValue, StoreRoot, ClaimBlock, ReleaseBlock, ReadFree, StoreNew, PublishCells, EnterStep, LeaveStep, RaiseStep, Observe, DropStep, StorePhase, Split, Join, NextBlock, NextOfCards, ReadBlockMarks, StoreAlloc, ClearMarks, WipeCard, StorePosition, StoreNamed, Reset, AddStat, ReadStat, StoreLength, ReadLength, OpenStep, JoinHelpStep, LeaveHelpStep, CloseStep, SeeHelp, ReadSeason, NextSeason, ExchangeField, ExchangeValue, LoadSlot, StoreSlot, ReadSlot, ReadWeak}
+use Rattle.mark_core.specs.declared.kinds.Step.TheVariants.{Reserve, Take, Give, Credit, Push, Pop, Look, ReadCount, ReadAlloc, ReadField, ReadRoot, SetMark, DirtyCard, ClearCard, ReadMarks, ReadCard, ReadPhase, ReadOwn, ReadValue, ReadIdent, ReadCat, StoreField, StoreValue, StoreRoot, ClaimBlock, ReleaseBlock, ReadFree, StoreNew, PublishCells, EnterStep, LeaveStep, RaiseStep, Observe, DropStep, StorePhase, Split, Join, NextBlock, NextOfCards, ReadBlockMarks, StoreAlloc, ClearMarks, WipeCard, StorePosition, StoreNamed, Reset, AddStat, ReadStat, StoreLength, ReadLength, OpenStep, JoinHelpStep, LeaveHelpStep, CloseStep, SeeHelp, ReadSeason, NextSeason, ExchangeField, ExchangeValue, LoadSlot, StoreSlot, ReadSlot, ReadWeak, CheckCard}
 
 -- the pass of each step
 abbrev pub pass_of : Step → Pass
@@ -22,6 +22,7 @@ pass_of (ReadRoot section v) = Colour
 pass_of (LoadSlot section k) = Colour
 pass_of (SetMark c) = Colour
 pass_of (DirtyCard card) = Colour
+pass_of (CheckCard card) = Colour
 pass_of (ClearCard card) = Colour
 pass_of (ReadMarks b) = Colour
 pass_of (ReadCard card) = Colour

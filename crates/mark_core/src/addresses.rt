@@ -80,8 +80,10 @@ fn of_colour(bases: &Bases, s: &SeatState, step: &Step) -> usize
         Step::ReadRoot { section, v } => bases.root_at(section, v),
         Step::LoadSlot { section, k } => bases.slot_at(section, k),
         Step::SetMark { c } => bases.mark_at(c.number() / BLOCK_CELLS),
-        Step::DirtyCard { card } | Step::ClearCard { card } | Step::ReadCard { card } =>
-            bases.card_at(card),
+        Step::DirtyCard { card }
+        | Step::CheckCard { card }
+        | Step::ClearCard { card }
+        | Step::ReadCard { card } => bases.card_at(card),
         Step::ReadMarks { b } => bases.mark_at(b),
         Step::ReadPhase => layout::PHASE,
         _ => unreachable!(),

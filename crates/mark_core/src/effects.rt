@@ -78,6 +78,7 @@ fn of_colour(s: &mut SeatState, step: &Step, old: u64) -> u64
             colour::read_root(s, old),
         Step::SetMark { c } => colour::set_mark(s, c, old),
         Step::DirtyCard { card } => colour::dirty_card(s, card),
+        Step::CheckCard { card } => colour::check_card(s, card, old),
         Step::ClearCard { card } => colour::clear_card(s, card, old),
         Step::ReadMarks { b } => colour::read_marks(s, b, old),
         Step::ReadCard { card: _ } => old,

@@ -38,6 +38,7 @@ pub fn pass_of(step: &Step) -> Pass
         | Step::LoadSlot { section: _, k: _ }
         | Step::SetMark { c: _ }
         | Step::DirtyCard { card: _ }
+        | Step::CheckCard { card: _ }
         | Step::ClearCard { card: _ }
         | Step::ReadMarks { b: _ }
         | Step::ReadCard { card: _ }
@@ -154,6 +155,7 @@ fn of_colour(step: &Step) -> u8
         Step::ReadMarks { b: _ } => 14,
         Step::ReadCard { card: _ } => 15,
         Step::ReadPhase => 16,
+        Step::CheckCard { card: _ } => 55,
         _ => unreachable!(),
     }
 }

@@ -73,6 +73,7 @@ fn of_colour(name: &str, words: &[&str], rest: Option<Step>) -> Option<Step>
         "read_marks" => ReadMarks one_number(b);
         "read_card" => ReadCard one_number(card);
         "read_phase" => ReadPhase;
+        "check_card" => CheckCard one_number(card);
         else rest
     }
 }

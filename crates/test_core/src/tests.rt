@@ -2,6 +2,7 @@
 mod barrier;
 mod blocks;
 mod cells;
+mod checking;
 mod claims;
 mod ends;
 mod events;
@@ -21,6 +22,7 @@ fn each_run_goes_as_told(rt: HostRuntime) {
     for runs in [
         first::FIRST,
         marking::BARRIER,
+        checking::CHECKED,
         marking::DEFERRED,
         marking::OVERFLOW,
         marking::PRECISE,

@@ -4,7 +4,7 @@ use Rattle.std.specs.Prelude.{IsTrue, is_none, slice_get, nat_lt}
 use Rattle.std.specs.List.{list_any}
 use Rattle.std.proofs.lemmas.Bool.{true≢false, false≢true, cases_eq, cases_lt, cases_Bool, and_parts, or_right, eqb-true, eq-eqb, ltb-true, false_from_ne_true}
 use Rattle.std.proofs.lemmas.Nat.{div-mul-add}
-use Rattle.std.proofs.lemmas.List.{set_past, get_or-set_same, get_or-set_other, length-map, get_or-map}
+use Rattle.std.proofs.lemmas.List.{set_past, set-get_or, get_or-set_same, get_or-set_other, length-map, get_or-map}
 use Rattle.std.proofs.lemmas.Option.{slice_get_within, get_or_from_slice_get}
 use Rattle.mark_core.specs.Shapes.{IsShape}
 use Rattle.mark_core.specs.Layout.{Words, words_of, put_word, region_sizes, card_count}
@@ -24,7 +24,7 @@ use Rattle.mark_core.specs.Laws.{IsCore}
 use Rattle.mark_core.proofs.Writing.Places.{region-length}
 use Rattle.mark_core.proofs.Writing.Ranges.{placed}
 use Rattle.mark_core.proofs.Known.{in_range, found, words_left, seats_left}
-use Rattle.mark_core.proofs.Marks.MarksIdle.{lacks-from, marks-from}
+use Rattle.mark_core.proofs.Marks.MarksIdle.{found-word, lacks-from, marks-from}
 use Rattle.mark_core.proofs.Colours.ColoursHands.{same-number}
 use Rattle.mark_core.proofs.Colours.ColoursFields.{grasp-moved, grasp-new, grasp-after, ends-untested, seat_left, done-nil}
 use Rattle.mark_core.proofs.Colours.ColoursWaits.{waiting-after}
@@ -34,7 +34,7 @@ use Rattle.mark_core.proofs.Blocks.BlocksStopped.{Taken, kept-after}
 use Rattle.mark_core.specs.declared.kinds.Shape.{Shape}
 use Rattle.mark_core.specs.declared.kinds.Event.{Event}
 use Rattle.mark_core.specs.declared.kinds.Step.{Step}
-use Rattle.mark_core.specs.declared.kinds.Step.TheVariants.{DirtyCard, StoreField, StoreNew, ExchangeField}
+use Rattle.mark_core.specs.declared.kinds.Step.TheVariants.{DirtyCard, StoreField, StoreNew, ExchangeField, CheckCard}
 use Rattle.mark_core.specs.declared.seat.SeatState.{SeatState}
 use Rattle.mark_core.specs.Cards.{card_of}
 
@@ -61,6 +61,23 @@ owed_after c i s (DirtyCard card) x a e =
     owed
     e)
     (cases_eq (card_of x) card)
+owed_after c i s (CheckCard card) x a e =
+    let step : Step = CheckCard card in
+    let cards : List ℕ = (words_of c.shape c.words).cards in
+    let old : ℕ = found c s step in
+    let here : old ≡ get_or cards card 0 = found-word c i s step a.core a.got a.ok in
+    let back : set cards card old ≡ cards = rw here (set-get_or cards card 0) in
+    let t : SeatState = seat_left c s step in
+    ⊎_elim
+    (λ (paid : (is_the s.owes card && eqb old 1) ≡ true).
+    let p = and_parts (is_the s.owes card) (eqb old 1) paid in
+    ⊎_elim
+    (λ (h : card_of x ≡ card). waiting (dirty (ap (λ ws. get_or ws (card_of x) 0) back ∙ rw h (sym here ∙ eqb-true old 1 p.1))))
+    (λ (d : card_of x ≡ card → ⊥). grasp-moved (owes_card (card_of x)) c.seats i s t (AccountedAfter c i s step x) a.got (λ h. absurd (d (same-number s.owes (card_of x) card h p.0))) owed e)
+    (cases_eq (card_of x) card))
+    (λ (unpaid : (is_the s.owes card && eqb old 1) ≡ false).
+    grasp-moved (owes_card (card_of x)) c.seats i s t (AccountedAfter c i s step x) a.got (λ h. owed (grasp-new (owes_card (card_of x)) c.seats i s t a.got (rw unpaid h))) owed e)
+    (cases_Bool (is_the s.owes card && eqb old 1))
 owed_after c i s (StoreField v j r) x a e =
     grasp-moved (owes_card (card_of x)) c.seats i s (seat_left c s (StoreField v j r)) (AccountedAfter c i s (StoreField v j r) x) a.got (λ h. absurd (none_is s.owes (card_of x) a.ok.1.1.0 h)) owed e
 owed_after c i s (ExchangeField v j r q) x a e =

@@ -34,7 +34,7 @@ use Rattle.mark_core.specs.declared.kinds.Shape.{Shape}
 use Rattle.mark_core.specs.declared.kinds.Phase.{Phase}
 use Rattle.mark_core.specs.declared.kinds.Phase.TheVariants.{Sweep}
 use Rattle.mark_core.specs.declared.kinds.Step.{Step}
-use Rattle.mark_core.specs.declared.kinds.Step.TheVariants.{Push, Pop, ReadAlloc, ReadField, ReadRoot, SetMark, DirtyCard, ClearCard, ReadMarks, ReadCard, StoreField, WipeCard, ExchangeField, LoadSlot}
+use Rattle.mark_core.specs.declared.kinds.Step.TheVariants.{Push, Pop, ReadAlloc, ReadField, ReadRoot, SetMark, DirtyCard, ClearCard, ReadMarks, ReadCard, StoreField, WipeCard, ExchangeField, LoadSlot, CheckCard}
 use Rattle.mark_core.specs.declared.seat.SeatState.{SeatState}
 use Rattle.mark_core.specs.Cards.{card_of}
 
@@ -243,6 +243,17 @@ read_waits c i s card x a =
     (λ h. cleans-now c i s step x a refl h)
     cleaned
 
+-- 55: a card is checked
+checked_waits : (c : Core) (i : ℕ) (s : SeatState) (card x : ℕ) → Taken c i s (CheckCard card) → WaitsNow c x → WaitsAfter c i s (CheckCard card) x
+checked_waits c i s card x a =
+    let step : Step = CheckCard card in
+    let cards : List ℕ = (words_of c.shape c.words).cards in
+    let back : set cards card (found c s step) ≡ cards = rw (found-word c i s step a.core a.got a.ok) (set-get_or cards card 0) in
+    waits-moved c i s (seat_left c s step) x (WaitsAfter c i s step x) a.got (λ q. queued (queued-stays c i s step a.core a.got a.ok refl x q)) (λ h. tends-now c i s step x a refl h) tended
+    (λ h. dirty (ap (λ ws. get_or ws (card_of x) 0) back ∙ h))
+    (λ h. cleans-now c i s step x a refl h)
+    cleaned
+
 -- 37: cards are wiped outside tracing
 saw_sweep : (o : Option Phase) (phase : ℕ) → saw o Sweep ≡ true → IfSome o (λ p. phase ≡ phase_number p) → phase ≡ 3
 saw_sweep None phase e k = absurd (false≢true e)
@@ -280,6 +291,7 @@ waiting-after c i s (DirtyCard card) x P a t h m done out k = done (dirtied_wait
 waiting-after c i s (ClearCard card) x P a t h m done out k = done (cleared_waits c i s card x a k)
 waiting-after c i s (ReadMarks b) x P a t h m done out k = done (found_waits c i s b x a m k)
 waiting-after c i s (ReadCard card) x P a t h m done out k = done (read_waits c i s card x a k)
+waiting-after c i s (CheckCard card) x P a t h m done out k = done (checked_waits c i s card x a k)
 waiting-after c i s (StoreField v j r) x P a t h m done out k =
     let step : Step = StoreField v j r in
     done (waits-handed c i s step x (WaitsAfter c i s step x) a refl refl refl (λ w. w) (λ e. tends-now c i s step x a refl e) (λ e. cleans-now c i s step x a refl e) k)

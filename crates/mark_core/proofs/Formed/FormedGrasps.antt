@@ -16,7 +16,7 @@ use Rattle.mark_core.proofs.Writing.SeatBoundsKept.{choose}
 use Rattle.mark_core.proofs.Basics.{positive}
 use Rattle.mark_core.specs.declared.kinds.Shape.{Shape}
 use Rattle.mark_core.specs.declared.kinds.Step.{Step}
-use Rattle.mark_core.specs.declared.kinds.Step.TheVariants.{Push, Pop, ReadAlloc, ReadField, ReadRoot, SetMark, DirtyCard, ClearCard, ReadMarks, StoreField, ExchangeField, LoadSlot}
+use Rattle.mark_core.specs.declared.kinds.Step.TheVariants.{Push, Pop, ReadAlloc, ReadField, ReadRoot, SetMark, DirtyCard, ClearCard, ReadMarks, StoreField, ExchangeField, LoadSlot, CheckCard}
 use Rattle.mark_core.specs.declared.seat.SeatState.{SeatState}
 use Rattle.mark_core.specs.declared.seat.Cleaning.{Cleaning}
 use Rattle.mark_core.specs.Cards.{block_of_card, card_bits, card_of}
@@ -118,6 +118,7 @@ card_fits sh word k h e = omega (arith, k.cells, k.whole_blocks, h, positive wor
 
 pub owes-after : (sh : Shape) (w : Words) (seats : List SeatState) (s : SeatState) (step : Step) (old : ℕ) → IsShape sh → ((v : ℕ) → seat_variable s v ≤ sh.cells) → Owed sh s.owes → AllTrue (parts sh w seats s step) → Owed sh (seat_after sh s step old).owes
 owes-after sh w seats s (DirtyCard card) old k n h ok = choose (Owed sh) (is_the s.owes card) None s.owes tt h
+owes-after sh w seats s (CheckCard card) old k n h ok = choose (Owed sh) (is_the s.owes card && eqb old 1) None s.owes tt h
 owes-after sh w seats s (StoreField v i x) old k n h ok =
     choose (Owed sh) (used_in s.cache (cell_of (seat_variable s v))) s.owes (Some (card_of (cell_of (seat_variable s v)))) h (card_fits sh (seat_variable s v) k (n v) (not-true _ (and_parts _ _ ok.1.0).0))
 owes-after sh w seats s (ExchangeField v i x y) old k n h ok =

@@ -11,7 +11,7 @@ use Rattle.std.specs.List.{All}
 use Rattle.std.proofs.lemmas.List.{length-set}
 use Rattle.std.proofs.lemmas.List.Elements.{All-get_or, All-set}
 use Rattle.std.proofs.lemmas.Option.{IfSome_then, slice_get_within}
-use Rattle.mark_core.specs.Layout.{Words, words_of, address, region_sizes, block_count, put_word}
+use Rattle.mark_core.specs.Layout.{Words, words_of, address, region_sizes, block_count, card_count, put_word}
 use Rattle.mark_core.specs.Views.{makers}
 use Rattle.mark_core.specs.Rules.HeapRules.{NamesInUse}
 use Rattle.mark_core.specs.Parts.{parts}
@@ -33,7 +33,7 @@ use Rattle.mark_core.proofs.Formed.FormedWords.{IsWord, word-in, KeepsBits, Writ
 use Rattle.mark_core.specs.declared.kinds.Shape.{Shape}
 use Rattle.mark_core.specs.declared.kinds.Event.{Event}
 use Rattle.mark_core.specs.declared.kinds.Step.{Step}
-use Rattle.mark_core.specs.declared.kinds.Step.TheVariants.{DirtyCard, ClearCard, ReadCard, WipeCard, ReadPhase, StorePhase, ReadValue, StoreValue, StoreNew, Reset, AddStat, ReadStat, ExchangeValue}
+use Rattle.mark_core.specs.declared.kinds.Step.TheVariants.{DirtyCard, ClearCard, ReadCard, WipeCard, ReadPhase, StorePhase, ReadValue, StoreValue, StoreNew, Reset, AddStat, ReadStat, ExchangeValue, CheckCard}
 use Rattle.mark_core.specs.declared.seat.SeatState.{SeatState}
 use Rattle.mark_core.specs.declared.seat.CacheState.{CacheState}
 use Rattle.mark_core.specs.declared.seat.BlockState.{BlockState}
@@ -82,15 +82,19 @@ phase_at c s step k = rw (phase-kept c.shape s step (written c.shape s step (fou
 abbrev IsFlag : ℕ → Type 0
 IsFlag n = n ≤ 1
 
+flag_found : (c : Core) (card : ℕ) → IsCore c → card < card_count c.shape → IsFlag (slice_index c.words (address c.shape (6, card)))
+flag_found c card k h =
+    let w : Words = words_of c.shape c.words in
+    let long : card < length w.cards = omega (arith, h, region-length (region_sizes c.shape) 6 c.words (omega (arith, k.formed.words))) in
+    let word : get_or w.cards card 0 ≡ slice_index c.words (address c.shape (6, card)) = sym (words-get (region_sizes c.shape) 6 c.words card 0 h) in
+    subst IsFlag word (All-get_or IsFlag w.cards card 0 long k.formed.cards)
+
 cards_at : (c : Core) (s : SeatState) (step : Step) → IsCore c → IsPlace c.shape (place c.shape s step) → All IsFlag (words_left c s step).cards
 cards_at c s (DirtyCard card) k h = All-set IsFlag (words_of c.shape c.words).cards card 1 (omega arith) k.formed.cards
 cards_at c s (ClearCard card) k h = All-set IsFlag (words_of c.shape c.words).cards card 0 (omega arith) k.formed.cards
 cards_at c s (WipeCard card) k h = All-set IsFlag (words_of c.shape c.words).cards card 0 (omega arith) k.formed.cards
-cards_at c s (ReadCard card) k h =
-    let w : Words = words_of c.shape c.words in
-    let long : card < length w.cards = omega (arith, h, region-length (region_sizes c.shape) 6 c.words (omega (arith, k.formed.words))) in
-    let word : get_or w.cards card 0 ≡ found c s (ReadCard card) = sym (words-get (region_sizes c.shape) 6 c.words card 0 h) in
-    All-set IsFlag w.cards card (found c s (ReadCard card)) (subst IsFlag word (All-get_or IsFlag w.cards card 0 long k.formed.cards)) k.formed.cards
+cards_at c s (ReadCard card) k h = All-set IsFlag (words_of c.shape c.words).cards card (found c s (ReadCard card)) (flag_found c card k h) k.formed.cards
+cards_at c s (CheckCard card) k h = All-set IsFlag (words_of c.shape c.words).cards card (found c s (CheckCard card)) (flag_found c card k h) k.formed.cards
 cards_at c s step k h = rw (cards-kept c.shape s step (written c.shape s step (found c s step)) (words_of c.shape c.words) refl) k.formed.cards
 
 -- a value

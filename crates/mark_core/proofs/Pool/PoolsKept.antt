@@ -28,7 +28,7 @@ use Rattle.mark_core.specs.Effects.{place, written, seat_after}
 use Rattle.mark_core.specs.Steps.{AllTrue, Core, after_event, after_of, others_after}
 use Rattle.mark_core.proofs.Pool.PoolMoves.{pools-take, pools-untaken, same-inside}
 use Rattle.mark_core.proofs.Writing.Ranges.{word-below, in-row, pool_for-below}
-use Rattle.mark_core.specs.declared.kinds.Step.TheVariants.{Take, Reserve, Give, Credit, Push, Pop, Look, ReadCount, ReadAlloc, ReadField, ReadRoot, SetMark, DirtyCard, ClearCard, ReadMarks, StoreField, Split, Join, StoreLength, ReadLength, ExchangeField, LoadSlot}
+use Rattle.mark_core.specs.declared.kinds.Step.TheVariants.{Take, Reserve, Give, Credit, Push, Pop, Look, ReadCount, ReadAlloc, ReadField, ReadRoot, SetMark, DirtyCard, ClearCard, ReadMarks, StoreField, Split, Join, StoreLength, ReadLength, ExchangeField, LoadSlot, CheckCard}
 use Rattle.mark_core.specs.Steps.PacketSteps.{pool_for}
 use Rattle.mark_core.specs.WellFormed.{IsWellFormed}
 use Rattle.mark_core.proofs.Writing.Places.{words-get, region-length}
@@ -260,6 +260,10 @@ packets_at c i s (StoreField v f x) a ok =
 packets_at c i s (ExchangeField v f x y) a ok =
     let w : Words = words_of c.shape c.words in
     let step : Step = ExchangeField v f x y in
+    sound-work c.shape w (words_left c s step) c.seats i s (seat_after c.shape s step (found c s step)) a (refl, refl, refl) refl refl (work-holds c.shape w c.seats i s a)
+packets_at c i s (CheckCard card) a ok =
+    let w : Words = words_of c.shape c.words in
+    let step : Step = CheckCard card in
     sound-work c.shape w (words_left c s step) c.seats i s (seat_after c.shape s step (found c s step)) a (refl, refl, refl) refl refl (work-holds c.shape w c.seats i s a)
 packets_at c i s Split a ok =
     let w : Words = words_of c.shape c.words in

@@ -19,7 +19,7 @@ use Rattle.mark_core.proofs.World.WorldNumbers.{Local, inside, stays, mutates, t
 use Rattle.mark_core.proofs.Basics.{none-is, or-second}
 use Rattle.mark_core.specs.declared.kinds.Shape.{Shape}
 use Rattle.mark_core.specs.declared.kinds.Step.{Step}
-use Rattle.mark_core.specs.declared.kinds.Step.TheVariants.{Reserve, Take, Give, Credit, Push, Pop, ReadAlloc, ReadField, ReadRoot, SetMark, DirtyCard, ClearCard, ReadMarks, ReadPhase, ReadOwn, ReadCat, StoreField, StoreRoot, ClaimBlock, ReleaseBlock, ReadFree, StoreNew, PublishCells, EnterStep, LeaveStep, Observe, DropStep, NextBlock, ReadBlockMarks, StoreAlloc, ClearMarks, StoreLength, ReadLength, JoinHelpStep, LeaveHelpStep, ExchangeField, LoadSlot, StoreSlot, ReadSlot, ReadWeak}
+use Rattle.mark_core.specs.declared.kinds.Step.TheVariants.{Reserve, Take, Give, Credit, Push, Pop, ReadAlloc, ReadField, ReadRoot, SetMark, DirtyCard, ClearCard, ReadMarks, ReadPhase, ReadOwn, ReadCat, StoreField, StoreRoot, ClaimBlock, ReleaseBlock, ReadFree, StoreNew, PublishCells, EnterStep, LeaveStep, Observe, DropStep, NextBlock, ReadBlockMarks, StoreAlloc, ClearMarks, StoreLength, ReadLength, JoinHelpStep, LeaveHelpStep, ExchangeField, LoadSlot, StoreSlot, ReadSlot, ReadWeak, CheckCard}
 use Rattle.mark_core.specs.declared.seat.SeatState.{SeatState}
 use Rattle.mark_core.specs.declared.seat.CacheState.{CacheState}
 use Rattle.mark_core.specs.Bits.{flag}
@@ -110,6 +110,8 @@ local-at sh w seats s (LoadSlot section j) old k f b ok = stays sh s (seat_after
 local-at sh w seats s (SetMark c) old k f b ok = stays sh s (seat_after sh s (SetMark c) old) k (tracer-in w.phase s ok.1.0) refl refl refl (λ a. (k.calm a).0) refl refl
 local-at sh w seats s (DirtyCard card) old k f b ok =
     stays sh s (seat_after sh s (DirtyCard card) old) k (and_parts _ _ ok.0).1 refl refl refl (λ a. rw (k.calm a).0 refl) refl refl
+local-at sh w seats s (CheckCard card) old k f b ok =
+    stays sh s (seat_after sh s (CheckCard card) old) k (and_parts _ _ ok.0).1 refl refl refl (λ a. rw (k.calm a).0 refl) refl refl
 local-at sh w seats s (ClearCard card) old k f b ok =
     stays sh s (seat_after sh s (ClearCard card) old) k (tracer-in w.phase s (and_parts _ _ (and_parts _ _ ok.0).0).1) refl refl refl (λ a. (k.calm a).0) refl refl
 local-at sh w seats s (ReadMarks g) old k f b ok = stays sh s (seat_after sh s (ReadMarks g) old) k (and_parts _ _ ok.0).1 refl refl refl (λ a. (k.calm a).0) refl refl

@@ -8,7 +8,7 @@ use Rattle.mark_core.specs.Effects.{seat_after}
 use Rattle.mark_core.specs.declared.kinds.Shape.{Shape}
 use Rattle.mark_core.specs.declared.kinds.Phase.{Phase}
 use Rattle.mark_core.specs.declared.kinds.Step.{Step}
-use Rattle.mark_core.specs.declared.kinds.Step.TheVariants.{Reserve, Take, Give, Credit, Push, Pop, ReadAlloc, ReadField, ReadRoot, SetMark, DirtyCard, ClearCard, ReadMarks, ReadPhase, ReadOwn, ReadCat, StoreField, StoreRoot, ClaimBlock, ReleaseBlock, ReadFree, StoreNew, PublishCells, EnterStep, LeaveStep, RaiseStep, Observe, DropStep, StorePhase, NextBlock, NextOfCards, ReadBlockMarks, StoreAlloc, ClearMarks, ReadStat, StoreLength, ReadLength, OpenStep, JoinHelpStep, LeaveHelpStep, CloseStep, SeeHelp, ReadSeason, ExchangeField, LoadSlot, StoreSlot, ReadSlot, ReadWeak}
+use Rattle.mark_core.specs.declared.kinds.Step.TheVariants.{Reserve, Take, Give, Credit, Push, Pop, ReadAlloc, ReadField, ReadRoot, SetMark, DirtyCard, ClearCard, ReadMarks, ReadPhase, ReadOwn, ReadCat, StoreField, StoreRoot, ClaimBlock, ReleaseBlock, ReadFree, StoreNew, PublishCells, EnterStep, LeaveStep, RaiseStep, Observe, DropStep, StorePhase, NextBlock, NextOfCards, ReadBlockMarks, StoreAlloc, ClearMarks, ReadStat, StoreLength, ReadLength, OpenStep, JoinHelpStep, LeaveHelpStep, CloseStep, SeeHelp, ReadSeason, ExchangeField, LoadSlot, StoreSlot, ReadSlot, ReadWeak, CheckCard}
 use Rattle.mark_core.specs.declared.seat.SeatState.{SeatState}
 use Rattle.mark_core.specs.declared.seat.BlockState.{BlockState}
 
@@ -97,6 +97,7 @@ changes_grasp (ReadRoot section v) = true
 changes_grasp (LoadSlot section k) = true
 changes_grasp (SetMark c) = true
 changes_grasp (DirtyCard card) = true
+changes_grasp (CheckCard card) = true
 changes_grasp (ClearCard card) = true
 changes_grasp (ReadMarks b) = true
 changes_grasp (StoreField v i x) = true
@@ -112,6 +113,7 @@ grasp-kept sh s (ReadRoot section v) old e = absurd (true≢false e)
 grasp-kept sh s (LoadSlot section k) old e = absurd (true≢false e)
 grasp-kept sh s (SetMark c) old e = absurd (true≢false e)
 grasp-kept sh s (DirtyCard card) old e = absurd (true≢false e)
+grasp-kept sh s (CheckCard card) old e = absurd (true≢false e)
 grasp-kept sh s (ClearCard card) old e = absurd (true≢false e)
 grasp-kept sh s (ReadMarks b) old e = absurd (true≢false e)
 grasp-kept sh s (StoreField v i x) old e = absurd (true≢false e)

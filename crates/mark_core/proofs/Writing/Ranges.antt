@@ -19,7 +19,7 @@ use Rattle.mark_core.specs.Seats.{block_in_hand}
 use Rattle.mark_core.specs.Bounds.{IsStretch}
 use Rattle.mark_core.specs.declared.kinds.Shape.{Shape}
 use Rattle.mark_core.specs.declared.kinds.Step.{Step}
-use Rattle.mark_core.specs.declared.kinds.Step.TheVariants.{Reserve, Take, Give, Push, Pop, Look, ReadAlloc, ReadField, ReadRoot, SetMark, DirtyCard, ClearCard, ReadMarks, ReadCard, ReadOwn, ReadValue, ReadIdent, ReadCat, StoreField, StoreValue, StoreRoot, ClaimBlock, ReleaseBlock, ReadFree, StoreNew, PublishCells, ReadBlockMarks, StoreAlloc, ClearMarks, WipeCard, StorePosition, Reset, AddStat, ReadStat, StoreLength, ReadLength, ExchangeField, ExchangeValue, LoadSlot, StoreSlot, ReadSlot, ReadWeak}
+use Rattle.mark_core.specs.declared.kinds.Step.TheVariants.{Reserve, Take, Give, Push, Pop, Look, ReadAlloc, ReadField, ReadRoot, SetMark, DirtyCard, ClearCard, ReadMarks, ReadCard, ReadOwn, ReadValue, ReadIdent, ReadCat, StoreField, StoreValue, StoreRoot, ClaimBlock, ReleaseBlock, ReadFree, StoreNew, PublishCells, ReadBlockMarks, StoreAlloc, ClearMarks, WipeCard, StorePosition, Reset, AddStat, ReadStat, StoreLength, ReadLength, ExchangeField, ExchangeValue, LoadSlot, StoreSlot, ReadSlot, ReadWeak, CheckCard}
 use Rattle.mark_core.specs.declared.seat.SeatState.{SeatState}
 use Rattle.mark_core.specs.declared.seat.BlockState.{BlockState}
 use Rattle.mark_core.specs.Numbers.{done_count, first_position, last_count, named_number, free_count}
@@ -133,6 +133,7 @@ placed-by sh w seats s (ReadRoot section v) k ok = let a = first_two section sh.
 placed-by sh w seats s (LoadSlot section j) k ok = let a = first_two section sh.sections j sh.slots _ (and_parts _ _ ok.0).0 in in_slots sh section j a.0 a.1
 placed-by sh w seats s (SetMark c) k ok = block-exists sh c k.shaped (first c sh.cells _ ok.0)
 placed-by sh w seats s (DirtyCard card) k ok = first card (card_count sh) _ ok.0
+placed-by sh w seats s (CheckCard card) k ok = first card (card_count sh) _ ok.0
 placed-by sh w seats s (ClearCard card) k ok = first card (card_count sh) _ (and_parts _ _ ok.0).0
 placed-by sh w seats s (ReadMarks b) k ok = first b (block_count sh) _ ok.0
 placed-by sh w seats s (ReadCard card) k ok = ltb-true _ _ ok.0

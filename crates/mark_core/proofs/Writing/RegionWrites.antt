@@ -6,7 +6,7 @@ use Rattle.mark_core.specs.Effects.{place}
 use Rattle.mark_core.proofs.Writing.Writes.{at_part, at_counter}
 use Rattle.mark_core.specs.declared.kinds.Shape.{Shape}
 use Rattle.mark_core.specs.declared.kinds.Step.{Step}
-use Rattle.mark_core.specs.declared.kinds.Step.TheVariants.{Take, Give, Push, Pop, Look, ReadAlloc, ReadField, ReadRoot, SetMark, DirtyCard, ClearCard, ReadMarks, ReadCard, ReadOwn, ReadIdent, ReadCat, StoreField, StoreRoot, ClaimBlock, ReleaseBlock, ReadFree, StoreNew, PublishCells, ReadBlockMarks, StoreAlloc, ClearMarks, WipeCard, Reset, AddStat, ReadStat, StoreLength, ReadLength, ExchangeField, LoadSlot, StoreSlot, ReadSlot, ReadWeak}
+use Rattle.mark_core.specs.declared.kinds.Step.TheVariants.{Take, Give, Push, Pop, Look, ReadAlloc, ReadField, ReadRoot, SetMark, DirtyCard, ClearCard, ReadMarks, ReadCard, ReadOwn, ReadIdent, ReadCat, StoreField, StoreRoot, ClaimBlock, ReleaseBlock, ReadFree, StoreNew, PublishCells, ReadBlockMarks, StoreAlloc, ClearMarks, WipeCard, Reset, AddStat, ReadStat, StoreLength, ReadLength, ExchangeField, LoadSlot, StoreSlot, ReadSlot, ReadWeak, CheckCard}
 use Rattle.mark_core.specs.declared.seat.SeatState.{SeatState}
 
 -- the roots
@@ -92,6 +92,7 @@ abbrev pub touches_cards : Step → Bool
 touches_cards (DirtyCard card) = true
 touches_cards (ClearCard card) = true
 touches_cards (ReadCard card) = true
+touches_cards (CheckCard card) = true
 touches_cards (WipeCard card) = true
 touches_cards step = false
 
@@ -99,6 +100,7 @@ pub cards-kept : (sh : Shape) (s : SeatState) (step : Step) (v : ℕ) (w : Words
 cards-kept sh s (DirtyCard card) x w e = absurd (true≢false e)
 cards-kept sh s (ClearCard card) x w e = absurd (true≢false e)
 cards-kept sh s (ReadCard card) x w e = absurd (true≢false e)
+cards-kept sh s (CheckCard card) x w e = absurd (true≢false e)
 cards-kept sh s (WipeCard card) x w e = absurd (true≢false e)
 cards-kept sh s (StoreNew c part word) x w e = at_part (λ at. (put_word at x w).cards ≡ w.cards) sh c part (λ i. refl) (λ i. refl) (λ i. refl)
 cards-kept sh s (Reset which) x w e = at_counter (λ at. (put_word at x w).cards ≡ w.cards) which (λ i h. refl) (λ i. refl)

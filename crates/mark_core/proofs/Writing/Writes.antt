@@ -9,7 +9,7 @@ use Rattle.mark_core.specs.Effects.{place, written}
 use Rattle.mark_core.proofs.Writing.Ranges.{either}
 use Rattle.mark_core.specs.declared.kinds.Shape.{Shape}
 use Rattle.mark_core.specs.declared.kinds.Step.{Step}
-use Rattle.mark_core.specs.declared.kinds.Step.TheVariants.{Reserve, Credit, Pop, Look, ReadCount, ReadAlloc, ReadField, ReadRoot, ReadMarks, ReadCard, ReadPhase, ReadOwn, ReadValue, ReadIdent, ReadCat, ReadFree, StoreNew, EnterStep, LeaveStep, RaiseStep, Observe, DropStep, StorePhase, Split, Join, NextBlock, NextOfCards, ReadBlockMarks, Reset, AddStat, ReadStat, ReadLength, OpenStep, JoinHelpStep, LeaveHelpStep, CloseStep, SeeHelp, ReadSeason, NextSeason, LoadSlot, ReadSlot, ReadWeak}
+use Rattle.mark_core.specs.declared.kinds.Step.TheVariants.{Reserve, Credit, Pop, Look, ReadCount, ReadAlloc, ReadField, ReadRoot, ReadMarks, ReadCard, ReadPhase, ReadOwn, ReadValue, ReadIdent, ReadCat, ReadFree, StoreNew, EnterStep, LeaveStep, RaiseStep, Observe, DropStep, StorePhase, Split, Join, NextBlock, NextOfCards, ReadBlockMarks, Reset, AddStat, ReadStat, ReadLength, OpenStep, JoinHelpStep, LeaveHelpStep, CloseStep, SeeHelp, ReadSeason, NextSeason, LoadSlot, ReadSlot, ReadWeak, CheckCard}
 use Rattle.mark_core.specs.declared.seat.SeatState.{SeatState}
 use Rattle.mark_core.specs.Numbers.{last_count, named_number}
 
@@ -24,6 +24,7 @@ only_reads (ReadRoot section v) = true
 only_reads (LoadSlot section k) = true
 only_reads (ReadMarks b) = true
 only_reads (ReadCard card) = true
+only_reads (CheckCard card) = true
 only_reads ReadPhase = true
 only_reads (ReadOwn c i) = true
 only_reads (ReadValue c) = true
@@ -52,6 +53,7 @@ read-written sh s (ReadRoot section v) old e = refl
 read-written sh s (LoadSlot section k) old e = refl
 read-written sh s (ReadMarks b) old e = refl
 read-written sh s (ReadCard card) old e = refl
+read-written sh s (CheckCard card) old e = refl
 read-written sh s ReadPhase old e = refl
 read-written sh s (ReadOwn c i) old e = refl
 read-written sh s (ReadValue c) old e = refl

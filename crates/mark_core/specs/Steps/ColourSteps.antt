@@ -1,4 +1,4 @@
--- The steps of tracing: kinds 9 to 16. They turn white cells grey and grey cells black, and clean cards.
+-- The steps of tracing: kinds 9 to 16 and 55. They turn white cells grey and grey cells black, and clean cards.
 use Rattle.std.specs.Prelude.{ℕ, ◌+◌, ◌/◌, ◌%◌, List, [], ◌∷◌, Bool, true, false, not, ◌&&◌, ◌||◌, if◌then◌else◌, ◌==◌, nat_lt, is_some, Some, None, Option, bit_and}
 use Rattle.mark_core.specs.Layout.{block_count, card_count}
 use Rattle.mark_core.specs.Places.{the_phase, root_at, slot_at, alloc_at, mark_at, card_at, field_at}
@@ -119,7 +119,7 @@ abbrev pub redirty_off : Option Cleaning → ℕ → Option Cleaning
 redirty_off None card = None
 redirty_off (Some x) card = Some (if x.card == card then record x { redirty = false } else x)
 
--- 12: a seat dirties a card, which answers for all that it owes that card
+-- 12, 55: a seat dirties a card, or checks whether it is dirty
 abbrev pub dirty_card_parts : Shape → SeatState → ℕ → List Bool
 dirty_card_parts sh s card = (nat_lt card (card_count sh) && takes_part s) ∷ []
 
@@ -135,6 +135,10 @@ dirty_card_effect s card =
       owes = if is_the s.owes card then None else s.owes;
       cleaning = redirty_off s.cleaning card;
     })
+
+-- 55: if the card is dirty already, the seat owes it no more
+abbrev pub check_card_effect : SeatState → ℕ → Effect
+check_card_effect s card = reads (card_at card) (λ old. record s { owes = if is_the s.owes card && (old == 1) then None else s.owes })
 
 -- 13: a tracer cleans a card, and begins to look for its marked cells
 abbrev pub clear_card_parts : Shape → ℕ → SeatState → ℕ → List Bool

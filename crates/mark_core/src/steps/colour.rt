@@ -1,7 +1,7 @@
 //! The steps of tracing: white cells turn grey and grey cells black, and cards are cleaned.
 ghost use Rattle.std.specs.Prelude.{◌≡◌, ◌<◌, ◌+◌, if◌then◌else◌};
 ghost use Rattle.mark_core.specs.Bits.{cell_named};
-ghost use Rattle.mark_core.specs.Steps.ColourSteps.{without_cell, redirty_off, popped_after as popped_after_of, scan_after as scan_after_of, with_alloc_word as with_alloc_word_of, fresh_off as fresh_off_of, popped_off as popped_off_of, read_alloc_parts, read_alloc_effect, read_field_parts, read_root_parts, load_slot_parts, set_mark_parts, set_mark_effect, dirty_card_parts, clear_card_parts, clear_card_effect, read_marks_parts, read_marks_effect, read_card_parts, read_phase_effect};
+ghost use Rattle.mark_core.specs.Steps.ColourSteps.{without_cell, redirty_off, popped_after as popped_after_of, scan_after as scan_after_of, with_alloc_word as with_alloc_word_of, fresh_off as fresh_off_of, popped_off as popped_off_of, read_alloc_parts, read_alloc_effect, read_field_parts, read_root_parts, load_slot_parts, set_mark_parts, set_mark_effect, dirty_card_parts, check_card_effect, clear_card_parts, clear_card_effect, read_marks_parts, read_marks_effect, read_card_parts, read_phase_effect};
 ghost use Rattle.mark_core.specs.Seats.{is_the as is_the_number};
 ghost use Rattle.mark_core.specs.Steps.{first_false as first_false_of};
 
@@ -188,6 +188,19 @@ pub fn dirty_card(s: &mut SeatState, card: u32) -> u64
     }
     cleaning::redirty_off(&mut s.cleaning, card);
     1
+}
+
+/// A card that is found dirty answers for the field that the seat stored before: whoever clears the card later reads
+/// that field after it.
+#[inline(always)]
+pub fn check_card(s: &mut SeatState, card: u32, old: u64) -> u64
+    ensures word { result ≡ (check_card_effect s.old card).written old }
+    ensures seat { s.new ≡ (check_card_effect s.old card).seat old }
+{
+    if is_the(s.owes, card) && old == 1 {
+        s.owes = None;
+    }
+    old
 }
 
 /// The cells of a cleared card are work, as what a root names.

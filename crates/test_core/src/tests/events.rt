@@ -87,6 +87,9 @@ fn of_marking(name: &str, told: Parameters) -> Option<Step> {
         "dirty_card" => Step::DirtyCard {
             card: told.number(0),
         },
+        "check_card" => Step::CheckCard {
+            card: told.number(0),
+        },
         "clear_card" => Step::ClearCard {
             card: told.number(0),
         },
