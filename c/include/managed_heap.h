@@ -52,13 +52,16 @@ typedef enum mh_status {
     MH_IN_USE = 12,       /* another call uses this handle now */
     MH_NONE_LEFT = 13,    /* all mutators, or all tracers, are taken */
     MH_REFUSED = 14,      /* the world doesn't take the mutator or the tracer back: it has another world's name, all are back, or there is no memory. It stays
-                             the handle's */
+                             the handle's. Of mh_upgrade: the weak reference is another world's */
     MH_IDLE = 15,         /* of a tracer: no cycle is marking, so there is nothing to do now */
     MH_DISMISSED = 16,    /* of a tracer: the world has dismissed its tracers */
     MH_STILL_LENT = 17,   /* of mh_close: not all mutators and tracers are given back */
     MH_TAKEN = 18,        /* the handle that is to be filled is filled already */
     MH_NOT_SHARED = 19,   /* the world isn't shared, and the call is for a shared one */
-    MH_NO_CACHE = 20      /* of mh_make_cached: no cell of the mutator's cache is free: mh_refill_step first */
+    MH_NO_CACHE = 20,     /* of mh_make_cached: no cell of the mutator's cache is free: mh_refill_step first */
+    MH_DEAD = 21,         /* of mh_upgrade: the object is dead, and the variable is nil */
+    MH_UNPUBLISHED = 22   /* of mh_weak_of: another mutator made the object and hasn't published it yet, so that nothing would tell its death. It does so at the
+                             next stop at the latest, or when it takes a weak reference to the object itself */
 } mh_status;
 
 /* A status in words. */
@@ -85,6 +88,8 @@ static inline const char *mh_status_text(mh_status s) {
     case MH_TAKEN: return "the handle is filled already";
     case MH_NOT_SHARED: return "the world isn't shared";
     case MH_NO_CACHE: return "no cell of the mutator's cache is free";
+    case MH_DEAD: return "the weak reference's object is dead";
+    case MH_UNPUBLISHED: return "another mutator hasn't published the object yet";
     }
     return "no status of managed_heap";
 }
@@ -185,6 +190,15 @@ typedef struct mh_work {
     uint32_t cleaned;
 } mh_work;
 
+/* A weak reference to an object of a shared world: plain numbers, which any thread may copy, compare and keep, and which keep no object. They are the world's
+   name, the object's place, and what mh_number tells of it. */
+typedef struct mh_weak {
+    uint32_t world;
+    uint32_t place;
+    uint32_t section;
+    uint32_t number;
+} mh_weak;
+
 /* Where a mutator stands: outside, inside, or between two steps of its collection. */
 enum {
     MH_AT_OUTSIDE = 0, MH_AT_INSIDE = 1, MH_AT_STOP = 2, MH_AT_ROOTS = 3, MH_AT_DRAIN = 4, MH_AT_LOOK = 5, MH_AT_CLEAN = 6, MH_AT_CLEAR = 7, MH_AT_SWEEP = 8,
@@ -223,6 +237,8 @@ mh_status mhl_fill(mh_mutator *m, uint32_t v, uint32_t k);
 mh_status mhl_forget_slots(mh_mutator *m, uint32_t from, uint32_t to);
 mh_status mhl_place(mh_mutator *m, uint32_t v, uint32_t *place);
 mh_status mhl_number(mh_mutator *m, uint32_t v, uint32_t *section, uint32_t *number);
+mh_status mhl_weak_of(mh_mutator *m, uint32_t v, mh_weak *out);
+mh_status mhl_upgrade(mh_mutator *m, const mh_weak *weak, uint32_t v);
 mh_status mhl_take_tracer(mh_world *world, mh_tracer *t);
 mh_status mhl_give_back_tracer(mh_world *world, mh_tracer *t);
 mh_status mhl_trace_turn(mh_tracer *t);
@@ -601,6 +617,13 @@ static inline mh_status mh_place(mh_mutator *m, uint32_t v, uint32_t *place) { r
 /* Which object v's is: the number of the mutator that made it, from 1 on, and how many that one had made before. The root's are 0 and 0. No two objects of a
    world have the same two. MH_NIL where v is nil. */
 static inline mh_status mh_number(mh_mutator *m, uint32_t v, uint32_t *section, uint32_t *number) { return MH_BY(m, mhl_number(m, v, section, number)); }
+/* A weak reference to v's object. If the mutator made the object it publishes first what it made. MH_UNPUBLISHED: another mutator made it and hasn't; MH_NIL
+   where v is nil. */
+static inline mh_status mh_weak_of(mh_mutator *m, uint32_t v, mh_weak *out) { return MH_BY(m, mhl_weak_of(m, v, out)); }
+/* v becomes the weak reference's object, and keeps it: MH_OK. MH_DEAD: no path leads to the object from any variable, slot or field that is reached, none ever
+   will, and v is nil. An object that is reached is never found dead; one that isn't lives until a cycle frees it. MH_OUT_OF_RANGE where the world has no such
+   place, section or number, MH_REFUSED where the weak reference is another world's: nothing is done. */
+static inline mh_status mh_upgrade(mh_mutator *m, const mh_weak *weak, uint32_t v) { return MH_BY(m, mhl_upgrade(m, weak, v)); }
 
 /* A tracer: for one thread at a time. */
 

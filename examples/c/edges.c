@@ -106,6 +106,7 @@ static void field(uint32_t i) {
 /* What is for a shared world alone is refused by name, whatever its numbers are, and nothing changed. */
 static void calls_for_shared_worlds(uint32_t k) {
     uint32_t out = 77, other = 77;
+    mh_weak weak = {77, 77, 77, 77};
     MUST_BE(MH_NOT_SHARED, mh_root(&m, k));
     MUST_BE(MH_NOT_SHARED, mh_exchange(&m, k, k, k, k, &out));
     MUST_BE(MH_NOT_SHARED, mh_exchange(&m, 0, 0, 0, 1, &out));
@@ -114,6 +115,8 @@ static void calls_for_shared_worlds(uint32_t k) {
     MUST_BE(MH_NOT_SHARED, mh_fill(&m, 0, k));
     MUST_BE(MH_NOT_SHARED, mh_forget_slots(&m, 0, k));
     MUST_BE(MH_NOT_SHARED, mh_number(&m, k, &out, &other));
+    MUST_BE(MH_NOT_SHARED, mh_weak_of(&m, k, &weak));
+    wrong("what was written of a weak reference", weak.place, 77);
     wrong("what was written", out, 77);
     wrong("what was written besides", other, 77);
     is_as_before();
@@ -128,6 +131,40 @@ static void sizes_of_worlds(void) {
         MUST_BE(MH_OUT_OF_RANGE, mh_open(&sizes, &other));
         wrong("whether the handle is empty", other.at == 0, 1);
     }
+}
+
+/* Weak references out of range, of another world, from outside, and of an object that is dead. */
+static void weak_references(mh_mutator *n) {
+    mh_weak weak = {77, 77, 77, 77}, odd;
+    uint32_t k;
+    MUST_BE(MH_NIL, mh_weak_of(n, 2, &weak));
+    wrong("what was written of a weak reference", weak.number, 77);
+    MUST(mh_make(n, 3, 33));
+    MUST(mh_weak_of(n, 3, &weak));
+    for (k = 0; k < sizeof refused / sizeof *refused; k++) {
+        MUST_BE(MH_OUT_OF_RANGE, mh_weak_of(n, 32 + refused[k], &odd));
+        MUST_BE(MH_OUT_OF_RANGE, mh_upgrade(n, &weak, 32 + refused[k]));
+    }
+    odd = weak;
+    odd.world++;
+    MUST_BE(MH_REFUSED, mh_upgrade(n, &odd, 3));
+    odd = weak;
+    odd.place = 64;
+    MUST_BE(MH_OUT_OF_RANGE, mh_upgrade(n, &odd, 3));
+    odd = weak;
+    odd.section = 2;
+    MUST_BE(MH_OUT_OF_RANGE, mh_upgrade(n, &odd, 3));
+    MUST(mh_leave(n));
+    MUST_BE(MH_OUTSIDE, mh_weak_of(n, 3, &odd));
+    MUST_BE(MH_OUTSIDE, mh_upgrade(n, &weak, 3));
+    MUST(mh_enter(n));
+    MUST(mh_collect(n));
+    MUST(mh_upgrade(n, &weak, 3));
+    MUST(mh_forget(n, 3));
+    MUST(mh_collect(n));
+    MUST_BE(MH_DEAD, mh_upgrade(n, &weak, 3));
+    MUST_BE(MH_NIL, mh_weak_of(n, 3, &weak));
+    MUST_BE(MH_DEAD, mh_upgrade(n, &weak, 3));
 }
 
 /* A shared world whose mutators have all slots that there are. */
@@ -192,6 +229,7 @@ static void shared_world(void) {
     MUST(mh_number(&n, 0, &out, &other));
     wrong("the maker of the root", out, 0);
     wrong("which of its maker's it is", other, 0);
+    weak_references(&n);
     MUST(mh_give_back(&shared, &n));
     MUST(mh_close(&shared));
 }

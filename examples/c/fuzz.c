@@ -109,6 +109,7 @@ static void move(struct job *j, uint32_t which) {
 static void use_gone(struct job *j, uint32_t which) {
     uint32_t out = 77;
     uint32_t v = some_variable(j), w = some_variable(j), i = some_field(j);
+    mh_weak weak = {0, 0, 0, 0};
     mh_mutator *g = &j->gone;
     switch (which) {
     case 0: SAYS(MH_GIVEN_BACK, mh_set(g, v, i, w)); break;
@@ -139,6 +140,8 @@ static void use_gone(struct job *j, uint32_t which) {
     case 25: SAYS(MH_GIVEN_BACK, mh_abandon_step(&world, g, 0, 1)); break;
     case 26: SAYS(MH_GIVEN_BACK, mh_make_cached(g, v, 1)); break;
     case 27: SAYS(MH_GIVEN_BACK, mh_refill_step(g, 1)); break;
+    case 28: SAYS(MH_GIVEN_BACK, mh_weak_of(g, v, &weak)); break;
+    case 29: SAYS(MH_GIVEN_BACK, mh_upgrade(g, &weak, v)); break;
     default: SAYS(MH_GIVEN_BACK, mh_forget(g, v));
     }
     wrong("what a call by a handle that was given back wrote", out, 77);
@@ -199,11 +202,11 @@ static void *work(void *p) {
         else if (which < 25) move_reference(j);
         else if (which < 45) operate(j, 0);
         else if (which < 70) operate(j, which % 8 == 3 && which % 16 == 3 ? 0 : which % 8);
-        else if (which < 80) share(j, random_below(j, 8));
+        else if (which < 80) share(j, random_below(j, 9));
         else if (which < 82) move(j, which % 2 + (random_below(j, 256) ? 0 : 3));
         else if (which < 92) move(j, 2);
         else if (which < 96) move(j, j->place == INSIDE ? 2 : which % 4 + (which % 4 == 3));
-        else if (which < 99) use_gone(j, random_below(j, 29));
+        else if (which < 99) use_gone(j, random_below(j, 31));
         else if (!random_below(j, 20)) lend(j);
         else if (!random_below(j, 20)) lend_tracer(j);
         else if (!random_below(j, 20)) forget_all(j);

@@ -6,6 +6,7 @@ pub mod Numbered
 pub mod Stored
 pub mod Tested
 pub mod Told
+pub mod Upgraded
 pub mod Used
 pub mod Values
 pub mod Widened

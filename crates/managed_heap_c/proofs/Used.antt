@@ -22,12 +22,12 @@ once P n y {x} {m} {b} {e} lent begun ended a =
 pub once-in-use : (P : Came → Stepper → Stepper → Type 0) {x m b : Hand} → m ≡ x → IsTrue m.busy × (b ≡ m) → AnswersOnce P 12 x b
 once-in-use P lent used = inr (refl, subst (λ (h : Hand). IsTrue h.busy) lent used.0, used.1 ∙ lent)
 
-pub spared : (before after : ℕ) {x m b : Hand} → m ≡ x → Begun m b → SparesGone b.stepper before after → SparesUnused x before after
+pub spared : {X : Type 0} (before after : X) {x m b : Hand} → m ≡ x → Begun m b → SparesGone b.stepper before after → SparesUnused x before after
 spared before after lent begun s = (λ used. absurd (false≢true (sym (subst (λ (h : Hand). IsFalse h.busy) lent begun.0) ∙ used)), subst (λ (q : Option Stepper). SparesGone q before after) (has lent begun) s)
 
-unwritten : (o : Option Stepper) (before : ℕ) → SparesGone o before before
+unwritten : {X : Type 0} (o : Option Stepper) (before : X) → SparesGone o before before
 unwritten None before = refl
 unwritten (Some s) before = tt
 
-pub spared-in-use : (x : Hand) (before : ℕ) → SparesUnused x before before
+pub spared-in-use : {X : Type 0} (x : Hand) (before : X) → SparesUnused x before before
 spared-in-use x before = (λ _. refl, unwritten x.stepper before)

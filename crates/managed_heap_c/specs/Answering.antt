@@ -23,6 +23,9 @@ status_of_came cames.Full = 8
 status_of_came cames.Spent = 9
 status_of_came cames.NotShared = 19
 status_of_came cames.NoCache = 20
+status_of_came cames.Dead = 21
+status_of_came cames.Unpublished = 22
+status_of_came cames.OtherWorld = 14
 
 -- another call uses the handle, and nothing changed
 abbrev pub IsInUse : ℕ → Hand → Hand → Type 0
@@ -42,12 +45,12 @@ abbrev pub ReadsTo : ℕ → ℕ → ℕ → Came → Stepper → Stepper → Ty
 ReadsTo v before after came x y = ReadsValue came v x y before after
 
 -- nothing is written by a handle that was given back
-abbrev pub SparesGone : Option Stepper → ℕ → ℕ → Type 0
+abbrev pub SparesGone : {X : Type 0} → Option Stepper → X → X → Type 0
 SparesGone None before after = after ≡ before
 SparesGone (Some s) before after = Unit {0}
 
 -- nothing is written by a handle that another call uses, or that was given back
-abbrev pub SparesUnused : Hand → ℕ → ℕ → Type 0
+abbrev pub SparesUnused : {X : Type 0} → Hand → X → X → Type 0
 SparesUnused h before after = (IsTrue h.busy → after ≡ before) × SparesGone h.stepper before after
 
 -- the mutator is between two steps of a collection and stays, and nothing changed; or the world refused it

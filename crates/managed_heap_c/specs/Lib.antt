@@ -14,3 +14,4 @@ pub mod Storing
 pub mod Taking
 pub mod Telling
 pub mod Tracers
+pub mod Weak

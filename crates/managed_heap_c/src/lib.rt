@@ -27,6 +27,8 @@ mod statuses;
 mod storing;
 mod tracers;
 mod tracing;
+mod upgrades;
+mod upgrading;
 mod using;
 mod work;
 mod worlds;

@@ -50,6 +50,9 @@ pub fn status(came: Came) -> u32
         Came::Spent => 9,
         Came::NotShared => 19,
         Came::NoCache => 20,
+        Came::Dead => 21,
+        Came::Unpublished => 22,
+        Came::OtherWorld => 14,
     }
 }
 

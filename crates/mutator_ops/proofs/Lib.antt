@@ -6,3 +6,5 @@ mod ShareCreating
 mod Stepping
 pub mod Storing
 pub mod Walking
+pub mod Upgraded
+pub mod WeakTaken

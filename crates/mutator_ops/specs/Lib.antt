@@ -7,3 +7,5 @@ pub mod Sharing
 pub mod Placing
 pub mod Listing
 pub mod Few
+pub mod Upgrading
+pub mod Weak

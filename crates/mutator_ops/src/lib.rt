@@ -18,7 +18,9 @@ mod objects;
 mod placing;
 mod reading;
 mod sharing;
+mod upgrading;
 mod variables;
+mod weak;
 
 pub use commands::{Done, command};
 pub use making::create;
@@ -29,4 +31,6 @@ pub use sharing::{
     share_copy, share_count, share_create, share_exchange, share_fill, share_follow, share_forget,
     share_lend, share_put, share_set, share_spill, share_value_of,
 };
+pub use upgrading::share_upgrade;
 pub use variables::{assign, clear, follow, lend};
+pub use weak::share_weak;

@@ -12,6 +12,7 @@ pub mod Refilling
 pub mod Stepping
 pub mod Steps
 pub mod Waiting
+pub mod Weak
 pub mod Arriving
 pub mod Causes
 pub mod Doing

@@ -1,6 +1,6 @@
 //! The answers of calls that don't wait.
 
-/// What a call came to. If it isn't `Done`, objects and variables are as before.
+/// What a call came to. If it isn't `Done`, objects are as before, and so are variables, but for `Dead`.
 #[derive(Clone, Copy, Debug, PartialEq, Eq, Drop)]
 pub enum Came {
     /// It is done.
@@ -27,4 +27,10 @@ pub enum Came {
     Spent,
     /// The world's mutators don't share their objects.
     NotShared,
+    /// Another mutator made the object and hasn't published it yet: nothing tells its death.
+    Unpublished,
+    /// The weak reference's object is dead. The variable refers to nothing.
+    Dead,
+    /// The weak reference is another world's.
+    OtherWorld,
 }

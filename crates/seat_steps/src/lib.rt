@@ -4,7 +4,7 @@
 //! or the heap is full, the seat is outside the world afterwards, and the answer says why ([`Came`]).
 //!
 //! The calls are in `stepping`, `asking` and `refills`, those of a world that shares its objects in `acting`,
-//! `spilling` and `knowing`; the collection is in `steps`. What they do with the heap and the seat is in `tries`,
+//! `spilling`, `knowing` and `weak`; the collection is in `steps`. What they do with the heap and the seat is in `tries`,
 //! `operations`, `getting` and `seeking`.
 #![tactic(auto)]
 
@@ -25,6 +25,7 @@ mod stepping;
 mod steps;
 mod telling;
 mod tries;
+mod weak;
 
 pub use came::Came;
 pub use resting::RestingSeat;

@@ -6,6 +6,7 @@ pub mod Leaving
 mod Naming
 pub mod Seats
 mod Uncatalogued
+mod Upgraded
 mod TurnSteps
 pub mod TracerStanding
 pub mod Tending

@@ -238,7 +238,7 @@ plays-on h x y p sits operates ran state =
     }
 
 -- nothing in hand, but for whether a cell is half made
-abbrev rests : Shape → SeatState → Bool → Bool
+abbrev pub rests : Shape → SeatState → Bool → Bool
 rests sh s making = empty_handed s && not (work_in_hand sh.fields s) && is_none s.owes && is_none s.block && (s.got == 0) && not making
 
 -- so does the making of an object

@@ -12,4 +12,5 @@ pub mod Tending
 pub mod SeasonLooks
 pub mod Tallying
 pub mod Tracing
+pub mod Weak
 pub mod TracerTries

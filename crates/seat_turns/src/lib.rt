@@ -29,6 +29,7 @@ mod tracer_marking;
 mod tracer_turn;
 mod try_turns;
 mod turns;
+mod weak;
 
 pub use background::{Tracer, Turn, rest};
 pub use dismissing::{tell_dismissed, try_dismiss};
@@ -42,3 +43,4 @@ pub use sharing::{
 pub use tracer_marking::{mark_some, see_phase};
 pub use try_turns::TryTurn;
 pub use turns::{TURN, keep_some, retire_some, with_free};
+pub use weak::{Upgraded, Weak, upgrade_shared, weak_shared};

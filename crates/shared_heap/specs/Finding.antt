@@ -1,8 +1,8 @@
 -- What the calls of a mutator find while its world is open.
-use Rattle.std.specs.Prelude.{ℕ, ◌-◌, List, [], ◌∷◌, IsFalse}
+use Rattle.std.specs.Prelude.{ℕ, ◌-◌, List, [], ◌∷◌, Bool, IsFalse}
 use Rattle.mark_core.specs.Steps.MutatorSteps.{seat_variable as word_in}
 use Rattle.mark_core.specs.declared.kinds.Step.{Step}
-use Rattle.mark_core.specs.declared.kinds.Step.TheVariants.{ReadOwn, ReadValue}
+use Rattle.mark_core.specs.declared.kinds.Step.TheVariants.{ReadOwn, ReadValue, ReadWeak}
 use Rattle.plain_heap.specs.declared.operation.Op.TheVariants as ops
 use Rattle.gc_table.specs.Entries.{is_store}
 use Rattle.gc_table.specs.Running.{Ran}
@@ -14,6 +14,7 @@ use Rattle.gc_table.specs.Agreement.{AgreesWith}
 use Rattle.gc_table.specs.AgreementLaws.{TellsIn}
 use Rattle.gc_table.specs.Finding.{heap_found}
 use Rattle.mutator_ops.specs.Sharing.{FollowsFound}
+use Rattle.mutator_ops.specs.Upgrading.{Upgrades}
 use Rattle.shared_heap.specs.Calls.{FindsValue, SharerDoes}
 use Rattle.shared_heap.specs.declared.mutator.SharedMutator.{SharedMutator}
 
@@ -39,3 +40,7 @@ ValueFound = (v n : ℕ) (x y : SharedMutator) → SharerDoes (FindsValue v n) (
 -- what `get` found is the reference that the field of the variable's object had in this heap
 abbrev pub FieldFound : Type 0
 FieldFound = (w v i : ℕ) (x y : SharedMutator) (f : FollowsFound w v i (view_of x.seat) (view_of y.seat)) → FindsHeap (ReadOwn (word_in (state_of x.seat) v - 1) i) f.found (view_of x.seat)
+
+-- an upgrade found in the cell what this heap had there: an object, whole, or that there is none
+abbrev pub UpgradeFound : Type 0
+UpgradeFound = (v c id : ℕ) (there : Bool) (x y : SharedMutator) → Upgrades v c id there (view_of x.seat) (view_of y.seat) → (bits : ℕ) × FindsHeap (ReadWeak c) bits (view_of x.seat)

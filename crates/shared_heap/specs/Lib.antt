@@ -11,3 +11,4 @@ pub mod Rooting
 pub mod Spilling
 pub mod Threads
 pub mod Wanting
+pub mod Weak

@@ -23,7 +23,7 @@
 #![tactic(auto)]
 
 ghost use Rattle.shared_heap.specs.Counting.{CounterClosed, CounterRead, LockClosed};
-ghost use Rattle.shared_heap.specs.Finding.{CallsFind, FieldFound, ValueFound};
+ghost use Rattle.shared_heap.specs.Finding.{CallsFind, FieldFound, UpgradeFound, ValueFound};
 ghost use Rattle.shared_heap.specs.Threads.{ThreadsRun};
 
 mod calls;
@@ -40,6 +40,7 @@ mod planning;
 mod reading;
 mod slots;
 mod tracing;
+mod weak;
 mod world;
 
 pub use gc_table::Words;
@@ -47,7 +48,7 @@ pub use managed_heap::{NotClosed, Sizes as SharedSizes, Statistics as SharedStat
 pub use mutator::{Place, SharedMutator};
 pub use reading::root_value;
 pub use seat_steps::{Came, Stage, Stepper};
-pub use seat_turns::{NotOpened, Refused, Tracer, TryTurn, Turn};
+pub use seat_turns::{NotOpened, Refused, Tracer, TryTurn, Turn, Upgraded, Weak};
 pub use world::SharedWorld;
 
 /// What the threads of a closed world did is one run: each thread's steps come in their order, and nobody else takes
@@ -73,6 +74,13 @@ pub fn value_found()
 /// And what [`get`](SharedMutator::get) found is the reference that the object's field had in it.
 pub fn field_found()
     ensures { FieldFound }
+{}
+
+/// And what [`upgrade`](SharedMutator::upgrade) found in the cell is what it had there. `gc_table::death_told` is the law
+/// of weak references in this heap.
+#[tactic(auto, using(crate::proofs::Finding::upgrade_found))]
+pub fn upgrade_found()
+    ensures { UpgradeFound }
 {}
 
 /// If the mutators of a closed world made no object, and changed values only by exchanges of a number for the next,

@@ -8,6 +8,7 @@ pub(crate) const NO_CELL: u32 = 3;
 pub(crate) const IDLE: u32 = 15;
 pub(crate) const DISMISSED: u32 = 16;
 pub(crate) const NO_CACHE: u32 = 20;
+pub(crate) const DEAD: u32 = 21;
 
 /// Why a call did nothing: objects and variables are as before.
 #[derive(Clone, Copy, Debug, PartialEq, Eq, Hash)]
@@ -23,6 +24,10 @@ pub enum Error {
     Nil,
     /// The world isn't shared, and the call is for a shared one.
     NotShared,
+    /// Another mutator made the object and hasn't published it yet, so that nothing would tell its death.
+    Unpublished,
+    /// The weak reference is another world's.
+    OtherWorld,
     /// The reachable objects fill all cells, for good.
     Full,
     /// The mutator has made 4,294,967,295 objects, which are all that have numbers.
@@ -47,7 +52,9 @@ impl Error {
             9 => Err(Error::Spent),
             10 => Err(Error::OutOfMemory),
             13 => Err(Error::NoneLeft),
+            14 => Err(Error::OtherWorld),
             19 => Err(Error::NotShared),
+            22 => Err(Error::Unpublished),
             other => Err(Error::Unexpected(other)),
         }
     }
@@ -61,6 +68,8 @@ impl fmt::Display for Error {
             Error::OutOfRange => f.write_str("a number is out of range"),
             Error::Nil => f.write_str("the variable refers to no object"),
             Error::NotShared => f.write_str("the world isn't shared"),
+            Error::Unpublished => f.write_str("another mutator hasn't published the object yet"),
+            Error::OtherWorld => f.write_str("the weak reference is another world's"),
             Error::Full => f.write_str("the reachable objects fill all cells, for good"),
             Error::Spent => f.write_str("the mutator has made all objects that it can"),
             Error::OutOfMemory => f.write_str("there is no memory"),

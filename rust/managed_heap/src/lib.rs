@@ -92,12 +92,16 @@ mod cycles;
 mod error;
 mod library;
 mod mutator;
+mod payloads;
 mod resting;
 mod tracer;
+mod weak;
 mod world;
 
 pub use cycles::{Cycle, Why};
 pub use error::Error;
 pub use mutator::{Mutator, VARIABLES};
+pub use payloads::Payloads;
 pub use tracer::{Tracer, Turn};
+pub use weak::Weak;
 pub use world::{Sizes, Statistics, World};

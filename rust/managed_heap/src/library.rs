@@ -1,6 +1,7 @@
 //! The exports of the library, and its handles. All that isn't safe is here.
 
 use crate::error::Error;
+use crate::weak::Weak;
 use std::os::raw::c_void;
 use std::ptr::null_mut;
 
@@ -92,6 +93,8 @@ extern "C" {
     fn mhl_forget_slots(m: *mut Handle, from: u32, to: u32) -> u32;
     fn mhl_place(m: *mut Handle, v: u32, place: *mut u32) -> u32;
     fn mhl_number(m: *mut Handle, v: u32, section: *mut u32, number: *mut u32) -> u32;
+    fn mhl_weak_of(m: *mut Handle, v: u32, out: *mut Weak) -> u32;
+    fn mhl_upgrade(m: *mut Handle, weak: *const Weak, v: u32) -> u32;
     fn mhl_course(m: *mut Handle, out: *mut RawCourse) -> u32;
     fn mhl_work(m: *mut Handle, out: *mut RawWork) -> u32;
     fn mhl_trace_turn(t: *mut Handle) -> u32;
@@ -259,6 +262,15 @@ impl Handle {
     pub fn number(&mut self, v: u32) -> Result<(u32, u32), Error> {
         let mut maker = 0;
         Handle::written(|number| unsafe { mhl_number(self, v, &mut maker, number) }).map(|number| (maker, number))
+    }
+
+    pub fn weak(&mut self, v: u32) -> Result<Weak, Error> {
+        let mut weak = Weak::default();
+        Error::of(unsafe { mhl_weak_of(self, v, &mut weak) }).map(|()| weak)
+    }
+
+    pub fn upgrade(&mut self, weak: &Weak, v: u32) -> u32 {
+        unsafe { mhl_upgrade(self, weak, v) }
     }
 
     pub fn course(&mut self) -> RawCourse {

@@ -1,9 +1,10 @@
 //! Mutators.
 
 use crate::cycles::{Why, END};
-use crate::error::{Error, NOT_YET, NO_CACHE, NO_CELL, STOPPED};
+use crate::error::{Error, DEAD, NOT_YET, NO_CACHE, NO_CELL, STOPPED};
 use crate::library::{Handle, RawCourse};
 use crate::resting::Rests;
+use crate::weak::Weak;
 use crate::world::Shared;
 use std::ops::Range;
 use std::sync::Arc;
@@ -246,6 +247,21 @@ impl Mutator {
     /// object of the world ever has both. [`Error::Nil`] if v refers to nothing.
     pub fn number(&mut self, v: u32) -> Result<(u32, u32), Error> {
         self.handle.number(v)
+    }
+
+    /// A weak reference to variable v's object. If the mutator made the object it publishes first what it made. [`Error::Unpublished`]: another mutator made
+    /// the object and hasn't published it, which it does at the next stop at the latest. [`Error::Nil`] if v refers to nothing.
+    pub fn weak(&mut self, v: u32) -> Result<Weak, Error> {
+        self.handle.weak(v)
+    }
+
+    /// Variable v becomes the weak reference's object, and keeps it: true. False: no path leads to the object from any variable, slot or field that is
+    /// reached, none ever will, and v is nil. [`Error::OtherWorld`] if the weak reference is another world's.
+    pub fn upgrade(&mut self, weak: &Weak, v: u32) -> Result<bool, Error> {
+        match self.handle.upgrade(weak, v) {
+            DEAD => Ok(false),
+            status => Error::of(status).map(|()| true),
+        }
     }
 
     /// All variables refer to nothing any more, and all slots.
