@@ -61,13 +61,18 @@ inline void create(const Heap &heap, Seat &seat, uint64_t v, uint64_t value) {
 
 inline bool is_own(const Heap &heap, const Seat &seat, uint64_t c) { return heap.words[heap.identities + c].load() / kFlag == seat.section; }
 
-// Stores variable w in field f of variable v's object, and dirties the object's card if it is published. True if the object is another's.
+// Sees to the card of a stored field: one that is dirty already stays as it is.
+inline void pay_card(const Heap &heap, uint64_t card) {
+    if (heap.words[heap.dirty + card].load() != 1) heap.words[heap.dirty + card].store(1);
+}
+
+// Stores variable w in field f of variable v's object, and sees to the object's card if it is published. True if the object is another's.
 inline bool set(const Heap &heap, Seat &seat, uint64_t v, uint64_t f, uint64_t w) {
     if (seat.variables[v] == 0) return false;
     uint64_t c = seat.variables[v] - 1;
     if (!is_own(heap, seat, c)) return true;
     heap.field(c, f).store(seat.variables[w]);
-    if (seat.block != c / 64 || (seat.used >> c % 64 & 1) == 0) heap.words[heap.dirty + c / 16].store(1);
+    if (seat.block != c / 64 || (seat.used >> c % 64 & 1) == 0) pay_card(heap, c / 16);
     return false;
 }
 

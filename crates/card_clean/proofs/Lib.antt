@@ -13,3 +13,4 @@ pub mod Staying
 pub mod Drawn
 pub mod DrainEnds
 mod RootReads
+pub mod Paying

@@ -9,7 +9,7 @@ use Rattle.mark_core.specs.Steps.MutatorSteps.{may_change, in_variables, seat_va
 use Rattle.mark_core.specs.Seats.{is_the, may_mutate}
 use Rattle.mark_core.specs.WellFormed.{IsSeat}
 use Rattle.mark_core.specs.declared.kinds.Shape.{Shape}
-use Rattle.mark_core.specs.declared.kinds.Step.TheVariants.{StoreField, StoreValue, DirtyCard, ReadCount, ExchangeField, ExchangeValue}
+use Rattle.mark_core.specs.declared.kinds.Step.TheVariants.{StoreField, StoreValue, DirtyCard, ReadCount, ExchangeField, ExchangeValue, CheckCard}
 use Rattle.mark_core.proofs.Blocks.BlocksStopped.{Taken}
 use Rattle.plain_heap.specs.PlainHeap.{variable, is_own}
 use Rattle.plain_heap.specs.declared.object.Ref.{Ref}
@@ -71,6 +71,10 @@ may-dirty_owed v card turn owes x k st a =
     let card_there : card < card_count x.core.shape = subst (λ (o : Option ℕ). IfSome o (λ (n : ℕ). n < card_count x.core.shape)) owes formed.owes in
     (and_from _ _ (lt-ltb card (card_count x.core.shape) card_there) (or_left (v.state.active || v.state.knows) v.state.admitted (or_left v.state.active v.state.knows (and_parts v.state.active _ turn).0)), tt)
 
+-- and checked before
+pub may-check_owed : (v : View) (card : ℕ) → may_mutate v.state ≡ true → v.state.owes ≡ Some card → May (CheckCard card) v
+may-check_owed v card turn owes = may-dirty_owed v card turn owes
+
 -- if objects are shared, a variable that isn't nil names one that may be changed
 share-there : (x : TableState) (i : ℕ) (v : View) (u : ℕ) → IsTrue v.shape.sharing → Agrees x i v → 0 < word_in v.state u → may_change x.core.shape (words_of x.core.shape x.core.words).identities v.state u ≡ true
 share-there x i v u shared a some = and_from _ _ (ap not (ne_eqb (word_in v.state u) 0 (λ e. omega (arith, e, some)))) (or_left x.core.shape.sharing _ (subst (λ (sh : Shape). IsTrue sh.sharing) a.shape shared))
@@ -104,4 +108,4 @@ may-exchange_value v u n o shared m below some fits t k st a = (
 pub asked-shared_field : (v : View) (u i : ℕ) (w : Option ℕ) → MayStore v → IsTrue v.shape.sharing → Asked (StoreField u i w) v
 asked-shared_field v u i w m shared = (m.seen, λ alone. absurd (true≢false (sym shared ∙ alone)))
 
-pub ruleset sharing = (asked-shared_field, may-share_field, may-dirty_owed)
+pub ruleset sharing = (asked-shared_field, may-share_field)

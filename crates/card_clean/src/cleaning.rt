@@ -111,7 +111,7 @@ fn rescan_card(heap: &Heap, seat: &mut HeapSeat, card: u32, out: &mut Held) -> C
 /// ```
 ///
 /// Now the card is clean, and no tracer looks at c again. With the clearing first, a mutator that stores after c was
-/// read dirties the card after it was cleared, so it stays dirty.
+/// read dirties the card after it was cleared, or finds that another has, so it stays dirty.
 ///
 /// The seat may trace, has no work in hand, and holds at most three packets, `out` among them, which may be exchanged
 /// as [`scan_cell`](packet_pools::scan_cell) says.

@@ -3,8 +3,8 @@
 //! While tracers read the fields of objects, mutators store in them, so an object that was scanned may refer to a white
 //! cell. Then its card is dirty, and to clean the card is to scan its marked objects again (as in Boehm and others,
 //! "Mostly parallel garbage collection", PLDI 1991, with pages for cards, and in Barabash and others, TOPLAS 2005,
-//! whose cards these are). [`store_ref`] stores the field and then dirties the card; [`clean_card`] clears the card and
-//! then scans. At each stands the interleaving that its order prevents.
+//! whose cards these are). [`store_ref`] stores the field and then dirties the card, unless it finds it dirty;
+//! [`clean_card`] clears the card and then scans. At each stands the interleaving that its order prevents.
 //!
 //! A marked cell whose allocation bit is clear is still being written by its maker, without a barrier: it isn't
 //! scanned, and its card is dirtied again.

@@ -12,7 +12,7 @@ use Rattle.mark_core.specs.Numbers.{section_variables}
 use Rattle.mark_core.specs.Seats.{used_in}
 use Rattle.mark_core.specs.Steps.MutatorSteps.{seat_variable as word_in}
 use Rattle.mark_core.specs.declared.kinds.Step.{Step}
-use Rattle.mark_core.specs.declared.kinds.Step.TheVariants.{DirtyCard, ExchangeField, StoreField, StoreNew, StoreRoot}
+use Rattle.mark_core.specs.declared.kinds.Step.TheVariants.{CheckCard, DirtyCard, ExchangeField, StoreField, StoreNew, StoreRoot}
 use Rattle.mark_core.specs.declared.seat.SeatState.{SeatState}
 use Rattle.alloc_cache.specs.Making.{making_steps, nil_fields}
 use Rattle.gc_table.specs.Log.{all_steps, event, events, steps_of}
@@ -23,8 +23,8 @@ use Rattle.gc_table.specs.declared.view.Entry.{Entry}
 use Rattle.gc_table.specs.declared.view.View.{View}
 use Rattle.gc_table.proofs.History.Log.{events-after, events-of}
 use Rattle.gc_table.proofs.Running.{ran-events, ran-found, ran-grows, ran-join}
-use Rattle.card_clean.specs.Barrier.{barrier_steps, cell_in, dirtied_after}
-use Rattle.mutator_ops.specs.Sharing.{SetsVariable, TakesSteps, next_word, setting_steps}
+use Rattle.card_clean.specs.Barrier.{barrier_steps, card_steps, cell_in, seen_to, was_dirty}
+use Rattle.mutator_ops.specs.Sharing.{SetsField, SetsVariable, next_word}
 use Rattle.seat_turns.specs.Exchanging.{ExchangesField}
 use Rattle.seat_turns.specs.Sharing.{FollowsField, MakesSharedAfter, spares_heap}
 use Rattle.shared_heap.specs.Calls.{FindsValue, IsSame}
@@ -155,20 +155,21 @@ module _ (x y : SharedMutator) where
       told_spared u (made_ran w n k) (made_all (spares_variable u) w n k (heap-variable u) (λ c part word. refl) (ap not (ne_eqb u w ne))) (made-other u w n ne k)
 
   -- a field was exchanged
-  exchanged_rest : (words : ℕ → ℕ) (u : ℕ) (won : Bool) → changed_in words (if won then dirtied_after (state_of x.seat) u else []) ≡ []
-  exchanged_rest words u true = dirtied (used_in (state_of x.seat).cache (cell_in (state_of x.seat) u))
+  exchanged_rest : (words : ℕ → ℕ) (u word : ℕ) (won : Bool) → changed_in words (if won then seen_to (state_of x.seat) u word else []) ≡ []
+  exchanged_rest words u word true = card_rest (used_in (state_of x.seat).cache (cell_in (state_of x.seat) u)) (word == 1)
     where
-      dirtied : (b : Bool) → changed_in words (if b then [] else event (DirtyCard (card_of (cell_in (state_of x.seat) u))) 1 ∷ []) ≡ []
-      dirtied true = refl
-      dirtied false = refl
-  exchanged_rest words u false = refl
+      card_rest : (b d : Bool) → changed_in words (if b then [] else event (CheckCard (card_of (cell_in (state_of x.seat) u))) word ∷ (if d then [] else event (DirtyCard (card_of (cell_in (state_of x.seat) u))) 1 ∷ [])) ≡ []
+      card_rest true d = refl
+      card_rest false true = refl
+      card_rest false false = refl
+  exchanged_rest words u word false = refl
 
   exchanged_did : (u i e n : ℕ) (won : Bool) (s : ExchangesField u i e n won (view_of x.seat) (view_of y.seat)) → changes_of y ≡ changes_of x ++ record { step = ExchangeField u i (Some e) (Some n); won = s.exchanged.found == told_of x e } ∷ []
   exchanged_did u i e n won s =
       changes-ran s.ran
       ∙ ap (λ (l : List Change). changes_of x ++ l)
       (ap (changed_in (told_of x)) s.exchanged.did_are
-      ∙ ap (λ (l : List Change). record { step = ExchangeField u i (Some e) (Some n); won = s.exchanged.found == told_of x e } ∷ l) (exchanged_rest (told_of x) u won))
+      ∙ ap (λ (l : List Change). record { step = ExchangeField u i (Some e) (Some n); won = s.exchanged.found == told_of x e } ∷ l) (exchanged_rest (told_of x) u s.exchanged.card_word won))
 
   pub exchanged-some : (u i e n : ℕ) (won : Bool) → ExchangesField u i e n won (view_of x.seat) (view_of y.seat) → (b : Bool) × (changes_of y ≡ changes_of x ++ record { step = ExchangeField u i (Some e) (Some n); won = b } ∷ [])
   exchanged-some u i e n won s = (s.exchanged.found == told_of x e, exchanged_did u i e n won s)
@@ -178,36 +179,38 @@ module _ (x y : SharedMutator) where
       subst (λ (b : Bool). changes_of y ≡ changes_of x ++ record { step = ExchangeField u i (Some e) (Some n); won = b } ∷ []) (ap (λ (k : ℕ). s.exchanged.found == k) told ∙ sym s.exchanged.won_by) (exchanged_did u i e n won s)
 
   -- a reference was stored in a field
-  setting_rest : (b : Bool) (card : ℕ) → all_of spares_objects (if b then [] else DirtyCard card ∷ []) ≡ true
-  setting_rest true card = refl
-  setting_rest false card = refl
+  setting_rest : (b d : Bool) (card : ℕ) → all_of spares_objects (if b then [] else card_steps card d) ≡ true
+  setting_rest true d card = refl
+  setting_rest false true card = refl
+  setting_rest false false card = refl
 
-  set_by : (b : Bool) (u i w : ℕ) → Ran (view_of x.seat) (view_of y.seat) → steps_of (did x.seat y.seat) ≡ (if b then [] else barrier_steps (state_of x.seat) u i (Some w))
+  set_by : (b : Bool) (u i w : ℕ) → Ran (view_of x.seat) (view_of y.seat) → steps_of (did x.seat y.seat) ≡ (if b then [] else barrier_steps (state_of x.seat) u i (Some w) (was_dirty (did x.seat y.seat)))
       → (changes_of y ≡ changes_of x) ⊎ (changes_of y ≡ changes_of x ++ record { step = StoreField u i (Some w); won = true } ∷ [])
   set_by true u i w r e = inl (none_spared r (steps-all spares_objects (did x.seat y.seat) ∙ ap (all_of spares_objects) e))
   set_by false u i w r e =
-      inr (changes-ran r ∙ ap (λ (l : List Change). changes_of x ++ l) (changed-stored (told_of x) (did x.seat y.seat) u i (Some w) _ e (setting_rest (used_in (state_of x.seat).cache (cell_in (state_of x.seat) u)) (card_of (cell_in (state_of x.seat) u)))))
+      inr (changes-ran r ∙ ap (λ (l : List Change). changes_of x ++ l) (changed-stored (told_of x) (did x.seat y.seat) u i (Some w) _ e (setting_rest (used_in (state_of x.seat).cache (cell_in (state_of x.seat) u)) (was_dirty (did x.seat y.seat)) (card_of (cell_in (state_of x.seat) u)))))
 
-  pub set-changes : (u i w : ℕ) → TakesSteps (setting_steps (state_of x.seat) u i w) (view_of x.seat) (view_of y.seat) → (changes_of y ≡ changes_of x) ⊎ (changes_of y ≡ changes_of x ++ record { step = StoreField u i (Some w); won = true } ∷ [])
+  pub set-changes : (u i w : ℕ) → SetsField u i w (view_of x.seat) (view_of y.seat) → (changes_of y ≡ changes_of x) ⊎ (changes_of y ≡ changes_of x ++ record { step = StoreField u i (Some w); won = true } ∷ [])
   set-changes u i w s = set_by (word_in (state_of x.seat) u == 0) u i w s.ran s.steps_are
 
-  pub set-some : (u i w : ℕ) → 0 < word_in (state_of x.seat) u → TakesSteps (setting_steps (state_of x.seat) u i w) (view_of x.seat) (view_of y.seat) → changes_of y ≡ changes_of x ++ record { step = StoreField u i (Some w); won = true } ∷ []
+  pub set-some : (u i w : ℕ) → 0 < word_in (state_of x.seat) u → SetsField u i w (view_of x.seat) (view_of y.seat) → changes_of y ≡ changes_of x ++ record { step = StoreField u i (Some w); won = true } ∷ []
   set-some u i w some s =
       changes-ran s.ran
       ∙ ap (λ (l : List Change). changes_of x ++ l)
       (changed-stored (told_of x) (did x.seat y.seat) u i (Some w) _
-      (s.steps_are ∙ ap (λ (b : Bool). if b then [] else barrier_steps (state_of x.seat) u i (Some w)) (ne_eqb (word_in (state_of x.seat) u) 0 (λ e. omega (arith, e, some))))
-      (setting_rest (used_in (state_of x.seat).cache (cell_in (state_of x.seat) u)) (card_of (cell_in (state_of x.seat) u))))
+      (s.steps_are ∙ ap (λ (b : Bool). if b then [] else barrier_steps (state_of x.seat) u i (Some w) (was_dirty (did x.seat y.seat))) (ne_eqb (word_in (state_of x.seat) u) 0 (λ e. omega (arith, e, some))))
+      (setting_rest (used_in (state_of x.seat).cache (cell_in (state_of x.seat) u)) (was_dirty (did x.seat y.seat)) (card_of (cell_in (state_of x.seat) u))))
 
-  setting_spares : (u v i w : ℕ) (b : Bool) (card : ℕ) (is_new : Bool) → all_of (spares_variable u) (if b then [] else StoreField v i (Some w) ∷ (if is_new then [] else DirtyCard card ∷ [])) ≡ true
-  setting_spares u v i w true card is_new = refl
-  setting_spares u v i w false card true = refl
-  setting_spares u v i w false card false = refl
+  setting_spares : (u v i w : ℕ) (b : Bool) (card : ℕ) (is_new dirty : Bool) → all_of (spares_variable u) (if b then [] else StoreField v i (Some w) ∷ (if is_new then [] else card_steps card dirty)) ≡ true
+  setting_spares u v i w true card is_new dirty = refl
+  setting_spares u v i w false card true dirty = refl
+  setting_spares u v i w false card false true = refl
+  setting_spares u v i w false card false false = refl
 
-  pub set-told : (u v i w : ℕ) → TakesSteps (setting_steps (state_of x.seat) v i w) (view_of x.seat) (view_of y.seat) → IsTold u x → IsTold u y
+  pub set-told : (u v i w : ℕ) → SetsField v i w (view_of x.seat) (view_of y.seat) → IsTold u x → IsTold u y
   set-told u v i w s =
       told_spared u s.ran
       (steps-all (spares_variable u) (did x.seat y.seat)
       ∙ (ap (all_of (spares_variable u)) s.steps_are
-      ∙ setting_spares u v i w (word_in (state_of x.seat) v == 0) (card_of (cell_in (state_of x.seat) v)) (used_in (state_of x.seat).cache (cell_in (state_of x.seat) v))))
+      ∙ setting_spares u v i w (word_in (state_of x.seat) v == 0) (card_of (cell_in (state_of x.seat) v)) (used_in (state_of x.seat).cache (cell_in (state_of x.seat) v)) (was_dirty (did x.seat y.seat))))
       (ap (λ (z : SeatState). word_in z u) s.state)

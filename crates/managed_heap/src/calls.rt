@@ -160,7 +160,7 @@ impl Mutator {
         ensures done { IfOk result (λ _. MutatorDoes (ops.Set v i w) self.old self.new) }
         ensures refused { IfErr result (λ e. MutatorRefused e (ops.Set v i w) self.old self.new) }
         ensures takes { IfOk result (λ _. Across (TakesSteps (ops.Set v i w)) self.old.seat self.new.seat) }
-        ensures few { IfOk result (λ _. Across (AtMost 3) self.old.seat self.new.seat) }
+        ensures few { IfOk result (λ _. Across (AtMost 4) self.old.seat self.new.seat) }
         ensures tracers { Across (Only spares_tracers) self.old.seat self.new.seat }
         ensures world { arc_value self.new.heap ≡ arc_value self.old.heap }
     {

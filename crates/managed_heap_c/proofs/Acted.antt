@@ -20,7 +20,7 @@ unexchanged v i m n before after cames.Done x y d q = absurd d
 unexchanged v i m n before after came x y d q = (d, q)
 
 pub exchanged :
-    (v i m n before after : ℕ) (came : Came) (r : Result Bool Came) (x y : Stepper) → IfOk r (λ won. StepperActs (CanExchange x v i m n) 2 (ExchangesField v i m n won) x y)
+    (v i m n before after : ℕ) (came : Came) (r : Result Bool Came) (x y : Stepper) → IfOk r (λ won. StepperActs (CanExchange x v i m n) 3 (ExchangesField v i m n won) x y)
     → IfErr r (λ why. WantsObject why (CanExchange x v i m n) v x y) → WritesAnswer came r before after → ExchangesTo v i m n before after came x y
 exchanged v i m n before after came (Ok won) x y done none w = subst (λ c. ExchangesTo v i m n before after c x y) (sym w.0) (won, w.1, done)
 exchanged v i m n before after came (Err why) x y done none w = subst (λ c. ExchangesTo v i m n before after c x y) (sym w.0) (unexchanged v i m n before after why x y none w.1)

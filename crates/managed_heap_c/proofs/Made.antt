@@ -32,14 +32,14 @@ then_more j k u v w p q =
 pub none-taken : (k : ℕ) (x y : Stepper) → y ≡ x → AtMost k (view_of x.seat) (view_of y.seat)
 none-taken k x y same = subst (λ (z : Stepper). AtMost k (view_of x.seat) (view_of z.seat)) (sym same) (at-most-none k (view_of x.seat))
 
-given_few : (v i n : ℕ) (x y : Stepper) → SetsGiven v i n x y → AtMost 3 (view_of x.seat) (view_of y.seat)
-given_few v i n x y s = ⊎_elim (λ (nil : (n ≡ no_variable) × (y ≡ x)). none-taken 3 x y nil.1) (λ (set : (n < section_variables) × Operates cames.Done (ops.Set v i n) x y). set.1.1) s
+given_few : (v i n : ℕ) (x y : Stepper) → SetsGiven v i n x y → AtMost 4 (view_of x.seat) (view_of y.seat)
+given_few v i n x y s = ⊎_elim (λ (nil : (n ≡ no_variable) × (y ≡ x)). none-taken 4 x y nil.1) (λ (set : (n < section_variables) × Operates cames.Done (ops.Set v i n) x y). set.1.1) s
 
-sets_few : (k v : ℕ) (ns : List ℕ) (x y : Stepper) → SetsFirst k v ns x y → AtMost (3 * k) (view_of x.seat) (view_of y.seat)
+sets_few : (k v : ℕ) (ns : List ℕ) (x y : Stepper) → SetsFirst k v ns x y → AtMost (4 * k) (view_of x.seat) (view_of y.seat)
 unfolding SetsFirst
 sets_few zero v ns x y same = none-taken 0 x y same
 sets_few (suc k) v ns x y s =
-    let all = then_more (3 * k) 3 (view_of x.seat) (view_of s.0.seat) (view_of y.seat) (sets_few k v ns x s.0 s.1) (given_few v k (get_or ns k 0) s.0 y s.2) in
+    let all = then_more (4 * k) 4 (view_of x.seat) (view_of s.0.seat) (view_of y.seat) (sets_few k v ns x s.0 s.1) (given_few v k (get_or ns k 0) s.0 y s.2) in
     omega (arith, all)
 
 pub made-sets : (v value : ℕ) (ns : List ℕ) (x z y : Stepper) → StepperMakes cames.Done (ops.New v value) x z → SetsFirst (length ns) v ns z y → MakesThenSets v value ns x y
@@ -48,5 +48,5 @@ made-sets v value ns x z y made sets =
       made = z;
       makes = made;
       sets = sets;
-      few = then_more (make_steps (view_of x.seat).shape) (3 * length ns) (view_of x.seat) (view_of z.seat) (view_of y.seat) made.1.longest (sets_few (length ns) v ns z y sets);
+      few = then_more (make_steps (view_of x.seat).shape) (4 * length ns) (view_of x.seat) (view_of z.seat) (view_of y.seat) made.1.longest (sets_few (length ns) v ns z y sets);
     }

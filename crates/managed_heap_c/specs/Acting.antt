@@ -16,7 +16,7 @@ use Rattle.managed_heap_c.specs.Asking.{number_of_answer}
 
 -- what an exchange of a field came to, by what the variable of C was and is: it tells whether the exchange was won, or nothing is written
 abbrev pub ExchangesTo : ℕ → ℕ → ℕ → ℕ → ℕ → ℕ → Came → Stepper → Stepper → Type 0
-ExchangesTo v i m n before after cames.Done x y = (won : Bool) × (after ≡ number_of_answer won) × StepperActs (CanExchange x v i m n) 2 (ExchangesField v i m n won) x y
+ExchangesTo v i m n before after cames.Done x y = (won : Bool) × (after ≡ number_of_answer won) × StepperActs (CanExchange x v i m n) 3 (ExchangesField v i m n won) x y
 ExchangesTo v i m n before after came x y = WantsObject came (CanExchange x v i m n) v x y × (after ≡ before)
 
 -- the same of an exchange of a value

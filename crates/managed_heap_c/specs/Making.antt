@@ -35,12 +35,12 @@ unfoldable pub SetsFirst : ℕ → ℕ → List ℕ → Stepper → Stepper → 
 SetsFirst zero v ns x y = y ≡ x
 SetsFirst (suc k) v ns x y = (z : Stepper) × SetsFirst k v ns x z × SetsGiven v k (slice_index ns k) z y
 
--- the object was made, and then its fields were set, each by three steps at most
+-- the object was made, and then its fields were set, each by four steps at most
 pub record MakesThenSets (v value : ℕ) (ns : List ℕ) (x y : Stepper) : Type 0 where
   pub made : Stepper
   pub makes : StepperMakes cames.Done (ops.New v value) x made
   pub sets : SetsFirst (length ns) v ns made y
-  pub few : Across (AtMost (make_steps (view_of x.seat).shape + 3 * length ns)) x.seat y.seat
+  pub few : Across (AtMost (make_steps (view_of x.seat).shape + 4 * length ns)) x.seat y.seat
 
 -- what it came to: all was done, or none of it
 abbrev pub MakesWith : ℕ → ℕ → List ℕ → Came → Stepper → Stepper → Type 0

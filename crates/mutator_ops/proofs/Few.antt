@@ -17,7 +17,7 @@ use Rattle.gc_table.specs.declared.view.View.{View}
 use Rattle.gc_table.proofs.History.Log.{events-after, events-none}
 use Rattle.gc_table.proofs.Running.{ran-events}
 use Rattle.alloc_cache.specs.Making.{making_steps, nil_fields}
-use Rattle.card_clean.specs.Barrier.{barrier_steps, cell_in}
+use Rattle.card_clean.specs.Barrier.{barrier_steps, card_steps, cell_in}
 use Rattle.mutator_ops.specs.Few.{AtMost}
 use Rattle.mutator_ops.specs.Listing.{creating_steps, following_events, saying_steps, storing_steps}
 use Rattle.mutator_ops.specs.declared.objects.Holds.{Holds}
@@ -51,8 +51,14 @@ either_long : {X : Type 0} (b : Bool) (xs ys : List X) (k : ℕ) → length xs �
 either_long true xs ys k p q = p
 either_long false xs ys k p q = q
 
-pub barrier-long : (s : SeatState) (u i : ℕ) (w : Option ℕ) → length (barrier_steps s u i w) ≤ 2
-barrier-long s u i w = let rest = either_long {X = Step} (used_in s.cache (cell_in s u)) [] (DirtyCard (card_of (cell_in s u)) ∷ []) 1 (omega arith) (omega arith) in omega (arith, rest)
+pub card-long : (card : ℕ) (dirty : Bool) → length (card_steps card dirty) ≤ 2
+card-long card dirty = let last = either_long {X = Step} dirty [] (DirtyCard card ∷ []) 1 (omega arith) (omega arith) in omega (arith, last)
+
+pub barrier-long : (s : SeatState) (u i : ℕ) (w : Option ℕ) (dirty : Bool) → length (barrier_steps s u i w dirty) ≤ 3
+barrier-long s u i w dirty =
+    let card : ℕ = card_of (cell_in s u) in
+    let rest = either_long {X = Step} (used_in s.cache (cell_in s u)) [] (card_steps card dirty) 2 (omega arith) (card-long card dirty) in
+    omega (arith, rest)
 
 pub following-long : (s : SeatState) (u w i found : ℕ) → length (following_events s u w i found) ≤ 2
 following-long s u w i found = either_long (word_in s w == 0) _ _ 2 (omega arith) (omega arith)
@@ -75,8 +81,8 @@ creating-long fields s u n cell =
     omega (arith, nils, made, all)
 
 -- if objects are shared, nobody is asked first
-pub setting-long : (s : SeatState) (u i w : ℕ) → length (setting_steps s u i w) ≤ 2
-setting-long s u i w = either_long {X = Step} (word_in s u == 0) [] (barrier_steps s u i (Some w)) 2 (omega arith) (barrier-long s u i (Some w))
+pub setting-long : (s : SeatState) (u i w : ℕ) (dirty : Bool) → length (setting_steps s u i w dirty) ≤ 3
+setting-long s u i w dirty = either_long {X = Step} (word_in s u == 0) [] (barrier_steps s u i (Some w) dirty) 3 (omega arith) (barrier-long s u i (Some w) dirty)
 
 pub putting-long : (s : SeatState) (u n : ℕ) → length (putting_steps s u n) ≤ 1
 putting-long s u n = either_long {X = Step} (word_in s u == 0) [] _ 1 (omega arith) (omega arith)

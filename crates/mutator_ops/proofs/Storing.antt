@@ -1,12 +1,12 @@
 -- A command that stores in an object.
-use Rattle.std.proofs.Common.{ℕ, ◌≡◌, ◌≤◌, List, [], ◌∷◌, arith, refl, sym, ap, ◌∙◌, Bool, true, false, not, ◌&&◌, ◌||◌, Some, None, Option, is_some, length, cond, ◌<◌, ◌+◌, is_none, subst}
+use Rattle.std.proofs.Common.{ℕ, ◌≡◌, ◌≤◌, List, [], ◌∷◌, ◌++◌, arith, refl, sym, ap, ◌∙◌, Bool, true, false, not, ◌&&◌, ◌||◌, Some, None, Option, is_some, length, cond, ◌<◌, ◌+◌, is_none, subst}
 use Rattle.std.specs.Prelude.{◌==◌, if◌then◌else◌, slice_set}
 use Rattle.std.specs.List.{list_all, list_any}
-use Rattle.std.proofs.lemmas.Bool.{false≢true, true≢false, and_from, or_left, or_right, lt-ltb, eq-eqb, ne_eqb, not_from_false}
+use Rattle.std.proofs.lemmas.Bool.{false≢true, true≢false, and_from, and_parts, or_left, or_right, lt-ltb, eq-eqb, ne_eqb, not_from_false}
 use Rattle.mark_core.specs.Steps.ColourSteps.{dirty_card_effect, fresh_off, popped_off, redirty_off}
 use Rattle.mark_core.specs.Seats.{work_in_hand, cleaning_left, scan_left, is_the, used_in, has_making, may_mutate}
 use Rattle.mark_core.specs.declared.kinds.Step.{Step}
-use Rattle.mark_core.specs.declared.kinds.Step.TheVariants.{ReadIdent, StoreField, DirtyCard, ExchangeField, ExchangeValue, StoreRoot, ReadSlot, StoreSlot}
+use Rattle.mark_core.specs.declared.kinds.Step.TheVariants.{ReadIdent, StoreField, DirtyCard, ExchangeField, ExchangeValue, StoreRoot, ReadSlot, StoreSlot, CheckCard}
 use Rattle.mark_core.specs.declared.seat.Cleaning.{Cleaning}
 use Rattle.mark_core.specs.declared.seat.SeatState.{SeatState}
 use Rattle.plain_heap.specs.declared.operation.Op.{Op}
@@ -17,8 +17,8 @@ use Rattle.gc_table.specs.declared.view.View.{View}
 use Rattle.gc_table.specs.Log.{all_steps, steps_of, events, Only, event}
 use Rattle.gc_table.specs.Running.{Ran, after_all}
 use Rattle.gc_table.proofs.History.Log.{only-more}
-use Rattle.gc_table.proofs.Running.{ran-join, ran-only, ran-shape}
-use Rattle.card_clean.specs.Barrier.{barrier_steps, cell_in, record_stored, Exchanged}
+use Rattle.gc_table.proofs.Running.{ran-events, ran-join, ran-only, ran-shape}
+use Rattle.card_clean.specs.Barrier.{barrier_steps, card_events, card_steps, cell_in, finds_dirty, record_stored, was_dirty, Exchanged}
 use Rattle.mutator_ops.specs.Doing.{belongs, plain_steps, reads_ident, spares_plain, Does, IsOneStep, IsStepped, Looks}
 use Rattle.mutator_ops.proofs.Stepping.{once-last, once-none}
 use Rattle.mark_core.specs.Cards.{card_of}
@@ -139,32 +139,46 @@ dirtied_none fields s card idle owes =
     λ i. record s { fresh = fresh_none s.fresh card b.1 i; popped = popped_none s.popped card d.0 i; owes = paid i; cleaning = cleaning_none s.cleaning card a.1 i }
 
 -- so the barrier leaves its record
-pub stored-same : (fields : ℕ) (s : SeatState) (u : ℕ) → work_in_hand fields s ≡ false → s.owes ≡ None → record_stored s u ≡ s
-stored-same fields s u idle owes = by_use (used_in s.cache (cell_in s u))
+pub stored-same : (fields : ℕ) (s : SeatState) (u : ℕ) (dirty : Bool) → work_in_hand fields s ≡ false → s.owes ≡ None → record_stored s u dirty ≡ s
+stored-same fields s u dirty idle owes = by_test (used_in s.cache (cell_in s u) || dirty)
   where
-    by_use : (b : Bool) → (if b then s else (dirty_card_effect s (card_of (cell_in s u))).seat 0) ≡ s
-    by_use true = refl
-    by_use false = dirtied_none fields s (card_of (cell_in s u)) idle owes
+    by_test : (b : Bool) → (if b then s else (dirty_card_effect s (card_of (cell_in s u))).seat 0) ≡ s
+    by_test true = refl
+    by_test false = dirtied_none fields s (card_of (cell_in s u)) idle owes
 
 pub all-by : (p : Step → Bool) (es : List Entry) → all_steps p es ≡ list_all p (steps_of es)
 all-by p [] = refl
 all-by p (e ∷ es) = ap (λ (b : Bool). p e.step && b) (all-by p es)
 
 -- the barrier's steps are those of `set`
-pub only-barrier : (s : SeatState) (u i w : ℕ) (o : Option ℕ) (v x : View) → steps_of (events v x) ≡ barrier_steps s u i o → Only (belongs (ops.Set u i w)) v x
-only-barrier s u i w o v x e = all-by (belongs (ops.Set u i w)) (events v x) ∙ ap (list_all (belongs (ops.Set u i w))) e ∙ by_use (used_in s.cache (cell_in s u))
+pub only-barrier : (s : SeatState) (u i w : ℕ) (o : Option ℕ) (dirty : Bool) (v x : View) → steps_of (events v x) ≡ barrier_steps s u i o dirty → Only (belongs (ops.Set u i w)) v x
+only-barrier s u i w o dirty v x e = all-by (belongs (ops.Set u i w)) (events v x) ∙ ap (list_all (belongs (ops.Set u i w))) e ∙ by_use (used_in s.cache (cell_in s u)) dirty
   where
-    by_use : (b : Bool) → list_all (belongs (ops.Set u i w)) (StoreField u i o ∷ (if b then [] else DirtyCard (card_of (cell_in s u)) ∷ [])) ≡ true
-    by_use true = refl
-    by_use false = refl
+    by_use : (b d : Bool) → list_all (belongs (ops.Set u i w)) (StoreField u i o ∷ (if b then [] else card_steps (card_of (cell_in s u)) d)) ≡ true
+    by_use true d = refl
+    by_use false true = refl
+    by_use false false = refl
 
 -- the plain heap sees one of the barrier's steps
-pub once-barrier : (s : SeatState) (u i : ℕ) (o : Option ℕ) (v x : View) → steps_of (events v x) ≡ barrier_steps s u i o → IsOneStep v x
-once-barrier s u i o v x e = rw (ap plain_steps e) (by_use (used_in s.cache (cell_in s u)))
+pub once-barrier : (s : SeatState) (u i : ℕ) (o : Option ℕ) (dirty : Bool) (v x : View) → steps_of (events v x) ≡ barrier_steps s u i o dirty → IsOneStep v x
+once-barrier s u i o dirty v x e = rw (ap plain_steps e) (by_use (used_in s.cache (cell_in s u)) dirty)
   where
-    by_use : (b : Bool) → plain_steps (StoreField u i o ∷ (if b then [] else DirtyCard (card_of (cell_in s u)) ∷ [])) ≤ 1
-    by_use true = omega arith
-    by_use false = omega arith
+    by_use : (b d : Bool) → plain_steps (StoreField u i o ∷ (if b then [] else card_steps (card_of (cell_in s u)) d)) ≤ 1
+    by_use true d = omega arith
+    by_use false true = omega arith
+    by_use false false = omega arith
+
+-- whoever asked before whose object it is has found no card dirty by that
+ident_finds : (step : Step) (n : ℕ) → reads_ident step ≡ true → finds_dirty step n ≡ false
+ident_finds (ReadIdent c) n e = refl
+ident_finds step n e = absurd (false≢true e)
+
+idents_find : (es fs : List Entry) → all_steps reads_ident es ≡ true → was_dirty (es ++ fs) ≡ was_dirty fs
+idents_find [] fs a = refl
+idents_find (e ∷ es) fs a = let p = and_parts (reads_ident e.step) (all_steps reads_ident es) a in ap (λ (b : Bool). b || was_dirty (es ++ fs)) (ident_finds e.step e.found p.0) ∙ idents_find es fs p.1
+
+pub dirty-later : (v x w : View) → Looks v x → Ran x w → was_dirty (events v w) ≡ was_dirty (events x w)
+dirty-later v x w k r = ap was_dirty (ran-events v x w k.ran r) ∙ idents_find (events v x) (events x w) k.only
 
 ident-spares : (step : Step) → reads_ident step ≡ true → spares_plain step ≡ true
 ident-spares (ReadIdent c) e = refl
@@ -211,11 +225,15 @@ reads-put u n step e = absurd (false≢true e)
 abbrev Count : View → ℕ
 Count v = length v.own.meaning.heap.objects
 
--- no object comes by an exchange, nor by the card that is dirtied after it
-count_after : (v x : View) (u : ℕ) (s : SeatState) (won used : Bool) (card : ℕ) → Count (after_all (cond won (cond used [] (event (DirtyCard card) 1 ∷ [])) []) x) ≡ Count x
-count_after v x u s false used card = refl
-count_after v x u s true true card = refl
-count_after v x u s true false card = refl
+-- no object comes by an exchange, nor by the card that is seen to after it
+count_card : (x : View) (card word : ℕ) (dirty : Bool) → Count (after_all (event (CheckCard card) word ∷ (if dirty then [] else event (DirtyCard card) 1 ∷ [])) x) ≡ Count x
+count_card x card word true = refl
+count_card x card word false = refl
+
+count_after : (x : View) (won used : Bool) (card word : ℕ) → Count (after_all (cond won (cond used [] (card_events card word)) []) x) ≡ Count x
+count_after x false used card word = refl
+count_after x true true card word = refl
+count_after x true false card word = count_card x card word (word == 1)
 
 same_by : (won : Bool) (s t : SeatState) → t ≡ s → cond won t s ≡ s
 same_by true s t e = e
@@ -223,14 +241,14 @@ same_by false s t e = refl
 
 -- the seat's record is as before
 pub exchanged-same : (u i : ℕ) (x y : Option ℕ) (won : Bool) (v w : View) → SharesReady v → Exchanged u i x y won v w → w.state ≡ v.state
-exchanged-same u i x y won v w q e = e.state ∙ same_by won v.state (record_stored v.state u) (stored-same v.shape.fields v.state u q.idle q.stores.owes)
+exchanged-same u i x y won v w q e = e.state ∙ same_by won v.state (record_stored v.state u (e.card_word == 1)) (stored-same v.shape.fields v.state u (e.card_word == 1) q.idle q.stores.owes)
 
 pub exchanged-ready : (u i : ℕ) (x y : Option ℕ) (won : Bool) (v w : View) → SharesReady v → Ran v w → Exchanged u i x y won v w → SharesReady w
 exchanged-ready u i x y won v w q r e =
     let same : w.state ≡ v.state = exchanged-same u i x y won v w q e in
     let first : View = after (ExchangeField u i x y) e.found v in
     let count : Count w ≡ Count v =
-    ap Count (r.steps ∙ ap (λ (es : List Entry). after_all es v) e.did_are) ∙ count_after v first u v.state won (used_in v.state.cache _) _ in
+    ap Count (r.steps ∙ ap (λ (es : List Entry). after_all es v) e.did_are) ∙ count_after first won (used_in v.state.cache (cell_in v.state u)) (card_of (cell_in v.state u)) e.card_word in
     shares-on v w q (ran-shape v w r) (same ∙ ap (λ (s : SeatState). record v.state { env = s.env }) (sym same)) count
 
 -- and after an exchange of a value

@@ -1,7 +1,7 @@
 -- What a command does.
 use Rattle.std.specs.Prelude.{ℕ, ◌≡◌, ◌≤◌, ◌+◌, not, if◌then◌else◌, List, [], ◌∷◌, Bool, true, false, Option}
 use Rattle.mark_core.specs.declared.kinds.Step.{Step}
-use Rattle.mark_core.specs.declared.kinds.Step.TheVariants.{ReadOwn, ReadValue, ReadIdent, ReadCat, StoreField, StoreValue, StoreRoot, StoreNew, DirtyCard}
+use Rattle.mark_core.specs.declared.kinds.Step.TheVariants.{ReadOwn, ReadValue, ReadIdent, ReadCat, StoreField, StoreValue, StoreRoot, StoreNew, DirtyCard, CheckCard}
 use Rattle.plain_heap.specs.declared.operation.Op.{Op}
 use Rattle.plain_heap.specs.declared.operation.Op.TheVariants as ops
 use Rattle.plain_heap.specs.PlainHeap.{Heap}
@@ -28,6 +28,7 @@ belongs (ops.Let v w) (StoreRoot u r) = true
 belongs (ops.Nil v) (StoreRoot u r) = true
 belongs (ops.Set v i w) (ReadIdent c) = true
 belongs (ops.Set v i w) (StoreField u j o) = true
+belongs (ops.Set v i w) (CheckCard card) = true
 belongs (ops.Set v i w) (DirtyCard card) = true
 belongs (ops.Get v w i) (ReadOwn c j) = true
 belongs (ops.Get v w i) (StoreRoot u r) = true

@@ -14,7 +14,7 @@ abbrev pub most_steps : ℕ → Op → ℕ
 most_steps fields (ops.New v n) = fields + 3
 most_steps fields (ops.Let v w) = 1
 most_steps fields (ops.Nil v) = 1
-most_steps fields (ops.Set v i w) = 3
+most_steps fields (ops.Set v i w) = 4
 most_steps fields (ops.Get v w i) = 2
 most_steps fields (ops.Cat v c) = 2
 most_steps fields (ops.Put v n) = 2

@@ -14,7 +14,7 @@ use Rattle.gc_table.specs.PlainSteps.{own_section}
 use Rattle.gc_table.specs.declared.view.View.{View}
 use Rattle.gc_table.specs.Log.{event, events, steps_of}
 use Rattle.gc_table.specs.Running.{Ran}
-use Rattle.card_clean.specs.Barrier.{MayStore, barrier_steps}
+use Rattle.card_clean.specs.Barrier.{MayStore, barrier_steps, was_dirty}
 
 -- the heap's objects are shared; the seat may store, has nothing in hand, makes no cell, has nothing in its register, and each cell that it made has its object
 pub record SharesReady (v : View) : Type 0 where
@@ -32,8 +32,12 @@ pub record TakesSteps (steps : List Step) (v w : View) : Type 0 where
   pub state : w.state ≡ v.state
 
 -- the steps of a store in variable u's object: none if the variable is nil
-abbrev pub setting_steps : SeatState → ℕ → ℕ → ℕ → List Step
-setting_steps s u i w = if word_in s u == 0 then [] else barrier_steps s u i (Some w)
+abbrev pub setting_steps : SeatState → ℕ → ℕ → ℕ → Bool → List Step
+setting_steps s u i w dirty = if word_in s u == 0 then [] else barrier_steps s u i (Some w) dirty
+
+-- field i of variable u's object became what variable w is: these steps were taken, by whether the card was found dirty
+abbrev pub SetsField : ℕ → ℕ → ℕ → View → View → Type 0
+SetsField u i w v x = TakesSteps (setting_steps v.state u i w (was_dirty (events v x))) v x
 
 -- variable u became what field i of variable w's object was found to be, by one read; w isn't nil
 pub record FollowsFound (u w i : ℕ) (v x : View) : Type 0 where

@@ -10,7 +10,7 @@ ghost use Rattle.card_clean.specs.Barrier.{Exchanged};
 ghost use Rattle.gc_table.specs.Running.{Ran};
 ghost use Rattle.gc_table.specs.Taking.{won};
 ghost use Rattle.gc_table.specs.Seats.{Across, Answered, Found, Sits, state_of, view_of};
-ghost use Rattle.mutator_ops.specs.Sharing.{FillsFound, FollowsFound, LendsFound, ShareCreates, SharesReady, SetsVariable, TakesSteps, putting_steps, setting_steps};
+ghost use Rattle.mutator_ops.specs.Sharing.{FillsFound, FollowsFound, LendsFound, SetsField, ShareCreates, SharesReady, SetsVariable, TakesSteps, putting_steps};
 
 use crate::making::next_identity;
 use crate::variables::word_of;
@@ -24,7 +24,7 @@ pub fn share_set(heap: &Heap, seat: &mut HeapSeat, v: u8, i: u8, w: u8)
     requires seat { Sits heap.now seat.old × SharesReady (view_of seat.old) }
     requires range { (v < section_variables) × (i < heap.now.shape.fields) × (w < section_variables) }
     ensures seat { Sits heap.now seat.new × SharesReady (view_of seat.new) }
-    ensures takes { Across (TakesSteps (setting_steps (state_of seat.old) v i w)) seat.old seat.new }
+    ensures takes { Across (SetsField v i w) seat.old seat.new }
 {
     if word_of(seat, v) == 0 {
         return;

@@ -1,12 +1,14 @@
 -- How many steps the calls of a mutator take.
 use Rattle.std.proofs.Common.{ℕ, suc, zero, ◌≤◌, ◌+◌, [], ◌∷◌, length, arith, refl, subst, sym, Bool, true, false}
-use Rattle.std.specs.Prelude.{◌≡◌, if◌then◌else◌}
+use Rattle.std.specs.Prelude.{◌≡◌, ◌==◌, if◌then◌else◌}
 use Rattle.std.proofs.lemmas.List.{length-append}
+use Rattle.mark_core.specs.Cards.{card_of}
 use Rattle.mark_core.specs.Seats.{used_in}
 use Rattle.mark_core.specs.declared.kinds.Step.{Step}
-use Rattle.mark_core.specs.declared.kinds.Step.TheVariants.{StoreSlot}
+use Rattle.mark_core.specs.declared.kinds.Step.TheVariants.{DirtyCard, StoreSlot}
 use Rattle.mark_core.specs.declared.seat.SeatState.{SeatState}
-use Rattle.card_clean.specs.Barrier.{cell_in, dirtied_after}
+use Rattle.card_clean.specs.Barrier.{card_events, cell_in, seen_to}
+use Rattle.gc_table.specs.Log.{event}
 use Rattle.gc_table.specs.Seats.{Found}
 use Rattle.gc_table.specs.declared.view.Entry.{Entry}
 use Rattle.gc_table.specs.declared.view.View.{View}
@@ -19,17 +21,21 @@ use Rattle.seat_steps.specs.Handing.{StopsFrom}
 use Rattle.seat_steps.specs.declared.stepper.Stage.{Stage}
 use Rattle.seat_steps.specs.declared.stepper.Stage.TheVariants.{Inside, Outside}
 
--- one card at most
-card_long : (b : Bool) (x : Entry) → length (if b then [] else x ∷ []) ≤ 1
-card_long true x = omega arith
-card_long false x = omega arith
+-- one card at most, by two steps
+dirtied_long : (b : Bool) (x : Entry) → length (if b then [] else x ∷ []) ≤ 1
+dirtied_long true x = omega arith
+dirtied_long false x = omega arith
 
-won_long : (b : Bool) (s : SeatState) (u : ℕ) → length (if b then dirtied_after s u else []) ≤ 1
-won_long true s u = card_long (used_in s.cache (cell_in s u)) _
-won_long false s u = omega arith
+card_long : (b : Bool) (card word : ℕ) → length (if b then [] else card_events card word) ≤ 2
+card_long true card word = omega arith
+card_long false card word = let last = dirtied_long (word == 1) (event (DirtyCard card) 1) in omega (arith, last)
 
-pub exchanged-few : (u i x y : ℕ) (won : Bool) (v w : View) → ExchangesField u i x y won v w → AtMost 2 v w
-exchanged-few u i x y won v w e = at-most-events 2 v w _ e.exchanged.did_are (let card = won_long won v.state u in omega (arith, card))
+won_long : (b : Bool) (s : SeatState) (u word : ℕ) → length (if b then seen_to s u word else []) ≤ 2
+won_long true s u word = card_long (used_in s.cache (cell_in s u)) (card_of (cell_in s u)) word
+won_long false s u word = omega arith
+
+pub exchanged-few : (u i x y : ℕ) (won : Bool) (v w : View) → ExchangesField u i x y won v w → AtMost 3 v w
+exchanged-few u i x y won v w e = at-most-events 3 v w _ e.exchanged.did_are (let card = won_long won v.state u e.exchanged.card_word in omega (arith, card))
 
 pub exchanged-one : (u m n : ℕ) (won : Bool) (v w : View) → ExchangesValue u m n won v w → AtMost 1 v w
 exchanged-one u m n won v w e = at-most-after v w _ e.found e.finds.0

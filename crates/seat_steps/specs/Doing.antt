@@ -13,7 +13,7 @@ use Rattle.gc_table.specs.declared.seat.Heap.{Heap}
 use Rattle.gc_table.specs.declared.seat.HeapSeat.{HeapSeat}
 use Rattle.gc_table.specs.declared.view.View.{View}
 use Rattle.mutator_ops.specs.Listing.{creating_steps}
-use Rattle.mutator_ops.specs.Sharing.{LendsFound, SetsVariable, TakesSteps, putting_steps, setting_steps}
+use Rattle.mutator_ops.specs.Sharing.{LendsFound, SetsField, SetsVariable, TakesSteps, putting_steps}
 use Rattle.seat_turns.specs.Operating.{TakesSteps as OwnSteps}
 use Rattle.seat_turns.specs.Plain.{Steps, value_in}
 use Rattle.seat_turns.specs.Sharing.{FollowsField, LeavesHeap, MakesShared, MakesSharedAfter}
@@ -24,7 +24,7 @@ abbrev pub DoesShared : Op → View → View → Type 0
 DoesShared (ops.New u n) v w = MakesSharedAfter u n v w
 DoesShared (ops.Let u x) v w = SetsVariable u (word_in v.state x) v w
 DoesShared (ops.Nil u) v w = SetsVariable u 0 v w
-DoesShared (ops.Set u i x) v w = TakesSteps (setting_steps v.state u i x) v w
+DoesShared (ops.Set u i x) v w = SetsField u i x v w
 DoesShared (ops.Get u x i) v w = FollowsField u x i v w
 DoesShared (ops.Put u n) v w = TakesSteps (putting_steps v.state u n) v w
 DoesShared (ops.Cat u c) v w = LendsFound u c v w

@@ -42,7 +42,7 @@ impl Stepper {
     /// If reference i of variable v's object is variable `expected`, it becomes variable `new`. True if it was. Either
     /// may be nil.
     pub fn exchange(&mut self, v: u8, i: u8, expected: u8, new: u8) -> Result<bool, Came>
-        ensures done { IfOk result (λ won. StepperActs (CanExchange self.old v i expected new) 2 (ExchangesField v i expected new won) self.old self.new) }
+        ensures done { IfOk result (λ won. StepperActs (CanExchange self.old v i expected new) 3 (ExchangesField v i expected new won) self.old self.new) }
         ensures refused { IfErr result (λ came. WantsObject came (CanExchange self.old v i expected new) v self.old self.new) }
     {
         if !self.shares() {

@@ -45,7 +45,7 @@ pub fn sets(heap: &Heap, seat: &mut HeapSeat, v: u8, i: u8, w: u8)
     requires range { (v < section_variables) × (i < heap.now.shape.fields) × (w < section_variables) }
     ensures turn { IsAtTurn heap.now seat.new }
     ensures does { Does (ops.Set v i w) heap.now seat.old seat.new }
-    ensures few { Across (AtMost 3) seat.old seat.new }
+    ensures few { Across (AtMost 4) seat.old seat.new }
 {
     if heap.shape().sharing {
         share_set(heap, seat, v, i, w);

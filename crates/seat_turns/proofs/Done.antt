@@ -24,7 +24,7 @@ use Rattle.seat_turns.specs.Plain.{Steps, value_in, value_of_some}
 use Rattle.mutator_ops.proofs.Knowing.{variables-count}
 use Rattle.seat_turns.specs.Standing.{IsAtTurn, MayOperate, Plays, plain_of}
 use Rattle.mutator_ops.specs.Few.{AtMost}
-use Rattle.mutator_ops.specs.Sharing.{LendsFound, SetsVariable, SharesReady, TakesSteps as SharedSteps, next_word, putting_steps, setting_steps}
+use Rattle.mutator_ops.specs.Sharing.{LendsFound, SetsField, SetsVariable, SharesReady, TakesSteps as SharedSteps, next_word, putting_steps, setting_steps}
 use Rattle.mutator_ops.proofs.Few.{at-most-events, at-most-steps, putting-long, setting-long}
 use Rattle.gc_table.specs.Running.{Ran}
 use Rattle.gc_table.proofs.Running.{ran-found, ran-refl}
@@ -35,7 +35,7 @@ use Rattle.mark_core.specs.Steps.MutatorSteps.{seat_variable as word_in}
 use Rattle.mark_core.specs.declared.kinds.Step.TheVariants.{StoreValue, DirtyCard, ExchangeValue, ReadValue, StoreNew, StoreRoot}
 use Rattle.gc_table.specs.Log.{Only, events, steps_of, all_steps}
 use Rattle.gc_table.specs.declared.view.Entry.{Entry}
-use Rattle.card_clean.specs.Barrier.{Exchanged, barrier_steps, cell_in}
+use Rattle.card_clean.specs.Barrier.{Exchanged, barrier_steps, card_steps, cell_in, was_dirty}
 use Rattle.mutator_ops.specs.Holding.{held_kind}
 use Rattle.seat_turns.specs.Exchanging.{ExchangesField, ExchangesValue}
 use Rattle.seat_turns.specs.Operating.{TakesSteps}
@@ -80,8 +80,11 @@ storing-spares Nothing cell steps e = refl
 storing-spares OwnObject cell steps e = e
 storing-spares LentObject cell steps e = refl
 
-pub barrier-spares : (s : SeatState) (u i : ℕ) (w : Option ℕ) → each spares_tracers (barrier_steps s u i w) ≡ true
-barrier-spares s u i w = either {X = List Step} (each spares_tracers) (used_in s.cache (cell_in s u)) [] (DirtyCard (card_of (cell_in s u)) ∷ []) refl refl
+pub barrier-spares : (s : SeatState) (u i : ℕ) (w : Option ℕ) (dirty : Bool) → each spares_tracers (barrier_steps s u i w dirty) ≡ true
+barrier-spares s u i w dirty =
+    let card : ℕ = card_of (cell_in s u) in
+    either {X = List Step} (each spares_tracers) (used_in s.cache (cell_in s u)) [] (card_steps card dirty) refl
+    (either {X = List Step} (each spares_tracers) dirty [] (DirtyCard card ∷ []) refl refl)
 
 pub following-spares : (s : SeatState) (u w i found : ℕ) → all_steps spares_tracers (following_events s u w i found) ≡ true
 following-spares s u w i found = either {X = List Entry} (all_steps spares_tracers) (word_in s w == 0) _ _ refl refl
@@ -209,7 +212,7 @@ takes-spares (ops.Let u x) v w e = only-steps spares_tracers v w _ e refl
 takes-spares (ops.Nil u) v w e = only-steps spares_tracers v w _ e refl
 takes-spares (ops.Set u i x) v w e =
     only-steps spares_tracers v w _ e
-    (storing-spares (held_kind (variable v.own.meaning.heap u)) (word_in v.state u - 1) (barrier_steps v.state u i (Some x)) (barrier-spares v.state u i (Some x)))
+    (storing-spares (held_kind (variable v.own.meaning.heap u)) (word_in v.state u - 1) (barrier_steps v.state u i (Some x) (was_dirty (events v w))) (barrier-spares v.state u i (Some x) (was_dirty (events v w))))
 takes-spares (ops.Put u n) v w e =
     only-steps spares_tracers v w _ e (storing-spares (held_kind (variable v.own.meaning.heap u)) (word_in v.state u - 1) (StoreValue u n ∷ []) refl)
 takes-spares (ops.Get u x i) v w e = only-events spares_tracers v w _ e.1 (following-spares v.state u x i e.0)
@@ -254,8 +257,8 @@ sets-few u r v w k = at-most-events 1 v w _ k.events_are (omega arith)
 pub lends-few : (u c : ℕ) (v w : View) → LendsFound u c v w → AtMost 2 v w
 lends-few u c v w k = at-most-events 2 v w _ k.events_are (omega arith)
 
-pub setting-few : (u i x : ℕ) (v w : View) → SharedSteps (setting_steps v.state u i x) v w → AtMost 2 v w
-setting-few u i x v w k = at-most-steps 2 v w (setting_steps v.state u i x) k.steps_are (setting-long v.state u i x)
+pub setting-few : (u i x : ℕ) (v w : View) → SetsField u i x v w → AtMost 3 v w
+setting-few u i x v w k = at-most-steps 3 v w (setting_steps v.state u i x (was_dirty (events v w))) k.steps_are (setting-long v.state u i x (was_dirty (events v w)))
 
 pub putting-few : (u n : ℕ) (v w : View) → SharedSteps (putting_steps v.state u n) v w → AtMost 1 v w
 putting-few u n v w k = at-most-steps 1 v w (putting_steps v.state u n) k.steps_are (putting-long v.state u n)

@@ -2,11 +2,13 @@
 use Rattle.std.proofs.Common.{ℕ, ◌≡◌, ⊎_elim, ◌+◌, ◌==◌, ◌&&◌, ◌∙◌, List, [], ◌∷◌, ◌++◌, ap, append-nil, append_assoc, arith, not, refl, subst, sym, Bool, true, false, Some}
 use Rattle.std.specs.Prelude.{if◌then◌else◌}
 use Rattle.std.proofs.lemmas.Bool.{and_from, and_parts, eq-eqb, false≢true}
+use Rattle.mark_core.specs.Cards.{card_of}
+use Rattle.mark_core.specs.Seats.{used_in}
 use Rattle.mark_core.specs.Steps.MutatorSteps.{seat_variable as word_in}
 use Rattle.mark_core.specs.declared.kinds.Step.{Step}
 use Rattle.mark_core.specs.declared.kinds.Step.TheVariants.{DirtyCard, ExchangeValue, StoreNew, StoreValue}
 use Rattle.mark_core.specs.declared.seat.SeatState.{SeatState}
-use Rattle.card_clean.specs.Barrier.{barrier_steps}
+use Rattle.card_clean.specs.Barrier.{barrier_steps, card_steps, cell_in, was_dirty}
 use Rattle.gc_table.specs.Log.{all_steps, event, events, steps_of}
 use Rattle.gc_table.specs.Running.{Ran}
 use Rattle.gc_table.specs.Seats.{view_of}
@@ -16,7 +18,7 @@ use Rattle.gc_table.proofs.History.Log.{events-of}
 use Rattle.gc_table.proofs.Running.{ran-grows}
 use Rattle.gc_table.specs.Single.{exchanges_value, is_inside, leaves_values, made_count, makes_object, raises, takes_turn, takes_turns, turned, won_count}
 use Rattle.gc_table.proofs.Counted.{made_join, won_join}
-use Rattle.mutator_ops.specs.Sharing.{LendsFound, SetsVariable, TakesSteps, setting_steps}
+use Rattle.mutator_ops.specs.Sharing.{LendsFound, SetsField, SetsVariable, setting_steps}
 use Rattle.seat_turns.specs.Exchanging.{ExchangesValue}
 use Rattle.seat_turns.specs.Sharing.{FollowsField, spares_heap}
 use Rattle.shared_heap.specs.Calls.{FindsValue, IsSame, SharerActs, field_count_of}
@@ -213,17 +215,20 @@ all_by : (P : Step → Bool) (b : Bool) (xs ys : List Step) → all_of P xs ≡ 
 all_by P true xs ys s t = s
 all_by P false xs ys s t = t
 
-setting_quiet : (s : SeatState) (u i w : ℕ) → all_of is_quiet (setting_steps s u i w) ≡ true
-setting_quiet s u i w = all_by is_quiet (word_in s u == 0) [] (barrier_steps s u i (Some w)) refl (all_by is_quiet _ [] (DirtyCard _ ∷ []) refl refl)
+setting_quiet : (s : SeatState) (u i w : ℕ) (dirty : Bool) → all_of is_quiet (setting_steps s u i w dirty) ≡ true
+setting_quiet s u i w dirty =
+    let card : ℕ = card_of (cell_in s u) in
+    all_by is_quiet (word_in s u == 0) [] (barrier_steps s u i (Some w) dirty) refl
+    (all_by is_quiet (used_in s.cache (cell_in s u)) [] (card_steps card dirty) refl (all_by is_quiet dirty [] (DirtyCard card ∷ []) refl refl))
 
 -- so is a store in a field
-pub set-quiet : (range : Type 0) (x y : SharedMutator) (u i w : ℕ) → SharerActs range (TakesSteps (setting_steps (view_of x.seat).state u i w)) x y → AddsQuiet x y
+pub set-quiet : (range : Type 0) (x y : SharedMutator) (u i w : ℕ) → SharerActs range (SetsField u i w) x y → AddsQuiet x y
 set-quiet range x y u i w s =
     record {
       heap = s.world;
       more = events (view_of x.seat) (view_of y.seat);
       log = ran_log (view_of x.seat) (view_of y.seat) s.does.ran;
-      are = steps_all is_quiet (events (view_of x.seat) (view_of y.seat)) ∙ (ap (all_of is_quiet) s.does.steps_are ∙ setting_quiet (view_of x.seat).state u i w);
+      are = steps_all is_quiet (events (view_of x.seat) (view_of y.seat)) ∙ (ap (all_of is_quiet) s.does.steps_are ∙ setting_quiet (view_of x.seat).state u i w (was_dirty (events (view_of x.seat) (view_of y.seat))));
     }
 
 -- an exchange of a number for the next

@@ -5,7 +5,7 @@ ghost use Rattle.mark_core.specs.Steps.MutatorSteps.{seat_variable as word_in};
 ghost use Rattle.plain_heap.specs.declared.operation.Op.TheVariants as ops;
 ghost use Rattle.gc_table.specs.Seats.{Across, state_of};
 ghost use Rattle.mutator_ops.specs.Few.{AtMost};
-ghost use Rattle.mutator_ops.specs.Sharing.{LendsFound, SetsVariable, TakesSteps, putting_steps, setting_steps};
+ghost use Rattle.mutator_ops.specs.Sharing.{LendsFound, SetsField, SetsVariable, TakesSteps, putting_steps};
 ghost use Rattle.seat_turns.specs.Coming.{CollectsAtTurn, CollectsNone, EntersFull, MakesNoneAtTurn, MakesSharedAtTurn, PollsOutWith, PollsWith, WithOwn};
 ghost use Rattle.seat_turns.specs.Sharing.{FollowsField, MakesSharedAfter};
 ghost use Rattle.shared_heap.specs.Calls.{CantEnter, FindsValue, HasNoRoot, HasPassed, MakesNone, ReadsNone, RefusedBy, SharerCollected, SharerDoes, SharerEntered, SharerLeft, SharerRefused, StaysOut};
@@ -159,10 +159,10 @@ impl SharedMutator {
 
     /// Reference i of variable v's object becomes what variable w refers to. Nothing happens if v refers to nothing.
     pub fn set(&mut self, v: u8, i: u8, w: u8) -> Result<(), Refused>
-        ensures done { IfOk result (λ _. SharerDoes (TakesSteps (setting_steps (state_of self.old.seat) v i w)) (ops.Set v i w) self.old self.new) }
+        ensures done { IfOk result (λ _. SharerDoes (SetsField v i w) (ops.Set v i w) self.old self.new) }
         ensures refused { IfErr result (λ e. SharerRefused e (ops.Set v i w) self.old self.new) }
         ensures world { arc_value self.new.heap ≡ arc_value self.old.heap }
-        ensures few { IfOk result (λ _. Across (AtMost 2) self.old.seat self.new.seat) }
+        ensures few { IfOk result (λ _. Across (AtMost 3) self.old.seat self.new.seat) }
     {
         if v >= VARIABLES || w >= VARIABLES || u32::from(i) >= self.heap.shape().fields {
             return Err(Refused::OutOfRange);

@@ -19,7 +19,7 @@ impl SharedMutator {
         ensures done { IfOk result (λ won. SharerActs (CanExchange self.old v i expected new) (ExchangesField v i expected new won) self.old self.new) }
         ensures refused { IfErr result (λ e. WantsObject e (CanExchange self.old v i expected new) v self.old self.new) }
         ensures world { arc_value self.new.heap ≡ arc_value self.old.heap }
-        ensures few { IfOk result (λ _. Across (AtMost 2) self.old.seat self.new.seat) }
+        ensures few { IfOk result (λ _. Across (AtMost 3) self.old.seat self.new.seat) }
     {
         let fields = self.heap.shape().fields;
         if v >= VARIABLES || u32::from(i) >= fields || expected >= VARIABLES || new >= VARIABLES {

@@ -6,7 +6,7 @@ use Rattle.mark_core.specs.Steps.MutatorSteps.{used_bits}
 use Rattle.mark_core.specs.Seats.{last_made}
 use Rattle.mark_core.specs.declared.kinds.Shape.{Shape}
 use Rattle.mark_core.specs.declared.kinds.Step.{Step}
-use Rattle.mark_core.specs.declared.kinds.Step.TheVariants.{ReadOwn, ReadValue, ReadIdent, ReadCat, StoreField, StoreValue, StoreRoot, StoreNew, DirtyCard}
+use Rattle.mark_core.specs.declared.kinds.Step.TheVariants.{ReadOwn, ReadValue, ReadIdent, ReadCat, StoreField, StoreValue, StoreRoot, StoreNew, DirtyCard, CheckCard}
 use Rattle.mark_core.specs.declared.seat.CacheState.{CacheState}
 use Rattle.mark_core.specs.declared.seat.SeatState.{SeatState}
 use Rattle.plain_heap.specs.PlainHeap.{Heap}
@@ -54,6 +54,7 @@ raises_none (ReadValue c) n b = refl
 raises_none (ReadIdent c) n b = refl
 raises_none (ReadCat u) n b = refl
 raises_none (StoreNew c part word) n b = refl
+raises_none (CheckCard card) n b = refl
 raises_none (DirtyCard card) n b = refl
 raises_none (StoreField u j o) n b = refl
 raises_none (StoreValue u m) n b = refl

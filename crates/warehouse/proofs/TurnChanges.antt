@@ -5,7 +5,7 @@ use Rattle.std.specs.List.{All}
 use Rattle.std.proofs.lemmas.Bool.{and_parts, false≢true}
 use Rattle.std.proofs.lemmas.List.Elements.{All-nil, All-cons, All-append}
 use Rattle.mark_core.specs.declared.kinds.Step.{Step}
-use Rattle.mark_core.specs.declared.kinds.Step.TheVariants.{ReadOwn, ReadValue, ReadIdent, ReadCat, StoreField, StoreValue, StoreRoot, StoreNew, DirtyCard}
+use Rattle.mark_core.specs.declared.kinds.Step.TheVariants.{ReadOwn, ReadValue, ReadIdent, ReadCat, StoreField, StoreValue, StoreRoot, StoreNew, DirtyCard, CheckCard}
 use Rattle.plain_heap.specs.PlainHeap.{Heap}
 use Rattle.plain_heap.specs.declared.operation.Op.{Op}
 use Rattle.plain_heap.specs.declared.operation.Op.TheVariants as ops
@@ -64,6 +64,7 @@ is_of_command (StoreField u j o) = true
 is_of_command (StoreValue u m) = true
 is_of_command (StoreRoot u r) = true
 is_of_command (StoreNew c part word) = true
+is_of_command (CheckCard card) = true
 is_of_command (DirtyCard card) = true
 is_of_command step = false
 
@@ -84,6 +85,7 @@ turns_step v (ReadValue c) n b = turns-none _ _ _ refl refl
 turns_step v (ReadIdent c) n b = turns-none _ _ _ refl refl
 turns_step v (ReadCat u) n b = turns-none _ _ _ refl refl
 turns_step v (StoreNew c part word) n b = turns-none _ _ _ refl refl
+turns_step v (CheckCard card) n b = turns-none _ _ _ refl refl
 turns_step v (DirtyCard card) n b = turns-none _ _ _ refl refl
 turns_step v (StoreField u j o) n b = one_turn v.own (after (StoreField u j o) n v).own (season_of v.state) refl
 turns_step v (StoreValue u m) n b = one_turn v.own (after (StoreValue u m) n v).own (season_of v.state) refl
@@ -96,6 +98,7 @@ season-step v (ReadValue c) n b = refl
 season-step v (ReadIdent c) n b = refl
 season-step v (ReadCat u) n b = refl
 season-step v (StoreNew c part word) n b = refl
+season-step v (CheckCard card) n b = refl
 season-step v (DirtyCard card) n b = refl
 season-step v (StoreField u j o) n b = refl
 season-step v (StoreValue u m) n b = refl
@@ -118,6 +121,7 @@ of-command op (ReadValue c) b = refl
 of-command op (ReadIdent c) b = refl
 of-command op (ReadCat u) b = refl
 of-command op (StoreNew c part word) b = refl
+of-command op (CheckCard card) b = refl
 of-command op (DirtyCard card) b = refl
 of-command op (StoreField u j o) b = refl
 of-command op (StoreValue u m) b = refl

@@ -1,13 +1,12 @@
-use Rattle.std.proofs.Common.{ℕ, ◌≡◌, List, [], ◌∷◌, ◌++◌, refl, sym, ap, ◌∙◌, subst, Bool, true, false, cond, eqb, Option, Some, None, ◌<◌}
-use Rattle.std.specs.Prelude.{IsTrue, is_none}
-use Rattle.std.proofs.lemmas.Bool.{true≢false, eq-eqb}
+use Rattle.std.proofs.Common.{ℕ, ◌≡◌, List, [], ◌∷◌, ◌++◌, refl, sym, ap, ◌∙◌, subst, Bool, true, false, cond, eqb, ◌||◌, Option, Some, None, ◌<◌}
+use Rattle.std.specs.Prelude.{IsTrue, ◌==◌, if◌then◌else◌}
 use Rattle.std.proofs.lemmas.Option.{same_Some}
 use Rattle.mark_core.specs.Cards.{card_of}
-use Rattle.mark_core.specs.Seats.{is_the, may_mutate, used_in}
-use Rattle.mark_core.specs.Steps.ColourSteps.{dirty_card_effect, fresh_off, popped_off, redirty_off}
+use Rattle.mark_core.specs.Seats.{may_mutate, used_in}
+use Rattle.mark_core.specs.Steps.ColourSteps.{dirty_card_effect}
 use Rattle.mark_core.specs.Steps.MutatorSteps.{variable_or_nil}
 use Rattle.mark_core.specs.declared.kinds.Step.{Step}
-use Rattle.mark_core.specs.declared.kinds.Step.TheVariants.{DirtyCard, ExchangeField}
+use Rattle.mark_core.specs.declared.kinds.Step.TheVariants.{ExchangeField}
 use Rattle.mark_core.specs.declared.seat.SeatState.{SeatState}
 use Rattle.gc_table.specs.Log.{event, events}
 use Rattle.gc_table.specs.PlainSteps.{HasSeenPhase}
@@ -16,52 +15,37 @@ use Rattle.gc_table.specs.Taking.{after, Finds}
 use Rattle.gc_table.specs.declared.view.Entry.{Entry}
 use Rattle.gc_table.specs.declared.view.View.{View}
 use Rattle.gc_table.proofs.History.Log.{events-after}
-use Rattle.gc_table.proofs.Running.{ran-found, ran-stored, ran-join, ran-events}
-use Rattle.card_clean.specs.Barrier.{MayStore, Exchanged, cell_in}
+use Rattle.gc_table.proofs.Running.{ran-found, ran-join, ran-events}
+use Rattle.card_clean.specs.Barrier.{MayStore, Exchanged, Paid, card_events, cell_in, record_paid}
 use Rattle.mark_core.specs.declared.kinds.Shape.{Shape}
 use Rattle.gc_table.specs.declared.seat.HeapSeat.{HeapSeat}
 use Rattle.gc_table.specs.Seats.{Sits, view_of}
-use Rattle.card_clean.proofs.Owned.{may-exchange_field, may-dirty_owed}
+use Rattle.card_clean.proofs.Owned.{may-exchange_field}
+use Rattle.card_clean.proofs.Paying.{SeenTo, none-some, paid-may, paid-record}
 use Rattle.card_clean.proofs.sharing.exchange_ref.Goals as goal
 use Rattle.card_clean.proofs.sharing.exchange_ref.Goals.{in-Some, in_default}
 
 -- An exchange with its barrier: it was won if the seat owes a card afterwards or the object isn't published.
-none_some : (o : Option ℕ) (k : ℕ) (P : Type 0) → o ≡ None → o ≡ Some k → P
-none_some o k P e f = absurd (true≢false (ap is_none (sym e ∙ f)))
-
 -- what is owed after an exchange
 abbrev Owed : SeatState → ℕ → Bool → Bool → Option ℕ
 Owed s card won used = cond won (cond used s.owes (Some card)) s.owes
 
-abbrev Dirtied : ℕ → Bool → Bool → List Entry
-Dirtied card won used = cond won (cond used [] (event (DirtyCard card) 1 ∷ [])) []
+abbrev Seen : ℕ → ℕ → Bool → Bool → List Entry
+Seen card word won used = cond won (cond used [] (card_events card word)) []
 
-abbrev Left : SeatState → ℕ → Bool → Bool → SeatState
-Left s card won used = cond won (cond used s ((dirty_card_effect s card).seat 0)) s
+abbrev Left : SeatState → ℕ → Bool → Bool → Bool → SeatState
+Left s card dirty won used = cond won (if used || dirty then s else (dirty_card_effect s card).seat 0) s
 
--- if nothing is owed, no card has to be dirtied
-clean_case : (s : SeatState) (card : ℕ) (won used : Bool) → Owed s card won used ≡ None → ([] ≡ Dirtied card won used) × (record s { owes = Owed s card won used } ≡ Left s card won used)
+-- if nothing is owed, no card has to be seen to
+clean_case : (s : SeatState) (card : ℕ) (won used : Bool) → Owed s card won used ≡ None → ([] ≡ Seen card 0 won used) × (record s { owes = Owed s card won used } ≡ Left s card false won used)
 clean_case s card false used e = (refl, refl)
 clean_case s card true true e = (refl, refl)
-clean_case s card true false e = none_some (Some card) card _ e refl
+clean_case s card true false e = none-some (Some card) card _ e refl
 
 dirty_case : (s : SeatState) (card k : ℕ) (won used : Bool) → s.owes ≡ None → Owed s card won used ≡ Some k → (won ≡ true) × (used ≡ false) × (card ≡ k)
-dirty_case s card k false used z e = none_some s.owes k _ z e
-dirty_case s card k true true z e = none_some s.owes k _ z e
+dirty_case s card k false used z e = none-some s.owes k _ z e
+dirty_case s card k true true z e = none-some s.owes k _ z e
 dirty_case s card k true false z e = (refl, refl, same_Some card k e)
-
--- a card that is dirtied isn't owed
-off_some : (o : Option ℕ) (card : ℕ) → o ≡ Some card → cond (is_the o card) None o ≡ None
-off_some None card e = none_some None card _ refl e
-off_some (Some k) card e = ap (λ (b : Bool). cond b None (Some k)) (eq-eqb k card (same_Some k card e))
-
-off_none : (o : Option ℕ) (card : ℕ) → o ≡ None → cond (is_the o card) None o ≡ None
-off_none None card e = refl
-off_none (Some k) card e = none_some (Some k) k _ e refl
-
-dirty_same : (s : SeatState) (card : ℕ) (o : Option ℕ) → s.owes ≡ None → o ≡ Some card → (dirty_card_effect (record s { owes = o }) card).seat 1 ≡ (dirty_card_effect s card).seat 0
-dirty_same s card o z e =
-    ap (λ (a : Option ℕ). record s { fresh = fresh_off s.fresh card; popped = popped_off s.popped card; owes = a; cleaning = redirty_off s.cleaning card }) (off_some o card e ∙ sym (off_none s.owes card z))
 
 -- what is known after the exchange and its barrier
 record Done (u i : ℕ) (x y : Option ℕ) (n : ℕ) (v w : View) : Type 0 where
@@ -84,6 +68,7 @@ done-clean v w u i x y n k e f none =
             found = n;
             finds = f;
             won_by = refl;
+            card_word = 0;
             did_are = events-after v w (ExchangeField u i x y) n e ∙ ap (λ (es : List Entry). event (ExchangeField u i x y) n ∷ es) c.0;
             state = state_is ∙ c.1;
           };
@@ -96,9 +81,9 @@ done-clean v w u i x y n k e f none =
       ran = ran-found v w (ExchangeField u i x y) n refl (e, f);
     }
 
--- the card that is owed was dirtied
-done-dirty : (v m w : View) (u i : ℕ) (x y : Option ℕ) (n k : ℕ) → MayStore v → m ≡ after (ExchangeField u i x y) n v → Finds (ExchangeField u i x y) n v → m.state.owes ≡ Some k → w ≡ after (DirtyCard k) 1 m → Done u i x y n v w
-done-dirty v m w u i x y n k may e f some d =
+-- the card that is owed was seen to
+done-paid : (v m w : View) (u i : ℕ) (x y : Option ℕ) (n k : ℕ) → MayStore v → m ≡ after (ExchangeField u i x y) n v → Finds (ExchangeField u i x y) n v → m.state.owes ≡ Some k → Paid k m w → Done u i x y n v w
+done-paid v m w u i x y n k may e f some p =
     let s : SeatState = v.state in
     let card : ℕ = card_of (cell_in s u) in
     let won : Bool = eqb n (variable_or_nil s x) in
@@ -109,35 +94,27 @@ done-dirty v m w u i x y n k may e f some d =
     let owes_it : owed ≡ Some k = sym (ap (λ (z : SeatState). z.owes) between) ∙ some in
     let q = dirty_case s card k won used may.owes owes_it in
     let first : Ran v m = ran-found v m step n refl (e, f) in
-    let second : Ran m w = ran-stored m w (DirtyCard k) refl d in
-    let left : w.state ≡ (dirty_card_effect s k).seat 0 =
-    ap (λ (z : View). z.state) d ∙ (ap (λ (z : SeatState). (dirty_card_effect z k).seat 1) between ∙ dirty_same s k owed may.owes owes_it) in
-    let both : events v w ≡ event step n ∷ event (DirtyCard k) 1 ∷ [] =
-    ran-events v m w first second ∙ (ap (λ (es : List Entry). es ++ events m w) (events-after v m step n e) ∙ ap (λ (es : List Entry). event step n ∷ es) (events-after m w (DirtyCard k) 1 d)) in
-    let told : event (DirtyCard k) 1 ∷ [] ≡ Dirtied card won used = rw (q.0, q.1, q.2) refl in
-    let stays : (dirty_card_effect s k).seat 0 ≡ Left s card won used = rw (q.0, q.1, q.2) refl in
+    let left : w.state ≡ SeenTo s k (p.word == 1) = p.state ∙ (ap (λ (z : SeatState). record_paid z k (p.word == 1)) between ∙ paid-record s k owed (p.word == 1) may.owes owes_it) in
+    let both : events v w ≡ event step n ∷ card_events k p.word = ran-events v m w first p.ran ∙ (λ j. events-after v m step n e j ++ p.did_are j) in
     record {
       exchanged =
           record {
             found = n;
             finds = f;
             won_by = refl;
-            did_are = both ∙ ap (λ (es : List Entry). event step n ∷ es) told;
-            state = left ∙ stays;
+            card_word = p.word;
+            did_are = both ∙ (λ j. event step n ∷ Seen (sym q.2 j) p.word (sym q.0 j) (sym q.1 j));
+            state = left ∙ (λ j. Left s (sym q.2 j) (p.word == 1) (sym q.0 j) (sym q.1 j));
           };
-      may =
-          record {
-            turn = subst (λ (z : SeatState). IsTrue (may_mutate z)) (sym left) may.turn;
-            seen = subst HasSeenPhase (sym left) may.seen;
-            owes = ap (λ (z : SeatState). z.owes) left ∙ off_none s.owes k may.owes;
-          };
-      ran = ran-join v m w first second;
+      may = paid-may v w k (p.word == 1) may left;
+      ran = ran-join v m w first p.ran;
     }
 
-pub dirty_card-requires-clause-may : goal.dirty_card-requires-clause-may
-dirty_card-requires-clause-may c =
-    let w : View = view_of c.exchange_field-found.new.seat in
-    may-dirty_owed w c.in-Some.card (ap (λ (x : View). may_mutate x.state) c.exchange_field-found.ensures.view.0 ∙ c.requires.seat.1.turn) (sym (ap (λ (s : SeatState). s.owes) c.state-2.ensures) ∙ c.in-Some.is)
+pub pay_card-requires-clause-turn : goal.pay_card-requires-clause-turn
+pay_card-requires-clause-turn c = ap (λ (x : View). may_mutate x.state) c.exchange_field-found.ensures.view.0 ∙ c.requires.seat.1.turn
+
+pub pay_card-requires-clause-owes : goal.pay_card-requires-clause-owes
+pay_card-requires-clause-owes c = sym (ap (λ (s : SeatState). s.owes) c.state-2.ensures) ∙ c.in-Some.is
 
 abbrev Whole : goal.Joined-state → HeapSeat → Type 0
 Whole c seat = Sits c.args.heap.now seat × Done c.args.v c.args.field c.args.expected c.args.new c.exchange_field-found.result (view_of c.args.seat.now) (view_of seat)
@@ -150,8 +127,8 @@ whole c =
     elim c.match-state.branch [
       | in-Some w ↦
           subst (Whole c) (sym w.seat-is) (
-            w.dirty_card.ensures.seat,
-            done-dirty v m (view_of w.dirty_card.new.seat) c.args.v c.args.field c.args.expected c.args.new c.exchange_field-found.result w.in-Some.card c.requires.seat.1 f.0 f.1 (sym (ap (λ (s : SeatState). s.owes) c.state-2.ensures) ∙ w.in-Some.is) w.dirty_card.ensures.view,
+            w.pay_card.ensures.seat,
+            done-paid v m (view_of w.pay_card.new.seat) c.args.v c.args.field c.args.expected c.args.new c.exchange_field-found.result w.in-Some.card c.requires.seat.1 f.0 f.1 (sym (ap (λ (s : SeatState). s.owes) c.state-2.ensures) ∙ w.in-Some.is) w.pay_card.ensures.paid,
           )
       | in_default w ↦
           subst (Whole c) (sym w.seat-is) (

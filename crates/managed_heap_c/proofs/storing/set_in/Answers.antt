@@ -1,7 +1,7 @@
 use Rattle.std.proofs.Common.{ℕ, ◌==◌, ◌-◌, ◌∙◌, [], Some, ap}
 use Rattle.std.specs.Prelude.{if◌then◌else◌}
-use Rattle.gc_table.specs.Seats.{state_of}
-use Rattle.card_clean.specs.Barrier.{barrier_steps}
+use Rattle.gc_table.specs.Seats.{did, state_of}
+use Rattle.card_clean.specs.Barrier.{barrier_steps, was_dirty}
 use Rattle.mark_core.specs.Steps.MutatorSteps.{seat_variable as word_in}
 use Rattle.mutator_ops.specs.Holding.{held_kind}
 use Rattle.mutator_ops.specs.Listing.{storing_steps}
@@ -25,6 +25,7 @@ returns c =
             own = λ n. ap (λ ref. stored_at h ref (λ object. with_field object a.i (variable h a.w))) n;
             takes = λ n k. k ∙ ap (λ ref. storing_steps (held_kind ref) (word_in (state_of a.stepper.now.seat) a.v - 1) (barrier_steps (state_of a.stepper.now.seat) a.v a.i (Some a.w))) n;
             shared = λ n k. k.steps_are ∙ ap (λ (word : ℕ). if word == 0 then [] else barrier_steps (state_of a.stepper.now.seat) a.v a.i (Some a.w)) n;
+            shared = λ n k. k.steps_are ∙ ap (λ (word : ℕ). if word == 0 then [] else barrier_steps (state_of a.stepper.now.seat) a.v a.i (Some a.w) (was_dirty (did a.stepper.now.seat c.set.new.self.seat))) n;
           })
           e.nil
           e.some
