@@ -69,8 +69,9 @@ fn of_colour(shape: &Shape, phase: u64, s: &SeatState, step: &Step) -> Option<u8
         Step::ReadRoot { section, v } => colour::check_read_root(shape, phase, s, section, v),
         Step::LoadSlot { section, k } => colour::check_load_slot(shape, phase, s, section, k),
         Step::SetMark { c } => colour::check_set_mark(shape, phase, s, c),
-        Step::DirtyCard { card } | Step::CheckCard { card } =>
-            colour::check_dirty_card(shape, s, card),
+        Step::DirtyCard { card } | Step::CheckCard { card } => colour::check_dirty_card(
+            shape, s, card,
+        ),
         Step::ClearCard { card } => colour::check_clear_card(shape, phase, s, card),
         Step::ReadMarks { b } => colour::check_read_marks(shape, s, b),
         Step::ReadCard { card } => colour::check_read_card(shape, card),
