@@ -15,7 +15,8 @@
 //!
 //! A second word counts helpers, with a flag of its own. The seat that stopped the world may open it to helpers
 //! ([`open_help`], [`join_help`], [`leave_help`]). Until it has closed help and the last helper has left
-//! ([`close_help`]) it isn't alone: it can note only the phase, and doesn't move it.
+//! ([`close_help`]) it isn't alone: it can note only the phase, and doesn't move it. A seat that doesn't wait closes it in
+//! tries ([`shut_help`], [`finds_alone`]).
 //!
 //! Only [`await_stopped`], [`await_resumed`] and [`close_help`] wait for another thread. No call promises that a wait
 //! ends.
@@ -26,5 +27,5 @@ mod helping;
 mod waiting;
 
 pub use gates::{Raised, enter, leave, poll, raise, resume};
-pub use helping::{close_help, join_help, leave_help, open_help};
+pub use helping::{close_help, finds_alone, join_help, leave_help, open_help, shut_help};
 pub use waiting::{await_resumed, await_stopped};
