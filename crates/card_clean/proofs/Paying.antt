@@ -15,8 +15,7 @@ use Rattle.gc_table.specs.PlainSteps.{HasSeenPhase}
 use Rattle.gc_table.specs.Running.{Ran}
 use Rattle.gc_table.specs.Seats.{Found, Stored}
 use Rattle.gc_table.specs.Sections.{section_after}
-use Rattle.gc_table.specs.Taking.{after, Finds}
-use Rattle.gc_table.specs.declared.view.Entry.{Entry}
+use Rattle.gc_table.specs.Taking.{after}
 use Rattle.gc_table.specs.declared.view.View.{View}
 use Rattle.gc_table.proofs.History.Log.{events-after}
 use Rattle.gc_table.proofs.Running.{ran-found, ran-stored, ran-join, ran-events}
@@ -129,32 +128,9 @@ pub record Stores (u i : ℕ) (r : Option ℕ) (v w : View) : Type 0 where
 abbrev Owed : SeatState → ℕ → Bool → Option ℕ
 Owed s card used = if used then s.owes else Some card
 
-owes_none : (s : SeatState) (card : ℕ) (used : Bool) → Owed s card used ≡ None → used ≡ true
-owes_none s card true e = refl
-owes_none s card false e = none-some (Some card) card _ e refl
-
 owes_some : (s : SeatState) (card k : ℕ) (used : Bool) → s.owes ≡ None → Owed s card used ≡ Some k → (used ≡ false) × (card ≡ k)
 owes_some s card k true z e = none-some s.owes k _ z e
 owes_some s card k false z e = (refl, same_Some card k e)
-
--- the object isn't published
-pub stores-new : (v w : View) (u i : ℕ) (r : Option ℕ) → MayStore v → Stored (StoreField u i r) v w → w.state.owes ≡ None → Stores u i r v w
-stores-new v w u i r m e none =
-    let s : SeatState = v.state in
-    let step : Step = StoreField u i r in
-    let card : ℕ = card_of (cell_in s u) in
-    let used : Bool = used_in s.cache (cell_in s u) in
-    let between : w.state ≡ record s { owes = Owed s card used } = ap (λ (x : View). x.state) e in
-    let new : used ≡ true = owes_none s card used (sym (ap (λ (z : SeatState). z.owes) between) ∙ none) in
-    let same : w.state ≡ s = between ∙ ap (λ (b : Bool). record s { owes = Owed s card b }) new in
-    let dirty : Bool = was_dirty (events v w) in
-    record {
-      ran = ran-stored v w step refl e;
-      steps = ap steps_of (events-after v w step _ e) ∙ ap (λ (b : Bool). step ∷ (if b then [] else card_steps card dirty)) (sym new);
-      state = same ∙ ap (λ (b : Bool). if b || dirty then s else (dirty_card_effect s card).seat 0) (sym new);
-      own = ap (λ (x : View). x.own) e;
-      may = paid-may v w card true m same;
-    }
 
 -- its card is owed, and seen to
 pub stores-paid : (v m w : View) (u i k : ℕ) (r : Option ℕ) → MayStore v → Stored (StoreField u i r) v m → m.state.owes ≡ Some k → Paid k m w → Stores u i r v w

@@ -1,18 +1,17 @@
 -- The views that an upgrade goes through: after the cell was asked for, after its identity was read, and after the variable was stored.
-use Rattle.std.proofs.Common.{ℕ, ◌≡◌, ◌+◌, ◌%◌, ◌<◌, List, [], ◌∷◌, ◌++◌, arith, refl, sym, ap, ◌∙◌, subst, Bool, true, false, ◌||◌, not, length, cond, ◌⊎◌, inl, inr, ⊎_elim, Option, Some, None, is_none}
-use Rattle.std.specs.Prelude.{◌==◌, IsFalse, slice_set}
-use Rattle.std.specs.List.{list_any}
+use Rattle.std.proofs.Common.{ℕ, ◌≡◌, ◌+◌, ◌%◌, ◌<◌, [], ◌∷◌, ◌++◌, arith, refl, sym, ap, ◌∙◌, subst, Bool, true, false, ◌||◌, not, length, cond, inl, inr, is_none}
+use Rattle.std.specs.Prelude.{IsFalse, slice_set}
 use Rattle.std.proofs.lemmas.Bool.{and_from, lt-ltb, not_from_false}
 use Rattle.mark_core.specs.Bits.{has_bit, reference_in}
 use Rattle.mark_core.specs.Cards.{block_cells}
-use Rattle.mark_core.specs.Numbers.{section_variables, reference_bound}
+use Rattle.mark_core.specs.Numbers.{section_variables}
 use Rattle.mark_core.specs.Seats.{may_mutate, has_making, used_in}
 use Rattle.mark_core.specs.Steps.MutatorSteps.{weak_reference}
 use Rattle.mark_core.specs.declared.kinds.Shape.{Shape}
 use Rattle.mark_core.specs.declared.kinds.Step.TheVariants.{ReadIdent, ReadWeak, StoreRoot}
 use Rattle.mark_core.specs.declared.seat.SeatState.{SeatState}
 use Rattle.gc_table.specs.declared.view.View.{View}
-use Rattle.gc_table.specs.Log.{event, events}
+use Rattle.gc_table.specs.Log.{event}
 use Rattle.gc_table.specs.Running.{Ran}
 use Rattle.gc_table.specs.Seats.{Found, Stored}
 use Rattle.gc_table.specs.Taking.{May}
@@ -122,6 +121,12 @@ finds-identity u c n id r v x y w ready f low some g whole e =
           ∙ (λ i. (events-after v x (ReadWeak c) n f.0 i ++ events-after x y (ReadIdent c) id g.0 i) ++ event (StoreRoot u r) r ∷ []);
       state = ends-state u r v y w ready q e ∙ ap (λ k. record v.state { env = slice_set v.state.env u k }) whole;
     }
+
+-- which bits were found, told to others
+pub finds-bits : (u c n id r : ℕ) (v x y w : View) (ready : SharesReady v) (f : Found (ReadWeak c) n v x) (low : c < v.shape.cells) (some : x.state.got ≡ 0 → ⊥) (g : Found (ReadIdent c) id x y) (whole : reference_in r ≡ r) (e : Stored (StoreRoot u r) y w)
+    → (finds-identity u c n id r v x y w ready f low some g whole e).bits ≡ n
+unfolding finds-identity
+finds-bits u c n id r v x y w ready f low some g whole e = refl
 
 -- What each upgrade did, whatever it found.
 pub upgraded-ran : (u c id : ℕ) (there : Bool) (v w : View) → Upgrades u c id there v w → Ran v w

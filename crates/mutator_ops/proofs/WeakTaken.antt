@@ -1,19 +1,22 @@
 -- The views that the taking of a weak reference goes through: after the seat published what it made, after the cell was asked for, and after all.
-use Rattle.std.proofs.Common.{ℕ, ◌≡◌, ◌+◌, ◌-◌, ◌%◌, ◌<◌, List, [], ◌∷◌, ◌++◌, arith, refl, sym, ap, ◌∙◌, subst, Bool, true, false, ◌||◌, not, length, cond, ⊎_elim, Option, Some, None, is_none, is_some}
+use Rattle.std.proofs.Common.{ℕ, ◌≡◌, ◌+◌, ◌-◌, ◌%◌, ◌<◌, arith, refl, sym, ap, ◌∙◌, subst, Bool, true, false, ◌||◌, length, cond, Option, Some, None, is_none, is_some}
 use Rattle.std.specs.Prelude.{IsFalse, slice_set}
-use Rattle.std.proofs.lemmas.Bool.{and_from, lt-ltb, not_from_false, false≢true, or_cases}
-use Rattle.mark_core.specs.Bits.{has_bit, reference_in}
+use Rattle.std.proofs.lemmas.Bool.{and_from, lt-ltb, not_from_false, false≢true}
+use Rattle.mark_core.specs.Bits.{cell_of, has_bit, reference_in}
 use Rattle.mark_core.specs.Cards.{block_cells}
+use Rattle.mark_core.specs.Numbers.{section_variables}
 use Rattle.mark_core.specs.Seats.{may_mutate, has_making, used_in, work_in_hand}
 use Rattle.mark_core.specs.Steps.MutatorSteps.{seat_variable as word_in, without_used}
 use Rattle.mark_core.specs.declared.kinds.Shape.{Shape}
-use Rattle.mark_core.specs.declared.kinds.Step.TheVariants.{PublishCells, ReadWeak}
+use Rattle.mark_core.specs.declared.kinds.Step.TheVariants.{PublishCells, ReadIdent, ReadWeak, StoreRoot}
 use Rattle.mark_core.specs.declared.seat.CacheState.{CacheState}
 use Rattle.mark_core.specs.declared.seat.SeatState.{SeatState}
 use Rattle.mark_core.proofs.Used.UsedSeats.{published-none}
 use Rattle.gc_table.specs.declared.view.View.{View}
 use Rattle.gc_table.specs.Running.{Ran}
-use Rattle.gc_table.specs.Seats.{Found}
+use Rattle.gc_table.specs.Seats.{Across, Found, Stored, state_of, view_of}
+use Rattle.gc_table.specs.declared.seat.HeapSeat.{HeapSeat}
+use Rattle.gc_table.proofs.Fitting.{possible-live}
 use Rattle.gc_table.specs.Taking.{May}
 use Rattle.gc_table.proofs.Running.{ran-found, ran-join, ran-refl, ran-shape}
 use Rattle.alloc_cache.specs.Caching.{is_whole}
@@ -22,9 +25,9 @@ use Rattle.mutator_ops.specs.Few.{AtMost}
 use Rattle.mutator_ops.specs.Sharing.{SharesReady}
 use Rattle.mutator_ops.specs.Weak.{FindsUnpublished, PublishesIf, PublishesOwn, TakesWeak}
 use Rattle.mutator_ops.proofs.Few.{at-most-after, at-most-events, at-most-join, at-most-more, at-most-none}
-use Rattle.mutator_ops.proofs.Knowing.{Knows, cell-there}
+use Rattle.mutator_ops.proofs.Knowing.{Knows, cell-there, knows-variable}
 use Rattle.mutator_ops.proofs.Storing.{shares-on}
-use Rattle.mutator_ops.proofs.Upgraded.{IsRead, weak-got, weak-read}
+use Rattle.mutator_ops.proofs.Upgraded.{IsRead, finds-bits, finds-identity, weak-fits, weak-got, weak-read, weak-whole}
 
 -- a cache stays whole when its used cells are published
 making-on : (o : Option CacheState) → has_making (without_used o) ≡ has_making o
@@ -97,7 +100,7 @@ pub published-clear : (c n : ℕ) (v w : View) → Found PublishCells n v w → 
 published-clear c n v w f = ap (λ (y : View). used_in y.state.cache c) f.0 ∙ published-none v.state.cache c
 
 -- a cell that the seat knows may be asked for
-pub may-ask : (c : ℕ) (v : View) → SharesReady v → IsFalse v.state.spent → Knows v c → May (ReadWeak c) v
+may-ask : (c : ℕ) (v : View) → SharesReady v → IsFalse v.state.spent → Knows v c → May (ReadWeak c) v
 may-ask c v ready live k y i st a = (and_from _ _ (lt-ltb c y.core.shape.cells (cell-there y i v st a live c (k.known y i st a))) ready.stores.turn, tt)
 
 -- where no reference was given, the record is as before
@@ -118,6 +121,70 @@ set-by false false n e f = absurd (f refl)
 
 pub bit-set : (c n : ℕ) (v x : View) → Found (ReadWeak c) n v x → used_in v.state.cache c ≡ false → (x.state.got ≡ 0 → ⊥) → has_bit n (c % block_cells) ≡ true
 bit-set c n v x f none some = set-by (has_bit n (c % block_cells)) (used_in v.state.cache c) (reference_in (c + 1)) none (λ z. some (weak-got c n v x f ∙ z))
+
+-- a cell that the seat knows exists
+known-low : (c n : ℕ) (v x : View) → Found (ReadWeak c) n v x → IsFalse v.state.spent → Knows v c → c < v.shape.cells
+known-low c n v x f live k =
+    let q = f.1 in
+    subst (λ (sh : Shape). c < sh.cells) (sym q.agrees.shape) (cell-there q.state q.index v q.whole q.agrees live c (k.known q.state q.index q.whole q.agrees))
+
+-- so it is the cell that the variable names
+cell-is : (u c n : ℕ) (v w x : View) → word_in v.state u ≡ c + 1 → Found (ReadWeak c) n w x → c < w.shape.cells → c ≡ cell_in v.state u
+cell-is u c n v w x word f low = subst (λ k. c ≡ cell_of k) (sym word) (let fits = weak-fits c n w x f low in omega (arith, fits))
+
+-- variable u's object is in cell c, and isn't one that the seat made and hasn't published: what is so before the cell is asked for
+pub record Asks (u c : ℕ) (v w : View) : Type 0 where
+  pub below : u < section_variables
+  pub word : word_in v.state u ≡ c + 1
+  pub publishes : PublishesOwn c v w
+  pub ready : SharesReady w
+  pub live : IsFalse w.state.spent
+  pub none : used_in w.state.cache c ≡ false
+
+pub asks : {u c word : ℕ} (s t : HeapSeat) → u < section_variables → 0 < word_in (state_of s) u → word ≡ word_in (state_of s) u → c ≡ word - 1 → Across (PublishesOwn c) s t → SharesReady (view_of t) → used_in (state_of t).cache c ≡ false
+    → Asks u c (view_of s) (view_of t)
+asks {u} {c} {word} s t below some is cell p ready none = record { below = below; word = omega (arith, some, is, cell); publishes = p; ready = ready; live = possible-live (view_of t) t.possible; none = none }
+
+-- the seat knows the cell
+asks-known : (u c : ℕ) (v w : View) → Asks u c v w → Knows w c
+asks-known u c v w a = knows-variable w u c a.live a.below (ap (λ (s : SeatState). word_in s u) (publishes c v w a.publishes).state ∙ a.word)
+
+pub asks-may : (u c : ℕ) (v w : View) → Asks u c v w → May (ReadWeak c) w
+asks-may u c v w a = may-ask c w a.ready a.live (asks-known u c v w a)
+
+pub asks-low : (u c n : ℕ) (v w x : View) → Asks u c v w → Found (ReadWeak c) n w x → c < w.shape.cells
+asks-low u c n v w x a f = known-low c n w x f a.live (asks-known u c v w a)
+
+-- variable u's object is published, and its identity was read
+takes : (u id n : ℕ) (v w x y z : View) → SharesReady w → PublishesOwn (cell_in v.state u) v w → used_in w.state.cache (cell_in v.state u) ≡ false → Found (ReadWeak (cell_in v.state u)) n w x
+    → cell_in v.state u < w.shape.cells → (x.state.got ≡ 0 → ⊥) → Found (ReadIdent (cell_in v.state u)) id x y → reference_in (word_in v.state u) ≡ word_in v.state u
+    → Stored (StoreRoot u (word_in v.state u)) y z → TakesWeak u id v z
+takes u id n v w x y z ready p none f low some g whole e =
+    record {
+      own = w;
+      publishes = p;
+      finds = finds-identity u (cell_in v.state u) n id (word_in v.state u) w x y z ready f low some g whole e;
+      published =
+          ap (λ k. has_bit k (cell_in v.state u % block_cells)) (finds-bits u (cell_in v.state u) n id (word_in v.state u) w x y z ready f low some g whole e)
+          ∙ bit-set (cell_in v.state u) n w x f none some;
+    }
+
+pub takes-weak : (u c r id n : ℕ) (v w x y z : View) → Asks u c v w → Found (ReadWeak c) n w x → (x.state.got ≡ 0 → ⊥) → Found (ReadIdent c) id x y → r ≡ x.state.got → Stored (StoreRoot u r) y z → TakesWeak u id v z
+takes-weak u c r id n v w x y z a f some g is e =
+    let low = asks-low u c n v w x a f in
+    let cell : c ≡ cell_in v.state u = cell-is u c n v w x a.word f low in
+    let found : r ≡ c + 1 = is ∙ weak-got c n w x f ∙ weak-whole c n w x f low some in
+    let word : r ≡ word_in v.state u = found ∙ sym a.word in
+    let whole : reference_in r ≡ r = ap reference_in found ∙ weak-fits c n w x f low ∙ sym found in
+    takes u id n v w x y z a.ready (subst (λ k. PublishesOwn k v w) cell a.publishes) (subst (λ k. used_in w.state.cache k ≡ false) cell a.none) (subst (λ k. Found (ReadWeak k) n w x) cell f)
+    (subst (λ k. k < w.shape.cells) cell low) some (subst (λ k. Found (ReadIdent k) id x y) cell g) (subst (λ k. reference_in k ≡ k) word whole) (subst (λ k. Stored (StoreRoot u k) y z) word e)
+
+-- it isn't published, and is another's
+pub finds-unpublished : (u c n : ℕ) (v w x : View) → Asks u c v w → Found (ReadWeak c) n w x → x.state.got ≡ 0 → FindsUnpublished u v x
+finds-unpublished u c n v w x a f none =
+    let cell : c ≡ cell_in v.state u = cell-is u c n v w x a.word f (asks-low u c n v w x a f) in
+    let g : Found (ReadWeak (cell_in v.state u)) n w x = subst (λ k. Found (ReadWeak k) n w x) cell f in
+    record { own = w; publishes = subst (λ k. PublishesOwn k v w) cell a.publishes; bits = n; none = sym (weak-got (cell_in v.state u) n w x g) ∙ none; finds = g }
 
 -- What the taking of a weak reference did, told to its callers: only the variables and the cache are others, and the cache is as whole as before.
 pub record Rewrites (v x : View) : Type 0 where

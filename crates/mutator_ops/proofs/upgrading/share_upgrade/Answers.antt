@@ -43,11 +43,11 @@ read_ident-requires-clause-may c =
     let f = c.read_weak.ensures.view in
     let some = λ (z : x.state.got ≡ 0). c.if-reference-eq0.false (ap (λ (s : SeatState). s.got) c.state.ensures ∙ z) in
     let low : c.args.c < v.shape.cells = subst (λ (sh : Shape). c.args.c < sh.cells) (sym c.requires.seat.0.1) c.requires.range.1 in
-    may-identify c.args.c v x (possible-live v c.args.seat.now.possible) c.requires.seat.1 (weak-read c.args.c c.read_weak.result v x f) (weak-got c.args.c c.read_weak.result v x f ∙ weak-whole c.args.c c.read_weak.result v x f low some)
+    may-identify c.args.c v x (possible-live x c.read_weak.new.seat.possible) c.requires.seat.1 (weak-read c.args.c c.read_weak.result v x f) (weak-got c.args.c c.read_weak.result v x f ∙ weak-whole c.args.c c.read_weak.result v x f low some)
 
 -- it is the right one
-pub store_root-requires-2-clause-may : goal.store_root-requires-2-clause-may
-store_root-requires-2-clause-may c =
+pub store_root-requires-then-read_ident-identity-clause-may : goal.store_root-requires-then-read_ident-identity-clause-may
+store_root-requires-then-read_ident-identity-clause-may c =
     let v : View = view_of c.args.seat.now in
     let x : View = view_of c.read_weak.new.seat in
     let y : View = view_of c.read_ident.new.seat in
@@ -55,52 +55,52 @@ store_root-requires-2-clause-may c =
     may-share_read c.args.v c.from.result v y c.requires.seat.1 q.state c.requires.range.0
     (c.from.ensures ∙ ap (λ (s : SeatState). s.got) c.state.ensures ∙ sym (ap (λ (z : View). z.state.got) c.read_ident.ensures.view.0))
 
-pub returns-then-read_ident-eq-identity-clause-seat : goal.returns-then-read_ident-eq-identity-clause-seat
-returns-then-read_ident-eq-identity-clause-seat c =
+pub returns-then-read_ident-identity-clause-seat : goal.returns-then-read_ident-identity-clause-seat
+returns-then-read_ident-identity-clause-seat c =
     let v : View = view_of c.args.seat.now in
     let x : View = view_of c.read_weak.new.seat in
     let y : View = view_of c.read_ident.new.seat in
     let q : IsRead v y = ident-read c.args.c c.read_ident.result v x y (weak-read c.args.c c.read_weak.result v x c.read_weak.ensures.view) c.read_ident.ensures.view in
-    (c.store_root-2.ensures.seat, ends-ready c.args.v c.from.result v y (view_of c.store_root-2.new.seat) c.requires.seat.1 q c.store_root-2.ensures.view)
+    (c.store_root-then-read_ident-identity.ensures.seat, ends-ready c.args.v c.from.result v y (view_of c.store_root-then-read_ident-identity.new.seat) c.requires.seat.1 q c.store_root-then-read_ident-identity.ensures.view)
 
-pub returns-then-read_ident-eq-identity-clause-upgrades : goal.returns-then-read_ident-eq-identity-clause-upgrades
-returns-then-read_ident-eq-identity-clause-upgrades c =
+pub returns-then-read_ident-identity-clause-upgrades : goal.returns-then-read_ident-identity-clause-upgrades
+returns-then-read_ident-identity-clause-upgrades c =
     let v : View = view_of c.args.seat.now in
     let x : View = view_of c.read_weak.new.seat in
     let y : View = view_of c.read_ident.new.seat in
-    let w : View = view_of c.store_root-2.new.seat in
+    let w : View = view_of c.store_root-then-read_ident-identity.new.seat in
     let f = c.read_weak.ensures.view in
     let some = λ (z : x.state.got ≡ 0). c.if-reference-eq0.false (ap (λ (s : SeatState). s.got) c.state.ensures ∙ z) in
     let low : c.args.c < v.shape.cells = subst (λ (sh : Shape). c.args.c < sh.cells) (sym c.requires.seat.0.1) c.requires.range.1 in
     let n = c.read_weak.result in
     let word : c.from.result ≡ c.args.c + 1 = c.from.ensures ∙ ap (λ (s : SeatState). s.got) c.state.ensures ∙ weak-got c.args.c n v x f ∙ weak-whole c.args.c n v x f low some in
     let kept : reference_in c.from.result ≡ c.from.result = ap reference_in word ∙ weak-fits c.args.c n v x f low ∙ sym word in
-    subst (λ (k : ℕ). FindsIdentity c.args.v c.args.c k (c.args.c + 1) v w) c.if-read_ident-eq-identity.true
+    subst (λ (k : ℕ). FindsIdentity c.args.v c.args.c k (c.args.c + 1) v w) c.if-read_ident-identity.true
     (subst (λ (k : ℕ). FindsIdentity c.args.v c.args.c c.read_ident.result k v w) word
-    (finds-identity c.args.v c.args.c n c.read_ident.result c.from.result v x y w c.requires.seat.1 f low some c.read_ident.ensures.view kept c.store_root-2.ensures.view))
+    (finds-identity c.args.v c.args.c n c.read_ident.result c.from.result v x y w c.requires.seat.1 f low some c.read_ident.ensures.view kept c.store_root-then-read_ident-identity.ensures.view))
 
 -- it is another
-pub store_root-requires-3-clause-may : goal.store_root-requires-3-clause-may
-store_root-requires-3-clause-may c =
+pub store_root-requires-else-read_ident-identity-clause-may : goal.store_root-requires-else-read_ident-identity-clause-may
+store_root-requires-else-read_ident-identity-clause-may c =
     let v : View = view_of c.args.seat.now in
     let x : View = view_of c.read_weak.new.seat in
     let y : View = view_of c.read_ident.new.seat in
     may-clear c.args.v v y c.requires.seat.1 (ident-read c.args.c c.read_ident.result v x y (weak-read c.args.c c.read_weak.result v x c.read_weak.ensures.view) c.read_ident.ensures.view) c.requires.range.0
 
-pub returns-else-read_ident-eq-identity-clause-seat : goal.returns-else-read_ident-eq-identity-clause-seat
-returns-else-read_ident-eq-identity-clause-seat c =
+pub returns-else-read_ident-identity-clause-seat : goal.returns-else-read_ident-identity-clause-seat
+returns-else-read_ident-identity-clause-seat c =
     let v : View = view_of c.args.seat.now in
     let x : View = view_of c.read_weak.new.seat in
     let y : View = view_of c.read_ident.new.seat in
     let q : IsRead v y = ident-read c.args.c c.read_ident.result v x y (weak-read c.args.c c.read_weak.result v x c.read_weak.ensures.view) c.read_ident.ensures.view in
-    (c.store_root-3.ensures.seat, ends-ready c.args.v 0 v y (view_of c.store_root-3.new.seat) c.requires.seat.1 q c.store_root-3.ensures.view)
+    (c.store_root-else-read_ident-identity.ensures.seat, ends-ready c.args.v 0 v y (view_of c.store_root-else-read_ident-identity.new.seat) c.requires.seat.1 q c.store_root-else-read_ident-identity.ensures.view)
 
-pub returns-else-read_ident-eq-identity-clause-upgrades : goal.returns-else-read_ident-eq-identity-clause-upgrades
-returns-else-read_ident-eq-identity-clause-upgrades c =
+pub returns-else-read_ident-identity-clause-upgrades : goal.returns-else-read_ident-identity-clause-upgrades
+returns-else-read_ident-identity-clause-upgrades c =
     let v : View = view_of c.args.seat.now in
     let x : View = view_of c.read_weak.new.seat in
     let y : View = view_of c.read_ident.new.seat in
     let f = c.read_weak.ensures.view in
     let some = λ (z : x.state.got ≡ 0). c.if-reference-eq0.false (ap (λ (s : SeatState). s.got) c.state.ensures ∙ z) in
     let low : c.args.c < v.shape.cells = subst (λ (sh : Shape). c.args.c < sh.cells) (sym c.requires.seat.0.1) c.requires.range.1 in
-    inr (c.read_ident.result, c.if-read_ident-eq-identity.false, finds-identity c.args.v c.args.c c.read_weak.result c.read_ident.result 0 v x y (view_of c.store_root-3.new.seat) c.requires.seat.1 f low some c.read_ident.ensures.view refl c.store_root-3.ensures.view)
+    inr (c.read_ident.result, c.if-read_ident-identity.false, finds-identity c.args.v c.args.c c.read_weak.result c.read_ident.result 0 v x y (view_of c.store_root-else-read_ident-identity.new.seat) c.requires.seat.1 f low some c.read_ident.ensures.view refl c.store_root-else-read_ident-identity.ensures.view)
