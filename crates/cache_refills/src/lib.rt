@@ -8,7 +8,7 @@
 //!
 //! 1. If free cells run short by the numbers of the last cycle, the mutator begins one (`pace`).
 //! 2. While a cycle marks it pays (`paying`): it scans its own roots and those of another section, passes the next
-//!    cards early in the cycle (`early`), and traces its quota ([`quota_of`]).
+//!    cards early in the cycle (`early`), and traces its quota ([`quota_of`]), or [`floor_of`] where that is more.
 //! 3. It claims a block with a free cell. If none has one, or marking is done, it stops the world and ends the
 //!    cycle (`finish_cycle` of `gc_cycle`), or collects precisely, and claims in the stop (`claiming`).
 //! 4. If every allocation word is all ones after a precise collection, the heap is full.
@@ -32,7 +32,7 @@ mod watching;
 pub use in_stops::refill_in_stops;
 pub use pace::{is_far_on, kick_off};
 pub use pieces::{Piece, try_refill_some};
-pub use quota::quota_of;
+pub use quota::{floor_of, quota_of};
 pub use refilling::{refill, refill_watched};
 pub use trying::{Pass, try_enter, try_refill, try_safe_point};
 pub use watching::{Unwatched, Watch};

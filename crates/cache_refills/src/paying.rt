@@ -20,7 +20,7 @@ ghost use Rattle.gc_table.specs.declared.view.View.{View};
 ghost use Rattle.packet_pools.specs.Counts.{count_of};
 ghost use Rattle.cache_refills.specs.Pace.Early.{HasPassed, PassesNext, early_seen};
 ghost use Rattle.cache_refills.specs.Pace.Payment.{HasPaid, MarksAndTraces, TracesNone, TracesOn, reads_number, stop_of};
-ghost use Rattle.cache_refills.specs.Pace.Pacing.{card_looks, looks_by, looks_seen, quota_seen};
+ghost use Rattle.cache_refills.specs.Pace.Pacing.{card_looks, looks_by, looks_seen, owed_seen};
 ghost use Rattle.gc_cycle.specs.CardLooks.{looks_at_card};
 ghost use Rattle.gc_cycle.specs.Events.{never};
 ghost use Rattle.gc_cycle.specs.Standing.{Mutates};
@@ -33,7 +33,7 @@ ghost use Rattle.cache_refills.specs.Pace.StepBounds.{early_steps, look_steps, p
 
 use crate::early::{early_end, pass_early};
 use crate::pace::{is_late, read_statistic};
-use crate::quota::quota_of;
+use crate::quota::{floor_of, quota_of};
 use gc_cycle::{Paid, clean, next_card, recycle_deferred, scan_roots, trace};
 use gc_table::{Heap, HeapSeat};
 use mark_core::{BLOCK_CELLS, FREE, LAST, RESCANNED, TRACED};
@@ -45,7 +45,8 @@ const CARD_LOOKS: u32 = 1_024;
 
 #[derive(Clone, Copy)]
 struct Owed {
-    quota: u32,
+    /// How many objects it traces, if it finds as many.
+    objects: u32,
     /// How many cards it looks at, at most.
     looks: u32,
     /// The cards that it passes before it traces: from this one to `end`.
@@ -57,7 +58,7 @@ struct Owed {
 
 /// Pays for a cache of `cells` free cells, at most 64, by the numbers read now.
 ///
-/// `stopped` is Quota exactly if it traced its quota. NoWork: once its roots were read, no packet to read from was
+/// It is to trace its quota, or the floor where that is more. `stopped` is Quota exactly if it traced as many. NoWork: once its roots were read, no packet to read from was
 /// found with nothing left in hand. NoPacket: none with room was found. If no packet could be taken at all, nothing
 /// was marked.
 pub(crate) fn pay(heap: &Heap, seat: &mut HeapSeat, cells: u32) -> Paid
@@ -90,8 +91,8 @@ fn owed_now(heap: &Heap, seat: &mut HeapSeat, cells: u32) -> Owed
     ensures ran { Across Ran seat.old seat.new }
     ensures only { Across (Only reads_number) seat.old seat.new }
     ensures state { state_of seat.new ≡ state_of seat.old }
-    ensures quota { quota_seen cells (did seat.old seat.new) ≡ Some result.quota }
-    ensures most { result.quota ≤ 1024 }
+    ensures owed { owed_seen cells (did seat.old seat.new) ≡ Some result.objects }
+    ensures most { result.objects ≤ 1024 }
     ensures looks { looks_seen (did seat.old seat.new) ≡ result.looks }
     ensures fewer { result.looks ≤ card_looks }
     ensures end { early_seen (did seat.old seat.new) ≡ result.end }
@@ -106,7 +107,7 @@ fn owed_now(heap: &Heap, seat: &mut HeapSeat, cells: u32) -> Owed
     let late = is_late(last, traced, free);
     let end = early_end(late, last, rescanned, free);
     Owed {
-        quota: quota_of(cells, last, rescanned, traced, free),
+        objects: quota_of(cells, last, rescanned, traced, free).max(floor_of(cells, last, free)),
         looks: looks_of(late),
         from: end.saturating_sub(16 * cells),
         end,
@@ -119,7 +120,7 @@ fn mark_and_trace(heap: &Heap, seat: &mut HeapSeat, owed: Owed) -> Paid
     requires marking { (state_of seat.old).phase_seen ≡ Some Marking }
     requires most { owed.end ≤ owed.from + card_looks }
     ensures seat { Sits heap.now seat.new }
-    ensures pays { Across (MarksAndTraces (own_section (state_of seat.old)) owed.quota owed.looks result) seat.old seat.new }
+    ensures pays { Across (MarksAndTraces (own_section (state_of seat.old)) owed.objects owed.looks result) seat.old seat.new }
     ensures passes { Across (HasPassed heap.now.shape owed.from owed.end owed.looks) seat.old seat.new }
     ensures other { Across (SeesToRoots (owed.turn % heap.now.shape.sections)) seat.old seat.new }
     ensures few { length (did seat.old seat.new) ≤ 2 * section_steps heap.now.shape + early_steps heap.now.shape + quota_steps result.done owed.looks heap.now.shape }
@@ -127,15 +128,15 @@ fn mark_and_trace(heap: &Heap, seat: &mut HeapSeat, owed: Owed) -> Paid
     let section = seat.state().section.unwrap_or(0);
     match scan_roots(heap, seat, section) {
         RootScan::NoPacket => Paid {
-            quota: owed.quota,
+            quota: owed.objects,
             done: 0,
-            stopped: stopped_at(owed.quota),
+            stopped: stopped_at(owed.objects),
         },
         RootScan::Done { marked: _ } => {
             let other = section_at(owed.turn, heap.shape().sections);
             scan_roots(heap, seat, other);
             pass_early(heap, seat, owed.from, owed.end);
-            pay_quota(heap, seat, owed.quota, owed.looks)
+            pay_quota(heap, seat, owed.objects, owed.looks)
         }
     }
 }

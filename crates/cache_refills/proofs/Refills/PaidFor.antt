@@ -26,7 +26,7 @@ use Rattle.gc_cycle.specs.declared.counts.Paid.{Paid}
 use Rattle.gc_cycle.specs.Events.{never, Sort, until_first}
 use Rattle.gc_cycle.specs.Lower.{traces_or_cleans}
 use Rattle.gc_cycle.specs.Moments.{at_some_moment, begins, finds_no_packet, finds_no_room, finds_no_work}
-use Rattle.cache_refills.specs.Pace.Pacing.{last_read, late_by, late_seen, looks_by, looks_seen, quota_by, quota_seen, read_of, statistic}
+use Rattle.cache_refills.specs.Pace.Pacing.{floor_by, last_read, late_by, late_seen, looks_by, looks_seen, owed_by, owed_seen, quota_by, read_of, statistic}
 use Rattle.cache_refills.specs.Pace.Paying.{roots_are_read, StopsAs}
 use Rattle.cache_refills.specs.Pace.Payment.{HasPaid, is_out_of_room, is_out_of_work, MarksAndTraces, pays_cells, reads_number, StopsTracing}
 use Rattle.gc_cycle.specs.Roots.{roots_scanned}
@@ -102,9 +102,11 @@ pub read-before : (which : ℕ) (xs ys : List Entry) → last_read which ys ≡ 
 read-before which [] ys h = h
 read-before which (x ∷ xs) ys h = ap (λ (o : Option ℕ). or_else o (read_of which x.step x.found)) (read-before which xs ys h)
 
-quota-before : (cells : ℕ) (xs ys : List Entry) → never reads_pace ys ≡ true → quota_seen cells (xs ++ ys) ≡ quota_seen cells xs
-quota-before cells xs ys h =
-    λ i. quota_by cells (read-before last_count xs ys (none-read last_count ys (omega arith) h) i) (read-before rescanned_count xs ys (none-read rescanned_count ys (omega arith) h) i) (read-before traced_count xs ys (none-read traced_count ys (omega arith) h) i) (read-before free_count xs ys (none-read free_count ys (omega arith) h) i)
+owed-before : (cells : ℕ) (xs ys : List Entry) → never reads_pace ys ≡ true → owed_seen cells (xs ++ ys) ≡ owed_seen cells xs
+owed-before cells xs ys h =
+    let last = read-before last_count xs ys (none-read last_count ys (omega arith) h) in
+    let free = read-before free_count xs ys (none-read free_count ys (omega arith) h) in
+    λ i. owed_by (quota_by cells (last i) (read-before rescanned_count xs ys (none-read rescanned_count ys (omega arith) h) i) (read-before traced_count xs ys (none-read traced_count ys (omega arith) h) i) (free i)) (floor_by cells (last i) (free i))
 
 pub late-before : (xs ys : List Entry) → never reads_pace ys ≡ true → late_seen (xs ++ ys) ≡ late_seen xs
 late-before xs ys h =
@@ -156,7 +158,7 @@ mutates-same v w e sh m =
     }
 
 -- the numbers were read, the roots were marked and a quota was traced, and that was told
-module _ (cells quota looks : ℕ) (p : Paid) (u v w x : View) (m : Mutates u) (r : Ran u v) (o : Only reads_number u v) (same : v.state ≡ u.state) (q : quota_seen cells (events u v) ≡ Some quota) (l : looks_seen (events u v) ≡ looks) (short : quota ≤ 1024) (k : MarksAndTraces (own_section v.state) quota looks p v w) (t : Took (AddStat traced_count p.done false) w x) where
+module _ (cells quota looks : ℕ) (p : Paid) (u v w x : View) (m : Mutates u) (r : Ran u v) (o : Only reads_number u v) (same : v.state ≡ u.state) (q : owed_seen cells (events u v) ≡ Some quota) (l : looks_seen (events u v) ≡ looks) (short : quota ≤ 1024) (k : MarksAndTraces (own_section v.state) quota looks p v w) (t : Took (AddStat traced_count p.done false) w x) where
   last : Ran w x
   last = ran-took w x (AddStat traced_count p.done false) refl t
 
@@ -258,11 +260,11 @@ module _ (cells quota looks : ℕ) (p : Paid) (u v w x : View) (m : Mutates u) (
         cache = ap (λ (s : SeatState). s.cache) kept ∙ (ap (λ (s : SeatState). s.cache) k.traced.record_is ∙ ap (λ (s : SeatState). s.cache) same);
         seen = ap (λ (s : SeatState). s.phase_seen) kept ∙ (ap (λ (s : SeatState). s.phase_seen) k.traced.record_is ∙ ap (λ (s : SeatState). s.phase_seen) same);
         roots = roots;
-        quota = ap (quota_seen cells) all ∙ (quota-before cells (events u v) (events v w ++ events w x) (never-join reads_pace (events v w) (events w x) k.unread last-unread) ∙ (q ∙ ap Some (sym k.quota_is)));
+        owed = ap (owed_seen cells) all ∙ (owed-before cells (events u v) (events v w ++ events w x) (never-join reads_pace (events v w) (events w x) k.unread last-unread) ∙ (q ∙ ap Some (sym k.quota_is)));
         early =
-            ap (λ es. quota_seen cells (until_first pops es)) all
-            ∙ (ap (quota_seen cells) (until-longer pops (events u v) (events v w ++ events w x) (untaken reads_number pops number-unpopped (events u v) o))
-            ∙ (quota-before cells (events u v) (until_first pops (events v w ++ events w x)) (until-never pops reads_pace (events v w ++ events w x) (never-join reads_pace (events v w) (events w x) k.unread last-unread)) ∙ (q ∙ ap Some (sym k.quota_is))));
+            ap (λ es. owed_seen cells (until_first pops es)) all
+            ∙ (ap (owed_seen cells) (until-longer pops (events u v) (events v w ++ events w x) (untaken reads_number pops number-unpopped (events u v) o))
+            ∙ (owed-before cells (events u v) (until_first pops (events v w ++ events w x)) (until-never pops reads_pace (events v w ++ events w x) (never-join reads_pace (events v w) (events w x) k.unread last-unread)) ∙ (q ∙ ap Some (sym k.quota_is))));
         most = subst (λ n. p.done ≤ n) (sym k.quota_is) k.most;
         done = counted;
         short = subst (λ n. n ≤ 1024) (sym k.quota_is) short;

@@ -41,7 +41,7 @@ use Rattle.gc_cycle.specs.declared.counts.Paid.{Paid}
 use Rattle.gc_cycle.specs.Events.{before_last, never, Sort, until_first}
 use Rattle.gc_cycle.specs.Moments.{at_some_moment, begins, finds_no_packet, finds_no_room, finds_no_work}
 use Rattle.gc_cycle.specs.Mutating.{stays_calm}
-use Rattle.cache_refills.specs.Pace.Pacing.{last_read, late_by, late_seen, looks_by, looks_seen, quota_by, quota_seen, was_not_due}
+use Rattle.cache_refills.specs.Pace.Pacing.{floor_by, last_read, late_by, late_seen, looks_by, looks_seen, owed_by, owed_seen, quota_by, was_not_due}
 use Rattle.cache_refills.specs.Pace.Paying.{claimed_in_stop, IsFree, Pays, PaysInIdle, PaysInMarking, roots_are_read, since_claim, StopsAs}
 use Rattle.cache_refills.specs.Pace.Paying.Pays.{in_idle, in_marking}
 use Rattle.cache_refills.specs.Pace.Payment.{HasPaid, pays_cells}
@@ -156,8 +156,9 @@ module _ (h : Cache) (done : ℕ) (u v w x : View) (n : ℕ) (k : HasClaimed h d
   read-after : (which : ℕ) (es : List Entry) → last_read which (first ++ es) ≡ last_read which es
   read-after which es = or-none (or_else (or_else (last_read which es) None) None) ∙ (or-none (or_else (last_read which es) None) ∙ or-none (last_read which es))
 
-  quota-after : (cells : ℕ) (es : List Entry) → quota_seen cells (first ++ es) ≡ quota_seen cells es
-  quota-after cells es = λ i. quota_by cells (read-after last_count es i) (read-after rescanned_count es i) (read-after traced_count es i) (read-after free_count es i)
+  owed-after : (cells : ℕ) (es : List Entry) → owed_seen cells (first ++ es) ≡ owed_seen cells es
+  owed-after cells es =
+      λ i. owed_by (quota_by cells (read-after last_count es i) (read-after rescanned_count es i) (read-after traced_count es i) (read-after free_count es i)) (floor_by cells (read-after last_count es i) (read-after free_count es i))
 
   late-after : (es : List Entry) → late_seen (first ++ es) ≡ late_seen es
   late-after es = λ i. late_by (read-after last_count es i) (read-after traced_count es i) (read-after free_count es i)
@@ -178,8 +179,8 @@ module _ (h : Cache) (done : ℕ) (u v w x : View) (n : ℕ) (k : HasClaimed h d
             (later-moment (λ m later. never claims later && finds_no_packet u.shape m later) (both-widen (never claims) (finds_no_packet u.shape) (packet-widens u.shape)) u w x before r
             (subst (λ (sh : Shape). at_some_moment w.shape (λ m later. never claims later && finds_no_packet sh m later) (begins w) (events w x) ≡ true) (ran-shape u w before) b)))
             (or_cases (roots_scanned (own_section w.state) (events w x)) _ q.roots);
-        quota = ap (quota_seen (ones h.cells)) since ∙ (quota-after (ones h.cells) (events w x) ∙ q.quota);
-        early = ap (λ es. quota_seen (ones h.cells) (until_first pops es)) since ∙ (quota-after (ones h.cells) (until_first pops (events w x)) ∙ q.early);
+        owed = ap (owed_seen (ones h.cells)) since ∙ (owed-after (ones h.cells) (events w x) ∙ q.owed);
+        early = ap (λ es. owed_seen (ones h.cells) (until_first pops es)) since ∙ (owed-after (ones h.cells) (until_first pops (events w x)) ∙ q.early);
         most = q.most;
         short = q.short;
         looked =

@@ -10,7 +10,7 @@ use Rattle.gc_table.specs.declared.view.Entry.{Entry}
 use Rattle.tracer.specs.declared.traced.Stopped.TheVariants.{Quota, NoWork}
 use Rattle.gc_cycle.specs.declared.counts.Paid.{Paid}
 use Rattle.gc_cycle.specs.Events.{is_just}
-use Rattle.cache_refills.specs.Pace.Pacing.{due_seen, KicksOff}
+use Rattle.cache_refills.specs.Pace.Pacing.{due_seen, KicksOff, quota_seen}
 use Rattle.cache_refills.specs.Pace.Paying.{Pays, in_marking, in_idle, in_stop}
 use Rattle.gc_cycle.specs.Roots.{roots_scanned}
 use Rattle.gc_cycle.proofs.Rows.CycleRows.{small, did, at_rest, claiming, flagged, marker, nil_roots, no_input_looks}
@@ -99,7 +99,7 @@ abbrev no_work : Paid
 no_work = record { quota = 32; done = 0; stopped = NoWork }
 
 pays_for_work : Pays small 1 64 no_work (at_rest marker) with_roots
-pays_for_work = in_marking (record { outside = refl; read = refl; roots = refl; quota = refl; early = refl; done = refl; most = omega arith; short = omega arith; looked = omega arith; stopped = (differ, refl); told = refl })
+pays_for_work = in_marking (record { outside = refl; read = refl; roots = refl; owed = refl; early = refl; done = refl; most = omega arith; short = omega arith; looked = omega arith; stopped = (differ, refl); told = refl })
   where
     differ : (◌≡◌ {A = ℕ} 0 32) → ⊥
     differ e = absurd (true≢false (sym (ap (λ n. n == 32) e)))
@@ -115,12 +115,33 @@ refused-roots paid (in_stop p) = absurd (true≢false (sym p.inside))
 
 -- another quota than the numbers give, as one of 0
 refused-quota : Pays small 1 64 free_of_charge (at_rest marker) with_roots → ⊥
-refused-quota (in_marking p) = other p.quota
+refused-quota (in_marking p) = other p.owed
   where
     other : (◌≡◌ {A = Option ℕ} (Some 32) (Some 0)) → ⊥
     other e = true≢false (ap (λ o. is_the o 32) e)
 refused-quota (in_idle p) = absurd (true≢false (sym p.read))
 refused-quota (in_stop p) = absurd (true≢false (sym p.inside))
+
+-- as much is traced as the last cycle left, so the quota is 0; objects made since are left, and the floor is owed
+abbrev after_all : List Entry
+after_all = claiming 0 64 ++ (did ReadPhase 1 ∷ nil_roots ++ (numbers 1600 0 1600 64 ++ (no_input_looks ++ did (AddStat traced_count 0 false) 40 ∷ [])))
+
+quota_of_all : quota_seen 64 (numbers 1600 0 1600 64) ≡ Some 0
+quota_of_all = refl
+
+pays_floor : Pays small 1 64 (record { quota = 100; done = 0; stopped = NoWork }) (at_rest marker) after_all
+pays_floor = in_marking (record { outside = refl; read = refl; roots = refl; owed = refl; early = refl; done = refl; most = omega arith; short = omega arith; looked = omega arith; stopped = (differ, refl); told = refl })
+  where
+    differ : (◌≡◌ {A = ℕ} 0 100) → ⊥
+    differ e = absurd (true≢false (sym (ap (λ n. n == 100) e)))
+
+refused-floor : Pays small 1 64 free_of_charge (at_rest marker) after_all → ⊥
+refused-floor (in_marking p) = other p.owed
+  where
+    other : (◌≡◌ {A = Option ℕ} (Some 100) (Some 0)) → ⊥
+    other e = true≢false (ap (λ o. is_the o 100) e)
+refused-floor (in_idle p) = absurd (true≢false (sym p.read))
+refused-floor (in_stop p) = absurd (true≢false (sym p.inside))
 
 -- no packet was looked for
 abbrev idle_in_marking : List Entry

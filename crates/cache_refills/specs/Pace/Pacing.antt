@@ -1,5 +1,5 @@
 -- The numbers that pace a cycle, as a call read and changed them.
-use Rattle.std.specs.Prelude.{ℕ, ◌≡◌, ◌+◌, ◌*◌, ◌==◌, ◌&&◌, ◌||◌, not, if◌then◌else◌, min, nat_le, nat_lt, List, [], ◌∷◌, Bool, true, false, Option, Some, None}
+use Rattle.std.specs.Prelude.{ℕ, ◌≡◌, ◌+◌, ◌*◌, ◌==◌, ◌&&◌, ◌||◌, not, if◌then◌else◌, min, max, nat_le, nat_lt, List, [], ◌∷◌, Bool, true, false, Option, Some, None}
 use Rattle.mark_core.specs.Cells.{or_else}
 use Rattle.mark_core.specs.Numbers.{free_count, last_count, rescanned_count, traced_count}
 use Rattle.mark_core.specs.declared.kinds.Phase.TheVariants.{Idle, Marking}
@@ -7,7 +7,7 @@ use Rattle.mark_core.specs.declared.kinds.Step.{Step}
 use Rattle.mark_core.specs.declared.kinds.Step.TheVariants.{ReadStat, StorePhase}
 use Rattle.gc_table.specs.declared.view.Entry.{Entry}
 use Rattle.packet_pools.specs.Seeking.{some_event}
-use Rattle.cache_refills.specs.Pace.Quota.{quota}
+use Rattle.cache_refills.specs.Pace.Quota.{floor, quota}
 use Rattle.gc_cycle.specs.Events.{each_after}
 use Rattle.gc_cycle.specs.Sorts.{moves}
 pub use Rattle.gc_cycle.specs.Sorts.{tries_marking}
@@ -56,6 +56,24 @@ quota_by cells last rescanned traced free = None
 -- the quota for a cache of this many free cells, by the numbers as read last
 abbrev pub quota_seen : ℕ → List Entry → Option ℕ
 quota_seen cells es = quota_by cells (last_read last_count es) (last_read rescanned_count es) (last_read traced_count es) (last_read free_count es)
+
+-- the floor by these numbers
+abbrev pub floor_by : ℕ → Option ℕ → Option ℕ → Option ℕ
+floor_by cells (Some last) (Some free) = Some (floor cells last free)
+floor_by cells last free = None
+
+-- the floor for a cache of this many free cells, by the numbers as read last
+abbrev pub floor_seen : ℕ → List Entry → Option ℕ
+floor_seen cells es = floor_by cells (last_read last_count es) (last_read free_count es)
+
+-- the larger of a quota and a floor
+abbrev pub owed_by : Option ℕ → Option ℕ → Option ℕ
+owed_by (Some quota) (Some floor) = Some (max quota floor)
+owed_by quota floor = None
+
+-- what was owed for a cache of this many free cells, by the numbers as read last
+abbrev pub owed_seen : ℕ → List Entry → Option ℕ
+owed_seen cells es = owed_by (quota_seen cells es) (floor_seen cells es)
 
 -- a cycle is far on by these numbers: seven eighths of what the last one traced are traced, or hardly a cell is free
 abbrev pub late : ℕ → ℕ → ℕ → Bool

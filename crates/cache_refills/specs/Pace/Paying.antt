@@ -13,7 +13,7 @@ use Rattle.gc_cycle.specs.Events.{before_last, never, since_last, until_first}
 use Rattle.gc_cycle.specs.Sorts.{claims, draws, pops, raises_flag, raises_traced, reads_phase, reads_root, resumes}
 use Rattle.gc_cycle.specs.Moments.{Moment, at_some_moment, finds_no_packet, finds_no_room, finds_no_work}
 use Rattle.gc_cycle.specs.Mutating.{pops_in_stops}
-use Rattle.cache_refills.specs.Pace.Pacing.{looks_seen, quota_seen, was_not_due}
+use Rattle.cache_refills.specs.Pace.Pacing.{looks_seen, owed_seen, was_not_due}
 use Rattle.gc_cycle.specs.Roots.{roots_scanned}
 
 -- the events since the call claimed the block of its cache
@@ -46,18 +46,18 @@ StopsAs Quota sh quota done m es = done ≡ quota
 StopsAs NoWork sh quota done m es = (done ≢ quota) × IsTrue (ran_out_of_work sh m es)
 StopsAs NoPacket sh quota done m es = (done ≢ quota) × IsTrue (ran_out_of_packets sh m es)
 
--- marking was under way when the block had been claimed, outside a stop of the call: the mutator marked its roots and traced its quota
+-- marking was under way when the block had been claimed, outside a stop of the call: the mutator marked its roots and traced what it owed
 pub record PaysInMarking (sh : Shape) (section cells : ℕ) (paid : Paid) (m : Moment) (es : List Entry) : Type 0 where
   pub outside : IsFalse (claimed_in_stop es)
   pub read : IsTrue (some_event (reads_phase Marking) (since_claim es))
   -- the roots were marked, or no packet could be taken
   pub roots : IsTrue (roots_scanned section (since_claim es) || at_some_moment sh (λ n later. never claims later && finds_no_packet sh n later) m es)
-  -- the numbers were read after the claim, and before a cell was popped
-  pub quota : quota_seen cells (since_claim es) ≡ Some paid.quota
-  pub early : quota_seen cells (until_first pops (since_claim es)) ≡ Some paid.quota
+  -- the numbers were read after the claim, and before a cell was popped: it was to trace the larger of the quota and the floor by them
+  pub owed : owed_seen cells (since_claim es) ≡ Some paid.quota
+  pub early : owed_seen cells (until_first pops (since_claim es)) ≡ Some paid.quota
   pub done : count_of pops (since_claim es) ≡ paid.done
   pub most : paid.done ≤ paid.quota
-  -- a quota is at most 1,024 objects; and as many cards of the pass were drawn, at most, and none if the cycle wasn't far on by the numbers read
+  -- that is at most 1,024 objects; and as many cards of the pass were drawn, at most, and none if the cycle wasn't far on by the numbers read
   pub short : paid.quota ≤ 1024
   pub looked : count_of draws (since_claim es) ≤ looks_seen (since_claim es)
   pub stopped : StopsAs paid.stopped sh paid.quota paid.done m es

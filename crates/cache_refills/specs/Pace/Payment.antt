@@ -16,7 +16,7 @@ use Rattle.gc_cycle.specs.declared.counts.Paid.{Paid}
 use Rattle.gc_cycle.specs.Events.{never, until_first}
 use Rattle.gc_cycle.specs.Lower.{HasTraced, traces_or_cleans}
 use Rattle.gc_cycle.specs.Moments.{Moment, at_some_moment, begins, finds_no_packet, finds_no_room, finds_no_work}
-use Rattle.cache_refills.specs.Pace.Pacing.{looks_seen, quota_seen}
+use Rattle.cache_refills.specs.Pace.Pacing.{looks_seen, owed_seen}
 use Rattle.cache_refills.specs.Pace.Paying.{StopsAs}
 use Rattle.gc_cycle.specs.Roots.{roots_scanned}
 use Rattle.gc_cycle.specs.Sorts.{claims, draws, pops, raises_traced, reads_pace, reads_root}
@@ -83,7 +83,7 @@ pub record TracesNone (looks : ℕ) (v w : View) : Type 0 where
   pub unread : IsTrue (never reads_pace (events v w))
   pub unrooted : IsTrue (never reads_root (events v w))
 
--- the increment for a cache of this many cells: the numbers were read and set the quota, the roots were seen to or no packet could be taken, and this many objects
+-- the increment for a cache of this many cells: the numbers were read and set what was owed, the roots were seen to or no packet could be taken, and this many objects
 -- were traced, by which the number of traced objects was raised once; cards of the pass were drawn only if the cycle was far on by these numbers
 pub record HasPaid (cells : ℕ) (paid : Paid) (v w : View) : Type 0 where
   pub ran : Ran v w
@@ -92,8 +92,8 @@ pub record HasPaid (cells : ℕ) (paid : Paid) (v w : View) : Type 0 where
   pub cache : w.state.cache ≡ v.state.cache
   pub seen : w.state.phase_seen ≡ v.state.phase_seen
   pub roots : IsTrue (roots_scanned (own_section v.state) (events v w) || at_some_moment v.shape (λ n later. never claims later && finds_no_packet v.shape n later) (begins v) (events v w))
-  pub quota : quota_seen cells (events v w) ≡ Some paid.quota
-  pub early : quota_seen cells (until_first pops (events v w)) ≡ Some paid.quota
+  pub owed : owed_seen cells (events v w) ≡ Some paid.quota
+  pub early : owed_seen cells (until_first pops (events v w)) ≡ Some paid.quota
   pub most : paid.done ≤ paid.quota
   pub short : paid.quota ≤ 1024
   pub done : count_of pops (events v w) ≡ paid.done

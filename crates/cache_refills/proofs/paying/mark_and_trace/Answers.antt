@@ -33,8 +33,8 @@ returns-in-NoPacket-clause-pays c =
     let u : View = view_of c.args.seat.now in
     let v : View = view_of c.scan_roots.new.seat in
     let e = c.in-NoPacket.ensures in
-    subst (λ s. MarksAndTraces (own_section u.state) c.args.owed.quota c.args.owed.looks (record { quota = c.args.owed.quota; done = 0; stopped = s }) u v) (sym c.stopped_at.ensures)
-    (marks-none (own_section u.state) c.args.owed.quota c.args.owed.looks u v e.traced e.unpopped e.unread e.uncleaned e.scans.0 e.scans.1)
+    subst (λ s. MarksAndTraces (own_section u.state) c.args.owed.objects c.args.owed.looks (record { quota = c.args.owed.objects; done = 0; stopped = s }) u v) (sym c.stopped_at.ensures)
+    (marks-none (own_section u.state) c.args.owed.objects c.args.owed.looks u v e.traced e.unpopped e.unread e.uncleaned e.scans.0 e.scans.1)
 
 -- some section there is: the seat's own
 some-section : (sh : Shape) (v : View) → v.shape ≡ sh → own_section v.state < v.shape.sections → 0 < sh.sections
@@ -62,7 +62,7 @@ returns-in-Done-clause-pays c =
     let w : View = view_of c.pay_quota.new.seat in
     let e = c.in-Done.ensures in
     let o = c.scan_roots-in-Done.ensures in
-    let quota = c.args.owed.quota in
+    let quota = c.args.owed.objects in
     let looks = c.args.owed.looks in
     let own = subst (λ n. roots_scanned n (events u v) ≡ true) (c.unwrap_or-section.ensures ∙ ap (λ (s : SeatState). own_section s) c.state.ensures) e.scans in
     marks-traces (own_section u.state) quota looks c.pay_quota.result u y w (has-traced u v y e.traced o.traced)

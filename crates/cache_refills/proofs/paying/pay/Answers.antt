@@ -19,12 +19,12 @@ use Rattle.cache_refills.proofs.paying.pay.Goals as goal
 pub returns-clause-paid : goal.returns-clause-paid
 returns-clause-paid c =
     let q = c.owed_now-owed.ensures in
-    paid-of c.args.cells c.owed_now-owed.result.quota c.owed_now-owed.result.looks c.mark_and_trace-paid.result (view_of c.args.seat.now) (view_of c.owed_now-owed.new.seat) (view_of c.mark_and_trace-paid.new.seat) (view_of c.add_stat.new.seat) c.requires.seat.1 q.ran q.only q.state q.quota q.looks q.most c.mark_and_trace-paid.ensures.pays c.add_stat.ensures.view
+    paid-of c.args.cells c.owed_now-owed.result.objects c.owed_now-owed.result.looks c.mark_and_trace-paid.result (view_of c.args.seat.now) (view_of c.owed_now-owed.new.seat) (view_of c.mark_and_trace-paid.new.seat) (view_of c.add_stat.new.seat) c.requires.seat.1 q.ran q.only q.state q.owed q.looks q.most c.mark_and_trace-paid.ensures.pays c.add_stat.ensures.view
 
 pub returns-clause-own : goal.returns-clause-own
 returns-clause-own c =
     let q = c.owed_now-owed.ensures in
-    let p = paid-of c.args.cells c.owed_now-owed.result.quota c.owed_now-owed.result.looks c.mark_and_trace-paid.result (view_of c.args.seat.now) (view_of c.owed_now-owed.new.seat) (view_of c.mark_and_trace-paid.new.seat) (view_of c.add_stat.new.seat) c.requires.seat.1 q.ran q.only q.state q.quota q.looks q.most c.mark_and_trace-paid.ensures.pays c.add_stat.ensures.view in
+    let p = paid-of c.args.cells c.owed_now-owed.result.objects c.owed_now-owed.result.looks c.mark_and_trace-paid.result (view_of c.args.seat.now) (view_of c.owed_now-owed.new.seat) (view_of c.mark_and_trace-paid.new.seat) (view_of c.add_stat.new.seat) c.requires.seat.1 q.ran q.only q.state q.owed q.looks q.most c.mark_and_trace-paid.ensures.pays c.add_stat.ensures.view in
     own-kept pays_cells pays-kept (view_of c.args.seat.now) (view_of c.add_stat.new.seat) p.ran p.only
 
 pub returns-clause-few : goal.returns-clause-few
