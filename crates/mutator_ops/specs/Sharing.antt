@@ -1,5 +1,5 @@
 -- A mutator of a heap whose objects are shared: what it is between two calls, and which steps a call takes.
-use Rattle.std.specs.Prelude.{ℕ, ◌≡◌, ◌+◌, ◌*◌, ◌-◌, ◌==◌, if◌then◌else◌, List, [], ◌∷◌, ◌++◌, length, None, Some, IsTrue, IsFalse, slice_set}
+use Rattle.std.specs.Prelude.{ℕ, Bool, ◌≡◌, ◌+◌, ◌*◌, ◌-◌, ◌==◌, if◌then◌else◌, List, [], ◌∷◌, ◌++◌, length, None, Some, IsTrue, IsFalse, slice_set}
 use Rattle.mark_core.specs.Bits.{reference_in}
 use Rattle.mark_core.specs.Numbers.{section_span}
 use Rattle.mark_core.specs.Seats.{has_making, work_in_hand}

@@ -6,7 +6,7 @@ pub mod Leaving
 mod Naming
 pub mod Seats
 mod Uncatalogued
-mod Upgraded
+mod WeakTurns
 mod TurnSteps
 pub mod TracerStanding
 pub mod Tending

@@ -1,10 +1,10 @@
 -- What the calls of a mutator find is what one plain heap had at that moment.
-use Rattle.std.proofs.Common.{[], ℕ, ◌-◌, List, ◌∷◌, true, false, inl, inr, refl, subst}
+use Rattle.std.proofs.Common.{[], ℕ, ◌-◌, List, ◌∷◌, refl, subst}
 use Rattle.std.specs.Prelude.{IsFalse}
 use Rattle.mark_core.specs.Bits.{reference_in}
 use Rattle.mark_core.specs.Steps.MutatorSteps.{seat_variable as word_in}
 use Rattle.mark_core.specs.declared.kinds.Step.{Step}
-use Rattle.mark_core.specs.declared.kinds.Step.TheVariants.{ReadOwn, ReadWeak, StoreRoot}
+use Rattle.mark_core.specs.declared.kinds.Step.TheVariants.{ReadOwn, StoreRoot}
 use Rattle.gc_table.specs.Entries.{event, is_store}
 use Rattle.gc_table.specs.Running.{AllSeen}
 use Rattle.gc_table.specs.Seats.{did, state_of, view_of}
@@ -12,7 +12,7 @@ use Rattle.gc_table.specs.Taking.{Finds, after}
 use Rattle.gc_table.specs.declared.view.Entry.{Entry}
 use Rattle.gc_table.specs.declared.view.View.{View}
 use Rattle.gc_table.proofs.Finding.{steps-find}
-use Rattle.shared_heap.specs.Finding.{AllFindHeap, CallsFind, FieldFound, FindsHeap, UpgradeFound, ValueFound}
+use Rattle.shared_heap.specs.Finding.{AllFindHeap, CallsFind, FieldFound, FindsHeap, ValueFound}
 
 found-heap : (step : Step) (n : ℕ) (v : View) → Finds step n v → FindsHeap step n v
 found-heap step n v f = let told = steps-find step n v f in record { finds = f; agrees = told.0; tells = told.1 }
@@ -34,13 +34,5 @@ pub field-found : FieldFound
 field-found w v i x y f =
     first-found (event (ReadOwn (word_in (state_of x.seat) v - 1) i) f.found) (event (StoreRoot w (reference_in f.found)) (reference_in f.found) ∷ []) (view_of x.seat)
     (subst (λ (es : List Entry). AllFindHeap es (view_of x.seat)) f.events_are (calls-find x y f.ran)) refl
-
-pub upgrade_found : UpgradeFound
-upgrade_found v c id true x y u =
-    (u.bits, first-found (event (ReadWeak c) u.bits) _ (view_of x.seat) (subst (λ (es : List Entry). AllFindHeap es (view_of x.seat)) u.events_are (calls-find x y u.ran)) refl)
-upgrade_found v c id false x y (inl u) =
-    (u.bits, first-found (event (ReadWeak c) u.bits) _ (view_of x.seat) (subst (λ (es : List Entry). AllFindHeap es (view_of x.seat)) u.events_are (calls-find x y u.ran)) refl)
-upgrade_found v c id false x y (inr (other, differs, u)) =
-    (u.bits, first-found (event (ReadWeak c) u.bits) _ (view_of x.seat) (subst (λ (es : List Entry). AllFindHeap es (view_of x.seat)) u.events_are (calls-find x y u.ran)) refl)
 
 pub ruleset finding = (calls-find)

@@ -3,6 +3,7 @@ mod Dealt
 pub mod Finding
 mod Keeping
 pub mod Logs
+mod Lost
 mod Once
 pub mod RootRead
 mod Rooted

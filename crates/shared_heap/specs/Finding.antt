@@ -1,8 +1,9 @@
 -- What the calls of a mutator find while its world is open.
-use Rattle.std.specs.Prelude.{ℕ, ◌-◌, List, [], ◌∷◌, Bool, IsFalse}
-use Rattle.mark_core.specs.Steps.MutatorSteps.{seat_variable as word_in}
+use Rattle.std.specs.Prelude.{ℕ, ◌≡◌, ◌≢◌, ◌⊎◌, ◌+◌, ◌-◌, List, [], ◌∷◌, Bool, true, false, IsFalse}
+use Rattle.mark_core.specs.Steps.MutatorSteps.{seat_variable as word_in, weak_reference}
+use Rattle.mark_core.specs.Weak.{IsAt, MayConclude}
 use Rattle.mark_core.specs.declared.kinds.Step.{Step}
-use Rattle.mark_core.specs.declared.kinds.Step.TheVariants.{ReadOwn, ReadValue, ReadWeak}
+use Rattle.mark_core.specs.declared.kinds.Step.TheVariants.{ReadIdent, ReadOwn, ReadValue, ReadWeak}
 use Rattle.plain_heap.specs.declared.operation.Op.TheVariants as ops
 use Rattle.gc_table.specs.Entries.{is_store}
 use Rattle.gc_table.specs.Running.{Ran}
@@ -11,7 +12,7 @@ use Rattle.gc_table.specs.Taking.{Finds, after}
 use Rattle.gc_table.specs.declared.view.Entry.{Entry}
 use Rattle.gc_table.specs.declared.view.View.{View}
 use Rattle.gc_table.specs.Agreement.{AgreesWith}
-use Rattle.gc_table.specs.AgreementLaws.{TellsIn}
+use Rattle.gc_table.specs.AgreementLaws.{IsLost, TellsIn}
 use Rattle.gc_table.specs.Finding.{heap_found}
 use Rattle.mutator_ops.specs.Sharing.{FollowsFound}
 use Rattle.mutator_ops.specs.Upgrading.{Upgrades}
@@ -41,6 +42,33 @@ ValueFound = (v n : ℕ) (x y : SharedMutator) → SharerDoes (FindsValue v n) (
 abbrev pub FieldFound : Type 0
 FieldFound = (w v i : ℕ) (x y : SharedMutator) (f : FollowsFound w v i (view_of x.seat) (view_of y.seat)) → FindsHeap (ReadOwn (word_in (state_of x.seat) v - 1) i) f.found (view_of x.seat)
 
--- an upgrade found in the cell what this heap had there: an object, whole, or that there is none
+-- an upgrade that found the object: in the cell is one in use, whole, and the identity that was read there is its own
+pub record FindsAlive (c id : ℕ) (v : View) : Type 0 where
+  pub bits : ℕ
+  pub there : weak_reference v.state c bits ≡ c + 1
+  pub asked : FindsHeap (ReadWeak c) bits v
+  pub read : FindsHeap (ReadIdent c) id (after (ReadWeak c) bits v)
+
+-- one that found nothing in the cell: what was published there, and what the mutator's own section made there, is lost
+pub record FindsNone (c id : ℕ) (v : View) : Type 0 where
+  pub bits : ℕ
+  pub none : weak_reference v.state c bits ≡ 0
+  pub asked : FindsHeap (ReadWeak c) bits v
+  pub lost : MayConclude asked.finds.state.core v.state id c → IsLost asked.finds.state.core (heap_found (ReadWeak c) bits v asked.finds) id
+
+-- one that found another object in the cell: what was made there before is lost
+pub record FindsAnother (c id : ℕ) (v : View) : Type 0 where
+  pub bits : ℕ
+  pub other : ℕ
+  pub differs : other ≢ id
+  pub read : FindsHeap (ReadIdent c) other (after (ReadWeak c) bits v)
+  pub lost : IsAt read.finds.state.core id c → IsLost read.finds.state.core (heap_found (ReadIdent c) other (after (ReadWeak c) bits v) read.finds) id
+
+-- what an upgrade of a weak reference to this cell and this identity found, by its answer
+abbrev pub UpgradeTells : Bool → ℕ → ℕ → View → Type 0
+UpgradeTells true c id v = FindsAlive c id v
+UpgradeTells false c id v = FindsNone c id v ⊎ FindsAnother c id v
+
+-- so did each upgrade
 abbrev pub UpgradeFound : Type 0
-UpgradeFound = (v c id : ℕ) (there : Bool) (x y : SharedMutator) → Upgrades v c id there (view_of x.seat) (view_of y.seat) → (bits : ℕ) × FindsHeap (ReadWeak c) bits (view_of x.seat)
+UpgradeFound = (v c id : ℕ) (there : Bool) (x y : SharedMutator) → Upgrades v c id there (view_of x.seat) (view_of y.seat) → UpgradeTells there c id (view_of x.seat)

@@ -76,9 +76,9 @@ pub fn field_found()
     ensures { FieldFound }
 {}
 
-/// And what [`upgrade`](SharedMutator::upgrade) found in the cell is what it had there. `gc_table::death_told` is the law
-/// of weak references in this heap.
-#[tactic(auto, using(crate::proofs::Finding::upgrade_found))]
+/// And what [`upgrade`](SharedMutator::upgrade) found in the cell is what it had there: the object, whole, or none or
+/// another. Then the weak reference's object is lost in this heap. By `gc_table::death_told` that is so of each weak
+/// reference that was ever given out.
 pub fn upgrade_found()
     ensures { UpgradeFound }
 {}

@@ -1,4 +1,4 @@
-use Rattle.std.proofs.Common.{ℕ, ◌≡◌, ◌∙◌, Bool, ap, false, refl, sym, subst, true}
+use Rattle.std.proofs.Common.{ℕ, ◌≡◌, ◌∙◌, Bool, ap, refl, sym, subst}
 use Rattle.mark_core.specs.Seats.{used_in}
 use Rattle.mark_core.specs.declared.seat.SeatState.{SeatState}
 use Rattle.gc_table.specs.Seats.{view_of}

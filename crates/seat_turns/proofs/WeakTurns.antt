@@ -1,5 +1,5 @@
 -- A mutator that takes a weak reference, or has its object again, is at its turn still.
-use Rattle.std.proofs.Common.{◌≡◌, ◌∙◌, Some, ap, sym}
+use Rattle.std.proofs.Common.{◌∙◌, Some, ap, sym}
 use Rattle.std.specs.Prelude.{is_some}
 use Rattle.mark_core.specs.Seats.{has_making, has_turn}
 use Rattle.mark_core.specs.declared.seat.SeatState.{SeatState}
