@@ -1,5 +1,5 @@
 -- A seat that is alone traces, looks at cards and cleans them, in pieces.
-use Rattle.std.proofs.Common.{ℕ, ◌≡◌, ◌≤◌, ◌<◌, ◌+◌, ◌-◌, ⊎_elim, arith, refl, sym, ap, ◌∙◌, subst, Some, List, [], ◌∷◌, length, true, false}
+use Rattle.std.proofs.Common.{ℕ, ◌≡◌, ◌≤◌, ◌<◌, ◌+◌, ◌-◌, ⊎_elim, arith, refl, sym, ap, ◌∙◌, subst, Some, List, [], ◌∷◌, length, true}
 use Rattle.std.specs.List.{range_with_len}
 use Rattle.std.proofs.lemmas.Bool.{cases_lt, not-true}
 use Rattle.std.proofs.lemmas.List.{length-append, length-map}
@@ -7,7 +7,6 @@ use Rattle.std.proofs.lemmas.List.FromFn.{length-range_with_len}
 use Rattle.mark_core.specs.Layout.{card_count}
 use Rattle.mark_core.specs.Numbers.{empty_offset}
 use Rattle.mark_core.specs.Places.{the_empty_count}
-use Rattle.mark_core.specs.Seats.{work_in_hand}
 use Rattle.mark_core.specs.declared.kinds.Phase.TheVariants.{Drain}
 use Rattle.mark_core.specs.declared.kinds.Shape.{Shape}
 use Rattle.mark_core.specs.declared.kinds.Step.TheVariants.{ReadCard, ReadCount}
@@ -18,8 +17,7 @@ use Rattle.gc_table.specs.declared.view.Entry.{Entry}
 use Rattle.gc_table.specs.declared.view.View.{View}
 use Rattle.gc_table.proofs.History.Log.{events-none}
 use Rattle.gc_table.proofs.Running.{ran-shape}
-use Rattle.packet_pools.specs.OnlyTraced.{OnlyCleaned, OnlyTraced}
-use Rattle.packet_pools.specs.Tracing.{Traces}
+use Rattle.packet_pools.specs.OnlyTraced.{OnlyTraced}
 use Rattle.card_clean.specs.Drained.{AreNotedClean}
 use Rattle.card_clean.specs.Looking.{KeepsAllNotes, looks_clean, looks_dirty}
 use Rattle.card_clean.proofs.CardLooks.{clean-kept, count-noted, look-keeps}
@@ -27,7 +25,7 @@ use Rattle.gc_cycle.specs.Finishing.{IsAloneIn, IsPart}
 use Rattle.gc_cycle.specs.Lower.{HasTraced}
 use Rattle.gc_cycle.specs.Standing.{is_at_rest}
 use Rattle.gc_cycle.proofs.Ends.Moving.{no-work}
-use Rattle.gc_cycle.proofs.Idling.{traced-held, traced-of}
+use Rattle.gc_cycle.proofs.Idling.{traced-of}
 use Rattle.gc_cycle.proofs.Traced.{nothing-rest, traced-part}
 use Rattle.gc_cycle.specs.Pieces.{CleansCards, HasLooked, LooksFrom}
 use Rattle.gc_cycle.specs.Stepping.{Drains, HasMarkedAll}
@@ -49,10 +47,6 @@ drains-still v w d t = drains-of w (part-owner Drain v w (drains-part v w d t) d
 -- it only looked
 pub looked-traced : (v w : View) → Drains v → OnlyTraced v w → w.state ≡ v.state → HasTraced v w
 looked-traced v w d o e = traced-of v w o ((λ i. is_at_rest (o.shape i) (e i)) ∙ rest-of v d)
-
--- it cleaned
-pub cleaned-traced : (v w : View) → Drains v → OnlyCleaned v w → Traces w → w.state.held ≡ v.state.held → work_in_hand w.shape.fields w.state ≡ false → HasTraced v w
-cleaned-traced v w d o t h k = traced-held v w o t h k (rest-of v d)
 
 -- cards below one were clean, and so were those from it on
 pub clean-further : (from to : ℕ) (v w : View) → KeepsAllNotes v w → AreNotedClean 0 from v → AreNotedClean from to w → AreNotedClean 0 to w

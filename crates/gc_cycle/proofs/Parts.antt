@@ -77,8 +77,11 @@ stays-finish (StorePhase to) e = refl
 stays-finish ReadPhase e = refl
 stays-finish step e = e
 
+pub only-finishes : (p : Phase) (v w : View) → Only (stays_in p) v w → Only finishes v w
+only-finishes p v w o = only-more stays finishes stays-finish v w (only-more (stays_in p) stays (stays-any p) v w o)
+
 pub part-finishes : (p : Phase) (v w : View) → IsPart p v w → Only finishes v w
-part-finishes p v w h = only-more stays finishes stays-finish v w (part-stays p v w h)
+part-finishes p v w h = only-finishes p v w h.only
 
 pub move-finishes : (from to : Phase) (v w : View) → IsMove from to v w → Only finishes v w
 move-finishes from to v w m = ap (all_steps finishes) m.events_are

@@ -166,7 +166,7 @@ swept-alone v w a r o b y e left =
           };
     }
 
-next-sweeps : (step : Step) → sweeps_next step ≡ true → is_sweeping step ≡ true
+pub next-sweeps : (step : Step) → sweeps_next step ≡ true → is_sweeping step ≡ true
 next-sweeps (ReadStat which) e = refl
 next-sweeps step e = e
 

@@ -8,3 +8,4 @@ pub mod Admitted
 pub mod Looked
 pub mod HelperDrains
 pub mod Unopened
+pub mod Beside

@@ -12,7 +12,8 @@ ghost use Rattle.tracer.specs.StepBounds.{recycle_steps, trace_steps};
 ghost use Rattle.card_clean.specs.Leaving.{rescanned_in};
 ghost use Rattle.card_clean.specs.StepBounds.{clean_some_steps};
 ghost use Rattle.gc_cycle.specs.Events.{never};
-ghost use Rattle.gc_cycle.specs.Finishing.{IsPart};
+ghost use Rattle.gc_cycle.specs.Finishing.{DrainsInStop, IsPart};
+ghost use Rattle.gc_cycle.specs.Lower.{HasTraced};
 ghost use Rattle.gc_cycle.specs.Sorts.{clears, pops};
 ghost use Rattle.gc_cycle.specs.Statistics.{leaves_numbers};
 ghost use Rattle.gc_cycle.specs.RoundParts.{BringsBack, LacksPacket};
@@ -46,6 +47,22 @@ pub struct CleanStep {
     pub rescanned: u32,
 }
 
+/// Brings back what was deferred, and traces, alone or beside helpers.
+pub(crate) fn trace_some(heap: &Heap, seat: &mut HeapSeat, most: u32) -> u32
+    requires seat { Sits heap.now seat.old }
+    requires drains { DrainsInStop (view_of seat.old) }
+    ensures seat { Sits heap.now seat.new }
+    ensures traced { Across HasTraced seat.old seat.new }
+    ensures popped { (result ≤ most) × (count_of pops (did seat.old seat.new) ≡ result) }
+    ensures brings { Across BringsBack seat.old seat.new }
+    ensures worked { Across (DrainsFor most) seat.old seat.new }
+    ensures few { length (did seat.old seat.new) ≤ recycle_steps heap.now.shape + trace_steps result heap.now.shape }
+{
+    recycle_deferred(heap, seat);
+    let traced = trace(heap, seat, most);
+    traced.done
+}
+
 /// Brings back what was deferred, and traces. The answer: how many objects it popped, fewer than `most` only if at
 /// some moment there was none.
 pub fn trace_step(heap: &Heap, seat: &mut HeapSeat, most: u32) -> u32
@@ -62,9 +79,7 @@ pub fn trace_step(heap: &Heap, seat: &mut HeapSeat, most: u32) -> u32
     ensures keeps { Across Keeps seat.old seat.new }
     ensures few { length (did seat.old seat.new) ≤ recycle_steps heap.now.shape + trace_steps result heap.now.shape }
 {
-    recycle_deferred(heap, seat);
-    let traced = trace(heap, seat, most);
-    traced.done
+    trace_some(heap, seat, most)
 }
 
 /// Looks at up to `most` cards from `from` on, up to the first dirty one. What it saw clean stays noted while it
@@ -106,13 +121,11 @@ pub fn finds_all_marked(heap: &Heap, seat: &mut HeapSeat) -> bool
 
 fn cleans_some(heap: &Heap, seat: &mut HeapSeat, first: u32, end: u32) -> Option<CleanedCards>
     requires seat { Sits heap.now seat.old }
-    requires drains { Drains (view_of seat.old) }
+    requires drains { DrainsInStop (view_of seat.old) }
     requires cards { (first ≤ end) × (end ≤ card_count heap.now.shape) }
     ensures seat { Sits heap.now seat.new }
-    ensures part { Across (IsPart Drain) seat.old seat.new }
-    ensures drains { Drains (view_of seat.new) }
+    ensures traced { Across HasTraced seat.old seat.new }
     ensures unpopped { IsTrue (never pops (did seat.old seat.new)) }
-    ensures numbers { Across (Only leaves_numbers) seat.old seat.new }
     ensures cleaned { IfSome result (λ _. Across (CleansCards first (end - first)) seat.old seat.new) }
     ensures counts { IfSome result (λ r. (r.cards ≤ end - first) × (count_of clears (did seat.old seat.new) ≡ r.cards)) }
     ensures rescanned { IfSome result (λ r. rescanned_in (view_of seat.old) (did seat.old seat.new) ≡ r.rescanned) }
@@ -127,6 +140,44 @@ fn cleans_some(heap: &Heap, seat: &mut HeapSeat, first: u32, end: u32) -> Option
             recycle_deferred(heap, seat);
             None
         }
+    }
+}
+
+/// Looks at up to `most` cards and cleans those that are dirty, alone or beside helpers.
+pub(crate) fn clean_piece(
+    heap: &Heap,
+    seat: &mut HeapSeat,
+    from: u32,
+    most: u32,
+) -> Option<CleanStep>
+    requires seat { Sits heap.now seat.old }
+    requires drains { DrainsInStop (view_of seat.old) }
+    ensures seat { Sits heap.now seat.new }
+    ensures traced { Across HasTraced seat.old seat.new }
+    ensures unpopped { IsTrue (never pops (did seat.old seat.new)) }
+    ensures cleaned { IfSome result (λ r. (r.passed ≡ min most (card_count heap.now.shape - from)) × Across (CleansCards from r.passed) seat.old seat.new) }
+    ensures counts { IfSome result (λ r. (r.cleaned ≤ r.passed) × (count_of clears (did seat.old seat.new) ≡ r.cleaned)) }
+    ensures rescanned { IfSome result (λ r. rescanned_in (view_of seat.old) (did seat.old seat.new) ≡ r.rescanned) }
+    ensures lacks { IfNone result (Across LacksPacket seat.old seat.new) }
+    ensures uncleaned { IfNone result (IsTrue (never clears (did seat.old seat.new))) }
+    ensures unscanned { IfNone result (rescanned_in (view_of seat.old) (did seat.old seat.new) ≡ 0) }
+    ensures few { length (did seat.old seat.new) ≤ clean_some_steps most (card_cells * most) heap.now.shape + recycle_steps heap.now.shape }
+{
+    let number = at_most(most, from, heap.shape().cells / CARD_CELLS);
+    if number == 0 {
+        return Some(CleanStep {
+            passed: 0,
+            cleaned: 0,
+            rescanned: 0,
+        });
+    }
+    match cleans_some(heap, seat, from, from + number) {
+        Some(cleaned) => Some(CleanStep {
+            passed: number,
+            cleaned: cleaned.cards,
+            rescanned: cleaned.rescanned,
+        }),
+        None => None,
     }
 }
 
@@ -152,20 +203,5 @@ pub fn clean_step(heap: &Heap, seat: &mut HeapSeat, from: u32, most: u32) -> Opt
     ensures keeps { Across Keeps seat.old seat.new }
     ensures few { length (did seat.old seat.new) ≤ clean_some_steps most (card_cells * most) heap.now.shape + recycle_steps heap.now.shape }
 {
-    let number = at_most(most, from, heap.shape().cells / CARD_CELLS);
-    if number == 0 {
-        return Some(CleanStep {
-            passed: 0,
-            cleaned: 0,
-            rescanned: 0,
-        });
-    }
-    match cleans_some(heap, seat, from, from + number) {
-        Some(cleaned) => Some(CleanStep {
-            passed: number,
-            cleaned: cleaned.cards,
-            rescanned: cleaned.rescanned,
-        }),
-        None => None,
-    }
+    clean_piece(heap, seat, from, most)
 }

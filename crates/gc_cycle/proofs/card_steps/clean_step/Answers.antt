@@ -1,99 +1,31 @@
-use Rattle.std.proofs.Common.{◌≡◌, ◌-◌, ◌+◌, ℕ, arith, ap, subst, ◌≤◌, ◌*◌, length}
+use Rattle.std.proofs.Common.{inl}
 use Rattle.mark_core.specs.declared.kinds.Phase.TheVariants.{Drain}
-use Rattle.mark_core.specs.declared.kinds.Shape.{Shape}
 use Rattle.gc_table.specs.Seats.{view_of}
-use Rattle.gc_table.specs.declared.view.View.{View}
-use Rattle.gc_table.proofs.History.Log.{events-none, only-none}
-use Rattle.gc_cycle.specs.Events.{never}
-use Rattle.gc_cycle.specs.Pieces.{CleansCards}
-use Rattle.packet_pools.specs.Counts.{count_of}
-use Rattle.gc_cycle.specs.Sorts.{clears, pops}
+use Rattle.gc_table.proofs.History.Log.{only-more}
+use Rattle.gc_cycle.specs.Lower.{traces_or_cleans}
 use Rattle.gc_cycle.specs.Statistics.{leaves_numbers}
-use Rattle.gc_cycle.proofs.CardPieces.{alone-of, cleans-none}
+use Rattle.gc_cycle.proofs.CardPieces.{alone-of, drains-part, drains-still}
 use Rattle.gc_cycle.proofs.Exactly.{exact-part}
-use Rattle.gc_cycle.proofs.Parts.{part-none}
+use Rattle.gc_cycle.proofs.Leaving.{traces-leave}
 use Rattle.gc_cycle.proofs.Stepped.{part-keeps}
-use Rattle.mark_core.specs.Cards.{card_cells}
-use Rattle.card_clean.specs.Leaving.{rescanned_in}
-use Rattle.card_clean.specs.StepBounds.{clean_some_steps}
-use Rattle.tracer.specs.StepBounds.{recycle_steps}
-use Rattle.gc_cycle.proofs.Few.{cards-fewer}
 use Rattle.gc_cycle.proofs.card_steps.clean_step.Goals as goal
 
-pub returns-then-number-eq0-clause-part : goal.returns-then-number-eq0-clause-part
-returns-then-number-eq0-clause-part c = let v : View = view_of c.args.seat.now in part-none Drain v (alone-of v c.requires.drains)
+pub clean_piece-requires-clause-drains : goal.clean_piece-requires-clause-drains
+clean_piece-requires-clause-drains c = inl (alone-of (view_of c.args.seat.now) c.requires.drains)
 
-pub returns-then-number-eq0-clause-unpopped : goal.returns-then-number-eq0-clause-unpopped
-returns-then-number-eq0-clause-unpopped c = ap (never pops) (events-none (view_of c.args.seat.now))
+pub returns-clause-part : goal.returns-clause-part
+returns-clause-part c = drains-part (view_of c.args.seat.now) (view_of c.clean_piece.new.seat) c.requires.drains c.clean_piece.ensures.traced
 
-pub returns-then-number-eq0-clause-cleaned : goal.returns-then-number-eq0-clause-cleaned
-returns-then-number-eq0-clause-cleaned c =
-    let none = c.if-number-eq0.true in
-    let many = c.at_most-number.ensures in
-    let cells = ap (λ (s : Shape). s.cells) c.shape.ensures in
-    (omega (arith, none, many, cells), cleans-none c.args.from (view_of c.args.seat.now))
+pub returns-clause-drains : goal.returns-clause-drains
+returns-clause-drains c = drains-still (view_of c.args.seat.now) (view_of c.clean_piece.new.seat) c.requires.drains c.clean_piece.ensures.traced
 
-pub returns-then-number-eq0-clause-counts : goal.returns-then-number-eq0-clause-counts
-returns-then-number-eq0-clause-counts c = (omega arith, ap (count_of clears) (events-none (view_of c.args.seat.now)))
+pub returns-clause-exact : goal.returns-clause-exact
+unfolding returns-clause-part
+returns-clause-exact c u k = exact-part Drain u (view_of c.args.seat.now) (view_of c.clean_piece.new.seat) (returns-clause-part c) k
 
-pub returns-then-number-eq0-clause-rescanned : goal.returns-then-number-eq0-clause-rescanned
-returns-then-number-eq0-clause-rescanned c = let v : View = view_of c.args.seat.now in ap (rescanned_in v) (events-none v)
+pub returns-clause-numbers : goal.returns-clause-numbers
+returns-clause-numbers c = only-more traces_or_cleans leaves_numbers traces-leave (view_of c.args.seat.now) (view_of c.clean_piece.new.seat) c.clean_piece.ensures.traced.only
 
-pub returns-then-number-eq0-clause-numbers : goal.returns-then-number-eq0-clause-numbers
-returns-then-number-eq0-clause-numbers c = only-none leaves_numbers (view_of c.args.seat.now)
-
-pub returns-then-number-eq0-clause-keeps : goal.returns-then-number-eq0-clause-keeps
-returns-then-number-eq0-clause-keeps c = let v : View = view_of c.args.seat.now in part-keeps Drain v v (part-none Drain v (alone-of v c.requires.drains))
-
-pub cleans_some-requires-clause-cards : goal.cleans_some-requires-clause-cards
-cleans_some-requires-clause-cards c =
-    let some = c.if-number-eq0.false in
-    let many = c.at_most-number.ensures in
-    let cells = ap (λ (s : Shape). s.cells) c.shape.ensures in
-    (omega arith, omega (arith, some, many, cells))
-
-pub returns-in-Some-clause-cleaned : goal.returns-in-Some-clause-cleaned
-returns-in-Some-clause-cleaned c =
-    let n : ℕ = c.at_most-number.result in
-    let same : c.args.from + n - c.args.from ≡ n = omega arith in
-    let many = c.at_most-number.ensures in
-    let cells = ap (λ (s : Shape). s.cells) c.shape.ensures in
-    (omega (arith, many, cells), subst (λ k. CleansCards c.args.from k (view_of c.args.seat.now) (view_of c.cleans_some.new.seat)) same c.in-Some.ensures.cleaned)
-
-pub returns-in-Some-clause-counts : goal.returns-in-Some-clause-counts
-returns-in-Some-clause-counts c = let counts = c.in-Some.ensures.counts in (omega (arith, counts.0), counts.1)
-
-pub returns-in-Some-clause-exact : goal.returns-in-Some-clause-exact
-returns-in-Some-clause-exact c u k = exact-part Drain u (view_of c.args.seat.now) (view_of c.cleans_some.new.seat) c.cleans_some.ensures.part k
-
-pub returns-in-Some-clause-keeps : goal.returns-in-Some-clause-keeps
-returns-in-Some-clause-keeps c = part-keeps Drain (view_of c.args.seat.now) (view_of c.cleans_some.new.seat) c.cleans_some.ensures.part
-
-pub returns-in-None-clause-exact : goal.returns-in-None-clause-exact
-returns-in-None-clause-exact c u k = exact-part Drain u (view_of c.args.seat.now) (view_of c.cleans_some.new.seat) c.cleans_some.ensures.part k
-
-pub returns-in-None-clause-keeps : goal.returns-in-None-clause-keeps
-returns-in-None-clause-keeps c = part-keeps Drain (view_of c.args.seat.now) (view_of c.cleans_some.new.seat) c.cleans_some.ensures.part
-
-pub returns-then-number-eq0-clause-few : goal.returns-then-number-eq0-clause-few
-returns-then-number-eq0-clause-few c = let none = ap length (events-none (view_of c.args.seat.now)) in omega (arith, none)
-
--- what was passed is at most what was to be
-piece-few : (from number most : ℕ) (sh : Shape) (k r : ℕ) → number ≤ most → k ≤ clean_some_steps (from + number - from) (card_cells * (from + number - from)) sh + r → k ≤ clean_some_steps most (card_cells * most) sh + r
-piece-few from number most sh k r l few =
-    let n : ℕ = from + number - from in
-    let same : n ≡ number = omega arith in
-    let all = cards-fewer n most (card_cells * n) (card_cells * most) sh (clean_some_steps n (card_cells * n) sh) (omega (arith, same, l)) (omega (arith, same, l)) (omega arith) in
-    omega (arith, few, all)
-
-pub returns-in-Some-clause-few : goal.returns-in-Some-clause-few
-returns-in-Some-clause-few c =
-    let sh : Shape = c.args.heap.now.shape in
-    let many = c.at_most-number.ensures in
-    piece-few c.args.from c.at_most-number.result c.args.most sh _ (recycle_steps sh) (omega (arith, many)) c.cleans_some.ensures.few
-
-pub returns-in-None-clause-few : goal.returns-in-None-clause-few
-returns-in-None-clause-few c =
-    let sh : Shape = c.args.heap.now.shape in
-    let many = c.at_most-number.ensures in
-    piece-few c.args.from c.at_most-number.result c.args.most sh _ (recycle_steps sh) (omega (arith, many)) c.cleans_some.ensures.few
+pub returns-clause-keeps : goal.returns-clause-keeps
+unfolding returns-clause-part
+returns-clause-keeps c = part-keeps Drain (view_of c.args.seat.now) (view_of c.clean_piece.new.seat) (returns-clause-part c)

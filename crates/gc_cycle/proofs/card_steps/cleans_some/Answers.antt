@@ -4,25 +4,21 @@ use Rattle.mark_core.specs.declared.kinds.Shape.{Shape}
 use Rattle.gc_table.specs.Log.{events}
 use Rattle.gc_table.specs.Seats.{view_of}
 use Rattle.gc_table.specs.declared.view.View.{View}
-use Rattle.gc_table.proofs.History.Log.{only-more}
 use Rattle.gc_table.proofs.Running.{ran-events}
 use Rattle.packet_pools.specs.Seeking.{output_pools}
 use Rattle.tracer.specs.Recycling.{Recycled}
 use Rattle.card_clean.specs.DirtyCards.{CleanedFrom}
 use Rattle.card_clean.specs.Taking.{CleansWithPacket, NoPacket}
 use Rattle.gc_cycle.specs.Events.{never}
-use Rattle.gc_cycle.specs.Lower.{HasTraced, traces_or_cleans}
+use Rattle.gc_cycle.specs.Lower.{HasTraced}
 use Rattle.gc_cycle.specs.Sorts.{clears, draws_or_clears, pops}
 use Rattle.gc_cycle.specs.Standing.{is_at_rest}
-use Rattle.gc_cycle.specs.Statistics.{leaves_numbers}
-use Rattle.gc_cycle.proofs.CardPieces.{alone-of, cleaned-traced, drains-part, drains-still, rest-of}
 use Rattle.gc_cycle.proofs.CleaningSpares.{none-with, moved-untaken, moves-uncleaned, moves-unpopped, scan-unpopped}
 use Rattle.gc_cycle.proofs.Ends.Finishes.{never-both}
 use Rattle.gc_cycle.proofs.Ends.Rooted.{rest-room}
-use Rattle.gc_cycle.proofs.Idling.{rest-parts, traces-of}
-use Rattle.gc_cycle.proofs.Leaving.{traces-leave}
+use Rattle.gc_cycle.proofs.Idling.{rest-parts, traced-held, traces-of}
 use Rattle.gc_cycle.proofs.Turns.{has-traced}
-use Rattle.gc_cycle.proofs.Traced.{alone-traces, rescans-none}
+use Rattle.gc_cycle.proofs.Traced.{drains-on, drains-rest, drains-trace, rescans-none}
 use Rattle.gc_cycle.proofs.Stops.Admitted.{uncleared}
 use Rattle.gc_cycle.proofs.card_steps.cleans_some.Goals.{After-clean_some, After-recycle_deferred}
 use Rattle.mark_core.specs.Cards.{card_cells}
@@ -36,33 +32,27 @@ traced c =
     let v : View = view_of c.args.seat.now in
     let w : View = view_of c.clean_some.new.seat in
     let e = c.clean_some.ensures in
-    cleaned-traced v w c.requires.drains e.only e.seat.1 e.held (ap (λ (sh : Shape). work_in_hand sh.fields w.state) e.seat.0.1 ∙ e.work)
+    traced-held v w e.only e.seat.1 e.held (ap (λ (sh : Shape). work_in_hand sh.fields w.state) e.seat.0.1 ∙ e.work) (drains-rest v c.requires.drains)
 
 pub clean_some-requires-clause-seat : goal.clean_some-requires-clause-seat
 clean_some-requires-clause-seat c =
     let v : View = view_of c.args.seat.now in
     let d = c.requires.drains in
-    (c.requires.seat, traces-of v.shape v (alone-traces v (alone-of v d)) (rest-of v d))
+    (c.requires.seat, traces-of v.shape v (drains-trace v d) (drains-rest v d))
 
 pub clean_some-requires-clause-free : goal.clean_some-requires-clause-free
-clean_some-requires-clause-free c = let v : View = view_of c.args.seat.now in rest-room v c.args.seat.now.possible (rest-of v c.requires.drains)
+clean_some-requires-clause-free c = let v : View = view_of c.args.seat.now in rest-room v c.args.seat.now.possible (drains-rest v c.requires.drains)
 
 pub clean_some-requires-clause-work : goal.clean_some-requires-clause-work
 clean_some-requires-clause-work c =
-    let v : View = view_of c.args.seat.now in ap (λ (sh : Shape). work_in_hand sh.fields v.state) (sym c.requires.seat.1) ∙ (rest-parts v.shape v.state (rest-of v c.requires.drains)).work
+    let v : View = view_of c.args.seat.now in ap (λ (sh : Shape). work_in_hand sh.fields v.state) (sym c.requires.seat.1) ∙ (rest-parts v.shape v.state (drains-rest v c.requires.drains)).work
 
-pub returns-in-Some-clause-part : goal.returns-in-Some-clause-part
-returns-in-Some-clause-part c = drains-part (view_of c.args.seat.now) (view_of c.clean_some.new.seat) c.requires.drains (traced c.before)
-
-pub returns-in-Some-clause-drains : goal.returns-in-Some-clause-drains
-returns-in-Some-clause-drains c = drains-still (view_of c.args.seat.now) (view_of c.clean_some.new.seat) c.requires.drains (traced c.before)
+pub returns-in-Some-clause-traced : goal.returns-in-Some-clause-traced
+returns-in-Some-clause-traced c = traced c.before
 
 pub returns-in-Some-clause-unpopped : goal.returns-in-Some-clause-unpopped
 returns-in-Some-clause-unpopped c =
     none-with pops (moves-unpopped output_pools) scan-unpopped (λ k m. refl) (λ k m. refl) (λ k m. refl) (λ k m. refl) c.args.heap.now.shape c.args.first (c.args.end - c.args.first) c.in-Some.cleaned.rescanned (events (view_of c.args.seat.now) (view_of c.clean_some.new.seat)) (λ k m. refl) c.in-Some.ensures.some.2
-
-pub returns-in-Some-clause-numbers : goal.returns-in-Some-clause-numbers
-returns-in-Some-clause-numbers c = only-more traces_or_cleans leaves_numbers traces-leave (view_of c.args.seat.now) (view_of c.clean_some.new.seat) (traced c.before).only
 
 pub returns-in-Some-clause-cleaned : goal.returns-in-Some-clause-cleaned
 returns-in-Some-clause-cleaned c =
@@ -78,7 +68,7 @@ returns-in-Some-clause-rescanned c = c.in-Some.ensures.some.1
 pub recycle_deferred-requires-clause-seat : goal.recycle_deferred-requires-clause-seat
 recycle_deferred-requires-clause-seat c =
     let w : View = view_of c.clean_some.new.seat in
-    (c.clean_some.ensures.seat.0, alone-traces w (alone-of w (drains-still (view_of c.args.seat.now) w c.requires.drains (traced c.before.before))))
+    (c.clean_some.ensures.seat.0, drains-trace w (drains-on (view_of c.args.seat.now) w c.requires.drains (traced c.before.before)))
 
 pub recycle_deferred-requires-clause-rest : goal.recycle_deferred-requires-clause-rest
 recycle_deferred-requires-clause-rest c =
@@ -87,11 +77,8 @@ recycle_deferred-requires-clause-rest c =
 both-traced : (c : After-recycle_deferred) → HasTraced (view_of c.args.seat.now) (view_of c.recycle_deferred.new.seat)
 both-traced c = has-traced (view_of c.args.seat.now) (view_of c.clean_some.new.seat) (view_of c.recycle_deferred.new.seat) (traced c.before.before.before) c.recycle_deferred.ensures.traced
 
-pub returns-in-None-clause-part : goal.returns-in-None-clause-part
-returns-in-None-clause-part c = drains-part (view_of c.args.seat.now) (view_of c.recycle_deferred.new.seat) c.requires.drains (both-traced c)
-
-pub returns-in-None-clause-drains : goal.returns-in-None-clause-drains
-returns-in-None-clause-drains c = drains-still (view_of c.args.seat.now) (view_of c.recycle_deferred.new.seat) c.requires.drains (both-traced c)
+pub returns-in-None-clause-traced : goal.returns-in-None-clause-traced
+returns-in-None-clause-traced c = both-traced c
 
 pub returns-in-None-clause-unpopped : goal.returns-in-None-clause-unpopped
 returns-in-None-clause-unpopped c =
@@ -118,9 +105,6 @@ returns-in-None-clause-unscanned c =
     let x : View = view_of c.recycle_deferred.new.seat in
     let r = c.recycle_deferred.ensures in
     rescans-none v w x c.clean_some.ensures.only.ran r.traced.ran c.in-None.ensures.none.2 r.rescanned
-
-pub returns-in-None-clause-numbers : goal.returns-in-None-clause-numbers
-returns-in-None-clause-numbers c = only-more traces_or_cleans leaves_numbers traces-leave (view_of c.args.seat.now) (view_of c.recycle_deferred.new.seat) (both-traced c).only
 
 pub returns-in-None-clause-lacks : goal.returns-in-None-clause-lacks
 returns-in-None-clause-lacks c =
