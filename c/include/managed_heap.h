@@ -206,7 +206,7 @@ typedef struct mh_weak {
 /* Where a mutator stands: outside, inside, or between two steps of its collection. */
 enum {
     MH_AT_OUTSIDE = 0, MH_AT_INSIDE = 1, MH_AT_STOP = 2, MH_AT_ROOTS = 3, MH_AT_DRAIN = 4, MH_AT_LOOK = 5, MH_AT_CLEAN = 6, MH_AT_CLEAR = 7, MH_AT_SWEEP = 8,
-    MH_AT_COUNT = 9, MH_AT_END = 10, MH_AT_PART = 11
+    MH_AT_COUNT = 9, MH_AT_END = 10, MH_AT_PART = 11, MH_AT_SHARE = 12, MH_AT_PASS = 13, MH_AT_EMPTY = 14, MH_AT_CLOSE = 15
 };
 
 /* What the library exports. Each takes a handle that isn't all zero: call the functions below. */
