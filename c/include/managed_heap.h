@@ -709,7 +709,7 @@ static inline mh_status mh_collect_once(mh_mutator *m, int precise, uint64_t why
     while ((s = mh_step_for(m, precise, MH_STEP, why)) == MH_NOT_YET) {
         (void)MH_BY(m, mhl_course(m, last));
         if (mh_is_stopping(m, &stopping) == MH_OK && stopping) mh_rest(&rests);
-        else if (last->stage == MH_AT_PART) sched_yield();
+        else if (last->stage == MH_AT_PART || last->stage == MH_AT_CLOSE) sched_yield();
     }
     return s == MH_STOPPED ? mh_enter(m) : s;
 }
