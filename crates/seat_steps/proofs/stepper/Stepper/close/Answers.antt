@@ -1,4 +1,4 @@
-use Rattle.std.proofs.Common.{◌≡◌, ◌≤◌, ◌∙◌, [], ◌∷◌, ap, eqb-true, eq-eqb, refl, subst, sym}
+use Rattle.std.proofs.Common.{◌≡◌, ◌∙◌, [], ◌∷◌, ap, eqb-true, eq-eqb, refl, sym}
 use Rattle.std.proofs.lemmas.Bool.{OnFalse_at, OnTrue_at, true≢false}
 use Rattle.mark_core.specs.declared.kinds.Phase.TheVariants.{Drain}
 use Rattle.mark_core.specs.declared.kinds.Step.TheVariants.{SeeHelp}
