@@ -206,7 +206,7 @@ typedef struct mh_weak {
 /* Where a mutator stands: outside, inside, or between two steps of its collection. */
 enum {
     MH_AT_OUTSIDE = 0, MH_AT_INSIDE = 1, MH_AT_STOP = 2, MH_AT_ROOTS = 3, MH_AT_DRAIN = 4, MH_AT_LOOK = 5, MH_AT_CLEAN = 6, MH_AT_CLEAR = 7, MH_AT_SWEEP = 8,
-    MH_AT_COUNT = 9, MH_AT_END = 10, MH_AT_PART = 11
+    MH_AT_COUNT = 9, MH_AT_END = 10, MH_AT_PART = 11, MH_AT_SHARE = 12, MH_AT_PASS = 13, MH_AT_EMPTY = 14, MH_AT_CLOSE = 15
 };
 
 /* What the library exports. Each takes a handle that isn't all zero: call the functions below. */
@@ -709,7 +709,7 @@ static inline mh_status mh_collect_once(mh_mutator *m, int precise, uint64_t why
     while ((s = mh_step_for(m, precise, MH_STEP, why)) == MH_NOT_YET) {
         (void)MH_BY(m, mhl_course(m, last));
         if (mh_is_stopping(m, &stopping) == MH_OK && stopping) mh_rest(&rests);
-        else if (last->stage == MH_AT_PART) sched_yield();
+        else if (last->stage == MH_AT_PART || last->stage == MH_AT_CLOSE) sched_yield();
     }
     return s == MH_STOPPED ? mh_enter(m) : s;
 }
