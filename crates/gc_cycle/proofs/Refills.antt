@@ -2,4 +2,5 @@
 pub mod KnownFull
 pub mod Retired
 pub mod Answered
+pub mod OneCycle
 pub mod Collected

@@ -17,6 +17,7 @@ use Rattle.gc_table.specs.Running.{Ran}
 use Rattle.gc_table.specs.Seats.{Took}
 use Rattle.gc_cycle.specs.declared.counts.Safe.{Safe}
 use Rattle.gc_cycle.specs.declared.counts.Safe.TheVariants as safes
+use Rattle.gc_cycle.specs.Collecting.{EndsExactly}
 use Rattle.gc_cycle.specs.Cycles.{collects}
 use Rattle.gc_cycle.specs.Events.{each_before}
 use Rattle.gc_cycle.specs.Mutating.{GoesOut}
@@ -126,12 +127,13 @@ abbrev pub SafeTo : Safe → Option Cache → ℕ → View → View → Type 0
 SafeTo (safes.Going kept) handed done v w = PassesSafely handed kept done v w
 SafeTo safes.Full handed done v w = EndsFull done v w
 
--- a drain began in which no cell was marked, and the cycle ended; the position is stored, as at each stop
+-- a drain began in which no cell was marked, and the cycle ended exactly; the position is stored, as at each stop
 pub record Collects (done : ℕ) (v w : View) : Type 0 where
   pub goes_on : GoesOn v w
   pub cache : w.state.cache ≡ None
   pub position : w.own.position ≡ done
   pub collected : IsTrue (collects (events v w))
+  pub exact : EndsExactly v w
 
 -- what a precise collection answers: the mutator goes on without a cache, or the heap is full
 abbrev pub CollectsTo : Safe → ℕ → View → View → Type 0

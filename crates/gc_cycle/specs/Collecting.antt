@@ -1,5 +1,5 @@
 -- How a mutator collects in a stop of its own.
-use Rattle.std.specs.Prelude.{ℕ, ◌≡◌, ◌⊎◌, not, Bool, Some, None, is_some, IsTrue, IsFalse}
+use Rattle.std.specs.Prelude.{ℕ, ◌≡◌, ◌≤◌, ◌⊎◌, not, Bool, Some, None, is_some, IsTrue, IsFalse}
 use Rattle.mark_core.specs.Seats.{saw}
 use Rattle.mark_core.specs.declared.kinds.Phase.{Phase}
 use Rattle.mark_core.specs.declared.kinds.Phase.TheVariants.{Idle, Marking, Full}
@@ -11,10 +11,12 @@ use Rattle.gc_table.specs.Rule.{KnowsFull}
 use Rattle.gc_table.specs.Running.{Alone, Ran}
 use Rattle.packet_pools.specs.Counts.{count_of}
 use Rattle.gc_cycle.specs.Cycles.{collects}
+use Rattle.gc_cycle.specs.Ending.{InEach, IsExact}
 use Rattle.gc_cycle.specs.Events.{never}
+use Rattle.gc_cycle.specs.Finishing.{IsAloneIn}
 use Rattle.gc_cycle.specs.Mutating.{keeps_section, tries_stopping}
 use Rattle.gc_cycle.specs.Polling.{saw_full}
-use Rattle.gc_cycle.specs.Sorts.{raises_flag}
+use Rattle.gc_cycle.specs.Sorts.{ends_cycle, raises_flag}
 use Rattle.gc_cycle.specs.Standing.{IsAlone, Mutates}
 
 -- a step that changes nothing of what the section has come to, but for its position and for what the ends of cycles say, and doesn't say that the heap is full
@@ -40,15 +42,25 @@ pub record TriesAgain (done : ℕ) (v w : View) : Type 0 where
   pub only : Only tries_stopping v w
   pub calm : count_of raises_flag (events v w) ≡ 0
 
+-- in a stop a precise collection was made: at its end, while the seat was still alone, exactly the reachable cells were in use
+pub record EndsExactly (v w : View) : Type 0 where
+  pub ended : View
+  pub before : Ran v ended
+  pub later : Ran ended w
+  pub stopped : IsAloneIn Idle ended
+  pub collects : IsTrue (collects (events v ended))
+  pub exact : InEach IsExact ended
+
 -- a precise collection was made while the heap wasn't full, or it is full
 abbrev pub HasCollected : View → View → Type 0
-HasCollected v w = (IsTrue (collects (events v w)) × IsFalse (saw_full (events v w)) × (KnowsFull v → ⊥)) ⊎ KnowsFull w
+HasCollected v w = (IsTrue (collects (events v w)) × IsFalse (saw_full (events v w)) × (KnowsFull v → ⊥) × EndsExactly v w) ⊎ KnowsFull w
 
 -- the stop ended after that, and the position stayed
 pub record EndsStop (v w : View) : Type 0 where
   pub ran : Ran v w
   pub only : Only spares_section v w
   pub calm : IsTrue (never raises_flag (events v w))
+  pub cycles : count_of ends_cycle (events v w) ≤ 1
   pub cache : w.state.cache ≡ None
   pub position : w.own.position ≡ v.own.position
   pub collected : HasCollected v w

@@ -16,7 +16,7 @@ ghost use Rattle.gc_cycle.specs.Answering.{AnswersTo, CollectsTo, EndsFull, Give
 ghost use Rattle.gc_cycle.specs.Collecting.{EndsStop, HoldsWorld, TriesAgain, spares_section};
 ghost use Rattle.gc_cycle.specs.Cycles.{never_fills};
 ghost use Rattle.gc_cycle.specs.Polling.{saw_full};
-ghost use Rattle.gc_cycle.specs.Sorts.{polls, raises_flag, tries_marking};
+ghost use Rattle.gc_cycle.specs.Sorts.{ends_cycle, polls, raises_flag, tries_marking};
 ghost use Rattle.gc_cycle.specs.Sparing.{KnowsAnswer, spares_part};
 ghost use Rattle.gc_cycle.specs.Standing.{KeepsSeat, KeepsSection, Mutates};
 ghost use Rattle.gc_cycle.specs.Statistics.{ChangesBy, ChangesNumbers, GivesUp, cache_of};
@@ -31,8 +31,9 @@ use mark_core::Phase;
 use std::sync::Wait;
 use stop_world::{poll, resume};
 
-/// A precise collection by a mutator without a cache, that has done `done` commands. If another seat's stop comes
-/// first it tries again. Full: it read that the heap is full.
+/// A precise collection by a mutator without a cache, that has done `done` commands: of its own one cycle ends, and
+/// then exactly the reachable cells are in use. If another seat's stop comes first it tries again. Full: it read that
+/// the heap is full.
 pub fn collect<R: Wait>(rt: &R, heap: &Heap, seat: &mut HeapSeat, done: u32) -> Safe
     requires seat { Sits heap.now seat.old × Mutates (view_of seat.old) }
     requires cache { (state_of seat.old).cache ≡ None }
@@ -40,6 +41,7 @@ pub fn collect<R: Wait>(rt: &R, heap: &Heap, seat: &mut HeapSeat, done: u32) -> 
     ensures ran { Across Ran seat.old seat.new }
     ensures collects { Across (CollectsTo result done) seat.old seat.new }
     ensures once { count_of raises_flag (did seat.old seat.new) ≤ 1 }
+    ensures cycles { count_of ends_cycle (did seat.old seat.new) ≤ 1 }
     ensures not_full { IsTrue (never_fills (did seat.old seat.new)) }
     ensures keeps { Across KeepsSeat seat.old seat.new × Across KeepsSection seat.old seat.new }
     ensures spares { Across (Only spares_part) seat.old seat.new }
@@ -64,6 +66,7 @@ fn collect_once<R: Wait>(rt: &R, heap: &Heap, seat: &mut HeapSeat, done: u32) ->
     ensures none { IfNone result (Across (TriesAgain done) seat.old seat.new) }
     ensures some { IfSome result (λ safe. (u : View) → Ran u (view_of seat.old) → TellsFull u (view_of seat.old) → CollectsTo safe done u (view_of seat.new)) }
     ensures once { count_of raises_flag (did seat.old seat.new) ≤ 1 }
+    ensures cycles { count_of ends_cycle (did seat.old seat.new) ≤ 1 }
     ensures only { Across (Only spares_section) seat.old seat.new }
     ensures numbers { Across (ChangesNumbers []) seat.old seat.new }
     ensures unbegun { IsTrue (never tries_marking (did seat.old seat.new)) }

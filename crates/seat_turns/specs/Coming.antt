@@ -14,7 +14,7 @@ use Rattle.gc_cycle.specs.Cycles.{fills_with_cause, never_fills}
 use Rattle.gc_cycle.specs.Events.{never}
 use Rattle.gc_cycle.specs.Mutating.{HasEntered, pops_in_stops}
 use Rattle.gc_cycle.specs.Polling.{offered_help}
-use Rattle.gc_cycle.specs.Sorts.{polls, raises_flag, tries_marking}
+use Rattle.gc_cycle.specs.Sorts.{ends_cycle, polls, raises_flag, tries_marking}
 use Rattle.gc_cycle.specs.Sparing.{fills_part}
 use Rattle.gc_cycle.specs.Statistics.{ChangesNumbers, GivesUp, RefillsNumbers, leaves_numbers}
 use Rattle.gc_cycle.specs.Turns.{HelpsInTurns}
@@ -170,12 +170,13 @@ pub record LeavesTurn (v w : View) : Type 0 where
   pub gives : WithOwn GivesCache v given
   pub leaves : StepsOut given w
 
--- a precise collection answered so: it stopped the world once at most, began no cycle that marks beside the program, and changed no number but those that its
--- cycle set
+-- a precise collection answered so: it stopped the world once at most and ended one cycle at most, began no cycle that marks beside the program, and changed no
+-- number but those that its cycle set
 pub record CollectsOnce (safe : Safe) (v w : View) : Type 0 where
   pub ran : Ran v w
   pub collects : CollectsTo safe v.state.made v w
   pub once : count_of raises_flag (events v w) ≤ 1
+  pub cycles : count_of ends_cycle (events v w) ≤ 1
   pub not_full : IsTrue (never_fills (events v w))
   pub unbegun : IsTrue (never tries_marking (events v w))
   pub numbers : ChangesNumbers [] v w

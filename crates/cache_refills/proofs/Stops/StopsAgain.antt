@@ -23,6 +23,7 @@ use Rattle.gc_cycle.specs.Sorts.{ends_cycle, raises_flag, reads_free_cell}
 use Rattle.cache_refills.specs.Stops.{claim_failed, may_stop_again, misses_block, stops_again_with_cause}
 use Rattle.cache_refills.proofs.Causes.{after-earlier, after-join, after-none, failed-more, since-more}
 use Rattle.gc_cycle.proofs.Ends.Finishes.{never-both, since-later}
+use Rattle.gc_cycle.proofs.Refills.OneCycle.{tries-unended}
 use Rattle.gc_cycle.proofs.Sequences.{none-of-steps}
 
 -- a mutator outside a stop of its own ends no cycle
@@ -31,10 +32,6 @@ prepares-unended : (step : Step) (n : ℕ) → prepares step ≡ true → ends_c
 prepares-unended (StorePhase Marking) n e = refl
 prepares-unended (StorePhase to) n e = absurd (false≢true e)
 prepares-unended step n e = refl
-
-tries-unended : (step : Step) (n : ℕ) → tries_stopping step ≡ true → ends_cycle step n ≡ false
-tries-unended (StorePhase to) n e = absurd (false≢true e)
-tries-unended step n e = refl
 
 pub prepared-unended : (es : List Entry) → all_steps prepares es ≡ true → some_event ends_cycle es ≡ false
 prepared-unended es o = none-of-steps prepares ends_cycle prepares-unended es o

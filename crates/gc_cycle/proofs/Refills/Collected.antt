@@ -19,11 +19,13 @@ use Rattle.gc_table.proofs.Noticing.{found-noted}
 use Rattle.gc_table.specs.Taking.{moves_from}
 use Rattle.mark_core.specs.Places.{the_phase}
 use Rattle.packet_pools.specs.Counts.{count_of}
+use Rattle.packet_pools.proofs.Counting.{count-join}
 use Rattle.gc_table.proofs.Running.{ran-events, ran-join, ran-only, ran-refl, ran-section, state-kept}
 use Rattle.packet_pools.specs.Seeking.{some_event}
 use Rattle.packet_pools.proofs.Searches.{some-left}
 use Rattle.gc_cycle.specs.Answering.{answers, Collects, KeepsOn, TellsFull}
 use Rattle.gc_cycle.specs.Cycles.{never_fills, collects, collects_exactly, ends_exactly}
+use Rattle.gc_cycle.specs.Ending.{InEach, IsExact}
 use Rattle.gc_cycle.specs.Events.{followed_by, never, Sort}
 use Rattle.gc_cycle.specs.Finishing.{finishes, IsAloneIn}
 use Rattle.gc_cycle.specs.Moments.{Moment, after_moment, at_some_moment}
@@ -32,6 +34,7 @@ use Rattle.gc_cycle.specs.Sorts.{begins_exactly, ends_cycle, moves_to, raises_fl
 use Rattle.gc_cycle.specs.Standing.{IsAlone, KeepsSeat, KeepsSection, Mutates}
 use Rattle.gc_cycle.proofs.Refills.KnownFull.{full-known, tells-more, tells-none}
 use Rattle.gc_cycle.proofs.Refills.Answered.{answers-out, answers-try}
+use Rattle.gc_cycle.proofs.Refills.OneCycle.{cycles-join, exactly-within, tried-unended}
 use Rattle.gc_cycle.proofs.SectionKept.{keeps-seat, keeps-section}
 use Rattle.gc_cycle.proofs.Stops.OutAndIn.{no-cache}
 use Rattle.gc_cycle.proofs.Stops.FlagRaised.{calm-count, count-calls}
@@ -40,7 +43,7 @@ use Rattle.gc_cycle.proofs.Ends.Spared.{finish-position, keeps as finishes-keep}
 use Rattle.gc_cycle.proofs.Traced.{nothing-rest}
 use Rattle.mark_core.specs.declared.kinds.Step.{Step}
 use Rattle.mark_core.specs.declared.kinds.Step.TheVariants.{ClaimBlock, DropStep, JoinHelpStep, LeaveHelpStep, RaiseStep, ReadCat, ReadOwn, ReadPhase, StorePhase, ReadStat, ReadSlot, ReadWeak}
-use Rattle.gc_cycle.specs.Collecting.{EndsStop, HoldsWorld, spares_section, TriesAgain}
+use Rattle.gc_cycle.specs.Collecting.{EndsExactly, EndsStop, HoldsWorld, spares_section, TriesAgain}
 use Rattle.gc_cycle.specs.Mutating.{keeps_section, stays_calm, StopsWorld, tries_stopping, TriesToStop}
 use Rattle.gc_cycle.specs.Sparing.{spares_part}
 
@@ -144,6 +147,7 @@ ends-at_full v w h f r t =
       ran = r;
       only = only-more tries_stopping spares_section tries-section v w (only-drop v w t);
       calm = ap (never raises_flag) (events-after v w DropStep t.0 t.1.0);
+      cycles = let none = tried-unended v w (only-drop v w t) in omega (arith, none);
       cache = (resumed-mutates v w h.rest h.section h.unhelping t).1;
       position = ap (λ (x : View). x.own.position) t.1.0;
       collected = inr (full-known v w r (only-drop v w t) known);
@@ -168,11 +172,11 @@ holds-phase v h n =
     unfull p e k f = k (some-same (sym (h.alone.phase ∙ ap (λ q. Some (phase_number q)) e) ∙ f))
 
 -- a precise collection was made
-pub ends-collected : (v w x : View) → HoldsWorld v → (KnowsFull v → ⊥) → Ran v w → Only finishes v w → Only spares_part v w → never raises_flag (events v w) ≡ true → saw_full (events v w) ≡ false → collects (events v w) ≡ true → IsAlone w → Ran w x → Took DropStep w x → Mutates x × EndsStop v x
-ends-collected v w x h n r f s calm going c a q t =
+pub ends-collected : (v w x : View) → HoldsWorld v → (KnowsFull v → ⊥) → Ran v w → Only finishes v w → Only spares_part v w → never raises_flag (events v w) ≡ true → saw_full (events v w) ≡ false → collects (events v w) ≡ true → count_of ends_cycle (events v w) ≡ 1 → IsAloneIn Idle w → InEach IsExact w → Ran w x → Took DropStep w x → Mutates x × EndsStop v x
+ends-collected v w x h n r f s calm going c one a exact q t =
     let section : is_some w.state.section ≡ true = ap (λ o. is_some o) (ran-section v w r) ∙ h.section in
     let unhelping : w.state.helping ≡ false = state-kept (λ (y : SeatState). y.helping) finishes helping-kept v w r f ∙ h.unhelping in
-    let m = resumed-mutates w x a section unhelping t in
+    let m = resumed-mutates w x a.rest section unhelping t in
     let es = ran-events v w x r q in
     let last = events-after w x DropStep t.0 t.1.0 in (
       m.0,
@@ -180,6 +184,7 @@ ends-collected v w x h n r f s calm going c a q t =
         ran = ran-join v w x r q;
         only = ran-only spares_section v w x r q (finished-section v w f s) (only-more tries_stopping spares_section tries-section w x (only-drop w x t));
         calm = ap (never raises_flag) es ∙ ap not (some-none raises_flag (events v w) (events w x) (not-true _ calm) (ap (some_event raises_flag) last));
+        cycles = let none = tried-unended w x (only-drop w x t) in let all = cycles-join v w x 1 0 r q one (omega (arith, none)) in omega (arith, all);
         cache = m.1;
         position = ap (λ (y : View). y.own.position) t.1.0 ∙ finish-position v w r f;
         collected =
@@ -187,6 +192,7 @@ ends-collected v w x h n r f s calm going c a q t =
               ap collects es ∙ followed-earlier begins_exactly ends_cycle (events v w) (events w x) c,
               ap saw_full es ∙ some-none (reads_phase Full) (events v w) (events w x) going (ap saw_full last),
               n,
+              record { ended = w; before = r; later = q; stopped = a; collects = c; exact = exact },
             );
       },
     )
@@ -209,7 +215,7 @@ pub goes-collected : (done : ℕ) (u w x y : View) → Ran u w → TellsFull u w
 goes-collected done u w x y r t at q p e k =
     let to_x : Ran u x = ran-join u w x r q in
     ⊎_elim
-    (λ (c : IsTrue (collects (events w x)) × IsFalse (saw_full (events w x)) × (KnowsFull w → ⊥)).
+    (λ (c : IsTrue (collects (events w x)) × IsFalse (saw_full (events w x)) × (KnowsFull w → ⊥) × EndsExactly w x).
     let before : saw_full (events u w) ≡ false = ⊎_elim (λ (h : saw_full (events u w) ≡ true). absurd (c.2 (t h))) (λ (h : saw_full (events u w) ≡ false). h) (cases_Bool (saw_full (events u w))) in
     let none : saw_full (events u x) ≡ false = ap saw_full (ran-events u w x r q) ∙ some-none (reads_phase Full) (events u w) (events w x) before c.1 in
     let both : collects (events u x) ≡ true = ap collects (ran-events u w x r q) ∙ followed-later begins_exactly ends_cycle (events u w) (events w x) c.0 in
@@ -218,6 +224,7 @@ goes-collected done u w x y r t at q p e k =
       cache = k.cached;
       position = ap (λ (z : View). z.own.position) k.looked.1.0 ∙ (e.position ∙ at);
       collected = ap collects (ran-events u x y to_x p) ∙ followed-earlier begins_exactly ends_cycle (events u x) (events x y) both;
+      exact = exactly-within u w x y r p c.3;
     })
     (λ (f : KnowsFull x).
     let n = k.looked.0 in
@@ -264,14 +271,19 @@ tried done u v w r o t at n m =
     (ran-join u v w r t.ran, record { mutates = m; cache = t.cache; position = at; only = only; calm = count-calls u v w 0 0 r t.ran (answers-uncounted u v r o) n }, tries-spare u w only)
 
 -- a try that came to its own stop
-pub stopped : (u v w x y : View) → Ran u v → Only answers u v → TriesToStop v w → count_of raises_flag (events v w) ≡ 1 → EndsStop w x → Ran x y → Only answers x y → Ran u y × Only spares_section u y × (count_of raises_flag (events u y) ≤ 1)
+pub stopped : (u v w x y : View) → Ran u v → Only answers u v → TriesToStop v w → count_of raises_flag (events v w) ≡ 1 → EndsStop w x → Ran x y → Only answers x y → Ran u y × Only spares_section u y × (count_of raises_flag (events u y) ≤ 1) × (count_of ends_cycle (events u y) ≤ 1)
 stopped u v w x y r o t n e q p =
     let two = ran-join u v w r t.ran in
     let three = ran-join u w x two e.ran in
-    let count = count-calls u x y 1 0 three q (count-calls u w x 1 0 two e.ran (count-calls u v w 0 1 r t.ran (answers-uncounted u v r o) n) (calm-count (events w x) e.calm)) (answers-uncounted x y q p) in (
+    let count = count-calls u x y 1 0 three q (count-calls u w x 1 0 two e.ran (count-calls u v w 0 1 r t.ran (answers-uncounted u v r o) n) (calm-count (events w x) e.calm)) (answers-uncounted x y q p) in
+    let first = tried-unended u w (ran-only tries_stopping u v w r t.ran (answers-tried u v o) t.only) in
+    let most = cycles-join u w x 0 1 two e.ran first e.cycles in
+    let last = tried-unended x y (answers-tried x y p) in
+    let all = ap (count_of ends_cycle) (ran-events u x y three q) ∙ count-join ends_cycle (events u x) (events x y) in (
       ran-join u x y three q,
       ran-only spares_section u x y three q (ran-only spares_section u w x two e.ran (tries-spare u w (ran-only tries_stopping u v w r t.ran (answers-tried u v o) t.only)) e.only) (answers-section x y p),
       one-raised (count_of raises_flag (events u y)) count,
+      omega (arith, last, all, most),
     )
 
 -- what was known before

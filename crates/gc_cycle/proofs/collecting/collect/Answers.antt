@@ -10,6 +10,7 @@ use Rattle.gc_cycle.specs.Collecting.{spares_section}
 use Rattle.gc_cycle.specs.Mutating.{tries_stopping}
 use Rattle.gc_cycle.specs.Sorts.{raises_flag}
 use Rattle.gc_cycle.proofs.Refills.Collected.{section-kept, tries-spare}
+use Rattle.gc_cycle.proofs.Refills.OneCycle.{cycles-join, tried-unended}
 use Rattle.gc_cycle.proofs.Refills.KnownFull.{tells-more, tells-none}
 use Rattle.gc_cycle.proofs.Stops.FlagRaised.{count-calls}
 use Rattle.gc_cycle.proofs.Changes.{by-none, numbers-join, numbers-one}
@@ -71,6 +72,16 @@ returns-in-Some-collect_once-clause-once g c =
     let e = c.collect_once.ensures in
     let all = ap (count_of raises_flag) (ran-events u v w i.ran e.ran) ∙ count-join raises_flag (events u v) (events v w) in
     omega (arith, all, i.calm, e.once)
+
+pub returns-in-Some-collect_once-clause-cycles : goal.returns-in-Some-collect_once-clause-cycles
+returns-in-Some-collect_once-clause-cycles g c =
+    let u : View = view_of c.args.seat.now in
+    let v : View = view_of c.loop.seat in
+    let w : View = view_of c.collect_once.new.seat in
+    let i = c.loop.invariant in
+    let e = c.collect_once.ensures in
+    let all = cycles-join u v w 0 1 i.ran e.ran (tried-unended u v i.only) e.cycles in
+    omega (arith, all)
 
 pub returns-in-Some-collect_once-clause-not_full : goal.returns-in-Some-collect_once-clause-not_full
 returns-in-Some-collect_once-clause-not_full g c =

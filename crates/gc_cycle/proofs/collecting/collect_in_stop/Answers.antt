@@ -41,14 +41,14 @@ returns-clause-seat g c =
     let v : View = view_of c.args.seat.now in
     let w : View = view_of c.precise.new.seat in
     let p = c.precise.ensures.ends in
-    (c.resume-2.ensures.seat, (ends-collected v w (view_of c.resume-2.new.seat) c.requires.stopped (holds-phase v c.requires.stopped c.if-has_seen_full.ensures.other).1 p.ran p.only p.spares p.calm p.going (exactly-collects c.args.heap.now.shape (begins v) (events v w) c.precise.ensures.collects) p.idle.rest c.resume-2.ensures.ran c.resume-2.ensures.step).0)
+    (c.resume-2.ensures.seat, (ends-collected v w (view_of c.resume-2.new.seat) c.requires.stopped (holds-phase v c.requires.stopped c.if-has_seen_full.ensures.other).1 p.ran p.only p.spares p.calm p.going (exactly-collects c.args.heap.now.shape (begins v) (events v w) c.precise.ensures.collects) p.once p.idle c.precise.ensures.exact c.resume-2.ensures.ran c.resume-2.ensures.step).0)
 
 pub returns-clause-ends : goal.returns-clause-ends
 returns-clause-ends g c =
     let v : View = view_of c.args.seat.now in
     let w : View = view_of c.precise.new.seat in
     let p = c.precise.ensures.ends in
-    (ends-collected v w (view_of c.resume-2.new.seat) c.requires.stopped (holds-phase v c.requires.stopped c.if-has_seen_full.ensures.other).1 p.ran p.only p.spares p.calm p.going (exactly-collects c.args.heap.now.shape (begins v) (events v w) c.precise.ensures.collects) p.idle.rest c.resume-2.ensures.ran c.resume-2.ensures.step).1
+    (ends-collected v w (view_of c.resume-2.new.seat) c.requires.stopped (holds-phase v c.requires.stopped c.if-has_seen_full.ensures.other).1 p.ran p.only p.spares p.calm p.going (exactly-collects c.args.heap.now.shape (begins v) (events v w) c.precise.ensures.collects) p.once p.idle c.precise.ensures.exact c.resume-2.ensures.ran c.resume-2.ensures.step).1
 
 pub returns-then-has_seen_full-clause-numbers : goal.returns-then-has_seen_full-clause-numbers
 returns-then-has_seen_full-clause-numbers g c =

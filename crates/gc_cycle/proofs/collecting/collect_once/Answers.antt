@@ -5,9 +5,10 @@ use Rattle.gc_table.specs.Log.{events}
 use Rattle.gc_table.specs.declared.view.View.{View}
 use Rattle.gc_table.proofs.Running.{ran-join}
 use Rattle.packet_pools.specs.Counts.{count_of}
-use Rattle.gc_cycle.specs.Sorts.{raises_flag}
+use Rattle.gc_cycle.specs.Sorts.{ends_cycle, raises_flag}
 use Rattle.gc_cycle.proofs.Refills.Answered.{full-later}
-use Rattle.gc_cycle.proofs.Refills.Collected.{answers-section, answers-uncounted, goes-collected, held, none-raised, stopped, tells-tried, tried}
+use Rattle.gc_cycle.proofs.Refills.Collected.{answers-section, answers-tried, answers-uncounted, goes-collected, held, none-raised, stopped, tells-tried, tried}
+use Rattle.gc_cycle.proofs.Refills.OneCycle.{tried-unended}
 use Rattle.gc_cycle.proofs.Changes.{by-join, numbers-collected, numbers-one, only-changes}
 use Rattle.gc_cycle.proofs.Unbegun.{answers-unbegun, stopped-unbegun, tries-unbegun, unbegun-join}
 use Rattle.gc_cycle.proofs.collecting.collect_once.Goals as goal
@@ -27,6 +28,12 @@ returns-then-stores_if_full-clause-once g c =
     let u : View = view_of c.args.seat.now in
     let v : View = view_of c.stores_if_full.new.seat in
     none-raised (count_of raises_flag (events u v)) (answers-uncounted u v c.stores_if_full.ensures.ran c.stores_if_full.ensures.only)
+
+pub returns-then-stores_if_full-clause-cycles : goal.returns-then-stores_if_full-clause-cycles
+returns-then-stores_if_full-clause-cycles g c =
+    let u : View = view_of c.args.seat.now in
+    let v : View = view_of c.stores_if_full.new.seat in
+    none-raised (count_of ends_cycle (events u v)) (tried-unended u v (answers-tried u v c.stores_if_full.ensures.only))
 
 pub returns-then-stores_if_full-clause-only : goal.returns-then-stores_if_full-clause-only
 returns-then-stores_if_full-clause-only g c =
@@ -54,6 +61,7 @@ returns-then-not-stop g c =
       none = d.1;
       some = tt;
       once = none-raised (count_of raises_flag (events u w)) d.1.calm;
+      cycles = none-raised (count_of ends_cycle (events u w)) (tried-unended u w d.1.only);
       only = d.2;
       numbers = numbers-one [] u w (by-join [] [] u v w e.numbers (only-changes v w t.tries.ran t.numbers));
       unbegun = unbegun-join u v w e.ran t.tries.ran (answers-unbegun u v e.only) (tries-unbegun v w t.tries.only);
@@ -78,6 +86,7 @@ returns-then-stores_if_full-2 g c =
       none = tt;
       some = λ z r k. full-later c.args.done z x y (ran-join z w x (tells-tried z u v w r k e.ran e.only t.tries).0 i.ends.ran) l.ran c.if-stores_if_full-2.ensures.full.0;
       once = d.2;
+      cycles = d.3;
       only = d.1;
       numbers = numbers-collected u v w x y e.numbers (only-changes v w t.tries.ran t.numbers) i.numbers l.numbers;
       unbegun = stopped-unbegun u v w x y e.ran e.only t.tries i.ends.ran i.unbegun l.ran l.only;
@@ -102,6 +111,7 @@ returns g c =
       none = tt;
       some = λ z r k. let b = tells-tried z u v w r k e.ran e.only t.tries in goes-collected c.args.done z w x y b.0 b.1 t.position i.ends.ran l.ran i.ends c.if-stores_if_full-2.ensures.going;
       once = d.2;
+      cycles = d.3;
       only = d.1;
       numbers = numbers-collected u v w x y e.numbers (only-changes v w t.tries.ran t.numbers) i.numbers l.numbers;
       unbegun = stopped-unbegun u v w x y e.ran e.only t.tries i.ends.ran i.unbegun l.ran l.only;
