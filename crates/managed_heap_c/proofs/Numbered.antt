@@ -14,10 +14,10 @@ pub few : (x : Stepper) → fields_in x ≤ 16
 few x = (arc_value x.heap).shaped.fields.1
 
 -- a variable's number is its byte
-same : (v b : ℕ) → IsByteOf v b → IsVariable b → b ≡ v
+pub same : (v b : ℕ) → IsByteOf v b → IsVariable b → b ≡ v
 same v b i l = i.1 (omega (arith, l))
 
-byte-in : (v b : ℕ) → IsByteOf v b → IsVariable v → IsVariable b
+pub byte-in : (v b : ℕ) → IsByteOf v b → IsVariable v → IsVariable b
 byte-in v b i l = omega (arith, i.0 (omega (arith, l)), l)
 
 pub root-by : (came : Came) (v b : ℕ) (x y : Stepper) → IsByteOf v b → TakesRoot came b x y → TakesRoot came v x y

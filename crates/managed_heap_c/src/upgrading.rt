@@ -6,8 +6,8 @@ ghost use Rattle.managed_heap_c.specs.Weak.{WeaksTo};
 use crate::handles::MutatorHandle;
 use crate::lending::lend_hand;
 use crate::statuses::IN_USE;
-use crate::using::{begins, ends};
 use crate::upgrades::{upgrade_by, weak_of_by};
+use crate::using::{begins, ends};
 use seat_turns::Weak;
 
 /// Writes a weak reference to the object of v.
