@@ -34,7 +34,7 @@ pub struct Cycle {
     pub stopped: Duration,
     /// How long of that it was swept, and the cells in use were counted.
     pub swept: Duration,
-    /// How many cells were freed.
+    /// How many cells the collecting thread freed: those that helpers freed aren't among them.
     pub freed: u32,
     /// How many cells are in use.
     pub kept: u32,
