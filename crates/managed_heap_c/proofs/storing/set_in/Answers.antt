@@ -23,8 +23,7 @@ returns c =
           (λ r. r.0)
           (record {
             own = λ n. ap (λ ref. stored_at h ref (λ object. with_field object a.i (variable h a.w))) n;
-            takes = λ n k. k ∙ ap (λ ref. storing_steps (held_kind ref) (word_in (state_of a.stepper.now.seat) a.v - 1) (barrier_steps (state_of a.stepper.now.seat) a.v a.i (Some a.w))) n;
-            shared = λ n k. k.steps_are ∙ ap (λ (word : ℕ). if word == 0 then [] else barrier_steps (state_of a.stepper.now.seat) a.v a.i (Some a.w)) n;
+            takes = λ n k. k ∙ ap (λ ref. storing_steps (held_kind ref) (word_in (state_of a.stepper.now.seat) a.v - 1) (barrier_steps (state_of a.stepper.now.seat) a.v a.i (Some a.w) (was_dirty (did a.stepper.now.seat c.set.new.self.seat)))) n;
             shared = λ n k. k.steps_are ∙ ap (λ (word : ℕ). if word == 0 then [] else barrier_steps (state_of a.stepper.now.seat) a.v a.i (Some a.w) (was_dirty (did a.stepper.now.seat c.set.new.self.seat))) n;
           })
           e.nil
