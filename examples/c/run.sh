@@ -45,7 +45,7 @@ run() {
     timeout "$(bound "$seconds")" "$work/$program" "$@" || fail "$program $* $(ended $?)"
 }
 
-programs="binary_trees gcbench rewriter fuzz fills_up edges billion speed queue map counter torture places weak_table cleaner misuse abandon cycles hidden timeline weak_map"
+programs="binary_trees gcbench rewriter fuzz fills_up edges billion speed queue map counter torture places weak_table cleaner misuse abandon cycles hidden helped timeline weak_map"
 for name in $programs; do build "$name" "$name"; done
 for name in misuse fuzz speed abandon; do build "$name" "$name.guarded" -DMH_CHECKED; done
 
@@ -78,6 +78,8 @@ run 120 abandon 120 1
 run 120 abandon.guarded 60 1
 run 120 cycles 4 300000 16384 1
 run 120 cycles 2 300000 16384 0
+run 60 helped
+run 60 helped 3000 65536
 if command -v python3 >"$work/log"; then
     run 120 timeline 3 300000 65536 1 >"$work/trace"
     if python3 "$top/tests/trace_events.py" <"$work/trace"; then echo "timeline: $(grep -c '"the cycle ends"' "$work/trace") cycles, each with its stop"; else fail "the trace of timeline"; fi
