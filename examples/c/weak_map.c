@@ -177,9 +177,8 @@ static void end(mh_mutator *m, uint32_t number) {
     left = made - freed;
     wrong("texts that are left", left, walk(m));
     if (!left) wrong("texts that are left", 0, 1);
-    MUST(mh_forget_slots(m, 0, cells + 1));
-    MUST(mh_forget(m, FOUND));
     drop_all(m);
+    MUST(mh_forget_all(m));
     sweep_all(m);
     wrong("texts that were freed", freed, made);
 }
