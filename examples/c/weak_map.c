@@ -104,12 +104,13 @@ static void drop_all(mh_mutator *m) {
     for (i = 0; i < FIELDS; i++) MUST(mh_set(m, ROOT, i, NIL));
 }
 
-/* v becomes a new object with a text. If objects that are kept fill all cells the thread lets go of some. */
+/* v becomes a new object with a text, of which most refer to what v was. If objects that are kept fill all cells the thread lets go of some. */
 static void make_one(mh_mutator *m, uint32_t v, uint32_t value) {
     mh_status s;
     while ((s = mh_make(m, NEW, value)) == MH_NO_CELL) { drop_all(m); rest(m); }
     must(s, MH_OK, "mh_make", __FILE__, __LINE__);
     add_text(m);
+    if (value % 16) MUST(mh_set(m, NEW, value % FIELDS, v));
     MUST(mh_copy(m, v, NEW));
     MUST(mh_forget(m, NEW));
 }
@@ -129,12 +130,21 @@ static void step(mh_mutator *m, uint64_t *random, uint32_t value) {
     MUST(mh_safe_point(m));
 }
 
+/* What the thread's variables refer to is left in the root, linked. */
+static void leave_all(mh_mutator *m, uint32_t number) {
+    uint32_t v;
+    make_one(m, OWN, threads * steps + number);
+    for (v = OWN; v + 1 < NEW; v++) if (!is_nil(m, v)) MUST(mh_set(m, v, 0, v + 1));
+    MUST(mh_set(m, ROOT, number % FIELDS, OWN));
+    MUST(mh_forget_all(m));
+}
+
 static void work(mh_mutator *m, uint32_t number) {
     uint64_t random = (seed + 1) * 0x9e3779b97f4a7c15u + number;
     uint32_t k;
     MUST(mh_root(m, ROOT));
     for (k = 0; k < steps; k++) step(m, &random, number * steps + k);
-    MUST(mh_forget_all(m));
+    leave_all(m, number);
 }
 
 /* How many objects the root reaches, besides itself. Those whose fields are still to be looked at wait in slots. */
@@ -166,9 +176,9 @@ static void end(mh_mutator *m, uint32_t number) {
     sweep_all(m);
     left = made - freed;
     wrong("texts that are left", left, walk(m));
-    MUST(mh_forget_slots(m, 0, cells + 1));
-    MUST(mh_forget(m, FOUND));
+    if (!left) wrong("texts that are left", 0, 1);
     drop_all(m);
+    MUST(mh_forget_all(m));
     sweep_all(m);
     wrong("texts that were freed", freed, made);
 }

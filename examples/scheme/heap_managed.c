@@ -106,7 +106,7 @@ int upgrade(uint32_t w, uint32_t v) {
 /* Under the lock. The object that the sweep comes to is dead: its memory is freed. The last one comes to its place. */
 static void drop_text(void) {
     struct text *it = &texts[texts_left];
-    text_ends(it->bytes);
+    text_found(it->bytes);
     free(it->bytes);
     texts_bytes -= it->length;
     *it = texts[--texts_count];
