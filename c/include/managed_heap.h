@@ -30,7 +30,7 @@ extern "C" {
 #endif
 
 /* The version of these calls. The first number rises if a program has to be changed or compiled again. */
-#define MH_VERSION "4.0"
+#define MH_VERSION "4.1"
 
 /* What a call came to. If it isn't MH_OK, objects and variables are as before, but for what a line here says. */
 typedef enum mh_status {
@@ -60,8 +60,10 @@ typedef enum mh_status {
     MH_NOT_SHARED = 19,   /* the world isn't shared, and the call is for a shared one */
     MH_NO_CACHE = 20,     /* of mh_make_cached: no cell of the mutator's cache is free: mh_refill_step first */
     MH_DEAD = 21,         /* of mh_upgrade: the object is dead, and the variable is nil */
-    MH_UNPUBLISHED = 22   /* of mh_weak_of: another mutator made the object and hasn't published it yet, so that nothing would tell its death. It does so at the
+    MH_UNPUBLISHED = 22,  /* of mh_weak_of: another mutator made the object and hasn't published it yet, so that nothing would tell its death. It does so at the
                              next stop at the latest, or when it takes a weak reference to the object itself */
+    MH_INSIDE = 23,       /* of mh_help_step: the mutator is inside the world, and only one outside helps */
+    MH_NO_HELP = 24       /* of mh_help_step: no stop is open to helpers, or nothing was left to do in it. Rest, and enter again */
 } mh_status;
 
 /* A status in words. */
@@ -90,6 +92,8 @@ static inline const char *mh_status_text(mh_status s) {
     case MH_NO_CACHE: return "no cell of the mutator's cache is free";
     case MH_DEAD: return "the weak reference's object is dead";
     case MH_UNPUBLISHED: return "another mutator hasn't published the object yet";
+    case MH_INSIDE: return "the mutator is inside the world";
+    case MH_NO_HELP: return "there is nothing to help in";
     }
     return "no status of managed_heap";
 }
@@ -151,8 +155,8 @@ typedef struct mh_cycle {
     uint64_t waited;  /* how long the world took to stop */
     uint64_t stopped; /* how long it stood still, */
     uint64_t swept;   /* and how long of that it was swept, and the cells in use were counted */
-    uint64_t freed;   /* how many cells were freed, */
-    uint64_t kept;    /* and how many are in use */
+    uint64_t freed;   /* how many cells the collecting thread freed: those that helpers freed aren't among them */
+    uint64_t kept;    /* how many cells are in use */
     uint64_t mutators; /* how many objects mutators traced beside the program since the cycle before, to pay for the cells that they took */
     uint64_t traced;  /* how many objects were traced while the world stood still, */
     uint64_t cleaned; /* and how many cards of 16 cells were cleaned then, since they were dirty */
@@ -170,8 +174,8 @@ enum { MH_ASKED = 0, MH_LACKED = 1 };
 typedef void mh_sink(void *context, const mh_cycle *cycle);
 
 /* How far the collection of a mutator is: where it stands; 1 if it is to mark once more, and 1 if it read last that a cycle is marking, else 0; how many cells
-   its sweep has freed, how many in use it has counted, and how many objects it has scanned again; and, from the roots on, 1 if it leaves no garbage, else 0. At
-   MH_AT_END its next step ends the cycle by these numbers. */
+   it has freed by its own sweep, how many in use it has counted, and how many objects it has scanned again; and, from the roots on, 1 if it leaves no garbage,
+   else 0. At MH_AT_END its next step ends the cycle by these numbers. */
 typedef struct mh_course {
     uint32_t stage;
     uint32_t again;
@@ -202,7 +206,7 @@ typedef struct mh_weak {
 /* Where a mutator stands: outside, inside, or between two steps of its collection. */
 enum {
     MH_AT_OUTSIDE = 0, MH_AT_INSIDE = 1, MH_AT_STOP = 2, MH_AT_ROOTS = 3, MH_AT_DRAIN = 4, MH_AT_LOOK = 5, MH_AT_CLEAN = 6, MH_AT_CLEAR = 7, MH_AT_SWEEP = 8,
-    MH_AT_COUNT = 9, MH_AT_END = 10
+    MH_AT_COUNT = 9, MH_AT_END = 10, MH_AT_PART = 11
 };
 
 /* What the library exports. Each takes a handle that isn't all zero: call the functions below. */
@@ -228,6 +232,7 @@ mh_status mhl_is_nil(mh_mutator *m, uint32_t v, uint32_t *out);
 mh_status mhl_same(mh_mutator *m, uint32_t v, uint32_t w, uint32_t *out);
 mh_status mhl_collect_step(mh_mutator *m, uint32_t most);
 mh_status mhl_finish_step(mh_mutator *m, uint32_t most);
+mh_status mhl_help_step(mh_mutator *m, uint32_t most);
 mh_status mhl_is_stopping(mh_mutator *m, uint32_t *out);
 mh_status mhl_root(mh_mutator *m, uint32_t v);
 mh_status mhl_exchange(mh_mutator *m, uint32_t v, uint32_t i, uint32_t expected, uint32_t next, uint32_t *won);
@@ -582,6 +587,10 @@ static inline mh_status mh_collect_step(mh_mutator *m, uint32_t most) { return m
 /* The same of an ordinary collection: what a cycle had marked beside the program stays marked. So the world stands still shortly, and what died since the cycle
    began may be kept until the next one. A collection goes on as it was begun, by whichever of the two its steps are taken. */
 static inline mh_status mh_finish_step(mh_mutator *m, uint32_t most) { return mh_step_for(m, 0, most, MH_ASKED); }
+/* A mutator outside helps in another's collection, if that is open to helpers: it traces at most so many objects while it marks, or sweeps at most so many blocks
+   of 64 cells (one stretch at least) while it sweeps. It is no helper any more when the call ends; until then that collection waits for it, as for a step of its
+   own. MH_OK if it did some of the work. */
+static inline mh_status mh_help_step(mh_mutator *m, uint32_t most) { return MH_BY(m, mhl_help_step(m, most)); }
 /* 1 if its collection waits for the mutators that are inside, so that a rest is due before its next step, else 0. */
 static inline mh_status mh_is_stopping(mh_mutator *m, uint32_t *out) { return MH_BY(m, mhl_is_stopping(m, out)); }
 
@@ -624,6 +633,29 @@ static inline mh_status mh_weak_of(mh_mutator *m, uint32_t v, mh_weak *out) { re
    will, and v is nil. An object that is reached is never found dead; one that isn't lives until a cycle frees it. MH_OUT_OF_RANGE where the world has no such
    place, section or number, MH_REFUSED where the weak reference is another world's: nothing is done. */
 static inline mh_status mh_upgrade(mh_mutator *m, const mh_weak *weak, uint32_t v) { return MH_BY(m, mhl_upgrade(m, weak, v)); }
+/* How many cycles have ended in the mutator's world. It takes no step. While the number is the same, what mh_upgrade found alive isn't dead. */
+static inline mh_status mh_cycles(mh_mutator *m, uint64_t *cycles) { return MH_BY(m, (*cycles = mh_noted(m->book->last), MH_OK)); }
+static inline mh_status mh_deaths_by(mh_mutator *m, const mh_weak *weaks, uint32_t count, uint32_t v, uint32_t *dead, uint32_t *many) {
+    mh_status s = mhl_forget(m, v);
+    uint32_t k, found = 0;
+    if (s != MH_OK) return s;
+    for (k = 0; k < count && s == MH_OK; k++) {
+        if (!weaks[k].world) continue;
+        s = mhl_upgrade(m, &weaks[k], v);
+        if (s != MH_DEAD) continue;
+        dead[found++] = k;
+        s = MH_OK;
+    }
+    (void)mhl_forget(m, v);
+    *many = found;
+    return s;
+}
+/* Which of so many weak references have dead objects: `dead`, which has room for all, gets their numbers, from 0 on and in order, and `many` is how many they
+   are. One that is all zero is none yet, and is passed over. v is nil afterwards. It takes 3 steps for each at most and 2 more, and has no safe point: a large
+   table is gone through in pieces, with a safe point between two. If one is refused, as by mh_upgrade, that is the answer, and those before it are told. */
+static inline mh_status mh_deaths(mh_mutator *m, const mh_weak *weaks, uint32_t count, uint32_t v, uint32_t *dead, uint32_t *many) {
+    return MH_BY(m, mh_deaths_by(m, weaks, count, v, dead, many));
+}
 
 /* A tracer: for one thread at a time. */
 
@@ -668,11 +700,17 @@ static inline void mh_rest(uint32_t *count) {
     if (*count < MH_YIELDS + 5) ++*count;
 }
 
-/* Enters the world, as soon as no stop is under way. */
+/* How many objects or blocks a step of help does. */
+enum { MH_HELP = 1024 };
+
+/* Enters the world, as soon as no stop is under way, and helps meanwhile. */
 static inline mh_status mh_enter(mh_mutator *m) {
     uint32_t rests = 0;
     mh_status s;
-    while ((s = mh_enter_step(m)) == MH_STOPPED) mh_rest(&rests);
+    while ((s = mh_enter_step(m)) == MH_STOPPED) {
+        if (mh_help_step(m, MH_HELP) == MH_OK) rests = 0;
+        else mh_rest(&rests);
+    }
     return s;
 }
 

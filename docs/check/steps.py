@@ -132,7 +132,7 @@ def told_in(page, columns):
         for owner, cell in zip(columns.values(), cells):
             cell = re.sub(r"^(\d+), and 1 for each reference of an object$", r"fields + \1", cell)
             cell = re.sub(r"^1 for each slot$", "to - from", cell)
-            cell = re.sub(r"^`refill_steps`, below$", "refill_steps most x", cell)
+            cell = re.sub(r"^`(refill|help)_steps`, below$", r"\1_steps most x", cell)
             cell = re.sub(r"^`make_steps`, below, and 4 for each reference that it is given$", "make_steps (view_of x.seat).shape + 4 * length ns", cell)
             cell = re.sub(r"^`tried_steps`, below$", "tried_steps tried v.shape", cell)
             found.update({(owner, name): cell for name in re.findall(r"`([a-z]\w*)`", names) if cell})

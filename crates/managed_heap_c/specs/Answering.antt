@@ -26,6 +26,8 @@ status_of_came cames.NoCache = 20
 status_of_came cames.Dead = 21
 status_of_came cames.Unpublished = 22
 status_of_came cames.OtherWorld = 14
+status_of_came cames.Inside = 23
+status_of_came cames.NoHelp = 24
 
 -- another call uses the handle, and nothing changed
 abbrev pub IsInUse : ℕ → Hand → Hand → Type 0

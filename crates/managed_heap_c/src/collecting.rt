@@ -1,6 +1,7 @@
-//! The steps of a mutator's collection: a precise one, or an ordinary one.
+//! The steps of a mutator's collection, precise or ordinary, and of its help in another's.
 ghost use Rattle.std.specs.Prelude.{true, false};
 ghost use Rattle.seat_steps.specs.Bounds.{CollectsAtMost};
+ghost use Rattle.seat_steps.specs.Helping.{HelpsOnce};
 ghost use Rattle.managed_heap_c.specs.Answering.{Answers, AnswersOnce};
 
 use crate::handles::MutatorHandle;
@@ -24,6 +25,15 @@ fn finish_by(hand: &mut Hand, most: u32) -> u32
     match &mut hand.stepper {
         None => GIVEN_BACK,
         Some(stepper) => status(stepper.finish_at_most(most)),
+    }
+}
+
+fn help_by(hand: &mut Hand, most: u32) -> u32
+    ensures answers { Answers (HelpsOnce most) result hand.old.stepper hand.new.stepper }
+{
+    match &mut hand.stepper {
+        None => GIVEN_BACK,
+        Some(stepper) => status(stepper.help_step(most)),
     }
 }
 
@@ -53,6 +63,20 @@ pub extern "C" fn mhl_finish_step(h: &mut MutatorHandle, most: u32) -> u32
         return IN_USE;
     }
     let answer = finish_by(hand, most);
+    ends(hand);
+    answer
+}
+
+/// A step of help by a mutator outside, in the stop of another: at most `most` objects or blocks (or one stretch).
+#[unsafe(no_mangle)]
+pub extern "C" fn mhl_help_step(h: &mut MutatorHandle, most: u32) -> u32
+    ensures answers { AnswersOnce (HelpsOnce most) result h.old.hand h.new.hand }
+{
+    let hand = lend_hand(h);
+    if !begins(hand) {
+        return IN_USE;
+    }
+    let answer = help_by(hand, most);
     ends(hand);
     answer
 }

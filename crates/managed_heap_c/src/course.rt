@@ -20,7 +20,7 @@ pub struct CCourse {
     pub again: u32,
     /// 1 if it read last that a cycle is marking, otherwise 0.
     pub marking: u32,
-    /// How many cells its sweep has freed.
+    /// How many cells it has freed by its own sweep.
     pub freed: u32,
     /// How many cells in use it has counted.
     pub kept: u32,
@@ -45,6 +45,7 @@ fn number_at(stage: Stage) -> u32
         Stage::Sweeping => 8,
         Stage::Counting => 9,
         Stage::Ending => 10,
+        Stage::Parting => 11,
     }
 }
 

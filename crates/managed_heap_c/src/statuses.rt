@@ -53,6 +53,8 @@ pub fn status(came: Came) -> u32
         Came::Dead => 21,
         Came::Unpublished => 22,
         Came::OtherWorld => 14,
+        Came::Inside => 23,
+        Came::NoHelp => 24,
     }
 }
 

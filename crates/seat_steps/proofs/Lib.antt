@@ -14,5 +14,7 @@ mod Undrawn
 mod PaidCounts
 mod Doing
 mod Filled
+mod Gates
+mod Helped
 pub mod Found
 pub mod Searched

@@ -11,7 +11,7 @@ use Rattle.mark_core.specs.declared.kinds.Phase.TheVariants.{Clear, Drain, Full,
 use Rattle.mark_core.specs.declared.kinds.Shape.{Shape}
 use Rattle.mark_core.specs.declared.kinds.Step.{Step}
 use Rattle.mark_core.specs.declared.kinds.Step.TheVariants.{RaiseStep, StorePhase}
-use Rattle.gc_table.specs.Log.{event, events}
+use Rattle.gc_table.specs.Log.{Only, event, events}
 use Rattle.gc_table.specs.Running.{Ran}
 use Rattle.gc_table.specs.Seats.{Sits, view_of}
 use Rattle.gc_table.specs.declared.seat.Heap.{Heap}
@@ -106,11 +106,14 @@ stays_unended : (p : Phase) (step : Step) (n : ℕ) → stays_in p step ≡ true
 stays_unended p (StorePhase to) n e = absurd (false≢true e)
 stays_unended p step n e = refl
 
-part_calm : (p : Phase) (v w : View) → IsPart p v w → Calm v w
-part_calm p v w h = (
-  ap not (none-of-steps (stays_in p) raises_flag (stays_quiet p) (events v w) h.only),
-  count-none ends_cycle (events v w) (none-of-steps (stays_in p) ends_cycle (stays_unended p) (events v w) h.only),
+stays_calm : (p : Phase) (v w : View) → Only (stays_in p) v w → Calm v w
+stays_calm p v w o = (
+  ap not (none-of-steps (stays_in p) raises_flag (stays_quiet p) (events v w) o),
+  count-none ends_cycle (events v w) (none-of-steps (stays_in p) ends_cycle (stays_unended p) (events v w) o),
 )
+
+part_calm : (p : Phase) (v w : View) → IsPart p v w → Calm v w
+part_calm p v w h = stays_calm p v w h.only
 
 move_calm : (from to : Phase) (v w : View) → ((n : ℕ) → ends_cycle (StorePhase to) n ≡ false) → IsMove from to v w → Calm v w
 move_calm from to v w e m = (ap (never raises_flag) m.events_are, ap (count_of ends_cycle) m.events_are ∙ ap (λ (b : Bool). (if b then 1 else 0) + 0) (e m.found))
@@ -179,9 +182,9 @@ pub sweeps-begun : (exact : Bool) (v w : View) → IsMove Drain Sweep v w → ((
 sweeps-begun exact v w p x m =
     ∥∥₁_map m (λ (q : (u : View) × HasAsked 0 u v × (IsTrue exact → IsFalse false → IsExactSince u v)). (q.0, asked_on 0 q.0 v w q.1 p.ran (move_calm Drain Sweep v w (λ n. refl) p), λ e. x q.0 (q.2 e refl)))
 
-pub sweeps-on : (exact : Bool) (v w : View) → IsPart Sweep v w → ((u : View) → IsExactSince u v → IsExactSince u w) → SweepsSinceAsked exact v → SweepsSinceAsked exact w
-sweeps-on exact v w p x s =
-    ∥∥₁_map s (λ (q : (u : View) × HasAsked 0 u v × (IsTrue exact → IsExactSince u v)). (q.0, asked_on 0 q.0 v w q.1 p.ran (part_calm Sweep v w p), λ e. x q.0 (q.2 e)))
+pub sweeps-on : (exact : Bool) (v w : View) → Ran v w → Only (stays_in Sweep) v w → ((u : View) → IsExactSince u v → IsExactSince u w) → SweepsSinceAsked exact v → SweepsSinceAsked exact w
+sweeps-on exact v w r o x s =
+    ∥∥₁_map s (λ (q : (u : View) × HasAsked 0 u v × (IsTrue exact → IsExactSince u v)). (q.0, asked_on 0 q.0 v w q.1 r (stays_calm Sweep v w o), λ e. x q.0 (q.2 e)))
 
 -- the cycle ended
 ends_one : (v w : View) → IsMove Sweep Idle v w → count_of ends_cycle (events v w) ≡ 1

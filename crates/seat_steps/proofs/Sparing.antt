@@ -55,8 +55,8 @@ stays_fills p step e = refl
 pub course-leaves : (v w : View) → Ran v w → Only goes_on v w → KeepsSeat v w → LeavesHeap v w
 course-leaves v w r o k = leaves-filled v w r (only-more goes_on fills_part goes_fills v w o) k
 
-pub part-leaves : (p : Phase) (v w : View) → IsPart p v w → KeepsSeat v w → LeavesHeap v w
-part-leaves p v w h k = leaves-filled v w h.ran (only-more (stays_in p) fills_part (stays_fills p) v w h.only) k
+stays-leaves : (p : Phase) (v w : View) → Ran v w → Only (stays_in p) v w → KeepsSeat v w → LeavesHeap v w
+stays-leaves p v w r o k = leaves-filled v w r (only-more (stays_in p) fills_part (stays_fills p) v w o) k
 
 pub move-leaves : (from to : Phase) (v w : View) → IsMove from to v w → KeepsSeat v w → LeavesHeap v w
 move-leaves from to v w m k = leaves-filled v w m.ran (ap (all_steps fills_part) m.events_are) k
@@ -77,8 +77,11 @@ pub record Kept (x y : HeapSeat) : Type 0 where
 kept : (x y : HeapSeat) → Keeps (view_of x) (view_of y) → LeavesHeap (view_of x) (view_of y) → Kept x y
 kept x y k l = record { mutator = λ m. mutator-kept (view_of x) (view_of y) m l.ran k.0 k.1; same = kept-heap (view_of x) (view_of y) k.1; leaves = l }
 
+pub stays-kept : (p : Phase) (x y : HeapSeat) → Ran (view_of x) (view_of y) → Only (stays_in p) (view_of x) (view_of y) → Keeps (view_of x) (view_of y) → Kept x y
+stays-kept p x y r o k = kept x y k (stays-leaves p (view_of x) (view_of y) r o k.0)
+
 pub part-kept : (p : Phase) (x y : HeapSeat) → IsPart p (view_of x) (view_of y) → Keeps (view_of x) (view_of y) → Kept x y
-part-kept p x y h k = kept x y k (part-leaves p (view_of x) (view_of y) h k.0)
+part-kept p x y h k = stays-kept p x y h.ran h.only k
 
 pub move-kept : (from to : Phase) (x y : HeapSeat) → IsMove from to (view_of x) (view_of y) → Keeps (view_of x) (view_of y) → Kept x y
 move-kept from to x y m k = kept x y k (move-leaves from to (view_of x) (view_of y) m k.0)

@@ -19,3 +19,4 @@ pub mod Doing
 pub mod Filling
 pub mod PaidTries
 pub mod Seeking
+pub mod Helping

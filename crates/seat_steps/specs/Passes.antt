@@ -4,15 +4,16 @@ use Rattle.std.specs.List.{range_with_len}
 use Rattle.mark_core.specs.Layout.{block_count, card_count}
 use Rattle.mark_core.specs.Numbers.{block_counter, card_counter, empty_offset}
 use Rattle.mark_core.specs.declared.kinds.Phase.TheVariants.{Clear, Drain, Idle, Sweep}
-use Rattle.mark_core.specs.declared.kinds.Step.TheVariants.{ReadCount, Reset}
+use Rattle.mark_core.specs.declared.kinds.Step.TheVariants.{CloseStep, OpenStep, ReadCount, Reset, SeeHelp}
 use Rattle.gc_table.specs.Log.{Only, event, events}
+use Rattle.gc_table.specs.Seats.{Took}
 use Rattle.gc_table.specs.declared.view.View.{View}
 use Rattle.packet_pools.specs.Counts.{count_of}
 use Rattle.packet_pools.specs.Fields.{picked}
 use Rattle.card_clean.specs.Drained.{roots_read, sees_roots}
 use Rattle.card_clean.specs.Looking.{looks_clean}
 use Rattle.gc_cycle.specs.Courses.{TakesCourse}
-use Rattle.gc_cycle.specs.Finishing.{IsMove, IsPart}
+use Rattle.gc_cycle.specs.Finishing.{IsMove, IsOpenPart, IsPart}
 use Rattle.gc_cycle.specs.Pieces.{CleansCards}
 use Rattle.gc_cycle.specs.Sorts.{draws_block, pops}
 use Rattle.gc_cycle.specs.RoundParts.{BringsBack, LacksPacket}
@@ -45,11 +46,13 @@ pub record BeginsClear (from : ℕ) (v w : View) : Type 0 where
   pub looks : LooksToEnd from (empty_offset + v.shape.packets) v drained
   pub moved : IsMove Drain Clear drained w
 
--- each card from this one on was seen clean, and all packets were empty; then the sweep began
+-- each card from this one on was seen clean, and all packets were empty; then the sweep began, and the stop was opened to helpers
 pub record BeginsSweep (from : ℕ) (v w : View) : Type 0 where
   pub drained : View
   pub looks : LooksToEnd from (empty_offset + v.shape.packets) v drained
-  pub moved : IsMove Drain Sweep drained w
+  pub begun : View
+  pub moved : IsMove Drain Sweep drained begun
+  pub opens : Took OpenStep begun w
 
 -- the marks of fewer stretches of blocks than this many were cleared, which were all that were left, and then the drain began once more
 pub record BeginsAgain (most : ℕ) (v w : View) : Type 0 where
@@ -58,11 +61,23 @@ pub record BeginsAgain (most : ℕ) (v w : View) : Type 0 where
   pub stretches : count_of (draws_block (block_count v.shape)) (events v cleared) < most
   pub course : TakesCourse (Drain ∷ []) (Reset card_counter ∷ Reset block_counter ∷ []) cleared w
 
--- the last blocks were swept, and then the cycle ended
+-- the last blocks were swept, and then no more helpers were let in
 pub record EndsSweep (v w : View) : Type 0 where
   pub swept : View
-  pub part : IsPart Sweep v swept
-  pub moved : IsMove Sweep Idle swept w
+  pub part : IsOpenPart Sweep v swept
+  pub shuts : Took CloseStep swept w
+
+-- one look at the helpers found that some are left
+pub record FindsHelpers (v w : View) : Type 0 where
+  pub found : ℕ
+  pub some : found ≢ 0
+  pub all : events v w ≡ event SeeHelp found ∷ []
+
+-- one look at the helpers found none, and then the cycle ended
+pub record EndsAlone (v w : View) : Type 0 where
+  pub alone : View
+  pub looks : events v alone ≡ event SeeHelp 0 ∷ []
+  pub moved : IsMove Sweep Idle alone w
 
 -- at most this many roots from this one on were seen to, or none, since no packet was found for it
 abbrev pub SeesFewRoots : ℕ → ℕ → View → View → Type 0

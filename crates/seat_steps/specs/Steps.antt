@@ -2,7 +2,7 @@
 use Rattle.std.specs.Prelude.{ℕ, ◌≡◌, ◌≤◌, ◌<◌, ◌+◌, ◌-◌, ◌⊎◌, min, Bool, true, false, IsTrue, IsFalse}
 use Rattle.std.specs.Arc.{arc_value}
 use Rattle.mark_core.specs.Layout.{block_count, card_count, root_count}
-use Rattle.mark_core.specs.declared.kinds.Phase.TheVariants.{Clear}
+use Rattle.mark_core.specs.declared.kinds.Phase.TheVariants.{Clear, Sweep}
 use Rattle.mark_core.specs.declared.kinds.Shape.{Shape}
 use Rattle.gc_table.specs.Log.{steps_of}
 use Rattle.gc_table.specs.Rule.{KnowsFull}
@@ -10,7 +10,7 @@ use Rattle.gc_table.specs.Seats.{Across, did, view_of}
 use Rattle.packet_pools.specs.Counts.{count_of}
 use Rattle.card_clean.specs.Leaving.{rescanned_in}
 use Rattle.sweeper.specs.Freeing.{freed_in}
-use Rattle.gc_cycle.specs.Finishing.{IsPart, most as greatest}
+use Rattle.gc_cycle.specs.Finishing.{IsOpenPart, IsPart, most as greatest}
 use Rattle.gc_cycle.specs.Pieces.{CleansCards, LooksAt, stretches_in}
 use Rattle.gc_cycle.specs.Settling.{alloc_reads}
 use Rattle.gc_cycle.specs.Sorts.{clears, draws_block, pops}
@@ -19,7 +19,7 @@ use Rattle.gc_cycle.specs.Stepping.{FindsRunning}
 use Rattle.gc_cycle.specs.declared.card_steps.Look.TheVariants as looks
 use Rattle.gc_cycle.specs.declared.counts.Counts.{Counts}
 use Rattle.seat_steps.specs.Course.{AsksForStop, BeginsMarking, EndsBy, FindsHeapFull}
-use Rattle.seat_steps.specs.Passes.{BeginsAgain, BeginsClear, BeginsSweep, EndsSweep, FindsPacketLeft, SeesRoots, TracesFor}
+use Rattle.seat_steps.specs.Passes.{BeginsAgain, BeginsClear, BeginsSweep, EndsAlone, EndsSweep, FindsHelpers, FindsPacketLeft, SeesRoots, TracesFor}
 use Rattle.seat_steps.specs.declared.came.Came.{Came}
 use Rattle.seat_steps.specs.declared.came.Came.TheVariants as cames
 use Rattle.seat_steps.specs.Stepping.{KeepsAll}
@@ -117,8 +117,10 @@ StepsOn precise stages.Cleaning stages.Cleaning most x y = CleansSome most x y �
 StepsOn precise stages.Cleaning stages.Draining most x y = (cards_left x < most) × Across (CleansCards x.next (cards_left x)) x.seat y.seat × KeepsCourse x y × CountsCleaned x y
 StepsOn precise stages.Clearing stages.Clearing most x y = (stretches_drawn x y ≡ draws_for most x) × Across (IsPart Clear) x.seat y.seat × KeepsCourse x y × KeepsWork x y
 StepsOn precise stages.Clearing stages.Rooting most x y = Across (BeginsAgain (draws_for most x)) x.seat y.seat × (y.next ≡ 0) × IsFalse y.again × KeepsAim x y × KeepsWork x y
-StepsOn precise stages.Sweeping stages.Sweeping most x y = (stretches_drawn x y ≡ draws_for most x) × CountsFreed x y × KeepsCourse x y × KeepsWork x y
-StepsOn precise stages.Sweeping stages.Counting most x y = (stretches_drawn x y < draws_for most x) × CountsFreed x y × Across EndsSweep x.seat y.seat × (y.next ≡ 0) × (y.counted ≡ 0) × KeepsCourse x y × KeepsWork x y
+StepsOn precise stages.Sweeping stages.Sweeping most x y = (stretches_drawn x y ≡ draws_for most x) × Across (IsOpenPart Sweep) x.seat y.seat × CountsFreed x y × KeepsCourse x y × KeepsWork x y
+StepsOn precise stages.Sweeping stages.Parting most x y = (stretches_drawn x y < draws_for most x) × CountsFreed x y × Across EndsSweep x.seat y.seat × KeepsCourse x y × KeepsWork x y
+StepsOn precise stages.Parting stages.Parting most x y = Across FindsHelpers x.seat y.seat × (y.freed ≡ x.freed) × KeepsCourse x y × KeepsWork x y
+StepsOn precise stages.Parting stages.Counting most x y = Across EndsAlone x.seat y.seat × (y.freed ≡ x.freed) × (y.next ≡ 0) × (y.counted ≡ 0) × KeepsCourse x y × KeepsWork x y
 StepsOn precise stages.Counting stages.Counting most x y = (most ≤ blocks_left x) × (steps_of (did x.seat y.seat) ≡ alloc_reads x.next most) × (y.next ≡ x.next + most) × (y.freed ≡ x.freed) × KeepsCourse x y × KeepsWork x y
 StepsOn precise stages.Counting stages.Ending most x y = (blocks_left x < most) × (steps_of (did x.seat y.seat) ≡ alloc_reads x.next (blocks_left x)) × (y.freed ≡ x.freed) × KeepsCourse x y × KeepsWork x y
 StepsOn precise s t most x y = ⊥

@@ -33,4 +33,8 @@ pub enum Came {
     Dead,
     /// The weak reference is another world's.
     OtherWorld,
+    /// The mutator is inside the world: only one outside helps.
+    Inside,
+    /// No stop is open to helpers, or there was nothing left to do in it.
+    NoHelp,
 }

@@ -4,8 +4,8 @@
 //! or the heap is full, the seat is outside the world afterwards, and the answer says why ([`Came`]).
 //!
 //! The calls are in `stepping`, `asking` and `refills`, those of a world that shares its objects in `acting`,
-//! `spilling`, `knowing` and `weak`; the collection is in `steps`. What they do with the heap and the seat is in `tries`,
-//! `operations`, `getting` and `seeking`.
+//! `spilling`, `knowing` and `weak`; the collection is in `steps` and `sweeps`, and help in another's in `helping`. What
+//! they do with the heap and the seat is in `tries`, `operations`, `getting` and `seeking`.
 #![tactic(auto)]
 
 mod acting;
@@ -13,6 +13,7 @@ mod asking;
 mod came;
 mod getting;
 mod handing;
+mod helping;
 mod knowing;
 mod operations;
 mod payments;
@@ -23,6 +24,7 @@ mod spilling;
 mod stepper;
 mod stepping;
 mod steps;
+mod sweeps;
 mod telling;
 mod tries;
 mod weak;

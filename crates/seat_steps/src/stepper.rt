@@ -2,8 +2,10 @@
 ghost use Rattle.std.specs.Arc.{arc_value};
 ghost use Rattle.std.specs.Prelude.{◌≡◌, ◌≤◌};
 ghost use Rattle.mark_core.specs.Layout.{block_count};
+ghost use Rattle.mark_core.specs.declared.kinds.Phase.TheVariants.{Sweep};
 ghost use Rattle.gc_cycle.specs.Pieces.{CountsFrom, HasCounted, IsAtClear, LooksFrom, SeesRootsFrom};
-ghost use Rattle.gc_cycle.specs.Stepping.{AwaitsStop, Drains, IsAtSweep};
+ghost use Rattle.gc_cycle.specs.SharedSteps.{HasSweptShared, IsShared};
+ghost use Rattle.gc_cycle.specs.Stepping.{AwaitsStop, Drains};
 ghost use Rattle.seat_steps.specs.Asked.{CountsSinceAsked, MarksSinceAsked, SweepsSinceAsked, WaitsSinceAsked};
 ghost use Rattle.seat_steps.specs.Collecting.{Collects};
 ghost use Rattle.seat_turns.specs.Standing.{IsAtTurn, IsMutatorOutside};
@@ -32,12 +34,14 @@ pub enum Stage {
     Cleaning,
     /// It clears all marks, to mark once more.
     Clearing,
-    /// It sweeps.
+    /// It sweeps, while helpers may.
     Sweeping,
     /// It counts the cells in use, since all blocks are swept.
     Counting,
     /// It has counted all cells in use.
     Ending,
+    /// It lets no more helpers sweep, and waits until those that do have left.
+    Parting,
 }
 
 /// A mutator for a thread that may not wait: what may take long is done in steps. Before it is dropped it has to leave:
@@ -56,7 +60,7 @@ pub struct Stepper {
     pub(crate) exact: bool,
     /// Whether its collection is to mark once more, since it is precise and a cycle was marking.
     pub(crate) again: bool,
-    /// How many cells its sweep has freed, as far as 32 bits hold, like the next three.
+    /// How many cells it has freed by its own sweep, as far as 32 bits hold, like the next three.
     pub(crate) freed: u32,
     pub(crate) traced: u32,
     pub(crate) cleaned: u32,
@@ -80,7 +84,8 @@ pub struct Stepper {
     ghost looking: { stage ≡ stages.Looking → Collects (LooksFrom next) (MarksSinceAsked exact again) (arc_value heap) seat },
     ghost cleaning: { stage ≡ stages.Cleaning → Collects Drains (MarksSinceAsked exact again) (arc_value heap) seat },
     ghost clearing: { stage ≡ stages.Clearing → Collects IsAtClear WaitsSinceAsked (arc_value heap) seat },
-    ghost sweeping: { stage ≡ stages.Sweeping → Collects IsAtSweep (SweepsSinceAsked exact) (arc_value heap) seat },
+    ghost sweeping: { stage ≡ stages.Sweeping → Collects (IsShared Sweep) (SweepsSinceAsked exact) (arc_value heap) seat },
+    ghost parting: { stage ≡ stages.Parting → Collects HasSweptShared (SweepsSinceAsked exact) (arc_value heap) seat },
     ghost counting: { stage ≡ stages.Counting → Collects (CountsFrom next counted) (CountsSinceAsked exact) (arc_value heap) seat },
     ghost ending: { stage ≡ stages.Ending → Collects (HasCounted counted) (CountsSinceAsked exact) (arc_value heap) seat },
 }

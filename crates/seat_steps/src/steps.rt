@@ -20,8 +20,8 @@ use crate::telling::read_marking;
 use crate::tries::arrive;
 use gc_cycle::{
     Counts, Look, ask_to_stop, begin_collection, clean_step, clear_step, count_step,
-    finds_all_marked, finds_stopped, finish_clear, finish_count, look_step, root_piece,
-    start_clear, start_count, start_sweep, stretches_of, sweep_step, trace_step,
+    finds_all_marked, finds_stopped, finish_clear, finish_count, look_step, open_stop, root_piece,
+    start_clear, start_sweep, stretches_of, trace_step,
 };
 use gc_table::{Heap, HeapSeat};
 use seat_turns::{leave, retire_own_cache};
@@ -119,6 +119,7 @@ impl Stepper {
             Stage::Sweeping => self.sweep(most),
             Stage::Counting => self.count(most),
             Stage::Ending => self.end(),
+            Stage::Parting => self.part(),
         }
     }
 
@@ -191,7 +192,7 @@ impl Stepper {
         Came::NotYet
     }
 
-    /// If all is marked it begins to sweep, or to clear all marks.
+    /// If all is marked it begins to sweep, with helpers, or to clear all marks.
     fn look(&mut self, most: u32) -> Came
         requires looking { self.old.stage ≡ stages.Looking }
         ensures collects { (precise : Bool) → StepsCollection precise most result self.old self.new }
@@ -219,6 +220,7 @@ impl Stepper {
             return Came::NotYet;
         }
         start_sweep(&self.heap, &mut self.seat);
+        open_stop(&self.heap, &mut self.seat);
         self.freed = 0;
         self.stage = Stage::Sweeping;
         Came::NotYet
@@ -256,24 +258,6 @@ impl Stepper {
         self.again = false;
         self.next = 0;
         self.stage = Stage::Rooting;
-        Came::NotYet
-    }
-
-    fn sweep(&mut self, most: u32) -> Came
-        requires sweeping { self.old.stage ≡ stages.Sweeping }
-        ensures collects { (precise : Bool) → StepsCollection precise most result self.old self.new }
-        ensures bounded { IsBoundedStep most self.old self.new }
-    {
-        let draws = stretches_of(&self.heap, most);
-        let step = sweep_step(&self.heap, &mut self.seat, draws);
-        self.freed = self.freed.saturating_add(step.freed);
-        if step.stretches == draws {
-            return Came::NotYet;
-        }
-        start_count(&self.heap, &mut self.seat);
-        self.next = 0;
-        self.counted = 0;
-        self.stage = Stage::Counting;
         Came::NotYet
     }
 

@@ -2,6 +2,7 @@
 
 use std::fmt;
 
+pub(crate) const OK: u32 = 0;
 pub(crate) const NOT_YET: u32 = 1;
 pub(crate) const STOPPED: u32 = 2;
 pub(crate) const NO_CELL: u32 = 3;
@@ -43,7 +44,7 @@ pub enum Error {
 impl Error {
     pub(crate) fn of(status: u32) -> Result<(), Error> {
         match status {
-            0 => Ok(()),
+            OK => Ok(()),
             NO_CELL => Err(Error::NoCell),
             4 => Err(Error::Outside),
             6 => Err(Error::OutOfRange),

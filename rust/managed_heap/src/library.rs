@@ -84,6 +84,7 @@ extern "C" {
     fn mhl_same(m: *mut Handle, v: u32, w: u32, out: *mut u32) -> u32;
     fn mhl_collect_step(m: *mut Handle, most: u32) -> u32;
     fn mhl_finish_step(m: *mut Handle, most: u32) -> u32;
+    fn mhl_help_step(m: *mut Handle, most: u32) -> u32;
     fn mhl_is_stopping(m: *mut Handle, out: *mut u32) -> u32;
     fn mhl_root(m: *mut Handle, v: u32) -> u32;
     fn mhl_exchange(m: *mut Handle, v: u32, i: u32, expected: u32, next: u32, won: *mut u32) -> u32;
@@ -225,6 +226,10 @@ impl Handle {
 
     pub fn finish_step(&mut self, most: u32) -> u32 {
         unsafe { mhl_finish_step(self, most) }
+    }
+
+    pub fn help_step(&mut self, most: u32) -> u32 {
+        unsafe { mhl_help_step(self, most) }
     }
 
     pub fn is_stopping(&mut self) -> bool {

@@ -1,7 +1,7 @@
 //! Mutators.
 
 use crate::cycles::{Why, END};
-use crate::error::{Error, DEAD, NOT_YET, NO_CACHE, NO_CELL, STOPPED};
+use crate::error::{Error, DEAD, NOT_YET, NO_CACHE, NO_CELL, OK, STOPPED};
 use crate::library::{Handle, RawCourse};
 use crate::resting::Rests;
 use crate::weak::Weak;
@@ -14,6 +14,9 @@ pub const VARIABLES: u32 = 32;
 
 /// How many roots, objects, cards or blocks it does between two looks at what it waits for.
 const STEP: u32 = 4096;
+
+/// How many objects or blocks it does in a step of help.
+const HELP: u32 = 1024;
 
 /// How many references an object has at most.
 const FIELDS: usize = 16;
@@ -50,11 +53,12 @@ impl Mutator {
         Mutator { handle, shared, made: 0, told: 0 }
     }
 
-    /// Enters the world, as soon as no collection is under way.
+    /// Enters the world, as soon as no collection is under way, and helps in that meanwhile.
     pub fn enter(&mut self) -> Result<(), Error> {
         let mut rests = Rests::default();
         loop {
             match self.handle.enter_step() {
+                STOPPED if self.handle.help_step(HELP) == OK => rests = Rests::default(),
                 STOPPED => rests.rest(),
                 other => return Error::of(other),
             }
@@ -262,6 +266,25 @@ impl Mutator {
             DEAD => Ok(false),
             status => Error::of(status).map(|()| true),
         }
+    }
+
+    /// How many cycles have ended in its world. While the number is the same, what [`Mutator::upgrade`] found alive isn't dead.
+    pub fn cycles(&self) -> u64 {
+        self.shared.cycles.ended()
+    }
+
+    /// Which of these weak references have dead objects: `dead` becomes their numbers in the slice, in order. Variable v is nil afterwards. It has no safe point,
+    /// so a large table is gone through in pieces, with a safe point between two. If one is refused, as by [`Mutator::upgrade`], those before it are told.
+    pub fn deaths(&mut self, weaks: &[Weak], v: u32, dead: &mut Vec<usize>) -> Result<(), Error> {
+        self.forget(v)?;
+        dead.clear();
+        let told = weaks.iter().enumerate().try_for_each(|(k, weak)| {
+            if !self.upgrade(weak, v)? {
+                dead.push(k);
+            }
+            Ok(())
+        });
+        told.and(self.forget(v))
     }
 
     /// All variables refer to nothing any more, and all slots.

@@ -1,21 +1,27 @@
-use Rattle.std.proofs.Common.{◌<◌, ◌+◌, ◌-◌, ap, arith, Bool, refl, subst}
+use Rattle.std.proofs.Common.{◌<◌, ◌+◌, ◌-◌, ap, arith, Bool, inr, refl, subst}
 use Rattle.std.specs.Arc.{arc_value}
 use Rattle.mark_core.specs.Layout.{card_count}
 use Rattle.mark_core.specs.declared.kinds.Phase.TheVariants.{Clear, Drain, Sweep}
-use Rattle.gc_table.specs.Seats.{Across, did, view_of}
+use Rattle.mark_core.specs.declared.kinds.Step.TheVariants.{OpenStep}
+use Rattle.gc_table.specs.Seats.{Across, Took, did, view_of}
 use Rattle.gc_table.specs.declared.seat.Heap.{Heap}
+use Rattle.gc_table.specs.declared.seat.HeapSeat.{HeapSeat}
 use Rattle.gc_table.specs.declared.view.View.{View}
+use Rattle.gc_table.proofs.Running.{ran-join}
 use Rattle.mutator_ops.proofs.Few.{at-most-more}
+use Rattle.gc_cycle.specs.Finishing.{IsMove}
 use Rattle.gc_cycle.specs.Pieces.{LooksAt}
+use Rattle.gc_cycle.specs.Stepping.{Keeps}
 use Rattle.gc_cycle.specs.declared.card_steps.Look.TheVariants as looks
 use Rattle.seat_steps.specs.Amounts.{DoesFew}
 use Rattle.seat_steps.specs.Asked.{MarksSinceAsked}
 use Rattle.seat_steps.specs.Collecting.{Collects}
 use Rattle.seat_steps.specs.declared.stepper.Stage.TheVariants as stages
 use Rattle.seat_steps.proofs.Amounts.{few-join, looks-neither, move-few, reads-few, cards-small}
+use Rattle.seat_steps.proofs.Gates.{gate-few, gate-kept, gate-stays, opens}
 use Rattle.seat_steps.proofs.Sparing.{Kept, goes-on, keeps-all, kept-join, move-kept, part-kept, sits-in}
 use Rattle.seat_steps.proofs.LookedAt.{all-empty, cards-left, packet-left}
-use Rattle.seat_steps.proofs.SinceAsked.{clears-begun, marks-on, sweeps-begun}
+use Rattle.seat_steps.proofs.SinceAsked.{clears-begun, marks-on, sweeps-begun, sweeps-on}
 use Rattle.seat_steps.proofs.Stages.{bounded-on, step-on}
 use Rattle.seat_steps.proofs.stepper.Stepper.look.Goals as goal
 use Rattle.seat_steps.proofs.stepper.Stepper.look.Goals.{After-finds_all_marked, After-look_step}
@@ -171,6 +177,16 @@ invariant_of-self-then-self-clause-clearing c = λ is.
     let b = c.start_clear.ensures in
     goes-on _ _ x.seat z c.deref-then-self.ensures (x.looking c.requires.looking).mutator (kept-join x.seat y z (read here) (move-kept Drain Clear y z b.moved b.keeps)) b.seat b.clears (clears-begun x.exact x.again (view_of y) (view_of z) b.moved (marked here))
 
+-- the sweep began, with helpers
+begun : (x y z w : HeapSeat) → Kept x y → IsMove Drain Sweep (view_of y) (view_of z) → Keeps (view_of y) (view_of z) → Took OpenStep (view_of z) (view_of w) → Keeps (view_of z) (view_of w) → Kept x w
+begun x y z w k m keeps t stay = kept-join x z w (kept-join x y z k (move-kept Drain Sweep y z m keeps)) (gate-kept Sweep z w (opens (view_of z) (view_of w) t) stay)
+
+pub open_stop-requires-clause-owner : goal.open_stop-requires-clause-owner
+open_stop-requires-clause-owner c = c.start_sweep.ensures.sweeps.owner
+
+pub open_stop-requires-clause-alone : goal.open_stop-requires-clause-alone
+open_stop-requires-clause-alone c = inr c.start_sweep.ensures.sweeps.alone
+
 pub returns-clause-collects : goal.returns-clause-collects
 returns-clause-collects c =
     let x = c.args.self.now in
@@ -179,40 +195,50 @@ returns-clause-collects c =
     let e = c.look_step.ensures in
     let f = c.finds_all_marked.ensures in
     let b = c.start_sweep.ensures in
+    let o = c.open_stop.ensures in
     let shape = (sits-in _ _ x.seat c.deref.ensures (x.looking c.requires.looking).sits).1 in
     λ precise. step-on precise c.args.most x _ stages.Looking stages.Sweeping c.requires.looking refl (
       left here,
       record {
         drained = w;
         looks = all-empty c.finds_all_marked.result c.deref.result.now.shape x.next c.in-Clean.number c.args.most (view_of x.seat) (view_of c.look_step.new.seat) w shape e.part.ran f.part.ran c.in-Clean.ensures.looked c.if-number-most.false f.reads c.if-not-finds_all_marked.false;
+        begun = view_of c.start_sweep.new.seat;
         moved = b.moved;
+        opens = o.step;
       },
       c.if-self.false,
       refl,
       ((refl, refl), refl),
       (refl, refl, refl),
     )
-    (keeps-all x _ (kept-join x.seat c.finds_all_marked.new.seat c.start_sweep.new.seat (read here) (move-kept Drain Sweep c.finds_all_marked.new.seat c.start_sweep.new.seat b.moved b.keeps)) refl refl)
+    (keeps-all x _ (begun x.seat c.finds_all_marked.new.seat c.start_sweep.new.seat c.open_stop.new.seat (read here) b.moved b.keeps o.step o.keeps) refl refl)
 
 pub returns-clause-bounded : goal.returns-clause-bounded
 returns-clause-bounded c =
     let u = view_of c.args.self.now.seat in
     let w = view_of c.finds_all_marked.new.seat in
     let y = view_of c.start_sweep.new.seat in
+    let z = view_of c.open_stop.new.seat in
     let here = (goal.at.returns-clause-bounded c).After-finds_all_marked in
     let moved = c.start_sweep.ensures.moved in
+    let g = opens y z c.open_stop.ensures.step in
     let all = few-join (c.args.most + 1) 1 u w y (read here).leaves.ran moved.ran (fewer here) (move-few Drain Sweep w y moved) in
-    bounded-on c.args.most c.args.self.now _ stages.Looking stages.Sweeping c.requires.looking refl (all.0, at-most-more _ _ u y (omega arith) all.1)
+    let more = few-join (c.args.most + 1 + 1) 1 u y z (ran-join u w y (read here).leaves.ran moved.ran) g.ran all (gate-few y z g) in
+    bounded-on c.args.most c.args.self.now _ stages.Looking stages.Sweeping c.requires.looking refl (more.0, at-most-more _ _ u z (omega arith) more.1)
 
 pub invariant_of-self-2-clause-sweeping : goal.invariant_of-self-2-clause-sweeping
 invariant_of-self-2-clause-sweeping c = λ is.
     let x = c.args.self.now in
     let y = c.finds_all_marked.new.seat in
     let z = c.start_sweep.new.seat in
+    let w = c.open_stop.new.seat in
     let here = (goal.at.invariant_of-self-2-clause-sweeping c).After-finds_all_marked in
     let b = c.start_sweep.ensures in
-    goes-on _ _ x.seat z c.deref-3.ensures (x.looking c.requires.looking).mutator (kept-join x.seat y z (read here) (move-kept Drain Sweep y z b.moved b.keeps)) b.seat b.sweeps
-    (sweeps-begun x.exact (view_of y) (view_of z) b.moved b.exact (subst (λ (again : Bool). MarksSinceAsked x.exact again (view_of y)) c.if-self.false (marked here)))
+    let o = c.open_stop.ensures in
+    let g = opens (view_of z) (view_of w) o.step in
+    goes-on _ _ x.seat w c.deref-4.ensures (x.looking c.requires.looking).mutator (begun x.seat y z w (read here) b.moved b.keeps o.step o.keeps) o.seat (o.shared Sweep b.sweeps.alone)
+    (sweeps-on x.exact (view_of z) (view_of w) g.ran (gate-stays Sweep (view_of z) (view_of w) g) o.exact
+    (sweeps-begun x.exact (view_of y) (view_of z) b.moved b.exact (subst (λ (again : Bool). MarksSinceAsked x.exact again (view_of y)) c.if-self.false (marked here))))
 
 pub overflow_add-self : goal.overflow_add-self
 overflow_add-self c =
