@@ -1,5 +1,5 @@
 -- How many steps are taken with a try to get a cell, and besides.
-use Rattle.std.proofs.Common.{ℕ, ◌≡◌, ◌+◌, inl, inr, arith, subst, Option, Some, None, ◌≤◌, ⊎_elim, ap, ◌∙◌, refl}
+use Rattle.std.proofs.Common.{ℕ, ◌≡◌, ◌+◌, inl, inr, arith, subst, Option, Some, None, ◌≤◌, ⊎_elim, ap, refl}
 use Rattle.mark_core.specs.declared.kinds.Shape.{Shape}
 use Rattle.gc_table.specs.Running.{Ran}
 use Rattle.gc_table.specs.declared.seat.Heap.{Heap}

@@ -1,5 +1,5 @@
 -- What a piece of a mutator's search for a cell did, and where it left the seat.
-use Rattle.std.proofs.Common.{ℕ, ◌≡◌, ◌<◌, ◌≤◌, ◌+◌, ◌*◌, ◌∙◌, length, ap, arith, inr, refl, sym, subst, true, Option, Some, None}
+use Rattle.std.proofs.Common.{ℕ, ◌≡◌, ◌<◌, ◌≤◌, ◌+◌, ◌*◌, length, ap, arith, inr, refl, sym, subst, true, Option, Some, None}
 use Rattle.std.specs.Prelude.{IfNone, IfOk, IfSome, Result, Ok, Err, is_some, not, IsFalse, IsTrue}
 use Rattle.std.specs.Int.Count.{ones}
 use Rattle.gc_table.specs.Log.{events}
@@ -9,7 +9,7 @@ use Rattle.gc_table.specs.Seats.{Sits, view_of}
 use Rattle.gc_table.specs.declared.seat.Heap.{Heap}
 use Rattle.gc_table.specs.declared.seat.HeapSeat.{HeapSeat}
 use Rattle.gc_table.specs.declared.view.View.{View}
-use Rattle.gc_table.proofs.Running.{ran-events, ran-join, ran-refl}
+use Rattle.gc_table.proofs.Running.{ran-join, ran-refl}
 use Rattle.mark_core.specs.declared.kinds.Shape.{Shape}
 use Rattle.packet_pools.specs.Seeking.{some_event}
 use Rattle.plain_heap.specs.declared.operation.Op.{Op}
