@@ -723,7 +723,8 @@ static inline mh_status mh_safe_point(mh_mutator *m) {
 /* How many roots, objects, cards or blocks a step of mh_collect does. */
 enum { MH_STEP = 4096 };
 
-/* A collection, with rests while others are inside. `last` becomes how far it was before its last step: at MH_AT_END, unless another's collection came first. */
+/* A collection, with rests while others are inside, or help. `last` becomes how far it was before its last step: at MH_AT_END, unless another's collection came
+   first. */
 static inline mh_status mh_collect_once(mh_mutator *m, int precise, uint64_t why, mh_course *last) {
     uint32_t rests = 0, stopping;
     mh_status s;
@@ -731,6 +732,7 @@ static inline mh_status mh_collect_once(mh_mutator *m, int precise, uint64_t why
     while ((s = mh_step_for(m, precise, MH_STEP, why)) == MH_NOT_YET) {
         (void)MH_BY(m, mhl_course(m, last));
         if (mh_is_stopping(m, &stopping) == MH_OK && stopping) mh_rest(&rests);
+        else if (last->stage == MH_AT_PART) sched_yield();
     }
     return s == MH_STOPPED ? mh_enter(m) : s;
 }

@@ -59,6 +59,8 @@ const ROOTS: u32 = 3;
 const SWEEP: u32 = 8;
 /// The stage before the last step of a collection.
 pub(crate) const END: u32 = 10;
+/// The stage at which it waits for helpers.
+pub(crate) const PART: u32 = 11;
 
 /// The collection under way, and the last cycle.
 struct Course {
