@@ -59,11 +59,7 @@ fn sizes(shape: &Shape, seats: u32) -> [u64; 6]
 }
 
 /// Writes the state, and plays the lines.
-fn write_run<K: Sink>(
-    state: &mut CoreState,
-    lines: &[Line],
-    sink: &mut K,
-) -> Result<Ended, Failed>
+fn write_run<K: Sink>(state: &mut CoreState, lines: &[Line], sink: &mut K) -> Result<Ended, Failed>
     ensures writes { WritesTo K.written K.faults result sink.old sink.new (run_text lines.now state.old) }
     ensures told { IfOk result (λ e. e ≡ turns_end lines.now state.old) }
 {
@@ -89,11 +85,7 @@ fn write_all_states<K: Sink>(
 }
 
 /// Plays a schedule that isn't too large.
-fn show<K: Sink>(
-    alloc: Global,
-    schedule: &Schedule,
-    sink: &mut K,
-) -> Result<Shown, Unshown>
+fn show<K: Sink>(alloc: Global, schedule: &Schedule, sink: &mut K) -> Result<Shown, Unshown>
     ensures { AcrossSink K.written K.faults (ShowsAs (states_text schedule.now) (shown_of_end (schedule_ends schedule.now)) result) sink.old sink.new }
 {
     let mut state = match CoreState::start(alloc, *schedule.shape(), schedule.seats()) {
@@ -123,11 +115,7 @@ fn tell_schedule<K: Sink>(
 /// Reads the source as a schedule, plays it, and writes the shape, the state at the start, and each event with the
 /// state after it, up to the first that isn't allowed. What is written and what is answered are functions of the
 /// bytes. If a size is past its limit, that alone is written; if the source is no schedule, its fault.
-pub fn tell_states<K: Sink>(
-    alloc: Global,
-    source: &[u8],
-    sink: &mut K,
-) -> Result<Shown, Unshown>
+pub fn tell_states<K: Sink>(alloc: Global, source: &[u8], sink: &mut K) -> Result<Shown, Unshown>
     ensures { AcrossSink K.written K.faults (TellsStates source.now result) sink.old sink.new }
 {
     match read_schedule(alloc, source) {

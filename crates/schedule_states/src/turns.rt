@@ -54,11 +54,7 @@ fn write_event<K: Sink>(
 }
 
 /// Takes the event of a line, and writes the state after it, or the rule that it breaks.
-fn turn<K: Sink>(
-    state: &mut CoreState,
-    line: &Line,
-    sink: &mut K,
-) -> Result<Ended, Failed>
+fn turn<K: Sink>(state: &mut CoreState, line: &Line, sink: &mut K) -> Result<Ended, Failed>
     ensures writes { WritesTo K.written K.faults result sink.old sink.new (turn_text state.old line.now) }
     ensures told { IfOk result (λ e. e ≡ turn_ends state.old line.now) }
     ensures after { state.new ≡ (if is_none (failing_part state.old line.now.event) then after_event state.old line.now.event else state.old) }
