@@ -13,7 +13,7 @@ import tempfile
 from steps import TOP
 
 CRATE = os.path.join(TOP, "crates", "schedule_states")
-PROGRAM = os.path.join(CRATE, "out", "schedule_states")
+PROGRAM = os.environ.get("SCHEDULE_STATES") or os.path.join(CRATE, "out", "schedule_states")
 VARIABLES = 32
 SINGLE = ["WORLD", "PHASE", "EMPTY", "NEXTCARD", "NEXTBLOCK", "NAMED", "LAST", "RESCANNED", "TRACED", "FREE", "DONE"]
 
