@@ -3,18 +3,15 @@
 #
 #     sh c/try.sh PROGRAM.c [WORDS..]
 #
-# The library is made anew if the sources changed, in about a minute, and kept under TMPDIR.
+# The library is the one that c/unproved.sh compiles once and keeps. It has run-time tests that a proved one doesn't need; with WITHOUT_TESTS=1 it has none.
 set -eu
 [ $# -ge 1 ] && [ -f "$1" ] || { echo "usage: sh c/try.sh PROGRAM.c [WORDS..]" >&2; exit 1; }
 program=$1
 shift
 top=$(cd "$(dirname "$0")/.." && pwd)
-sum=$(cd "$top" && find crates c bench -name '*.rt' -o -name '*.h' -o -name 'unproved*.*' | sort | xargs cat | cksum | tr ' ' '.')
-kept=${TMPDIR:-/tmp}/managed_heap.$(id -u)
-mkdir -p -m 700 "$kept"
-[ -f "$kept/$sum.a" ] || sh "$top/c/unproved.sh" "$kept/$sum.a"
+archive=$(sh "$top/c/unproved.sh" --kept)
 echo "try: the library that this runs over is not proved; sh c/install.sh PREFIX proves and installs it" >&2
 work=$(mktemp -d)
 trap 'rm -rf "$work"' EXIT
-${CC:-cc} ${CFLAGS:--O2} -I "$top/c/include" -o "$work/program" "$program" "$kept/$sum.a" -lpthread
+${CC:-cc} ${CFLAGS:--O2} -I "$top/c/include" -o "$work/program" "$program" "$archive" -lpthread
 "$work/program" "$@"

@@ -21,18 +21,14 @@ look() {
     : >"$work/wrong"
 }
 
-# Two at a time, since each compiles the program if none is built. The status is 3 if the heap is full.
+# The status is 3 if the heap is full.
 echo "usage: gcplay command [options]" >"$work/usage"
-look usage 1 "$work/usage" examples/first.gc --cells 65 &
-turn=1
+look usage 1 "$work/usage" examples/first.gc --cells 65
 for answer in examples/*.out; do
     name=$(basename "$answer" .out)
     status=0 options=""
     if grep -q '^full' "$answer"; then status=3; fi
     if [ -e "examples/$name.args" ]; then options=$(cat "examples/$name.args"); fi
-    look "$name" $status "$answer" "examples/$name.gc" $options &
-    turn=$((turn + 1))
-    if [ $((turn % 2)) -eq 0 ]; then wait; fi
+    look "$name" $status "$answer" "examples/$name.gc" $options
 done
-wait
 [ ! -e "$work/wrong" ]

@@ -1,19 +1,10 @@
-"""The states that a schedule goes through, as the program `schedule_states` writes them: rows of JSON, each a name and numbers.
-
-The proved program is run if it is built. Otherwise `rt try` compiles and runs it, all schedules at once, which proves nothing.
-"""
+"""The states that a schedule goes through, as the program `schedule_states` writes them: rows of JSON, each a name and numbers."""
 import json
 import os
-import re
-import shutil
 import subprocess
-import sys
-import tempfile
 
 from steps import TOP
 
-CRATE = os.path.join(TOP, "crates", "schedule_states")
-PROGRAM = os.environ.get("SCHEDULE_STATES") or os.path.join(CRATE, "out", "schedule_states")
 VARIABLES = 32
 SINGLE = ["WORLD", "PHASE", "EMPTY", "NEXTCARD", "NEXTBLOCK", "NAMED", "LAST", "RESCANNED", "TRACED", "FREE", "DONE"]
 
@@ -22,40 +13,22 @@ class Unshown(Exception):
     """Why a schedule has no states."""
 
 
-def proved(paths):
-    """What the proved program writes of each file, and its status."""
-    told = []
-    for path in paths:
-        with open(path, "rb") as it:
-            ran = subprocess.run([PROGRAM], stdin=it, capture_output=True, text=True, check=False)
-        told.append((ran.stdout, ran.returncode))
-    return told
-
-
-def tried(paths):
-    """The same of the program as `rt try` runs it."""
-    print("schedules: the proved program schedule_states is not built (rt run in crates/schedule_states builds it): this is not the proved build", file=sys.stderr)
-    with tempfile.TemporaryDirectory() as work:
-        for at, path in enumerate(paths):
-            shutil.copyfile(path, os.path.join(work, f"s{at:05}"))
-        command = ["rt", "try", "--steps", "1", "--cases", work]
-        ran = subprocess.run(command, cwd=CRATE, stdout=subprocess.PIPE, stderr=subprocess.STDOUT, text=True, check=False)
-    found, name = {}, None
-    for line in ran.stdout.splitlines(keepends=True):
-        head = re.match(r"== (s\d+)$", line)
-        status = re.match(r"case=(s\d+) .*status=(\d+)", line)
-        if status:
-            found.setdefault(status[1], ["", None])[1] = int(status[2])
-        name = head[1] if head else None if line.startswith("case=") else name
-        if name and not head:
-            found.setdefault(name, ["", None])[0] += line
-    return [tuple(found.get(f"s{at:05}", ("", None))) for at in range(len(paths))]
+def program():
+    """The proved program if it is built, otherwise an unproved one, which tools/program.sh compiles once and keeps."""
+    found = subprocess.run(["sh", os.path.join(TOP, "tools", "program.sh"), "schedule_states", "schedules"], stdout=subprocess.PIPE, text=True, check=False)
+    if found.returncode:
+        raise SystemExit(found.returncode)
+    return found.stdout.strip()
 
 
 def rows_of(paths):
     """The rows of each file, or why there are none."""
-    told = proved(paths) if os.access(PROGRAM, os.X_OK) else tried(paths)
-    return [rows(text, status) for text, status in told]
+    file, told = program(), []
+    for path in paths:
+        with open(path, "rb") as it:
+            ran = subprocess.run([file], stdin=it, capture_output=True, text=True, check=False)
+        told.append(rows(ran.stdout, ran.returncode))
+    return told
 
 
 def rows(text, status):
