@@ -1,6 +1,6 @@
 // Plays the schedules of the page: everything that it shows stands in the data.
 
-const schedules = JSON.parse(document.getElementById("data").textContent);
+const { steps, schedules } = JSON.parse(document.getElementById("data").textContent);
 const PHASES = ["Idle", "Marking", "Drain", "Sweep", "Clear", "Full"];
 const part = (id) => document.getElementById(id);
 let played = null, states = [], at = 0;
@@ -52,14 +52,14 @@ function showStep(turn, state) {
   }
   box.append(element("p", { class: "what" }, `${seatName(turn.seat, state)}: `, element("code", {}, turn.text), ` (line ${turn.line})`));
   if (turn.note) box.append(element("p", { class: "note" }, turn.note));
-  const list = element("dl", {});
-  item(list, "kind", `${turn.kind} ${turn.name}`, false, { id: "kind" });
-  item(list, "operation", turn.operation + (turn.word ? `; here ${turn.word}` : ""), false, { id: "operation" });
+  const list = element("dl", {}), step = steps[turn.step];
+  item(list, "kind", `${step.kind} ${step.name}`, false, { id: "kind" });
+  item(list, "operation", step.operation + (turn.word ? `; here ${turn.word}` : ""), false, { id: "operation" });
   const parts = element("ul", { class: "parts" });
-  for (const [number, text] of turn.parts)
+  for (const [number, text] of step.parts)
     parts.append(element("li", turn.refused && turn.refused.part === number ? { class: "failed" } : {}, `${number}: ${text}`));
-  item(list, "condition", turn.parts.length ? parts : "none", false, { id: "condition" });
-  item(list, "effect", turn.refused ? "none: it isn't allowed" : turn.effect, false, { id: "effect" });
+  item(list, "condition", step.parts.length ? parts : "none", false, { id: "condition" });
+  item(list, "effect", turn.refused ? "none: it isn't allowed" : step.effect, false, { id: "effect" });
   box.append(list);
   if (turn.refused) showRefusal(box, turn.refused);
 }

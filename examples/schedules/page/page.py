@@ -47,16 +47,12 @@ def events_of(text):
     return events
 
 
-def told_of(words, at, layout, steps):
-    """What a page tells of an event."""
-    step = steps[words[1]]
-    return {
-        "seat": int(words[0]), "text": " ".join(words[1:]), "kind": step["kind"], "name": step["name"], "operation": step["operation"],
-        "parts": [[number, part] for number, part in sorted(step["parts"].items())], "effect": step["effect"], "word": layout.name_of(at) if at is not None else "",
-    }
+def told_of(words, at, layout, note):
+    """What a page tells of an event, beside the table of steps."""
+    return {"seat": int(words[0]), "step": words[1], "text": " ".join(words[1:]), "note": note, "word": layout.name_of(at) if at is not None else ""}
 
 
-def shown(path, rows, steps, moves):
+def shown(path, rows, steps):
     """All that the page has of one schedule."""
     with open(path, encoding="ascii") as it:
         text = it.read()
@@ -67,36 +63,38 @@ def shown(path, rows, steps, moves):
     turns = [{"line": 0, "changes": views[0], "note": title}]
     for (line, at, _, _), before, after in zip(all_states[1:], views, views[1:]):
         words, note = events[line]
-        turns.append({"line": line, "note": note, **told_of(words, at, layout, steps), "changes": changes(before, after)})
+        turns.append({"line": line, **told_of(words, at, layout, note), "changes": changes(before, after)})
     if end:
         words, note = events[end[0]]
-        why = refusal(layout, all_states[-1], int(words[0]), words[1], words[2:], end, steps, moves)
-        turns.append({"line": end[0], "note": note, **told_of(words, None, layout, steps), "changes": {}, "refused": why})
+        why = refusal(layout, all_states[-1], words, end, steps)
+        turns.append({"line": end[0], **told_of(words, None, layout, note), "changes": {}, "refused": why})
     return {"name": os.path.basename(path).removesuffix(".gs"), "title": title, "shape": shape, "turns": turns}
 
 
-def written(schedules):
-    """The page."""
+def written(schedules, steps):
+    """The page of these schedules."""
     parts = {}
     for name in ("page.html", "page.css", "page.js", "heap.js"):
         with open(os.path.join(HERE, name), encoding="utf-8") as it:
             parts[name] = it.read()
-    data = json.dumps(schedules, separators=(",", ":")).replace("</", "<\\/")
+    data = json.dumps({"steps": steps, "schedules": schedules}, separators=(",", ":")).replace("</", "<\\/")
     inside = {"STYLE": parts["page.css"], "DATA": data, "HEAP": parts["heap.js"], "SCRIPT": parts["page.js"]}
     return re.sub(r"/\*(STYLE|DATA|HEAP|SCRIPT)\*/", lambda it: inside[it[1]], parts["page.html"])
 
 
 def main(target, *names):
-    paths = [found(it) for it in names] or sorted(glob.glob(os.path.join(FOLDER, "*", "*.gs")))
-    folder = os.path.dirname(os.path.abspath(target))
+    paths = [os.path.abspath(found(it)) for it in names] or sorted(glob.glob(os.path.join(FOLDER, "*", "*.gs")))
+    target = os.path.abspath(target)
+    folder = os.path.dirname(target)
     if os.path.isdir(target) or not os.access(target if os.path.exists(target) else folder, os.W_OK):
         stop(f"the page {target} can't be written")
-    steps, moves = read_steps()
     all_rows = states.rows_of(paths)
     for path, rows in zip(paths, all_rows):
         if isinstance(rows, states.Unshown):
             stop(f"{path}: {rows}; no page is written", 2)
-    page = written([shown(path, rows, steps, moves) for path, rows in zip(paths, all_rows)])
+    os.chdir(TOP)
+    steps = read_steps()
+    page = written([shown(path, rows, steps) for path, rows in zip(paths, all_rows)], steps)
     try:
         with open(target, "w", encoding="utf-8") as it:
             it.write(page)

@@ -1,10 +1,12 @@
 """Why an event is refused: the part of the rule, what would be lost, and the objects in question, with the ways that lead to them."""
 import os
 
-from draw import CARD, PHASES, Drawn, named
+from draw import CARD, Drawn
+from steps import asked
 
 LETTERS = {"f": "free", "u": "unpublished", "v": "unpublished, marked", "w": "white", "g": "grey", "b": "black"}
 CARDS = {"c": "clean", "d": "dirty", "k": "being cleaned", "x": "dirty, being cleaned"}
+MOST = 12  # objects that are told
 HERE = os.path.dirname(os.path.abspath(__file__))
 CELL_AT = {"push": 1, "read_field": 0, "set_mark": 0, "read_own": 0, "read_value": 0, "read_ident": 0, "store_new": 0}
 
@@ -14,16 +16,6 @@ def read_losses():
     with open(os.path.join(HERE, "losses.txt"), encoding="utf-8") as it:
         rows = [line.strip().partition(": ") for line in it if line.strip() and not line.startswith("#")]
     return {tuple(map(int, row[0].split())): row[2] for row in rows}
-
-
-def asked(step, words, rule, steps, moves):
-    """The part of the condition that fails, in words."""
-    if rule[2] == 0:
-        return "there is such a seat, and it wasn't joined into another"
-    if (rule[1], rule[2]) == (30, 2):
-        move = moves[PHASES[int(words[0])]]
-        return f"{move['asks']} (of the move to {PHASES[int(words[0])]})"
-    return steps[step]["parts"].get(rule[2], "")
 
 
 def in_hand(seat, layout, d):
@@ -82,16 +74,16 @@ def objects(seat, step, words, rule, d):
     return first
 
 
-def refusal(layout, state, seat_number, step, words, rule, steps, moves):
+def refusal(layout, state, words, rule, steps):
     """All that is told of a refused event."""
-    _, _, state_words, seats = state
-    d = Drawn(layout, state_words, seats)
-    seat = seats[seat_number] if seat_number < len(seats) else None
+    number, name, parameters = int(words[0]), words[1], words[2:]
+    d = Drawn(layout, state[2], state[3])
+    seat = d.seats[number] if number < len(d.seats) else None
     told = []
-    for c, why in objects(seat, step, words, rule, d).items():
+    for c, why in objects(seat, name, parameters, rule, d).items():
         told.append({"cell": c, "why": why, "colour": LETTERS[d.colour(c)], "ways": ways(c, d)})
     lost = read_losses()
     return {
-        "rule": rule[1], "part": rule[2], "asks": asked(step, words, rule, steps, moves),
-        "lost": lost.get((rule[1], rule[2])) or lost.get((0, rule[2] if rule[2] == 0 else 1)), "objects": told[:12], "named": named([it["cell"] for it in told[:12]]),
+        "rule": rule[1], "part": rule[2], "asks": asked(steps[name], rule[2], parameters),
+        "lost": lost.get((rule[1], rule[2])) or lost[0, min(rule[2], 1)], "objects": told[:MOST],
     }
