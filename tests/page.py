@@ -142,6 +142,22 @@ def pages(work):
             same("what the scripts throw", page.thrown, [])
 
 
+def exercise(work):
+    """The three ways to lose an object that docs/SCHEDULES.md tells, each with the rule that forbids it."""
+    with open(answer("hidden_cell_found")[0], encoding="ascii") as it:
+        text = it.read()
+    with open(os.path.join(TOP, "docs", "SCHEDULES.md"), encoding="utf-8") as it:
+        told = re.findall(r"^\|([^|]*)\| rule (\d+) part (\d+) \|$", it.read().partition("## See it step by step")[2].partition("\n## ")[0], re.M)
+    root, card, push = ("1 store_root 1 0\n", "1 dirty_card 0\n", "2 push 0 1\n")
+    edits = [text.replace(root, "").replace(card, root + card), text.replace(push, "2 store_length 0\n2 give 0 0\n"), text.replace(push, push + "2 leave_step\n")]
+    same("ways to lose an object", len(told), len(edits))
+    for n, (edit, (change, rule, part)) in enumerate(zip(edits, told)):
+        path = os.path.join(work, f"lost{n}.gs")
+        with open(path, "w", encoding="ascii") as it:
+            it.write(edit)
+        same(f"to lose an object,{change}", states.rows_of([path])[0][-1][2:], [int(rule), int(part)])
+
+
 def refused_use(work):
     """Pages that aren't written, and why."""
     foreign, large, good = (os.path.join(work, it) for it in ("foreign.gs", "large.gs", "good.gs"))
@@ -164,8 +180,9 @@ def refused_use(work):
 
 def main():
     with tempfile.TemporaryDirectory() as work:
-        pages(work)
+        exercise(work)
         refused_use(work)
+        pages(work)
     for it in wrong[:20]:
         print(f"tests/page.py: {it}")
     print(f"{len(wrong)} wrong")

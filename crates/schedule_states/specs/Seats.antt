@@ -48,7 +48,7 @@ standing_numbers s =
 -- a packet in hand, its length, and whether its head holds that
 abbrev pub packet_numbers : Slot → List ℕ
 packet_numbers None = 0 ∷ 0 ∷ 0 ∷ []
-packet_numbers (Some x) = x.0 + 1 ∷ number_or_none x.1 ∷ flag_number x.2 ∷ []
+packet_numbers (Some x) = (x.0 + 1) ∷ number_or_none x.1 ∷ flag_number x.2 ∷ []
 
 abbrev pub packets_text : Slots → List ℕ
 packets_text held = flat_map (λ h. numbers_text (packet_numbers h)) held
@@ -63,7 +63,7 @@ held_text held = name_text (codes "packets") ++ held_rest held
 -- the cell of a pair, if there is one
 abbrev pub first_or_none : {A : Type 0} → Option (ℕ × A) → ℕ
 first_or_none None = 0
-first_or_none (Some x) = x.0 + 1
+first_or_none (Some x) = (x.0 + 1)
 
 -- whether the popped cell was seen unpublished
 abbrev pub clear_number : Option (ℕ × Bool) → ℕ
@@ -94,7 +94,7 @@ hand_numbers s =
 -- the card that it cleared, whether its marked cells are known, those left and those that may be scanned, and whether the card must be dirty again
 abbrev pub cleaning_numbers : Option Cleaning → List ℕ
 cleaning_numbers None = 0 ∷ 0 ∷ 0 ∷ 0 ∷ 0 ∷ []
-cleaning_numbers (Some x) = x.card + 1 ∷ flag_number x.known ∷ x.left ∷ x.published ∷ flag_number x.redirty ∷ []
+cleaning_numbers (Some x) = (x.card + 1) ∷ flag_number x.known ∷ x.left ∷ x.published ∷ flag_number x.redirty ∷ []
 
 abbrev pub variables_text : List ℕ → List ℕ
 variables_text env = flat_map number_text env
@@ -110,13 +110,13 @@ env_text env = name_text (codes "variables") ++ variables_rest env
 abbrev pub cache_numbers : Option CacheState → List ℕ
 cache_numbers None = 0 ∷ 0 ∷ 0 ∷ 0 ∷ 0 ∷ 0 ∷ 0 ∷ []
 cache_numbers (Some x) =
-    x.block + 1 ∷ flag_number x.unread ∷ x.free ∷ x.used ∷ first_or_none x.making ∷ next_number x.making ∷ number_or_none x.last ∷ []
+    (x.block + 1) ∷ flag_number x.unread ∷ x.free ∷ x.used ∷ first_or_none x.making ∷ next_number x.making ∷ number_or_none x.last ∷ []
 
 -- the block that it sweeps or clears and the end of its stretch, its allocation and mark bits if they were read, and whether what survives was stored
 abbrev pub block_numbers : Option BlockState → List ℕ
 block_numbers None = 0 ∷ 0 ∷ 0 ∷ 0 ∷ 0 ∷ 0 ∷ 0 ∷ []
 block_numbers (Some x) =
-    x.block + 1
+    (x.block + 1)
     ∷ x.until
     ∷ flag_number (is_some x.alloc_word)
     ∷ unwrap_or x.alloc_word 0
