@@ -78,6 +78,14 @@ def compare(name, shape, words, seen):
         same(f"{name}: the {pool} pool", [p for p, told in enumerate(seen["packets"]) if told.startswith(f"in the {pool} pool")], there)
 
 
+def waiting(name, seen):
+    """What waits is grey: a cell in a packet, and each marked one on a card that isn't clean."""
+    packed = {int(c) for told in seen["packets"] for c in re.findall(r"cell (\d+)", told)}
+    same(f"{name}: cells in packets", [seen["letters"][c] for c in packed if seen["letters"][c] not in "GV"], [])
+    black = [c for c, letter in enumerate(seen["letters"]) if letter == "B" and "dirty" in seen["cards"][c // 16]]
+    same(f"{name}: black cells on dirty cards", black, [])
+
+
 def answer(name):
     """What stands beside a schedule of the examples."""
     for folder in ("accepted", "refused"):
@@ -97,6 +105,7 @@ def step_through(page, name, rows, told):
         seen = json.loads(page.ask(SEEN))
         same(f"{name}: event", seen["at"].split(" of ")[0], f"event {n}")
         compare(f"{name}, event {n}", shape, state, seen)
+        waiting(f"{name}, event {n}", seen)
         page.press("ArrowRight")
     refusal = page.ask("(it => it && [it.dataset.rule, it.dataset.part].join(' '))(document.querySelector('.refusal'))")
     told = re.match(r"refused line (\d+) rule (\d+) part (\d+)", told)
