@@ -1,5 +1,8 @@
 /* Tells each cycle of a play in one line of standard error, when it ends. A build that bench/unproved_cycles.sh makes calls mh_step in front of each step, with the
-   step: its first byte is its kind, by the order of kinds.h, and the second of StorePhase is the phase. */
+   step: its first byte is its kind, by the order of kinds.h, and the second of StorePhase is the phase.
+
+   The words mean what they do in docs/EMBEDDING_C.md, but for two. `stopped_us` is from the move to Drain to the one that ends the cycle, and `marked` counts the
+   objects that were traced beside the program since the cycle before. */
 #include <stdint.h>
 #include <stdio.h>
 #include <time.h>
@@ -8,9 +11,11 @@
 
 enum phase { IDLE, MARKING, DRAIN, SWEEP, CLEAR, FULL };
 
-static uint64_t steps[KINDS], told[KINDS];
+static uint64_t steps[KINDS];
 static uint64_t moved[FULL + 1]; /* when the phase was stored last, in nanoseconds */
-static unsigned phase = IDLE, cycles, cleared;
+static uint64_t traced; /* as the cycle before ended */
+static uint64_t beside_traced, beside_cleaned; /* as the world stopped */
+static unsigned phase = IDLE, cycles, exact;
 
 static uint64_t now(void) {
     struct timespec it;
@@ -18,22 +23,30 @@ static uint64_t now(void) {
     return (uint64_t)it.tv_sec * 1000000000u + (uint64_t)it.tv_nsec;
 }
 
-static double milliseconds(uint64_t from, uint64_t to) { return (double)(to - from) / 1e6; }
+static double microseconds(uint64_t from, uint64_t to) { return (double)(to - from) / 1e3; }
 
-/* How many steps of a kind there were since the cycle before. */
-static uint64_t since(unsigned kind) {
-    uint64_t many = __atomic_load_n(&steps[kind], __ATOMIC_SEQ_CST), fresh = many - told[kind];
-    told[kind] = many;
-    return fresh;
-}
+/* How many steps of a kind there were. */
+static uint64_t many(unsigned kind) { return __atomic_load_n(&steps[kind], __ATOMIC_SEQ_CST); }
 
 static void tell(uint64_t end) {
-    char line[256], beside[64] = "nothing marked beside the program";
-    uint64_t traced = since(Pop), cards = since(ClearCard), blocks = since(StoreAlloc);
-    if (moved[MARKING]) snprintf(beside, sizeof beside, "marked beside the program for %.3f ms", milliseconds(moved[MARKING], moved[DRAIN]));
-    snprintf(line, sizeof line, "cycle %u: %s, in the stop for %.3f ms (sweep %.3f)%s, %lu objects traced, %lu cards cleaned, %lu blocks swept\n", ++cycles, beside,
-             milliseconds(moved[DRAIN], end), milliseconds(moved[SWEEP], end), cleared ? ", precise" : "", (unsigned long)traced, (unsigned long)cards, (unsigned long)blocks);
+    char line[256];
+    int is_beside = moved[MARKING] != 0;
+    double marked = is_beside ? microseconds(moved[MARKING], moved[DRAIN]) : 0;
+    snprintf(line, sizeof line, "play: cycle=%u beside=%d marked_us=%.1f marked=%lu stopped_us=%.1f swept_us=%.1f traced=%lu cleaned=%lu exact=%u\n", ++cycles, is_beside,
+             marked, (unsigned long)(beside_traced - traced), microseconds(moved[DRAIN], end), microseconds(moved[SWEEP], end),
+             (unsigned long)(many(Pop) - beside_traced), (unsigned long)(many(ClearCard) - beside_cleaned), exact);
     fputs(line, stderr);
+    traced = many(Pop);
+    moved[MARKING] = 0;
+}
+
+/* The world has stopped, and marking is finished; from Clear it begins anew. */
+static void drain(uint64_t at) {
+    exact = phase != MARKING;
+    if (phase == CLEAR) return;
+    moved[DRAIN] = at;
+    beside_traced = many(Pop);
+    beside_cleaned = many(ClearCard);
 }
 
 /* In a stop one seat moves the phase. Of several that try to begin marking one does, and the first is taken for it. */
@@ -44,14 +57,9 @@ static void move(unsigned to) {
         if (__atomic_compare_exchange_n(&phase, &idle, MARKING, 0, __ATOMIC_SEQ_CST, __ATOMIC_SEQ_CST)) moved[MARKING] = at;
         return;
     }
-    if (to == DRAIN && phase != CLEAR) moved[DRAIN] = at;
+    if (to == DRAIN) drain(at);
     if (to == SWEEP) moved[SWEEP] = at;
-    if (to == CLEAR) cleared = 1;
-    if (to == IDLE) {
-        tell(at);
-        cleared = 0;
-        moved[MARKING] = 0;
-    }
+    if (to == IDLE) tell(at);
     __atomic_store_n(&phase, to, __ATOMIC_SEQ_CST);
 }
 

@@ -188,6 +188,8 @@ def refused_use(work):
 
 
 def main():
+    if not browser.PROGRAM:
+        sys.exit("tests/page.py: there is no chromium")
     with tempfile.TemporaryDirectory() as work:
         exercise(work)
         refused_use(work)

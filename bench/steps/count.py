@@ -32,8 +32,7 @@ def put_in(source, made, head, body):
     """Writes the module with this head, and this body in front of each step."""
     text = pathlib.Path(source).read_text()
     operations = {it[1] for it in TOLD.findall(text)}
-    wanted = set(re.findall(r"_told::<.*?>", text)) and {"load", "store", "swap", "fetch_add", "fetch_sub", "fetch_and", "fetch_or", "compare_exchange"}
-    if operations != wanted:
+    if operations != {"take", "store"}:
         sys.exit(f"steps: the operations of the table are {', '.join(sorted(operations))}")
     at = text.index("\ndefine ") + 1
     text = TOLD.sub(lambda it: it[1] + body.format(step=it[3]), text[:at] + head + text[at:])

@@ -1,7 +1,6 @@
 """What a page shows of a state: each thing under a key of its own, so that a page keeps of each event only what changed."""
+from steps import PHASES, POOLS
 
-PHASES = ["Idle", "Marking", "Drain", "Sweep", "Clear", "Full"]
-POOLS = ["empty", "low", "high", "deferred"]
 FLAG = 1 << 32
 BLOCK, CARD = 64, 16
 

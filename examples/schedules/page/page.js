@@ -43,17 +43,21 @@ function showRefusal(box, why) {
   box.append(told);
 }
 
-function showStep(turn, state) {
+function showWhat(turn) {
+  const box = part("what");
+  box.className = turn.refused ? "what bad" : "what";
+  if (!turn.line) box.replaceChildren("The start: nothing has happened.");
+  else box.replaceChildren(`${seatName(turn.seat, states[at])}: `, element("code", {}, turn.text), ` (line ${turn.line})${turn.refused ? ": refused" : ""}`);
+}
+
+function showStep(turn) {
   const box = part("step");
   box.replaceChildren();
-  if (!turn.line) {
-    box.append(element("p", { class: "what" }, "The start: nothing has happened."), element("p", { class: "note" }, turn.note));
-    return;
-  }
-  box.append(element("p", { class: "what" }, `${seatName(turn.seat, state)}: `, element("code", {}, turn.text), ` (line ${turn.line})`));
   if (turn.note) box.append(element("p", { class: "note" }, turn.note));
+  if (!turn.line) return;
   const list = element("dl", {}), step = steps[turn.step];
   item(list, "kind", `${step.kind} ${step.name}`, false, { id: "kind" });
+  if (turn.given.length) item(list, "parameters", turn.given.join(", "), false, { id: "parameters" });
   item(list, "operation", step.operation + (turn.word ? `; here ${turn.word}` : ""), false, { id: "operation" });
   const parts = element("ul", { class: "parts" });
   for (const [number, text] of step.parts)
@@ -76,6 +80,13 @@ function showWords(state, before, shape) {
   put("HELP", flagged(state.HELP, "helper counted", "helpers counted"), "HELP");
   put("SEASON", `${state.SEASON}, ${state.SEASON % 2 ? "the warehouses' turn" : "the catalogue's turn"}`, "SEASON");
   put("owners", state.owners.map((it, b) => `block ${b}: ${it ? `seat ${it - 1}` : "nobody"}`).join(", "), "owners");
+}
+
+function showHeap() {
+  const { refused } = played.turns[at], state = states[at], before = at ? states[at - 1] : null;
+  const stakes = new Set((refused ? refused.objects : []).map((it) => it.cell));
+  drawHeap(part("graph"), state, before, played.shape, stakes);
+  part("cards").replaceChildren(...[...state.cards].map((_, k) => cardRow(k, state, before, stakes)));
 }
 
 function showPackets(state, before) {
@@ -129,16 +140,15 @@ function markEvent() {
 function go(to) {
   at = Math.max(0, Math.min(played.turns.length - 1, to));
   const turn = played.turns[at], state = states[at], before = at ? states[at - 1] : null;
-  const stakes = new Set((turn.refused ? turn.refused.objects : []).map((it) => it.cell));
   part("slider").value = at;
   part("at").textContent = turn.refused ? `event ${at}: refused` : `event ${at} of ${played.turns.length - 1}`;
   part("first").disabled = part("back").disabled = at === 0;
   part("last").disabled = part("next").disabled = at === played.turns.length - 1;
-  showStep(turn, state);
+  showWhat(turn);
+  showStep(turn);
   showLanes();
   showWords(state, before, played.shape);
-  drawHeap(part("graph"), state, played.shape, stakes);
-  part("cards").replaceChildren(...[...state.cards].map((_, k) => cardRow(k, state, stakes)));
+  showHeap();
   showPackets(state, before);
   showSeats(state, before, turn.seat);
   markEvent();
@@ -176,7 +186,7 @@ function listen() {
     event.preventDefault();
     KEYS[event.key]();
   });
-  addEventListener("resize", () => drawHeap(part("graph"), states[at], played.shape, new Set((played.turns[at].refused ? played.turns[at].refused.objects : []).map((it) => it.cell))));
+  addEventListener("resize", showHeap);
   addEventListener("hashchange", fromHash);
 }
 

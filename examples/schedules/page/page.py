@@ -13,7 +13,7 @@ import sys
 import states
 from draw import changes, view
 from stakes import refusal
-from steps import TOP, read_steps
+from steps import TOP, given, read_steps
 
 HERE = os.path.dirname(os.path.abspath(__file__))
 FOLDER = os.path.join(TOP, "examples", "schedules")
@@ -47,9 +47,11 @@ def events_of(text):
     return events
 
 
-def told_of(words, at, layout, note):
+def told_of(words, at, layout, note, steps):
     """What a page tells of an event, beside the table of steps."""
-    return {"seat": int(words[0]), "step": words[1], "text": " ".join(words[1:]), "note": note, "word": layout.name_of(at) if at is not None else ""}
+    word = layout.name_of(at) if at is not None else ""
+    parameters = given(words[1], steps[words[1]]["parameters"], words[2:])
+    return {"seat": int(words[0]), "step": words[1], "text": " ".join(words[1:]), "note": note, "word": word, "given": parameters}
 
 
 def shown(path, rows, steps):
@@ -63,11 +65,11 @@ def shown(path, rows, steps):
     turns = [{"line": 0, "changes": views[0], "note": title}]
     for (line, at, _, _), before, after in zip(all_states[1:], views, views[1:]):
         words, note = events[line]
-        turns.append({"line": line, **told_of(words, at, layout, note), "changes": changes(before, after)})
+        turns.append({"line": line, **told_of(words, at, layout, note, steps), "changes": changes(before, after)})
     if end:
         words, note = events[end[0]]
         why = refusal(layout, all_states[-1], words, end, steps)
-        turns.append({"line": end[0], **told_of(words, None, layout, note), "changes": {}, "refused": why})
+        turns.append({"line": end[0], **told_of(words, None, layout, note, steps), "changes": {}, "refused": why})
     return {"name": os.path.basename(path).removesuffix(".gs"), "title": title, "shape": shape, "turns": turns}
 
 
@@ -82,11 +84,23 @@ def written(schedules, steps):
     return re.sub(r"/\*(STYLE|DATA|HEAP|SCRIPT)\*/", lambda it: inside[it[1]], parts["page.html"])
 
 
+def write(page, target):
+    """Writes the whole page, or none."""
+    part = target + ".part"
+    try:
+        with open(part, "w", encoding="utf-8") as it:
+            it.write(page)
+        os.replace(part, target)
+    finally:
+        if os.path.exists(part):
+            os.remove(part)
+
+
 def main(target, *names):
     paths = [os.path.abspath(found(it)) for it in names] or sorted(glob.glob(os.path.join(FOLDER, "*", "*.gs")))
     target = os.path.abspath(target)
-    folder = os.path.dirname(target)
-    if os.path.isdir(target) or not os.access(target if os.path.exists(target) else folder, os.W_OK):
+    kept = os.path.exists(target) and (os.path.isdir(target) or not os.access(target, os.W_OK))
+    if kept or not os.access(os.path.dirname(target), os.W_OK):
         stop(f"the page {target} can't be written")
     all_rows = states.rows_of(paths)
     for path, rows in zip(paths, all_rows):
@@ -96,8 +110,7 @@ def main(target, *names):
     steps = read_steps()
     page = written([shown(path, rows, steps) for path, rows in zip(paths, all_rows)], steps)
     try:
-        with open(target, "w", encoding="utf-8") as it:
-            it.write(page)
+        write(page, target)
     except OSError as fault:
         stop(f"the page {target} can't be written: {fault.strerror}")
     print(f"{target}: {len(paths)} schedule{'s' if len(paths) > 1 else ''}")

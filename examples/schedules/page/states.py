@@ -3,7 +3,7 @@ import json
 import os
 import subprocess
 
-from steps import TOP
+from steps import TOP, meaning_of_fault
 
 VARIABLES = 32
 SINGLE = ["WORLD", "PHASE", "EMPTY", "NEXTCARD", "NEXTBLOCK", "NAMED", "LAST", "RESCANNED", "TRACED", "FREE", "DONE"]
@@ -34,7 +34,7 @@ def rows_of(paths):
 def rows(text, status):
     if status == 2:
         number, name, *place = text.split()
-        return Unshown(f"{' '.join(place)}{': ' if place else ''}{name} (fault {number} of docs/SCHEDULES.md)")
+        return Unshown(f"{' '.join(place)}{': ' if place else ''}{name}: {meaning_of_fault(number)}")
     if status == 3:
         name, number, most = json.loads(text)
         return Unshown(f"{name} to draw: {number}, where at most {most} are drawn")

@@ -1,4 +1,4 @@
-"""The kinds of step as docs/STEPS.md tells them: of each its operation, the parts of its condition, and its effect."""
+"""The kinds of step as docs/STEPS.md tells them: of each its operation, the parts of its condition, and its effect; and its parameters, as docs/SCHEDULES.md does."""
 import os
 import re
 import sys
@@ -9,6 +9,9 @@ import figures  # noqa: E402
 import reasons  # noqa: E402
 
 BY_MOVE = "what this move asks, below"
+SCHEDULES = "docs/SCHEDULES.md"
+PHASES = ["Idle", "Marking", "Drain", "Sweep", "Clear", "Full"]
+POOLS = ["empty", "low", "high", "deferred"]
 
 
 def plain(text):
@@ -28,9 +31,42 @@ def parts_of(name, condition):
     return found
 
 
+def read_parameters():
+    """The names of each step's parameters, by its name in schedules."""
+    header, rows = figures.table(SCHEDULES, "In STEPS", "Steps, with their parameters")
+    return {name: parameters for row in rows for name, *parameters in map(str.split, re.findall(r"`([^`]+)`", row[1]))}
+
+
+def meaning_of_fault(number):
+    """What a fault of a schedule means, by its number."""
+    for header, rows in figures.tables(SCHEDULES):
+        if header == ["Text", "Meaning"]:
+            for text, meaning in rows:
+                if text.startswith(f"`{number} "):
+                    return plain(meaning)
+    return ""
+
+
+def given(name, parameters, words):
+    """An event's parameters, each with its name, and in words where the number alone doesn't say it."""
+    told = []
+    for parameter, word in zip(parameters, words):
+        meant = ""
+        if parameter == "r":
+            meant = f" (cell {int(word) - 1})" if int(word) else " (nil)"
+        elif parameter == "q":
+            meant = f" ({POOLS[int(word)]})" if int(word) < len(POOLS) else ""
+        elif (name, parameter) == ("store_phase", "p"):
+            meant = f" ({PHASES[int(word)]})"
+        elif parameter in ("deferred", "down"):
+            meant = f" ({['no', 'yes'][int(word)]})"
+        told.append(f"{parameter} = {word}{meant}")
+    return told
+
+
 def read_steps():
     """The kinds by the names of their steps in schedules."""
-    steps = {}
+    steps, parameters = {}, read_parameters()
     for header, lines in figures.tables(reasons.PAGE):
         if reasons.STEP not in header or reasons.CONDITION not in header:
             continue
@@ -39,7 +75,7 @@ def read_steps():
             kind, name = re.match(r"(\d+) `(\w+)`", cells[reasons.STEP]).groups()
             steps[in_schedules(name)] = {
                 "kind": int(kind), "name": name, "operation": plain(cells["Operation, word"]), "effect": plain(cells["Effect"]),
-                "parts": sorted(parts_of(name, cells[reasons.CONDITION]).items()),
+                "parts": sorted(parts_of(name, cells[reasons.CONDITION]).items()), "parameters": parameters.get(in_schedules(name), []),
             }
     return steps
 
