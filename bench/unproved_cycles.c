@@ -1,8 +1,8 @@
-/* Tells each cycle of a play in one line of standard error, when it ends. A build that bench/unproved_cycles.sh makes calls mh_step in front of each step, with the
+/* Tells each cycle of a play in one line of standard error, when it ends. A build that bench/unproved_cycles.sh makes calls mh_step before each step, with the
    step: its first byte is its kind, by the order of kinds.h, and the second of StorePhase is the phase.
 
-   The words mean what they do in docs/EMBEDDING_C.md, but for two. `stopped_us` is from the move to Drain to the one that ends the cycle, and `marked` counts the
-   objects that were traced beside the program since the cycle before. */
+   The words mean what they do in docs/EMBEDDING_C.md, but for two. `stopped_us` is from the move to Drain to the one that ends the cycle, and `traced_beside` counts
+   the objects that were traced beside the program since the cycle before, by whomever. */
 #include <stdint.h>
 #include <stdio.h>
 #include <time.h>
@@ -32,7 +32,7 @@ static void tell(uint64_t end) {
     char line[256];
     int is_beside = moved[MARKING] != 0;
     double marked = is_beside ? microseconds(moved[MARKING], moved[DRAIN]) : 0;
-    snprintf(line, sizeof line, "play: cycle=%u beside=%d marked_us=%.1f marked=%lu stopped_us=%.1f swept_us=%.1f traced=%lu cleaned=%lu exact=%u\n", ++cycles, is_beside,
+    snprintf(line, sizeof line, "play: cycle=%u beside=%d marked_us=%.1f traced_beside=%lu stopped_us=%.1f swept_us=%.1f traced=%lu cleaned=%lu exact=%u\n", ++cycles, is_beside,
              marked, (unsigned long)(beside_traced - traced), microseconds(moved[DRAIN], end), microseconds(moved[SWEEP], end),
              (unsigned long)(many(Pop) - beside_traced), (unsigned long)(many(ClearCard) - beside_cleaned), exact);
     fputs(line, stderr);

@@ -1,10 +1,15 @@
 -- What is written of events in their turns.
-use Rattle.std.proofs.Common.{◌≡◌, ℕ, List, ap, sym, ◌∙◌}
-use Rattle.std.specs.Prelude.{Some, None}
+use Rattle.std.proofs.Common.{◌≡◌, ℕ, ◌+◌, ◌<◌, ◌≤◌, List, [], ◌∷◌, ◌++◌, length, drop, get_or, refl, ap, sym, subst, ◌∙◌, append_assoc, append-nil, true≢false, codes}
+use Rattle.std.proofs.lemmas.List.{drop_more, drop_all}
+use Rattle.std.specs.Prelude.{Bool, true, false, Option, Some, None, Result, Ok, Err, is_none, if◌then◌else◌}
+use Rattle.std.specs.Io.KnownBytes.{Appends}
+use Rattle.play_report.proofs.Turns.{appends_then, grows_later, grows_sooner, rose_from, then_writes}
+use Rattle.play_report.specs.Causes.{AppendsPrefix, Rose, WritesText}
 use Rattle.mark_core.specs.Kinds.{kind_of}
 use Rattle.mark_core.specs.Steps.{Core, failing_part, after_event}
 use Rattle.schedule_check.specs.declared.line.Line.{Line}
-use Rattle.schedule_states.specs.Turns.{place_in, event_text, refused_row, text_by, turn_text, ends_by, turn_ends}
+use Rattle.schedule_states.specs.Rows.{row_text}
+use Rattle.schedule_states.specs.Turns.{place_in, event_text, refused_row, text_by, turn_text, ends_by, turn_ends, then_text, then_ends, turns_text, turns_end}
 use Rattle.schedule_states.specs.declared.turns.Ended.{Ended}
 use Rattle.schedule_states.specs.declared.turns.Ended.TheVariants.{Accepted, Refused}
 
@@ -22,3 +27,79 @@ went_on c l f = sym (ap ends_by f)
 
 pub stopped_there : (c : Core) (l : Line) (part : ℕ) → failing_part c l.event ≡ Some part → Refused ≡ turn_ends c l
 stopped_there c l part f = sym (ap ends_by f)
+
+-- the state after a turn, by the part that fails
+abbrev pub after_part : Option ℕ → Core → Core → Core
+after_part part after c = if is_none part then after else c
+
+accepts : Ended → Bool
+accepts Accepted = true
+accepts Refused = false
+
+after_accepted : (part : Option ℕ) (after c : Core) → Accepted ≡ ends_by part → after_part part after c ≡ after
+after_accepted None after c e = refl
+after_accepted (Some k) after c e = absurd (true≢false (ap accepts e))
+
+-- what was written up to element i: the text of all lines is that, and what is to be written of those left; and so they end
+abbrev pub HasTurned : List Line → ℕ → Core → Core → Option (List ℕ) → Option (List ℕ) → ℕ → ℕ → Type 0
+HasTurned ls i c d a b f g =
+    (front : List ℕ) × (turns_text ls c ≡ front ++ turns_text (drop i ls) d) × (turns_end ls c ≡ turns_end (drop i ls) d) × Appends a b front × (g ≡ f)
+
+module _ (ls : List Line) (i : ℕ) (l : Line) (c d : Core) (within : i < length ls) (is : l ≡ get_or ls i l) where
+  here : drop i ls ≡ l ∷ drop (i + 1) ls
+  here = drop_more ls i l within ∙ ap (λ (x : Line). x ∷ drop (i + 1) ls) (sym is)
+
+  -- what is written of this line and those behind it
+  rest : List ℕ
+  rest = then_text (turn_ends d l) (turns_text (drop (i + 1) ls) (after_event d l.event))
+
+  parted : turns_text (drop i ls) d ≡ turn_text d l ++ rest
+  parted = ap (λ (xs : List Line). turns_text xs d) here
+
+  -- the turn of an event that is allowed
+  pub turned_on : (e : Core) (a b b' : Option (List ℕ)) (f g h : ℕ) → HasTurned ls i c d a b f g → Accepted ≡ turn_ends d l → e ≡ after_part (failing_part d l.event) (after_event d l.event) d
+      → Appends b b' (turn_text d l) × (h ≡ g) → HasTurned ls (i + 1) c e a b' f h
+  turned_on e a b b' f g h (front, t, n, p, q) ended after w =
+      let state : e ≡ after_event d l.event = after ∙ after_accepted (failing_part d l.event) (after_event d l.event) d ended in
+      let left : rest ≡ turns_text (drop (i + 1) ls) e =
+          ap (λ (o : Ended). then_text o (turns_text (drop (i + 1) ls) (after_event d l.event))) (sym ended) ∙ ap (turns_text (drop (i + 1) ls)) (sym state) in
+      let ends : turns_end (drop i ls) d ≡ turns_end (drop (i + 1) ls) e =
+          ap (λ (xs : List Line). turns_end xs d) here ∙ ap (λ (o : Ended). then_ends o (turns_end (drop (i + 1) ls) (after_event d l.event))) (sym ended)
+          ∙ ap (turns_end (drop (i + 1) ls)) (sym state) in
+      (
+        front ++ turn_text d l,
+        t ∙ ap (λ (x : List ℕ). front ++ x) (parted ∙ ap (λ (x : List ℕ). turn_text d l ++ x) left) ∙ sym (append_assoc front (turn_text d l) (turns_text (drop (i + 1) ls) e)),
+        n ∙ ends,
+        appends_then a b b' front (turn_text d l) p w.0,
+        w.1 ∙ q,
+      )
+
+  -- the turn of one that isn't
+  pub turned_out : (a b b' : Option (List ℕ)) (f g h : ℕ) → HasTurned ls i c d a b f g → Refused ≡ turn_ends d l → Appends b b' (turn_text d l) × (h ≡ g) → Appends a b' (turns_text ls c) × (h ≡ f)
+  turned_out a b b' f g h (front, t, n, p, q) ended w =
+      let left : rest ≡ [] = ap (λ (o : Ended). then_text o (turns_text (drop (i + 1) ls) (after_event d l.event))) (sym ended) in
+      let all : turns_text ls c ≡ front ++ turn_text d l = t ∙ ap (λ (x : List ℕ). front ++ x) (parted ∙ ap (λ (x : List ℕ). turn_text d l ++ x) left ∙ append-nil (turn_text d l)) in
+      (subst (λ (x : List ℕ). Appends a b' x) (sym all) (appends_then a b b' front (turn_text d l) p w.0), w.1 ∙ q)
+
+  pub ended_out : (a b : Option (List ℕ)) (f g : ℕ) → HasTurned ls i c d a b f g → Refused ≡ turn_ends d l → Refused ≡ turns_end ls c
+  ended_out a b f g (front, t, n, p, q) ended =
+      sym (n ∙ ap (λ (xs : List Line). turns_end xs d) here ∙ ap (λ (o : Ended). then_ends o (turns_end (drop (i + 1) ls) (after_event d l.event))) (sym ended))
+
+  -- a turn that wrote a prefix of its text
+  pub turned_short : (a b b' : Option (List ℕ)) (f g h : ℕ) → HasTurned ls i c d a b f g → AppendsPrefix b b' (turn_text d l) × Rose g h → AppendsPrefix a b' (turns_text ls c) × Rose f h
+  turned_short a b b' f g h (front, t, n, p, q) w = (
+    subst (λ (x : List ℕ). AppendsPrefix a b' x) (sym (t ∙ ap (λ (x : List ℕ). front ++ x) parted)) (grows_later a b b' front (turn_text d l ++ rest) p (grows_sooner b b' (turn_text d l) rest w.0)),
+    rose_from f g h q w.1,
+  )
+
+-- all turns were taken
+module _ (ls : List Line) (i : ℕ) (c d : Core) (past : length ls ≤ i) where
+  last : turns_text (drop i ls) d ≡ row_text (codes "accepted") []
+  last = ap (λ (xs : List Line). turns_text xs d) (drop_all i ls past)
+
+  pub turned_all : {T E : Type 0} (r : Result T E) (a b b' : Option (List ℕ)) (f g h : ℕ) → HasTurned ls i c d a b f g → WritesText r b b' g h (row_text (codes "accepted") []) → WritesText r a b' f h (turns_text ls c)
+  turned_all r a b b' f g h (front, t, n, p, q) w =
+      subst (λ (x : List ℕ). WritesText r a b' f h x) (sym (t ∙ ap (λ (x : List ℕ). front ++ x) last)) (then_writes r a b b' f g h front (row_text (codes "accepted") []) p q w)
+
+  pub ended_all : (a b : Option (List ℕ)) (f g : ℕ) → HasTurned ls i c d a b f g → Accepted ≡ turns_end ls c
+  ended_all a b f g (front, t, n, p, q) = sym (n ∙ ap (λ (xs : List Line). turns_end xs d) (drop_all i ls past))
