@@ -2,6 +2,7 @@
 use Rattle.std.proofs.Common.{◌≡◌, ℕ, ◌+◌, ◌<◌, ◌≤◌, List, [], ◌∷◌, ◌++◌, length, drop, get_or, refl, ap, sym, subst, ◌∙◌, append_assoc, append-nil, true≢false, codes}
 use Rattle.std.proofs.lemmas.List.{drop_more, drop_all}
 use Rattle.std.specs.Prelude.{Bool, true, false, Option, Some, None, Result, Ok, Err, is_none, if◌then◌else◌}
+use Rattle.std.proofs.KnownBytes.{Appends-nil}
 use Rattle.std.specs.Io.KnownBytes.{Appends}
 use Rattle.play_report.proofs.Turns.{appends_then, grows_later, grows_sooner, rose_from, then_writes}
 use Rattle.play_report.specs.Causes.{AppendsPrefix, Rose, WritesText}
@@ -45,6 +46,9 @@ abbrev pub HasTurned : List Line → ℕ → Core → Core → Option (List ℕ)
 HasTurned ls i c d a b f g =
     (front : List ℕ) × (turns_text ls c ≡ front ++ turns_text (drop i ls) d) × (turns_end ls c ≡ turns_end (drop i ls) d) × Appends a b front × (g ≡ f)
 
+pub nothing_turned : (ls : List Line) (c : Core) (a : Option (List ℕ)) (f : ℕ) → HasTurned ls 0 c c a a f f
+nothing_turned ls c a f = ([], refl, refl, Appends-nil a, refl)
+
 module _ (ls : List Line) (i : ℕ) (l : Line) (c d : Core) (within : i < length ls) (is : l ≡ get_or ls i l) where
   here : drop i ls ≡ l ∷ drop (i + 1) ls
   here = drop_more ls i l within ∙ ap (λ (x : Line). x ∷ drop (i + 1) ls) (sym is)
@@ -62,11 +66,10 @@ module _ (ls : List Line) (i : ℕ) (l : Line) (c d : Core) (within : i < length
   turned_on e a b b' f g h (front, t, n, p, q) ended after w =
       let state : e ≡ after_event d l.event = after ∙ after_accepted (failing_part d l.event) (after_event d l.event) d ended in
       let left : rest ≡ turns_text (drop (i + 1) ls) e =
-          ap (λ (o : Ended). then_text o (turns_text (drop (i + 1) ls) (after_event d l.event))) (sym ended) ∙ ap (turns_text (drop (i + 1) ls)) (sym state) in
+      ap (λ (o : Ended). then_text o (turns_text (drop (i + 1) ls) (after_event d l.event))) (sym ended) ∙ ap (turns_text (drop (i + 1) ls)) (sym state) in
       let ends : turns_end (drop i ls) d ≡ turns_end (drop (i + 1) ls) e =
-          ap (λ (xs : List Line). turns_end xs d) here ∙ ap (λ (o : Ended). then_ends o (turns_end (drop (i + 1) ls) (after_event d l.event))) (sym ended)
-          ∙ ap (turns_end (drop (i + 1) ls)) (sym state) in
-      (
+      ap (λ (xs : List Line). turns_end xs d) here ∙ ap (λ (o : Ended). then_ends o (turns_end (drop (i + 1) ls) (after_event d l.event))) (sym ended)
+      ∙ ap (turns_end (drop (i + 1) ls)) (sym state) in (
         front ++ turn_text d l,
         t ∙ ap (λ (x : List ℕ). front ++ x) (parted ∙ ap (λ (x : List ℕ). turn_text d l ++ x) left) ∙ sym (append_assoc front (turn_text d l) (turns_text (drop (i + 1) ls) e)),
         n ∙ ends,

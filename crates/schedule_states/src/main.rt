@@ -1,13 +1,14 @@
 //! The program `schedule_states`: it plays a schedule on the core and writes every state, as JSON.
 //!
 //! Standard input is a schedule (`docs/SCHEDULES.md`). Each line of standard output is an array of JSON: a name, and
-//! numbers. `tell` decides what is written, `turns` plays the events, `state`, `seat` and `row` write.
+//! numbers. `tell` decides what is written, `turns` plays the events, `state`, `seat`, `numbers` and `row` write.
 //!
 //! [`tell_states`] has the promise. `main` has no contract, since std's clauses say nothing of what standard input and
 //! standard output hold.
 #![tactic(auto)]
 
 mod excess;
+mod numbers;
 mod row;
 mod seat;
 mod source;
