@@ -1,4 +1,4 @@
 mod Fronts
 mod Words
 mod Runs
-mod Finished
+mod Starts

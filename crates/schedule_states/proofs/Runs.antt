@@ -1,11 +1,10 @@
 -- What is written of events in their turns.
-use Rattle.std.proofs.Common.{◌≡◌, ℕ, ◌+◌, ◌<◌, ◌≤◌, List, [], ◌∷◌, ◌++◌, length, drop, get_or, refl, ap, sym, subst, ◌∙◌, append_assoc, append-nil, true≢false, codes}
+use Rattle.std.proofs.Common.{◌≡◌, ℕ, ◌+◌, ◌<◌, ◌≤◌, List, [], ◌∷◌, ◌++◌, length, drop, get_or, refl, ap, sym, subst, ◌∙◌, append_assoc, true≢false, codes}
 use Rattle.std.proofs.lemmas.List.{drop_more, drop_all}
-use Rattle.std.specs.Prelude.{Bool, true, false, Option, Some, None, Result, Ok, Err, is_none, if◌then◌else◌}
-use Rattle.std.proofs.KnownBytes.{Appends-nil}
+use Rattle.std.specs.Prelude.{Bool, true, false, Option, Some, None, is_none, if◌then◌else◌}
 use Rattle.std.specs.Io.KnownBytes.{Appends}
-use Rattle.play_report.proofs.Turns.{appends_then, grows_later, grows_sooner, rose_from, then_writes}
-use Rattle.play_report.specs.Causes.{AppendsPrefix, Rose, WritesText}
+use Rattle.play_report.proofs.Turns.{appends_then, grows_later, grows_sooner, rose_from}
+use Rattle.play_report.specs.Causes.{AppendsPrefix, Rose}
 use Rattle.mark_core.specs.Kinds.{kind_of}
 use Rattle.mark_core.specs.Steps.{Core, failing_part, after_event}
 use Rattle.schedule_check.specs.declared.line.Line.{Line}
@@ -23,12 +22,6 @@ went c after l at f p a =
 pub stopped : (c : Core) (l : Line) (kind part : ℕ) → kind ≡ kind_of l.event.step → failing_part c l.event ≡ Some part → refused_row l.line kind part ≡ turn_text c l
 stopped c l kind part k f = ap (λ (n : ℕ). refused_row l.line n part) k ∙ sym (ap (text_by c l) f)
 
-pub went_on : (c : Core) (l : Line) → failing_part c l.event ≡ None → Accepted ≡ turn_ends c l
-went_on c l f = sym (ap ends_by f)
-
-pub stopped_there : (c : Core) (l : Line) (part : ℕ) → failing_part c l.event ≡ Some part → Refused ≡ turn_ends c l
-stopped_there c l part f = sym (ap ends_by f)
-
 -- the state after a turn, by the part that fails
 abbrev pub after_part : Option ℕ → Core → Core → Core
 after_part part after c = if is_none part then after else c
@@ -45,9 +38,6 @@ after_accepted (Some k) after c e = absurd (true≢false (ap accepts e))
 abbrev pub HasTurned : List Line → ℕ → Core → Core → Option (List ℕ) → Option (List ℕ) → ℕ → ℕ → Type 0
 HasTurned ls i c d a b f g =
     (front : List ℕ) × (turns_text ls c ≡ front ++ turns_text (drop i ls) d) × (turns_end ls c ≡ turns_end (drop i ls) d) × Appends a b front × (g ≡ f)
-
-pub nothing_turned : (ls : List Line) (c : Core) (a : Option (List ℕ)) (f : ℕ) → HasTurned ls 0 c c a a f f
-nothing_turned ls c a f = ([], refl, refl, Appends-nil a, refl)
 
 module _ (ls : List Line) (i : ℕ) (l : Line) (c d : Core) (within : i < length ls) (is : l ≡ get_or ls i l) where
   here : drop i ls ≡ l ∷ drop (i + 1) ls
@@ -77,17 +67,6 @@ module _ (ls : List Line) (i : ℕ) (l : Line) (c d : Core) (within : i < length
         w.1 ∙ q,
       )
 
-  -- the turn of one that isn't
-  pub turned_out : (a b b' : Option (List ℕ)) (f g h : ℕ) → HasTurned ls i c d a b f g → Refused ≡ turn_ends d l → Appends b b' (turn_text d l) × (h ≡ g) → Appends a b' (turns_text ls c) × (h ≡ f)
-  turned_out a b b' f g h (front, t, n, p, q) ended w =
-      let left : rest ≡ [] = ap (λ (o : Ended). then_text o (turns_text (drop (i + 1) ls) (after_event d l.event))) (sym ended) in
-      let all : turns_text ls c ≡ front ++ turn_text d l = t ∙ ap (λ (x : List ℕ). front ++ x) (parted ∙ ap (λ (x : List ℕ). turn_text d l ++ x) left ∙ append-nil (turn_text d l)) in
-      (subst (λ (x : List ℕ). Appends a b' x) (sym all) (appends_then a b b' front (turn_text d l) p w.0), w.1 ∙ q)
-
-  pub ended_out : (a b : Option (List ℕ)) (f g : ℕ) → HasTurned ls i c d a b f g → Refused ≡ turn_ends d l → Refused ≡ turns_end ls c
-  ended_out a b f g (front, t, n, p, q) ended =
-      sym (n ∙ ap (λ (xs : List Line). turns_end xs d) here ∙ ap (λ (o : Ended). then_ends o (turns_end (drop (i + 1) ls) (after_event d l.event))) (sym ended))
-
   -- a turn that wrote a prefix of its text
   pub turned_short : (a b b' : Option (List ℕ)) (f g h : ℕ) → HasTurned ls i c d a b f g → AppendsPrefix b b' (turn_text d l) × Rose g h → AppendsPrefix a b' (turns_text ls c) × Rose f h
   turned_short a b b' f g h (front, t, n, p, q) w = (
@@ -95,14 +74,9 @@ module _ (ls : List Line) (i : ℕ) (l : Line) (c d : Core) (within : i < length
     rose_from f g h q w.1,
   )
 
--- all turns were taken
-module _ (ls : List Line) (i : ℕ) (c d : Core) (past : length ls ≤ i) where
-  last : turns_text (drop i ls) d ≡ row_text (codes "accepted") []
-  last = ap (λ (xs : List Line). turns_text xs d) (drop_all i ls past)
-
-  pub turned_all : {T E : Type 0} (r : Result T E) (a b b' : Option (List ℕ)) (f g h : ℕ) → HasTurned ls i c d a b f g → WritesText r b b' g h (row_text (codes "accepted") []) → WritesText r a b' f h (turns_text ls c)
-  turned_all r a b b' f g h (front, t, n, p, q) w =
-      subst (λ (x : List ℕ). WritesText r a b' f h x) (sym (t ∙ ap (λ (x : List ℕ). front ++ x) last)) (then_writes r a b b' f g h front (row_text (codes "accepted") []) p q w)
-
-  pub ended_all : (a b : Option (List ℕ)) (f g : ℕ) → HasTurned ls i c d a b f g → Accepted ≡ turns_end ls c
-  ended_all a b f g (front, t, n, p, q) = sym (n ∙ ap (λ (xs : List Line). turns_end xs d) (drop_all i ls past))
+-- all turns were taken, and a prefix of the last row was written
+pub ended_short : (ls : List Line) (i : ℕ) (c d : Core) → length ls ≤ i → (a b b' : Option (List ℕ)) (f g h : ℕ) → HasTurned ls i c d a b f g → AppendsPrefix b b' (row_text (codes "accepted") []) × Rose g h
+    → AppendsPrefix a b' (turns_text ls c) × Rose f h
+ended_short ls i c d past a b b' f g h (front, t, n, p, q) w =
+    let all : turns_text ls c ≡ front ++ row_text (codes "accepted") [] = t ∙ ap (λ (xs : List Line). front ++ turns_text xs d) (drop_all i ls past) in
+    (subst (λ (x : List ℕ). AppendsPrefix a b' x) (sym all) (grows_later a b b' front (row_text (codes "accepted") []) p w.0), rose_from f g h q w.1)
