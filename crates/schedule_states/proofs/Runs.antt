@@ -26,7 +26,7 @@ stopped c l kind part k f = ap (λ (n : ℕ). refused_row l.line n part) k ∙ s
 abbrev pub after_part : Option ℕ → Core → Core → Core
 after_part part after c = if is_none part then after else c
 
-accepts : Ended → Bool
+abbrev accepts : Ended → Bool
 accepts Accepted = true
 accepts Refused = false
 
@@ -44,7 +44,7 @@ module _ (ls : List Line) (i : ℕ) (l : Line) (c d : Core) (within : i < length
   here = drop_more ls i l within ∙ ap (λ (x : Line). x ∷ drop (i + 1) ls) (sym is)
 
   -- what is written of this line and those behind it
-  rest : List ℕ
+  abbrev rest : List ℕ
   rest = then_text (turn_ends d l) (turns_text (drop (i + 1) ls) (after_event d l.event))
 
   parted : turns_text (drop i ls) d ≡ turn_text d l ++ rest

@@ -3,6 +3,7 @@ use Rattle.std.proofs.Common.{◌≡◌, ℕ, ◌+◌, ◌*◌, ◌/◌, ◌≤�
 use Rattle.std.proofs.lemmas.List.{take_all}
 use Rattle.std.proofs.lemmas.Nat.{mul-le}
 use Rattle.std.proofs.lemmas.Option.{slice_get_cases, slice_get_within, slice_get-get_or}
+use Rattle.std.specs.Io.KnownBytes.{Appends}
 use Rattle.std.specs.List.{flat_map}
 use Rattle.std.specs.Prelude.{slice_get, Option, Some, None, unwrap_or}
 use Rattle.mark_core.specs.Laws.{IsCore}
@@ -36,11 +37,13 @@ module _ (c : Core) (s : Shape) (end i : ℕ) (computed : end ≡ total_words (r
 
 -- nothing is at an index past the end
 none_past : {X : Type 0} (xs : List X) (i : ℕ) → slice_get xs i ≡ None → length xs ≤ i
-none_past xs i h = ⊎_elim (λ x. absurd (some_none x.0 (sym x.2.0 ∙ h))) (λ p. p.0) (slice_get_cases xs i).1
+none_past xs i h = ⊎_elim (λ x. absurd (some_none x.0 (sym x.2 ∙ h))) (λ p. p.0) (slice_get_cases xs i).1
 
--- what was made of the elements before such an index was made of all
-pub all_made : {X : Type 0} (text : X → List ℕ) (xs : List X) (i : ℕ) → None ≡ slice_get xs i → flat_map text (take i xs) ≡ flat_map text xs
-all_made text xs i h = ap (flat_map text) (take_all i xs (none_past xs i (sym h)))
+-- what was written of the elements before such an index was written of all
+pub all_written : {X : Type 0} (text : X → List ℕ) (xs : List X) (i : ℕ) (a b : Option (List ℕ)) (f g : ℕ) → None ≡ slice_get xs i → Appends a b (flat_map text (take i xs)) × (g ≡ f)
+    → Appends a b (flat_map text xs) × (g ≡ f)
+all_written text xs i a b f g h w =
+    subst (λ (x : List ℕ). Appends a b x × (g ≡ f)) (ap (flat_map text) (take_all i xs (none_past xs i (sym h)))) w
 
 -- what is at an index is the element there
 pub some_at : {X : Type 0} (xs : List X) (i : ℕ) (x : X) → Some x ≡ slice_get xs i → (i < length xs) × (x ≡ get_or xs i x)

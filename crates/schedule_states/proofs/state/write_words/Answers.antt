@@ -1,4 +1,4 @@
-use Rattle.std.proofs.Common.{refl}
+use Rattle.std.proofs.Common.{refl, arith}
 use Rattle.std.proofs.KnownBytes.{Appends-nil}
 use Rattle.play_report.proofs.Turns.{turn_ok, turn_err}
 use Rattle.schedule_states.specs.Rows.{number_text}
@@ -9,7 +9,7 @@ pub loop-i-init : goal.loop-i-init
 loop-i-init g c = (Appends-nil _, refl)
 
 pub overflow_cast-i : goal.overflow_cast-i
-overflow_cast-i g c = index_fits c.args.state.now _ _ _ c.total_words-end.ensures c.shape.ensures.shape c.shape.ensures.sound c.loop-i-test.true
+overflow_cast-i g c = omega (arith, index_fits c.args.state.now _ _ _ c.total_words-end.ensures c.shape.ensures.shape c.shape.ensures.sound c.loop-i-test.true)
 
 pub returns-in-Err : goal.returns-in-Err
 returns-in-Err g c =
