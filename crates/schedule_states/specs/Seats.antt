@@ -1,5 +1,5 @@
 -- What is written of a seat's record.
-use Rattle.std.specs.Prelude.{ℕ, ◌+◌, List, [], ◌∷◌, ◌++◌, Bool, true, false, if◌then◌else◌, Option, Some, None, is_some, unwrap_or, codes}
+use Rattle.std.specs.Prelude.{ℕ, ◌+◌, List, [], ◌∷◌, ◌++◌, Bool, if◌then◌else◌, Option, Some, None, is_some, unwrap_or, codes}
 use Rattle.std.specs.List.{flat_map}
 use Rattle.mark_core.specs.Held.{Slot, Slots}
 use Rattle.mark_core.specs.Seats.{phase_number}

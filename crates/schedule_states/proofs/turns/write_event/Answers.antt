@@ -1,4 +1,4 @@
-use Rattle.std.proofs.Common.{◌≡◌, ℕ, List, [], ◌∷◌, ap}
+use Rattle.std.proofs.Common.{◌≡◌, ℕ, [], ◌∷◌, ap}
 use Rattle.play_report.proofs.Turns.{then_writes, stops_writes, same_writes, same_stops}
 use Rattle.schedule_states.proofs.Fronts.{front}
 use Rattle.schedule_states.proofs.turns.write_event.Goals as goal
