@@ -1,7 +1,7 @@
 #!/bin/sh
-# Compiles the header by itself under each compiler that is there, installs the library into a folder of its own, builds by what pkg-config says the first program
-# of docs/EMBEDDING_C.md and examples/c/edges.c, has a file in C and one in C++ open worlds beside each other, and runs the tests of rust/managed_heap. It says
-# what is wrong, and at the end whether all is right.
+# Compiles the header by itself under each compiler that is there, installs the library into a folder of its own, builds by what pkg-config says two programs of
+# docs/EMBEDDING_C.md and examples/c/edges.c, has a file in C and one in C++ open worlds beside each other, and runs the tests of rust/managed_heap. It says what is
+# wrong, and at the end whether all is right.
 #
 #     sh c/check.sh                the proved library
 #     LIBRARY=ARCHIVE sh c/check.sh
@@ -35,6 +35,9 @@ if command -v pkg-config >/dev/null; then flags=$(pkg-config --cflags --libs man
     printf 'printf("%%u\\n", (unsigned)value);\nreturn 0;\n}\n'
 } >"$work/first.c"
 cc -std=c99 -o "$work/first" "$work/first.c" $flags && [ "$("$work/first")" = 7 ] || fail "the first program of docs/EMBEDDING_C.md"
+sed -n '/^### Weak references/,/^## Tracers/s/^    //p' "$top/docs/EMBEDDING_C.md" >"$work/weak.c"
+cc -std=c99 -o "$work/weak" "$work/weak.c" $flags && [ "$("$work/weak")" = "object 0 is dead
+object 1 is alive" ] || fail "the program of docs/EMBEDDING_C.md with weak references"
 cc -std=c99 -o "$work/edges" -D_GNU_SOURCE -I "$top/examples/c" "$top/examples/c/edges.c" $flags && "$work/edges" || fail "the program at the edges"
 
 # Worlds that files of a program open without names have names apart.

@@ -33,6 +33,9 @@ PROGRAMS = {
     "queue": "2 2 3000 128 2",
     "counter": "4 4000 2",
     "places": "4 5000 320",
+    "weak_table": "20000",
+    "weak_map": "4 20000 512",
+    "cleaner": "4 20000 640",
     "rewriter": "7 20",
     "gcbench": "14",
 }
@@ -78,6 +81,11 @@ FAULTS = {
         "slot 0 of each mutator isn't marked",
         ["torture"],
         ("card_clean/src/roots.rt", "mark_slot", "if word != 0 {", "if word != 0 && k != 0 {"),
+    ),
+    "weak": Fault(
+        "an upgrade doesn't look at the allocation bit",
+        ["fuzz, shared", "weak_table", "weak_map", "cleaner"],
+        ("mark_core/src/steps/mutator.rt", "weak_reference", "if bits::has_bit(old, c.number() % BLOCK_CELLS) ||", "if old == old ||"),
     ),
     "sweep": Fault(
         "the sweep begins after one step of the drain",

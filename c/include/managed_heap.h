@@ -30,7 +30,7 @@ extern "C" {
 #endif
 
 /* The version of these calls. The first number rises if a program has to be changed or compiled again. */
-#define MH_VERSION "4.0"
+#define MH_VERSION "4.1"
 
 /* What a call came to. If it isn't MH_OK, objects and variables are as before, but for what a line here says. */
 typedef enum mh_status {
@@ -633,6 +633,29 @@ static inline mh_status mh_weak_of(mh_mutator *m, uint32_t v, mh_weak *out) { re
    will, and v is nil. An object that is reached is never found dead; one that isn't lives until a cycle frees it. MH_OUT_OF_RANGE where the world has no such
    place, section or number, MH_REFUSED where the weak reference is another world's: nothing is done. */
 static inline mh_status mh_upgrade(mh_mutator *m, const mh_weak *weak, uint32_t v) { return MH_BY(m, mhl_upgrade(m, weak, v)); }
+/* How many cycles have ended in the mutator's world. It takes no step. While the number is the same, what mh_upgrade found alive isn't dead. */
+static inline mh_status mh_cycles(mh_mutator *m, uint64_t *cycles) { return MH_BY(m, (*cycles = mh_noted(m->book->last), MH_OK)); }
+static inline mh_status mh_deaths_by(mh_mutator *m, const mh_weak *weaks, uint32_t count, uint32_t v, uint32_t *dead, uint32_t *many) {
+    mh_status s = mhl_forget(m, v);
+    uint32_t k, found = 0;
+    if (s != MH_OK) return s;
+    for (k = 0; k < count && s == MH_OK; k++) {
+        if (!weaks[k].world) continue;
+        s = mhl_upgrade(m, &weaks[k], v);
+        if (s != MH_DEAD) continue;
+        dead[found++] = k;
+        s = MH_OK;
+    }
+    (void)mhl_forget(m, v);
+    *many = found;
+    return s;
+}
+/* Which of so many weak references have dead objects: `dead`, which has room for all, gets their numbers, from 0 on and in order, and `many` is how many they
+   are. One that is all zero is none yet, and is passed over. v is nil afterwards. It takes 3 steps for each at most and 2 more, and has no safe point: a large
+   table is gone through in pieces, with a safe point between two. If one is refused, as by mh_upgrade, that is the answer, and those before it are told. */
+static inline mh_status mh_deaths(mh_mutator *m, const mh_weak *weaks, uint32_t count, uint32_t v, uint32_t *dead, uint32_t *many) {
+    return MH_BY(m, mh_deaths_by(m, weaks, count, v, dead, many));
+}
 
 /* A tracer: for one thread at a time. */
 

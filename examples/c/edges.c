@@ -117,6 +117,7 @@ static void calls_for_shared_worlds(uint32_t k) {
     MUST_BE(MH_NOT_SHARED, mh_number(&m, k, &out, &other));
     MUST_BE(MH_NOT_SHARED, mh_weak_of(&m, k, &weak));
     wrong("what was written of a weak reference", weak.place, 77);
+    MUST_BE(MH_REFUSED, mh_upgrade(&m, &weak, k));
     wrong("what was written", out, 77);
     wrong("what was written besides", other, 77);
     is_as_before();
@@ -131,6 +132,34 @@ static void sizes_of_worlds(void) {
         MUST_BE(MH_OUT_OF_RANGE, mh_open(&sizes, &other));
         wrong("whether the handle is empty", other.at == 0, 1);
     }
+}
+
+/* Variable 3 lets go of the weak reference's object, which dies by the next collection; and calls about deaths that are refused. */
+static void deaths(mh_mutator *n, mh_weak weak) {
+    mh_weak all[4] = {weak, {0, 0, 0, 0}, weak, {1, 0, 0, 0}};
+    uint32_t dead[4] = {77, 77, 77, 77}, many = 77, k;
+    uint64_t before = 77, after = 77;
+    MUST(mh_cycles(n, &before));
+    MUST(mh_deaths(n, all, 3, 4, dead, &many));
+    wrong("how many are dead", many, 0);
+    MUST(mh_forget(n, 3));
+    MUST(mh_collect(n));
+    MUST(mh_cycles(n, &after));
+    wrong("how many cycles have ended", after, before + 1);
+    MUST(mh_deaths(n, all, 3, 4, dead, &many));
+    wrong("how many are dead", many, 2);
+    wrong("the first that is dead", dead[0], 0);
+    wrong("the second", dead[1], 2);
+    wrong("a third", dead[2], 77);
+    MUST_BE(MH_REFUSED, mh_deaths(n, all + 1, 3, 4, dead, &many));
+    wrong("how many are dead before one that is refused", many, 1);
+    wrong("which one", dead[0], 1);
+    many = 77;
+    for (k = 0; k < sizeof refused / sizeof *refused; k++) MUST_BE(MH_OUT_OF_RANGE, mh_deaths(n, all, 3, 32 + refused[k], dead, &many));
+    MUST(mh_leave(n));
+    MUST_BE(MH_OUTSIDE, mh_deaths(n, all, 0, 4, dead, &many));
+    MUST(mh_enter(n));
+    wrong("what a call that is refused wrote", many, 77);
 }
 
 /* Weak references out of range, of another world, from outside, and of an object that is dead. */
@@ -154,14 +183,16 @@ static void weak_references(mh_mutator *n) {
     odd = weak;
     odd.section = 2;
     MUST_BE(MH_OUT_OF_RANGE, mh_upgrade(n, &odd, 3));
+    odd = weak;
+    odd.number = 0xffffffff;
+    MUST_BE(MH_OUT_OF_RANGE, mh_upgrade(n, &odd, 3));
     MUST(mh_leave(n));
     MUST_BE(MH_OUTSIDE, mh_weak_of(n, 3, &odd));
     MUST_BE(MH_OUTSIDE, mh_upgrade(n, &weak, 3));
     MUST(mh_enter(n));
     MUST(mh_collect(n));
     MUST(mh_upgrade(n, &weak, 3));
-    MUST(mh_forget(n, 3));
-    MUST(mh_collect(n));
+    deaths(n, weak);
     MUST_BE(MH_DEAD, mh_upgrade(n, &weak, 3));
     MUST_BE(MH_NIL, mh_weak_of(n, 3, &weak));
     MUST_BE(MH_DEAD, mh_upgrade(n, &weak, 3));

@@ -109,6 +109,7 @@ static void move(struct job *j, uint32_t which) {
 static void use_gone(struct job *j, uint32_t which) {
     uint32_t out = 77;
     uint32_t v = some_variable(j), w = some_variable(j), i = some_field(j);
+    uint64_t cycles = 77;
     mh_weak weak = {0, 0, 0, 0};
     mh_mutator *g = &j->gone;
     switch (which) {
@@ -142,9 +143,12 @@ static void use_gone(struct job *j, uint32_t which) {
     case 27: SAYS(MH_GIVEN_BACK, mh_refill_step(g, 1)); break;
     case 28: SAYS(MH_GIVEN_BACK, mh_weak_of(g, v, &weak)); break;
     case 29: SAYS(MH_GIVEN_BACK, mh_upgrade(g, &weak, v)); break;
+    case 30: SAYS(MH_GIVEN_BACK, mh_deaths(g, &weak, 1, v, &out, &out)); break;
+    case 31: SAYS(MH_GIVEN_BACK, mh_cycles(g, &cycles)); break;
     default: SAYS(MH_GIVEN_BACK, mh_forget(g, v));
     }
     wrong("what a call by a handle that was given back wrote", out, 77);
+    wrong("what it wrote besides", cycles, 77);
 }
 
 /* A turn of the thread's tracer, if it has one. */
@@ -202,11 +206,11 @@ static void *work(void *p) {
         else if (which < 25) move_reference(j);
         else if (which < 45) operate(j, 0);
         else if (which < 70) operate(j, which % 8 == 3 && which % 16 == 3 ? 0 : which % 8);
-        else if (which < 80) share(j, random_below(j, 9));
+        else if (which < 80) share(j, random_below(j, 11));
         else if (which < 82) move(j, which % 2 + (random_below(j, 256) ? 0 : 3));
         else if (which < 92) move(j, 2);
         else if (which < 96) move(j, j->place == INSIDE ? 2 : which % 4 + (which % 4 == 3));
-        else if (which < 99) use_gone(j, random_below(j, 31));
+        else if (which < 99) use_gone(j, random_below(j, 33));
         else if (!random_below(j, 20)) lend(j);
         else if (!random_below(j, 20)) lend_tracer(j);
         else if (!random_below(j, 20)) forget_all(j);
@@ -220,6 +224,7 @@ static void *work(void *p) {
     }
     come_in(j);
     compare(j);
+    compare_deaths(j);
     MUST(mh_leave(&j->m));
     return 0;
 }
@@ -228,7 +233,8 @@ int main(int count_of, char **words) {
     static struct job jobs[THREADS];
     pthread_t threads[THREADS];
     uint32_t calls = number(count_of, words, 1, 1000000), n = number(count_of, words, 2, 1), k, s;
-    uint64_t seed = number(count_of, words, 3, 1), beside = 0, made = 0, walked = 0, walks = 0, collections = 0, answers[STATUSES] = {0};
+    uint64_t seed = number(count_of, words, 3, 1), beside = 0, made = 0, walked = 0, walks = 0, collections = 0, upgrades = 0, deaths = 0;
+    uint64_t answers[STATUSES] = {0};
     uint32_t tracers = n < TRACERS ? n : TRACERS;
     mh_sizes sizes = {.fields = FIELDS, .mutators = n, .tracers = tracers};
     is_shared = number(count_of, words, 4, 0);
@@ -255,13 +261,15 @@ int main(int count_of, char **words) {
     for (k = 0; k < n; k++) {
         MUST(mh_give_back(&world, &jobs[k].m));
         made += jobs[k].calls; walked += jobs[k].walked; walks += jobs[k].walks; collections += jobs[k].collections;
+        upgrades += jobs[k].upgrades; deaths += jobs[k].deaths;
         for (s = 0; s < STATUSES; s++) answers[s] += jobs[k].answers[s];
     }
     MUST(mh_close(&world));
     MUST(mh_close(&elsewhere));
     enough_beside(beside, number(count_of, words, 5, 0));
-    printf("%-13s %-12s threads %u seed %llu%s: %llu calls, %llu objects compared in %llu walks, %llu collections; answers", "fuzz", COLLECTOR, n,
-           (unsigned long long)seed, is_shared ? " shared" : "", (unsigned long long)made, (unsigned long long)walked, (unsigned long long)walks, (unsigned long long)collections);
+    printf("%-13s %-12s threads %u seed %llu%s: %llu calls, %llu objects compared in %llu walks, %llu collections, %llu upgrades, %llu times dead; answers", "fuzz", COLLECTOR, n,
+           (unsigned long long)seed, is_shared ? " shared" : "", (unsigned long long)made, (unsigned long long)walked, (unsigned long long)walks, (unsigned long long)collections,
+           (unsigned long long)upgrades, (unsigned long long)deaths);
     for (s = 0; s < STATUSES; s++) if (answers[s]) printf(" %u:%llu", s, (unsigned long long)answers[s]);
     printf("\n");
     return 0;

@@ -46,10 +46,13 @@ static void abandon(struct job *j) {
 /* The last cycle has no smaller number than one that was told before, and no more cells than there are. */
 static void look_at_cycle(struct job *j) {
     mh_cycle cycle = {0, 77, 77, 0, 0, 0, 0, 0, 0, 0, 0, 0, 0, 0, 0, 0};
+    uint64_t cycles = 77;
     mh_status s = told(j, mh_last_cycle(&world, &cycle));
+    SAYS(MH_OK, mh_cycles(&j->m, &cycles));
     if (s == MH_NOT_YET) { wrong("a cycle that is written where none has ended", cycle.why, 77); wrong("how many were told", j->cycles, 0); return; }
     must(s, MH_OK, "mh_last_cycle", __FILE__, __LINE__);
     if (cycle.number < j->cycles) wrong("the number of the last cycle", cycle.number, j->cycles);
+    if (cycles < cycle.number) wrong("how many cycles have ended", cycles, cycle.number);
     if (cycle.why > MH_LACKED || cycle.beside > 1) wrong("why it ended", cycle.why, MH_LACKED);
     if (cycle.freed + cycle.kept > cells) wrong("the cells that it freed and kept", cycle.freed + cycle.kept, cells);
     if (cycle.swept > cycle.stopped) wrong("how long it was swept", cycle.swept, cycle.stopped);

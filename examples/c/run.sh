@@ -45,7 +45,7 @@ run() {
     timeout "$(bound "$seconds")" "$work/$program" "$@" || fail "$program $* $(ended $?)"
 }
 
-programs="binary_trees gcbench rewriter fuzz fills_up edges billion speed queue map counter torture places weak_table cleaner misuse abandon cycles hidden helped timeline"
+programs="binary_trees gcbench rewriter fuzz fills_up edges billion speed queue map counter torture places weak_table cleaner misuse abandon cycles hidden helped timeline weak_map"
 for name in $programs; do build "$name" "$name"; done
 for name in misuse fuzz speed abandon; do build "$name" "$name.guarded" -DMH_CHECKED; done
 
@@ -106,6 +106,9 @@ run 300 places 4 5000 320
 run 300 weak_table 200000
 run 300 cleaner 4 20000 640
 run 300 cleaner 1 20000 128
+run 300 weak_map 4 40000 512
+run 300 weak_map 1 20000 256 2
+run 300 weak_map 8 5000 1024 3
 if timeout "$(bound 300)" "$work/places" 1 1 320 1 >"$work/log"; then fail "a place is used after its object was forgotten, and nobody notices"; else tail -n 1 "$work/log"; fi
 
 echo "== many objects in few cells, and what a call takes"
@@ -151,7 +154,7 @@ fi
 for kind in $kinds; do
     if echo 'int main(void) { return 0; }' | cc -fsanitize=$kind -o "$work/there" -x c - 2>"$work/log" && "$work/there"; then
         echo "== under -fsanitize=$kind"
-        for name in binary_trees gcbench rewriter fuzz fills_up edges queue map counter torture places weak_table cleaner abandon cycles; do build "$name" "$name.checked" -g -fsanitize=$kind -fno-sanitize-recover=all; done
+        for name in binary_trees gcbench rewriter fuzz fills_up edges queue map counter torture places weak_table cleaner weak_map abandon cycles; do build "$name" "$name.checked" -g -fsanitize=$kind -fno-sanitize-recover=all; done
         run 600 binary_trees.checked 10 2 1 16384
         run 600 gcbench.checked 10
         run 600 rewriter.checked 5 5
@@ -168,6 +171,7 @@ for kind in $kinds; do
         run 600 places.checked 4 1500 320
         run 600 weak_table.checked 5000
         run 600 cleaner.checked 4 3000 640
+        run 600 weak_map.checked 4 3000 512
         for rule in 2 3; do
             if timeout "$(bound 300)" "$work/places.checked" 1 1 320 $rule >"$work/log" 2>&1; then fail "what is freed is used, and -fsanitize=$kind doesn't notice"; fi
         done

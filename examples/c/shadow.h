@@ -8,7 +8,8 @@
 #include "heap.h"
 #include <string.h>
 
-enum { FIELDS = 3, OBJECTS = 6000, ROOT = OBJECTS, VARIABLES = 32, FOUND = 31, NEXT = 30, MOVED = 29, SLOTS = 40, STATUSES = 23, TRACERS = 8 };
+enum { FIELDS = 3, OBJECTS = 6000, ROOT = OBJECTS, VARIABLES = 32, FOUND = 31, NEXT = 30, MOVED = 29, SLOTS = 40, STATUSES = 23, TRACERS = 8,
+       KEPT = 16 };
 enum place { OUTSIDE, INSIDE, COLLECTING };
 
 /* A place that isn't known yet. */
@@ -21,13 +22,17 @@ struct shadow {
     int32_t field[FIELDS], from, by;
 };
 
+/* Besides: weak references that are kept, all zero at first, the shadow of each one's object, and whether that was found dead. */
 struct job {
     mh_mutator m, gone;
     mh_tracer t, none;
     struct shadow of[OBJECTS + 1];
     int32_t variable[VARIABLES], slot[SLOTS], waiting[OBJECTS + 1];
     uint64_t seed, calls, answers[STATUSES], walked, walks, collections, cycles;
-    uint32_t round, maker, made, looked, at;
+    mh_weak weak[KEPT];
+    int32_t weakened[KEPT];
+    unsigned char dead[KEPT];
+    uint32_t round, maker, made, looked, at, upgrades, deaths;
     enum place place;
 };
 
@@ -184,6 +189,9 @@ static mh_status expected(struct job *j, int in_range) {
     if (!in_range) return MH_OUT_OF_RANGE;
     return j->place == OUTSIDE ? MH_OUTSIDE : j->place == COLLECTING ? MH_COLLECTING : MH_OK;
 }
+
+/* The same of a call for shared worlds. */
+static mh_status if_shared(struct job *j, int in_range) { return is_shared ? expected(j, in_range) : MH_NOT_SHARED; }
 
 /* The same of an operation that wants an object, if the variable's is this one. */
 static mh_status unless_nil(mh_status s, int32_t o) { return s == MH_OK && o < 0 ? MH_NIL : s; }

@@ -2,10 +2,7 @@
 #ifndef SHARED_CALLS_H
 #define SHARED_CALLS_H
 
-#include "shadow.h"
-
-/* What a call for shared worlds is to answer whose numbers are in range or not. */
-static mh_status if_shared(struct job *j, int in_range) { return is_shared ? expected(j, in_range) : MH_NOT_SHARED; }
+#include "weak_calls.h"
 
 /* An exchange of a field, which is won every other time or so. */
 static void exchange_field(struct job *j, uint32_t v, uint32_t i, uint32_t w) {
@@ -59,28 +56,6 @@ static void ask_which(struct job *j, uint32_t v, int for_place) {
     wrong("the place of an object", first, j->of[o].lies_at);
 }
 
-/* A weak reference to the object of v is taken and had again in w, as it is and with numbers that are none of the world's or of another object. */
-static void weaken(struct job *j, uint32_t v, uint32_t w) {
-    mh_weak weak = {77, 77, 77, 77};
-    uint32_t odd = random_below(j, 8);
-    int32_t o = v < VARIABLES ? j->variable[v] : -1;
-    mh_status wanted = unless_nil(if_shared(j, v < VARIABLES), o);
-    SAYS(wanted, mh_weak_of(&j->m, v, &weak));
-    if (wanted != MH_OK) {
-        wrong("what mh_weak_of wrote", weak.world == 77 && weak.place == 77 && weak.section == 77 && weak.number == 77, 1);
-        SAYS(MH_REFUSED, mh_upgrade(&j->m, &weak, w));
-        return;
-    }
-    if (odd == 0) weak.world ^= 1;
-    if (odd == 1) weak.place += cells;
-    if (odd == 2) weak.section += THREADS + 1;
-    if (odd == 3) weak.number++;
-    wanted = odd == 0 ? MH_REFUSED : w >= VARIABLES || odd == 1 || odd == 2 ? MH_OUT_OF_RANGE : odd == 3 ? MH_DEAD : MH_OK;
-    SAYS(wanted, mh_upgrade(&j->m, &weak, w));
-    if (wanted == MH_OK) j->variable[w] = o;
-    if (wanted == MH_DEAD) j->variable[w] = -1;
-}
-
 static void share(struct job *j, uint32_t which) {
     uint32_t v = some_variable(j), w = some_variable(j), i = some_field(j), k = some_number(j, SLOTS);
     mh_status wanted;
@@ -105,6 +80,8 @@ static void share(struct job *j, uint32_t which) {
         return;
     case 5: forget_slots(j); return;
     case 6: weaken(j, v, w); return;
+    case 7: upgrade_some(j); return;
+    case 8: look_for_deaths(j, v); return;
     default: ask_which(j, v, which % 2);
     }
 }

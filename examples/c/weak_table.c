@@ -1,20 +1,25 @@
 /*
  * A symbol table that lets go. A symbol is an object; the table beside the heap has its text and a weak reference to it, so that a symbol lives as long as the
- * program keeps it, and its entry as long as the symbol. Looking a text up has the same object again, or makes a new one if the old one is dead. After a cycle
- * the table is gone through in pieces: an entry whose symbol is dead is removed, and its text freed.
+ * program keeps it, and its entry as long as the symbol. Looking a text up has the same object again, or makes a new one if the old one is dead. Once a cycle has
+ * ended the table is gone through in pieces: an entry whose symbol is dead is removed, and its text freed.
  *
  * It interns as many symbols as the first argument says, keeps each second one in a list, and collects: exactly those are in the table afterwards, and the same
- * objects. Then it lets all go, and the table is empty. Arguments: symbols, entries that a piece goes through.
+ * objects. Then it lets all go, and the table is empty. Arguments: symbols, entries that a piece has.
  */
 #include "team.h"
 #include <string.h>
 
 enum { KEPT, SYMBOL, OTHER, PAIR, NEXT = 0, CAR = 1, FIELDS = 2, LONG = 24 };
 
-struct entry { char *text; mh_weak weak; };
+/* The end of a chain. */
+#define NONE 0xffffffffu
 
-static struct entry *entries;
-static uint32_t room, used, many, piece;
+/* An entry keeps its number: its text, its weak reference, which is all zero if it is free, and the entry behind it in its chain, or in that of the free ones. */
+static char **texts;
+static mh_weak *weaks;
+static uint32_t *next, *first, *dead;
+static uint32_t unused, used, many, piece;
+static uint64_t seen;
 
 static uint32_t hash(const char *text) {
     uint32_t h = 2166136261u;
@@ -22,66 +27,78 @@ static uint32_t hash(const char *text) {
     return h;
 }
 
-/* The entry of this text, or the empty one where it belongs. */
-static struct entry *entry_of(const char *text) {
-    uint32_t k = hash(text) % room;
-    while (entries[k].text && strcmp(entries[k].text, text)) k = (k + 1) % room;
-    return &entries[k];
+static uint32_t *chain_of(const char *text) { return &first[hash(text) % many]; }
+
+/* Where the number of this text's entry stands; NONE stands there if it has none. */
+static uint32_t *find(const char *text) {
+    uint32_t *at = chain_of(text);
+    while (*at != NONE && strcmp(texts[*at], text)) at = &next[*at];
+    return at;
 }
 
-static void add(struct entry *e, const char *text) {
-    e->text = malloc(LONG);
-    if (!e->text) exit(2);
-    snprintf(e->text, LONG, "%s", text);
+/* All entries are free. */
+static void open_table(void) {
+    uint32_t k;
+    for (k = 0; k < many; k++) {
+        first[k] = NONE;
+        next[k] = k + 1 < many ? k + 1 : NONE;
+    }
+}
+
+/* A new entry, which begins its chain. */
+static uint32_t add(const char *text) {
+    uint32_t k = unused, *chain = chain_of(text);
+    if (k == NONE || !(texts[k] = malloc(LONG))) exit(2);
+    snprintf(texts[k], LONG, "%s", text);
+    unused = next[k];
+    next[k] = *chain;
+    *chain = k;
     used++;
+    return k;
+}
+
+static void drop(uint32_t k) {
+    static const mh_weak none = {0, 0, 0, 0};
+    uint32_t *at = find(texts[k]);
+    *at = next[k];
+    free(texts[k]);
+    weaks[k] = none;
+    next[k] = unused;
+    unused = k;
+    used--;
 }
 
 /* Variable v becomes the symbol of this text: 1 if the table had it. */
 static int intern(mh_mutator *m, const char *text, uint32_t v) {
-    struct entry *e = entry_of(text);
-    mh_status s = e->text ? mh_upgrade(m, &e->weak, v) : MH_DEAD;
+    uint32_t k = *find(text);
+    mh_status s = k == NONE ? MH_DEAD : mh_upgrade(m, &weaks[k], v);
     if (s == MH_OK) return 1;
     must(s, MH_DEAD, "mh_upgrade", __FILE__, __LINE__);
-    if (!e->text) add(e, text);
     make(m, v, hash(text));
-    MUST(mh_weak_of(m, v, &e->weak));
+    if (k == NONE) k = add(text);
+    MUST(mh_weak_of(m, v, &weaks[k]));
     return 0;
 }
 
-/* An entry is removed, and those behind it that it kept from their places are moved. */
-static void removed(uint32_t k) {
-    uint32_t gap = k, j;
-    free(entries[k].text);
-    entries[k].text = 0;
-    used--;
-    for (j = (k + 1) % room; entries[j].text; j = (j + 1) % room) {
-        uint32_t home = hash(entries[j].text) % room;
-        if ((j + room - home) % room < (j + room - gap) % room) continue;
-        entries[gap] = entries[j];
-        entries[j].text = 0;
-        gap = j;
-    }
+/* Drops the entries of this piece whose symbols are dead. */
+static void sweep_piece(mh_mutator *m, uint32_t from) {
+    uint32_t length = many - from < piece ? many - from : piece, deaths, k;
+    MUST(mh_deaths(m, weaks + from, length, OTHER, dead, &deaths));
+    for (k = 0; k < deaths; k++) drop(from + dead[k]);
 }
 
-/* The entries from `from` on are gone through, as many as a piece has. An entry that is moved into a place that was removed is looked at again. */
-static uint32_t sweep_piece(mh_mutator *m, uint32_t from) {
-    uint32_t k = from, end = from + piece < room ? from + piece : room;
-    while (k < end) {
-        mh_status s = entries[k].text ? mh_upgrade(m, &entries[k].weak, OTHER) : MH_OK;
-        if (s == MH_DEAD) { removed(k); continue; }
-        must(s, MH_OK, "mh_upgrade", __FILE__, __LINE__);
-        k++;
-    }
-    MUST(mh_forget(m, OTHER));
-    return end;
-}
-
-static void sweep(mh_mutator *m) {
-    uint32_t k = 0;
-    while (k < room) {
-        k = sweep_piece(m, k);
+/* Goes through the table, if a cycle has ended since it did: whether one had. */
+static int sweep(mh_mutator *m) {
+    uint64_t cycles = 0;
+    uint32_t from;
+    MUST(mh_cycles(m, &cycles));
+    if (cycles == seen) return 0;
+    seen = cycles;
+    for (from = 0; from < many; from += piece) {
+        sweep_piece(m, from);
         MUST(mh_safe_point(m));
     }
+    return 1;
 }
 
 static const char *text_of(uint32_t k) {
@@ -128,7 +145,8 @@ static void work(mh_mutator *m, uint32_t number) {
     fill(m);
     wrong("entries before the collection", used, many);
     MUST(mh_collect(m));
-    sweep(m);
+    wrong("whether there was something to do", (uint64_t)sweep(m), 1);
+    wrong("whether there is still", (uint64_t)sweep(m), 0);
     wrong("entries of symbols that are kept", used, many / 2);
     look(m);
     MUST(mh_forget_all(m));
@@ -146,11 +164,19 @@ int main(int count_of, char **words) {
     many = number(count_of, words, 1, 20000);
     piece = number(count_of, words, 2, 4096);
     if (many < 1 || piece < 1) return 2;
-    room = 2 * many;
-    entries = calloc(room, sizeof *entries);
-    if (!entries) return 2;
+    texts = calloc(many, sizeof *texts);
+    weaks = calloc(many, sizeof *weaks);
+    next = calloc(many, sizeof *next);
+    first = calloc(many, sizeof *first);
+    dead = calloc(piece, sizeof *dead);
+    if (!texts || !weaks || !next || !first || !dead) return 2;
+    open_table();
     act_together((2 * many + 1087) / 64 * 64, FIELDS, 0, 1, 1, nothing, work, nothing);
-    free(entries);
+    free(texts);
+    free(weaks);
+    free(next);
+    free(first);
+    free(dead);
     printf("%-13s %-12s %u symbols: the table let go of each that nobody kept, and of no other\n", "weak_table", COLLECTOR, many);
     return 0;
 }

@@ -66,7 +66,7 @@ static uint32_t first_of(const struct node *argument) {
 
 /* The next frame of a call in the heap, after that in k; the value between is in v. */
 static void make_next(uint32_t pc, uint32_t previous, uint32_t v) {
-    make(new_k, WORD(FRAME, pc), FIELDS);
+    make(new_k, WORD(RIB, pc), FIELDS);
     set(new_k, 2, v);
     get(S0, k, 0);
     set(new_k, 0, S0);
@@ -116,7 +116,7 @@ static void frame_to_heap(uint32_t i) {
         fill(S1, value_slot(i - 1));
         make_next(nodes[i], nodes[i - 1], S1);
     } else {
-        make(new_k, WORD(FRAME, nodes[i]), 2);
+        make(new_k, WORD(RIB, nodes[i]), 2);
         set(new_k, 0, k);
     }
     fill(S0, environment_slot(i));

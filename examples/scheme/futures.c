@@ -157,7 +157,7 @@ static uint32_t begin(void) {
         future_now = DATA(w);
         get(k, T0, 0);
         get(T0, T0, 1);
-        at_line_of(word(k), FRAME);
+        at_line_of(word(k), RIB);
         return touch();
     }
     future_now = DATA(w) >> 2;
@@ -224,7 +224,7 @@ static void run_top(uint32_t pc) {
     get(k, S0, ROOT_TOP);
     put(k, OF_NUMBER(0, OPEN));
     set(k, VALUE, NIL);
-    forget(env);
+    machine_reset();
     future_now = 0;
     next_pc = pc;
     work(1);

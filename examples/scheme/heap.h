@@ -28,6 +28,17 @@ void heap_refused(int status);
 /* What the program does if no cell is free. It doesn't return. */
 void heap_is_full(void);
 
+/* v refers to a new object with this word, which refers to w's object and doesn't keep it; its field 1 is nil. w becomes what v's object refers to so: whether
+   that is alive, and else w is nil. While as many cycles have ended nothing more has died. */
+void make_weak(uint32_t v, uint32_t word, uint32_t w);
+int upgrade(uint32_t w, uint32_t v);
+uint64_t heap_cycles(void);
+
+/* v refers to a new object with so many bytes of memory, all 0, which is freed once the object is dead. Then the spare variable is nil. */
+void make_text(uint32_t v, uint32_t word, uint32_t length, uint32_t spare);
+/* How much memory objects have so, once that of the dead ones is freed; Boehm's collector doesn't tell. */
+uint64_t heap_texts(uint32_t spare);
+
 /* The bytes beside an object, at this address while a variable refers to it. Threads may read and write them at once, so each access is an atomic one. */
 static inline uint64_t bits_at(const unsigned char *at) { return __atomic_load_n((const uint64_t *)(const void *)at, __ATOMIC_RELAXED); }
 static inline void lay_bits(unsigned char *at, uint64_t bits) { __atomic_store_n((uint64_t *)(void *)at, bits, __ATOMIC_RELAXED); }

@@ -2,6 +2,7 @@
 #include "heap.h"
 
 #include <stdlib.h>
+#include <string.h>
 
 /* What a cell with four fields takes in the managed heap, with all that lies beside it, in bytes. */
 enum { CELL = 49 + BESIDE };
@@ -41,5 +42,32 @@ void heap_join(void) {
 void heap_part(void) { GC_FREE(heap_at); }
 
 void heap_collect(void) { GC_gcollect(); }
+
+/* Field 0 has the address in a form that the collector doesn't see; it becomes 0 as the object dies. */
+void make_weak(uint32_t v, uint32_t word, uint32_t w) {
+    make(v, word, FIELDS);
+    heap_at[v]->field[0] = (struct object *)GC_HIDE_POINTER(heap_at[w]);
+    if (GC_general_register_disappearing_link((void **)&heap_at[v]->field[0], heap_at[w]) == GC_NO_MEMORY) heap_is_full();
+}
+
+static void *seen(void *link) { return *(void **)link ? GC_REVEAL_POINTER(*(void **)link) : 0; }
+int upgrade(uint32_t w, uint32_t v) {
+    heap_at[w] = GC_call_with_alloc_lock(seen, &heap_at[v]->field[0]);
+    return heap_at[w] != 0;
+}
+uint64_t heap_cycles(void) { return GC_get_gc_no(); }
+
+void make_text(uint32_t v, uint32_t word, uint32_t length, uint32_t spare) {
+    void *bytes;
+    make(v, word, 1);
+    bytes = GC_MALLOC_ATOMIC(length);
+    if (!bytes) heap_is_full();
+    else heap_at[v]->field[0] = memset(bytes, 0, length);
+    forget(spare);
+}
+uint64_t heap_texts(uint32_t spare) {
+    forget(spare);
+    return 0;
+}
 
 uint64_t heap_free(void) { return GC_get_free_bytes(); }

@@ -46,6 +46,10 @@ static inline void make_beside(uint32_t v, uint32_t word) {
 }
 static inline unsigned char *beside(uint32_t v) { return (unsigned char *)heap_at[v]->field; }
 
+/* The memory of an object that make_text made. */
+static inline unsigned char *text_at(uint32_t v) { return (unsigned char *)heap_at[v]->field[0]; }
+static inline void text_used(unsigned char *at) { (void)at; }
+
 /* The collector stops threads wherever they are. */
 static inline void pass(void) {}
 static inline void heap_leave(void) {}

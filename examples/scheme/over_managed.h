@@ -61,6 +61,24 @@ static inline unsigned char *beside(uint32_t v) {
     return heap_beside + (size_t)place * BESIDE;
 }
 
+/* A thread sanitizer doesn't see into the library. It is told that who finds memory does so after all that was done by who has used it. */
+#ifdef __SANITIZE_THREAD__
+void __tsan_acquire(void *at);
+void __tsan_release(void *at);
+static inline void text_found(unsigned char *at) { __tsan_acquire(at); }
+static inline void text_used(unsigned char *at) { __tsan_release(at); }
+#else
+static inline void text_found(unsigned char *at) { (void)at; }
+static inline void text_used(unsigned char *at) { (void)at; }
+#endif
+
+/* The memory of an object that make_text made, at this address while a variable refers to it. */
+static inline unsigned char *text_at(uint32_t v) {
+    unsigned char *at = (unsigned char *)(uintptr_t)bits_at(beside(v));
+    text_found(at);
+    return at;
+}
+
 /* A safe point, for what runs long and makes nothing. A thread that waits leaves before and enters again. */
 static inline void pass(void) { heap_must(mh_safe_point(&heap_mutator)); }
 static inline void heap_leave(void) { heap_must(mh_leave(&heap_mutator)); }

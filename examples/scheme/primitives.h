@@ -28,6 +28,7 @@ DEFINED(p_is_string); DEFINED(p_make_string); DEFINED(p_string_length); DEFINED(
 DEFINED(p_string_equals); DEFINED(p_string_less); DEFINED(p_substring); DEFINED(p_string_append); DEFINED(p_string_to_list); DEFINED(p_list_to_string);
 DEFINED(p_is_vector); DEFINED(p_make_vector); DEFINED(p_vector_length); DEFINED(p_vector_ref); DEFINED(p_vector_set);
 DEFINED(p_vector_to_list); DEFINED(p_list_to_vector);
+DEFINED(p_string_memory); DEFINED(p_weak_cons); DEFINED(p_is_weak_pair); DEFINED(p_weak_car); DEFINED(p_weak_cdr); DEFINED(p_has_weak_car); DEFINED(p_cycles);
 DEFINED(p_is_procedure); DEFINED(p_display); DEFINED(p_write); DEFINED(p_newline); DEFINED(p_error); DEFINED(p_gc); DEFINED(p_future); DEFINED(p_is_future);
 
 #endif

@@ -33,6 +33,7 @@ static void print_leaf(value v, int is_written) {
     case STRING: print_string(v.reg, DATA(w), is_written); break;
     case PRIMITIVE: out("#<procedure %s>", primitives[DATA(w)].name); break;
     case FUTURE: out("#<future>"); break;
+    case WEAK: out("#<weak-pair>"); break;
     default: out("#<procedure>"); break;
     }
 }

@@ -69,9 +69,9 @@ echo "== over managed_heap"
 build cc scheme
 for threads in 1 4; do
     fills scheme $threads
-    compare scheme $threads language futures $programs $with_futures
+    compare scheme $threads language futures weak strings $programs $with_futures
 done
-for threads in 2 3 8 32; do compare scheme $threads futures pwords; done
+for threads in 2 3 8 32; do compare scheme $threads futures weak pwords; done
 
 if cc -o "$work/gc_there" -x c - -lgc 2>"$work/log" <<'END2'
 #include <gc.h>
@@ -81,7 +81,7 @@ then
     echo "== over Boehm's collector"
     both="scheme scheme.boehm"
     over_boehm scheme.boehm
-    for threads in 1 4; do compare scheme.boehm $threads language futures $programs $with_futures; done
+    for threads in 1 4; do compare scheme.boehm $threads language futures weak $programs $with_futures; done
 else
     both=scheme
     echo "== no libgc here: the same over Boehm's collector is left out (Debian: libgc-dev)"
@@ -101,7 +101,7 @@ if has_sanitizer -fsanitize=address,undefined; then
         fills scheme.checked $threads
         compare scheme.checked $threads language nqueens spectral
         all=$cells cells=24576
-        compare scheme.checked $threads futures pwords
+        compare scheme.checked $threads futures weak strings pwords
         cells=$all
     done
 else
@@ -113,7 +113,7 @@ if has_sanitizer -fsanitize=thread; then
     build cc scheme.raced -g -fsanitize=thread
     fills scheme.raced 4
     all=$cells cells=24576
-    compare scheme.raced 4 futures $with_futures
+    compare scheme.raced 4 futures weak strings $with_futures
     cells=$all
 else
     echo "== no -fsanitize=thread here"

@@ -11,8 +11,8 @@
 
 /* What an object is: the lower four bits of its word. The upper 28 are its data: a number, a symbol's or a primitive's index, a length, a node, the line from
    which a pair was read, a future's number and state. Up to EMPTY the word says all, and nil is the empty list. A WIDE integer and a FLONUM lie beside their
-   objects. */
-enum kind { INTEGER, CONSTANT, CHARACTER, SYMBOL, PRIMITIVE, EMPTY, PAIR, CLOSURE, FRAME, CONTINUATION, STRING, VECTOR, WIDE, FLONUM, RIB, FUTURE };
+   objects. A RIB is what no program has as a value: a rib, a frame, a part of a tree, what is left to do. */
+enum kind { INTEGER, CONSTANT, CHARACTER, SYMBOL, PRIMITIVE, EMPTY, PAIR, CLOSURE, WEAK, CONTINUATION, STRING, VECTOR, WIDE, FLONUM, RIB, FUTURE };
 
 /* Constants: #f, #t, and what an expression for its effect comes to. */
 enum { NO, YES, NOTHING };

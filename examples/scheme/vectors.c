@@ -1,5 +1,5 @@
 /* Vectors and strings. A vector is a tree: a head with the length and up to four parts, each a tree of a fourth, with its elements as leaves. The bytes of a
-   string lie beside its object where they are few; a longer one is a tree, whose leaves have them. */
+   string lie beside its object where they are few; a longer one has memory of its own, which is freed after its death. */
 #include "primitives.h"
 
 #include <string.h>
@@ -99,48 +99,48 @@ value p_list_to_vector(value *a, uint32_t n, uint32_t t) {
     return here(t);
 }
 
-/* How many leaves a string of so many bytes has. */
-static uint32_t leaves_of(uint32_t length) { return (length + BESIDE - 1) / BESIDE; }
-
-/* Where byte i of a string lies. Uses S2. */
-static unsigned char *byte_place(uint32_t string, uint32_t i) {
-    uint32_t length = DATA(word(string));
-    if (length <= BESIDE) return beside(string) + i;
-    tree_get(S2, string, leaves_of(length), i / BESIDE);
-    return beside(S2) + i % BESIDE;
+/* Where the bytes of a string lie; and what is said once one was read or stored there. */
+static unsigned char *bytes_of(uint32_t string) { return DATA(word(string)) <= BESIDE ? beside(string) : text_at(string); }
+static void used(uint32_t string, unsigned char *bytes) {
+    if (DATA(word(string)) > BESIDE) text_used(bytes);
 }
 
-int string_byte(uint32_t string, uint32_t i) { return (int)byte_at(byte_place(string, i)); }
+int string_byte(uint32_t string, uint32_t i) {
+    unsigned char *bytes = bytes_of(string);
+    int byte = (int)byte_at(bytes + i);
+    used(string, bytes);
+    return byte;
+}
 
 /* The bytes of a string that is made: byte_at says which they are. */
 struct bytes { uint32_t length; uint32_t (*byte_at)(const void *from, uint32_t i); const void *from; };
 
-/* t becomes an object with the bytes from i on beside it, as many as there is room for. */
-static void leaf(uint32_t t, uint32_t word_, const struct bytes *of, uint32_t i) {
+/* t becomes a string of so few bytes that they lie beside it. */
+static void short_string(uint32_t t, const struct bytes *of) {
     unsigned char some[BESIDE], *at;
-    uint32_t k, count = of->length - i < BESIDE ? of->length - i : BESIDE;
-    for (k = 0; k < count; k++) some[k] = (unsigned char)of->byte_at(of->from, i + k);
-    make_beside(t, word_);
+    uint32_t k;
+    for (k = 0; k < of->length; k++) some[k] = (unsigned char)of->byte_at(of->from, k);
+    make_beside(t, WORD(STRING, of->length));
     at = beside(t);
-    for (k = 0; k < count; k++) lay_byte(at + k, some[k]);
+    for (k = 0; k < of->length; k++) lay_byte(at + k, some[k]);
 }
 
-/* t becomes a string. Uses S1, S2, S3. */
+/* t becomes a string. Uses S2. */
 static void string_by(uint32_t t, uint32_t length, uint32_t (*byte_at_)(const void *from, uint32_t i), const void *from) {
     struct bytes of = {0, 0, 0};
+    unsigned char *at;
     uint32_t i;
     of.length = length;
     of.byte_at = byte_at_;
     of.from = from;
     if (length <= BESIDE) {
-        leaf(t, WORD(STRING, length), &of, 0);
+        short_string(t, &of);
         return;
     }
-    make(t, WORD(STRING, length), FIELDS);
-    for (i = 0; i < length; i += BESIDE) {
-        leaf(S3, WORD(RIB, 0), &of, i);
-        tree_set(t, leaves_of(length), i / BESIDE, S3);
-    }
+    make_text(t, WORD(STRING, length), length, S2);
+    at = text_at(t);
+    for (i = 0; i < length; i++) lay_byte(at + i, of.byte_at(from, i));
+    text_used(at);
 }
 
 static uint32_t byte_of_text(const void *from, uint32_t i) { return ((const unsigned char *)from)[i]; }
@@ -166,8 +166,10 @@ value p_string_ref(value *a, uint32_t n, uint32_t t) {
 }
 value p_string_set(value *a, uint32_t n, uint32_t t) {
     uint32_t i = index_of(a[1], length_of(a[0], STRING)), byte = character_of(a[2]);
+    unsigned char *bytes = bytes_of(a[0].reg);
     UNUSED(n, t);
-    lay_byte(byte_place(a[0].reg, i), byte);
+    lay_byte(bytes + i, byte);
+    used(a[0].reg, bytes);
     return nothing_();
 }
 

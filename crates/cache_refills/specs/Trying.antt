@@ -8,7 +8,7 @@ use Rattle.gc_table.specs.Seats.{Took}
 use Rattle.gc_table.specs.declared.view.View.{View}
 use Rattle.alloc_cache.specs.declared.cache.Cache.{Cache}
 use Rattle.stop_world.specs.Gates.{Enters, TurnsBack}
-use Rattle.gc_cycle.specs.Answering.{EndsFull, GoesOn, HasCache}
+use Rattle.gc_cycle.specs.Answering.{EndsFull, GoesOn, HasCache, LooksOnce}
 use Rattle.gc_cycle.specs.Events.{never}
 use Rattle.gc_cycle.specs.Mutating.{keeps_section}
 use Rattle.gc_cycle.specs.Polling.{poll_found_stop, saw_full}
@@ -22,7 +22,7 @@ use Rattle.cache_refills.specs.declared.trying.Pass.TheVariants as passes
 -- one look at the world found no stop under way, and one at the phase followed: the mutator goes on, with the cache that it had
 pub record GoesPast (handed kept : Option Cache) (v w : View) : Type 0 where
   pub clear : IsFalse (poll_found_stop (events v w))
-  pub looks : (found : ℕ) × (phase : ℕ) × (events v w ≡ event Observe found ∷ event ReadPhase phase ∷ [])
+  pub looks : LooksOnce (events v w)
   pub goes_on : GoesOn v w
   pub cached : HasCache kept w
   pub same : kept ≡ handed

@@ -2,6 +2,7 @@
 pub mod Opened
 pub mod OutAndIn
 pub mod Outside
+pub mod Popping
 pub mod FlagRaised
 pub mod Waits
 pub mod Admitted

@@ -4,14 +4,14 @@ use Rattle.mark_core.specs.Seats.{phase_of}
 use Rattle.mark_core.specs.declared.kinds.Phase.{Phase}
 use Rattle.mark_core.specs.declared.kinds.Phase.TheVariants as phases
 use Rattle.mark_core.specs.declared.kinds.Step.{Step}
-use Rattle.mark_core.specs.declared.kinds.Step.TheVariants.{AddStat, PublishCells, ReadPhase, ReleaseBlock, StorePosition}
+use Rattle.mark_core.specs.declared.kinds.Step.TheVariants.{AddStat, Observe, PublishCells, ReadPhase, ReleaseBlock, StorePosition}
 use Rattle.gc_table.specs.declared.view.Entry.{Entry}
 use Rattle.gc_table.specs.declared.view.View.{View}
 use Rattle.packet_pools.specs.Seeking.{some_event}
 use Rattle.alloc_cache.specs.Caching.{IsCached}
 use Rattle.alloc_cache.specs.Retiring.{retiring_steps}
 use Rattle.alloc_cache.specs.declared.cache.Cache.{Cache}
-use Rattle.gc_table.specs.Log.{events}
+use Rattle.gc_table.specs.Log.{event, events}
 use Rattle.gc_table.specs.Rule.{KnowsFull}
 use Rattle.gc_table.specs.Running.{Ran}
 use Rattle.gc_table.specs.Seats.{Took}
@@ -20,11 +20,12 @@ use Rattle.gc_cycle.specs.declared.counts.Safe.TheVariants as safes
 use Rattle.gc_cycle.specs.Collecting.{EndsExactly}
 use Rattle.gc_cycle.specs.Cycles.{collects}
 use Rattle.gc_cycle.specs.Events.{each_before}
-use Rattle.gc_cycle.specs.Mutating.{GoesOut}
+use Rattle.gc_cycle.specs.Mutating.{GoesOut, pops_in_stops}
 use Rattle.gc_cycle.specs.Polling.{offered_help, poll_found_stop, saw_full}
 use Rattle.gc_cycle.specs.Sorts.{leaves, polls}
 use Rattle.mark_core.specs.Numbers.{done_count}
 use Rattle.gc_cycle.specs.Standing.{Mutates}
+use Rattle.gc_cycle.specs.Turns.{HelpsInTurns}
 
 -- each time that the seat left, its first poll found no stop, or it offered its help
 abbrev pub waits_helping : List Entry → Bool
@@ -106,7 +107,12 @@ abbrev pub AnswersTo : Safe → Option Cache → ℕ → View → View → Type 
 AnswersTo (safes.Going kept) handed done v w = KeepsOn handed kept v w
 AnswersTo safes.Full handed done v w = EndsFull done v w × KnowsFull w
 
--- the mutator polled; if that found a stop, it gave up its cache, stored its position, left, offered its help and entered again, and else it has what it had
+-- one look at the world, and one at the phase
+abbrev pub LooksOnce : List Entry → Type 0
+LooksOnce es = (found : ℕ) × (phase : ℕ) × (es ≡ event Observe found ∷ event ReadPhase phase ∷ [])
+
+-- the mutator polled; if that found a stop, it gave up its cache, stored its position, left, offered its help and entered again, and else it has what it had; it
+-- popped cells only in stops, by turns of help
 pub record GivesWay (handed kept : Option Cache) (done : ℕ) (v w : View) : Type 0 where
   pub out : GoesOut v w
   pub cached : HasCache kept w
@@ -114,13 +120,18 @@ pub record GivesWay (handed kept : Option Cache) (done : ℕ) (v w : View) : Typ
   pub same : kept ≡ (if poll_found_stop (events v w) then None else handed)
   pub position : IsTrue (poll_found_stop (events v w)) → (w.own.position ≡ done) × IsTrue (some_event leaves (events v w))
   pub waits : IsTrue (waits_helping (events v w))
+  pub looks : IsFalse (poll_found_stop (events v w)) → (found : ℕ) × (events v w ≡ event Observe found ∷ [])
+  pub pops : IsTrue (pops_in_stops (events v w))
+  pub helps : HelpsInTurns v w
 
--- the mutator polled; if the first poll found a stop, it stored its position, left, offered its help and gave up its cache, and else it has what it had
+-- the mutator polled; if the first poll found a stop, it stored its position, left, offered its help and gave up its cache, and else it has what it had, and did
+-- nothing but look at the world and at the phase
 pub record PassesSafely (handed kept : Option Cache) (done : ℕ) (v w : View) : Type 0 where
   pub goes_on : GoesOn v w
   pub cached : HasCache kept w
   pub same : kept ≡ (if poll_found_stop (events v w) then None else handed)
   pub position : IsTrue (poll_found_stop (events v w)) → (w.own.position ≡ done) × IsTrue (some_event leaves (events v w))
+  pub looks : IsFalse (poll_found_stop (events v w)) → LooksOnce (events v w)
 
 -- what a safe point answers: the mutator goes on, or the heap is full
 abbrev pub SafeTo : Safe → Option Cache → ℕ → View → View → Type 0

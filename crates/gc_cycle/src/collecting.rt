@@ -1,5 +1,5 @@
 //! Safe points, and collections that a mutator asks for.
-ghost use Rattle.std.specs.Prelude.{[], ◌≡◌, ◌≢◌, ◌≤◌, ◌⊎◌, length, None, Some, IfNone, IfSome, IsTrue};
+ghost use Rattle.std.specs.Prelude.{[], ◌≡◌, ◌≢◌, ◌≤◌, ◌⊎◌, length, None, Some, IfNone, IfSome, IsFalse, IsTrue};
 ghost use Rattle.std.specs.Bool.{OnFalse, OnTrue};
 ghost use Rattle.mark_core.specs.Steps.MutatorSteps.{used_bits};
 ghost use Rattle.mark_core.specs.declared.kinds.Phase.TheVariants.{Full};
@@ -15,11 +15,13 @@ ghost use Rattle.gc_table.specs.Running.{Ran};
 ghost use Rattle.gc_cycle.specs.Answering.{AnswersTo, CollectsTo, EndsFull, GivesWay, GoesOn, HasCache, KeepsOn, SafeTo, TellsFull, answers, giving_up, retires, waits_helping};
 ghost use Rattle.gc_cycle.specs.Collecting.{EndsStop, HoldsWorld, TriesAgain, spares_section};
 ghost use Rattle.gc_cycle.specs.Cycles.{never_fills};
-ghost use Rattle.gc_cycle.specs.Polling.{saw_full};
+ghost use Rattle.gc_cycle.specs.Mutating.{pops_in_stops};
+ghost use Rattle.gc_cycle.specs.Polling.{poll_found_stop, saw_full};
 ghost use Rattle.gc_cycle.specs.Sorts.{ends_cycle, polls, raises_flag, tries_marking};
 ghost use Rattle.gc_cycle.specs.Sparing.{KnowsAnswer, spares_part};
 ghost use Rattle.gc_cycle.specs.Standing.{KeepsSeat, KeepsSection, Mutates};
 ghost use Rattle.gc_cycle.specs.Statistics.{ChangesBy, ChangesNumbers, GivesUp, cache_of};
+ghost use Rattle.gc_cycle.specs.Turns.{HelpsInTurns};
 ghost use Rattle.gc_cycle.specs.declared.counts.Safe.TheVariants as safes;
 
 use crate::counts::Safe;
@@ -112,7 +114,8 @@ pub(crate) fn has_seen_full(seat: &HeapSeat) -> bool
 }
 
 /// A safe point of a mutator that has done `done` commands. If a stop is under way it gives its cache up, leaves
-/// until the stop has ended, and helps. Full: it read that the heap is full.
+/// until the stop has ended, and helps. If none is it takes two steps, and pops no cell. Full: it read that the heap
+/// is full; then it takes four more at most.
 pub fn safe_point<R: Wait>(
     rt: &R,
     heap: &Heap,
@@ -128,6 +131,9 @@ pub fn safe_point<R: Wait>(
     ensures polled { IsTrue (some_event polls (did seat.old seat.new)) }
     ensures calm { IsTrue (never raises_flag (did seat.old seat.new)) }
     ensures helping { IsTrue (waits_helping (did seat.old seat.new)) }
+    ensures helps { Across HelpsInTurns seat.old seat.new }
+    ensures pops { IsTrue (pops_in_stops (did seat.old seat.new)) }
+    ensures few { IsFalse (poll_found_stop (did seat.old seat.new)) → length (did seat.old seat.new) ≤ 6 }
     ensures not_full { IsTrue (never_fills (did seat.old seat.new)) }
     ensures keeps { Across KeepsSeat seat.old seat.new × Across KeepsSection seat.old seat.new }
     ensures spares { Across (Only spares_part) seat.old seat.new }
@@ -161,6 +167,9 @@ pub fn pass_safe_point<R: Wait>(
     ensures polled { IsTrue (some_event polls (did seat.old seat.new)) }
     ensures calm { IsTrue (never raises_flag (did seat.old seat.new)) }
     ensures helping { IsTrue (waits_helping (did seat.old seat.new)) }
+    ensures helps { Across HelpsInTurns seat.old seat.new }
+    ensures pops { IsTrue (pops_in_stops (did seat.old seat.new)) }
+    ensures few { IsFalse (poll_found_stop (did seat.old seat.new)) → length (did seat.old seat.new) ≤ 6 }
     ensures not_full { IsTrue (never_fills (did seat.old seat.new)) }
     ensures keeps { Across KeepsSeat seat.old seat.new × Across KeepsSection seat.old seat.new }
     ensures spares { Across (Only spares_part) seat.old seat.new }

@@ -2,7 +2,7 @@
 use Rattle.std.proofs.Common.{ℕ, ◌≡◌, ◌<◌, ◌∙◌, List, [], ◌∷◌, ◌++◌, ap, refl, subst, sym, Bool, true, ⊎_elim}
 use Rattle.std.proofs.lemmas.Bool.{and_from, and_parts, false≢true}
 use Rattle.mark_core.specs.declared.kinds.Step.{Step}
-use Rattle.mark_core.specs.declared.kinds.Step.TheVariants.{NextSeason, ReadSeason, ReadStat, StoreField, StoreValue, StoreRoot, StoreSlot, ExchangeField, ExchangeValue, StoreNew, StorePhase}
+use Rattle.mark_core.specs.declared.kinds.Step.TheVariants.{NextSeason, ReadSeason, StoreField, StoreValue, StoreRoot, StoreSlot, ExchangeField, ExchangeValue, StoreNew, StorePhase}
 use Rattle.alloc_cache.specs.Claiming.{Claims, claimed_by, seeks_block}
 use Rattle.alloc_cache.specs.Retiring.{retiring_steps}
 use Rattle.alloc_cache.specs.declared.cache.Cache.{Cache}

@@ -11,17 +11,15 @@ use Rattle.gc_table.proofs.History.Log.{only-more}
 use Rattle.packet_pools.specs.Counts.{count_of}
 use Rattle.packet_pools.specs.Seeking.{some_event}
 use Rattle.alloc_cache.specs.Claiming.{seeks_block}
-use Rattle.gc_cycle.specs.Cycles.{collects}
 use Rattle.gc_cycle.specs.Events.{each_after, front}
 use Rattle.warehouse.specs.Pacing.{Paces}
 use Rattle.warehouse.specs.Playing.{Acts, DoesNothing}
-use Rattle.gc_cycle.specs.Sorts.{begins_exactly, ends_cycle, stores_new, raises_flag, reads_phase, sees_all_empty, sees_last_card, mutator_stores}
+use Rattle.gc_cycle.specs.Sorts.{stores_new, raises_flag, reads_phase, sees_all_empty, sees_last_card, mutator_stores}
 use Rattle.mark_core.specs.Layout.{card_count}
 use Rattle.mark_core.specs.declared.kinds.Phase.TheVariants.{Marking}
 use Rattle.gc_cycle.specs.Sparing.{fills_part, spares_part}
-use Rattle.gc_cycle.proofs.Ends.Finishes.{some-of-followed as ended}
 use Rattle.cache_refills.specs.Stops.{claim_failed, marking_done, may_stop, no_block, stops_with_cause, stops_without_cause}
-use Rattle.warehouse.proofs.Counting.{fills-seasons, fills-stores, fills-uncounted, spares-fills, some-count, stored-none, stores_none, writes-none}
+use Rattle.warehouse.proofs.Counting.{fills-seasons, fills-stores, fills-uncounted, spares-fills, stored-none, stores_none, writes-none}
 
 append_none : {X : Type 0} (xs : List X) → xs ≡ xs ++ []
 append_none [] = refl
@@ -84,7 +82,6 @@ waits-caused v w ran only h paced season =
     record {
       ran = ran;
       polled = omega arith;
-      collected = omega arith;
       stopped = λ since.
           let at : stops_without_cause v.shape (since ++ []) (events v w) ≡ 0 = caused v.shape since [] (events v w) none h in
           let here : stops_without_cause v.shape since (events v w) ≡ 0 = ap (λ l. stops_without_cause v.shape l (events v w)) (append_none since) ∙ at in
@@ -108,29 +105,13 @@ stops_counted sh since (e ∷ es) =
     sums true false m k h = omega (arith, h)
     sums false c m k h = omega (arith, h)
 
--- a collection that stopped the world once at most
-pub acts-collect : (season : ℕ) (v w : View) → Ran v w → Only spares_part v w → collects (events v w) ≡ true → count_of raises_flag (events v w) ≤ 1 → Paces v w → Acts season 0 1 1 v w
-acts-collect season v w ran only c once paced =
-    let fills : Only fills_part v w = only-more spares_part fills_part spares-fills v w only in
-    record {
-      ran = ran;
-      polled = omega arith;
-      collected = some-count ends_cycle (events v w) (ended begins_exactly ends_cycle (events v w) c);
-      stopped = λ since. omega (arith, once, stops_counted v.shape since (events v w));
-      stored = stored-none season (events v w) v (fills_stores v w fills);
-      uncounted = fills-uncounted (events v w) fills;
-      seasons = fills-seasons v w ran fills;
-      paced = paced;
-    }
-
--- one that found the heap full
-pub acts-asked : (season : ℕ) (v w : View) → Ran v w → Only spares_part v w → count_of raises_flag (events v w) ≤ 1 → Paces v w → Acts season 0 0 1 v w
+-- a collection, or one that found the heap full: it stopped the world once at most
+pub acts-asked : (season : ℕ) (v w : View) → Ran v w → Only spares_part v w → count_of raises_flag (events v w) ≤ 1 → Paces v w → Acts season 0 1 v w
 acts-asked season v w ran only once paced =
     let fills : Only fills_part v w = only-more spares_part fills_part spares-fills v w only in
     record {
       ran = ran;
       polled = omega arith;
-      collected = omega arith;
       stopped = λ since. omega (arith, once, stops_counted v.shape since (events v w));
       stored = stored-none season (events v w) v (fills_stores v w fills);
       uncounted = fills-uncounted (events v w) fills;

@@ -24,14 +24,14 @@ use Rattle.play_end.proofs.Commands.{still-does}
 use Rattle.gc_cycle.specs.Answering.{Collects, CollectsTo, EndsFull, HasCache}
 use Rattle.warehouse.specs.Commands.{DoesOne, MayDo, StopsBefore}
 use Rattle.warehouse.specs.Pacing.{Paces}
-use Rattle.warehouse.specs.Playing.{Acts, IsPlaying, Stays, DoesNothing, collects_by, player_of}
+use Rattle.warehouse.specs.Playing.{Acts, DoesAt, IsPlaying, Stays, DoesNothing, collects_by, is_collect, player_of}
 use Rattle.gc_cycle.specs.Sorts.{raises_flag}
 use Rattle.gc_cycle.specs.Sparing.{spares_part}
 use Rattle.gc_cycle.specs.Standing.{KeepsSeat, Mutates}
 use Rattle.gc_cycle.specs.declared.counts.Safe.TheVariants as safes
 use Rattle.warehouse.specs.declared.mutator.Mutator.{Mutator}
 use Rattle.warehouse.proofs.Leavings.{acts-join}
-use Rattle.warehouse.proofs.Causes.{acts-asked, acts-collect}
+use Rattle.warehouse.proofs.Causes.{acts-asked}
 use Rattle.warehouse.proofs.Commanding.{stays-of}
 use Rattle.warehouse.proofs.Coming.{moved, says-moved}
 use Rattle.warehouse.proofs.FullStops.{counted-kept}
@@ -66,14 +66,13 @@ mutates-new u n cell v w k before ready m =
           ∙ m.rest;
     }
 
-pub acts-new : (e : Execution) (u n cell : ℕ) (v w : View) → e.op ≡ ops.New u n → Creates u n cell v w → (season : ℕ) → v.state.season_seen ≡ Some season → Acts season 0 (collects_by (e ∷ [])) (collects_by (e ∷ [])) v w
+pub acts-new : (e : Execution) (u n cell : ℕ) (v w : View) → e.op ≡ ops.New u n → Creates u n cell v w → (season : ℕ) → v.state.season_seen ≡ Some season → Acts season 0 (collects_by (e ∷ [])) v w
 acts-new e u n cell v w is k season read =
     let all = only-more (belongs (ops.New u n)) is_of_command (of-command (ops.New u n)) v w k.only in
     let none : collects_by (e ∷ []) ≡ 0 = ap (λ op. collects_by (record { line = e.line; label = e.label; op = op } ∷ [])) is in
     record {
       ran = k.ran;
       polled = omega arith;
-      collected = omega (arith, none);
       stopped = λ since. omega (arith, stops-none v.shape since (events v w) all);
       stored = stored-turn season (events v w) v all read;
       uncounted = command-uncounted (events v w) all;
@@ -124,6 +123,12 @@ module _
   both_ran : Ran (view_of m.seat) (view_of t)
   both_ran = ran-join (view_of m.seat) (view_of s) (view_of t) (waits 0).ran ran
 
+  -- one stop may have had no cause
+  asked : (season : ℕ) → Acts season 0 (collects_by (e ∷ [])) (view_of m.seat) (view_of t)
+  asked season =
+      subst (λ n. Acts season 0 n (view_of m.seat) (view_of t)) (sym (one_collect e is))
+      (acts-join season 0 0 0 1 0 1 (view_of m.seat) (view_of s) (view_of t) (waits season) (acts-asked season (view_of s) (view_of t) ran spares once paced) (omega arith) (omega arith))
+
   collect_does : DoesCommand e (player_of m) (player_of (counted_up m t))
   collect_does =
       let v : View = view_of m.seat in
@@ -140,9 +145,9 @@ module _
       plus_none : (n : ℕ) → n ≡ n + 0
       plus_none n = omega arith
 
-  pub collects-going : (kept : Option Cache) (done : ℕ) → CollectsTo (safes.Going kept) done (view_of s) (view_of t) → DoesOne h p kept e m (counted_up m t)
-  collects-going kept done c =
-      let k = no_cache kept done (view_of s) (view_of t) c in
+  pub collects-going : (kept : Option Cache) → CollectsTo (safes.Going kept) m.count (view_of s) (view_of t) → DoesOne h p kept e m (counted_up m t)
+  collects-going kept c =
+      let k = no_cache kept m.count (view_of s) (view_of t) c in
       record {
         playing = record { sits = sits; mutates = k.1.goes_on.mutates; cached = k.0; counted = counted-kept (view_of m.seat) (view_of t) both_stay.still.heap both_stay.made playing.counted };
         does = collect_does;
@@ -154,9 +159,8 @@ module _
               made = omega (arith, r.made, made-later e later, both_stay.made, ap (λ (sh : Shape). sh.objects) both_stay.shape);
               dropped = omega (arith, r.dropped);
             };
-        acts = λ season read.
-            subst (λ n. Acts season 0 n n (view_of m.seat) (view_of t)) (sym (one_collect e is))
-            (acts-join season 0 0 0 0 1 1 0 1 1 (view_of m.seat) (view_of s) (view_of t) (waits season) (acts-collect season (view_of s) (view_of t) ran spares k.1.collected once paced) (omega arith) (omega arith) (omega arith));
+        own = subst (λ op. DoesAt m.count (is_collect op) (view_of m.seat) (view_of t)) (sym is) (record { given = view_of s; before = (waits 0).ran; collects = k.1 });
+        acts = λ season read. asked season;
       }
 
   pub collects-full : EndsFull m.count (view_of s) (view_of t) → KnowsFull (view_of t) → StopsBefore h p e m (moved m t)
@@ -168,7 +172,5 @@ module _
         position = ends.position;
         known = known;
         found = λ full. inl (sym both_stay.still.full ∙ full);
-        acts = λ season.
-            subst (λ n. Acts season 0 0 n (view_of m.seat) (view_of t)) (sym (one_collect e is))
-            (acts-join season 0 0 0 0 0 1 0 0 1 (view_of m.seat) (view_of s) (view_of t) (waits season) (acts-asked season (view_of s) (view_of t) ran spares once paced) (omega arith) (omega arith) (omega arith));
+        acts = asked;
       }

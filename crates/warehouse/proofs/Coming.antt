@@ -113,10 +113,10 @@ module _ (h : Heap) (p : Parts) (turn : ℕ) (e : Execution) (m : Mutator) (s : 
       c : ℕ
       c = collects_by (e ∷ [])
 
-      wider : (season : ℕ) → Acts season 0 0 c (view_of m.seat) (view_of s)
+      wider : (season : ℕ) → Acts season 0 c (view_of m.seat) (view_of s)
       wider season =
           let a = k.acts season in
-          record { ran = a.ran; polled = a.polled; collected = a.collected; stopped = λ since. let q : _ ≤ 0 = a.stopped since in omega (arith, q); stored = a.stored; uncounted = a.uncounted; seasons = a.seasons; paced = a.paced }
+          record { ran = a.ran; polled = a.polled; stopped = λ since. let q : _ ≤ 0 = a.stopped since in omega (arith, q); stored = a.stored; uncounted = a.uncounted; seasons = a.seasons; paced = a.paced }
 
 -- if it makes an object, it is `new`
 pub makes-new : (op : Op) → makes_object op ≡ true → IsNew op
@@ -147,7 +147,7 @@ module _ (h : Heap) (p : Parts) (turn : ℕ) (e : Execution) (m : Mutator) (s : 
         playing = k.playing;
         stays = stays-join (view_of m.seat) (view_of s) (view_of y.seat) stays k.stays;
         says = says_later k.says;
-        acts = λ season. acts-join season 0 0 0 1 0 0 1 0 0 (view_of m.seat) (view_of s) (view_of y.seat) (waits season) (k.acts season) (omega arith) (omega arith) (omega arith);
+        acts = λ season. acts-join season 0 0 1 0 1 0 (view_of m.seat) (view_of s) (view_of y.seat) (waits season) (k.acts season) (omega arith) (omega arith);
         may = k.may;
         season = k.season;
         room = λ left r. k.room left (room-moved m s stays left r);
@@ -165,7 +165,7 @@ module _ (h : Heap) (p : Parts) (turn : ℕ) (e : Execution) (m : Mutator) (s : 
         position = k.position;
         known = k.known;
         found = λ full. ⊎_elim (λ a. inl (sym stays.still.full ∙ a)) (λ b. inr b) (k.found full);
-        acts = λ season. acts-join season 0 0 0 0 0 c 0 0 c (view_of m.seat) (view_of s) (view_of y.seat) (waits season) (k.acts season) (omega arith) (omega arith) (omega arith);
+        acts = λ season. acts-join season 0 0 0 c 0 c (view_of m.seat) (view_of s) (view_of y.seat) (waits season) (k.acts season) (omega arith) (omega arith);
       }
 
   pub comes-later : (comes : Bool) (kept : Option Cache) → ComesOrStops comes h p turn kept e (moved m s) y → ComesOrStops comes h p turn kept e m y

@@ -5,14 +5,16 @@ use Rattle.plain_heap.specs.PlainStep.{IsInRange}
 use Rattle.plain_heap.specs.Sections.{Execution, Parts, joined, lends, made_by, makes_object}
 use Rattle.gc_table.specs.Seats.{view_of}
 use Rattle.gc_table.specs.declared.seat.Heap.{Heap}
+use Rattle.gc_table.proofs.Running.{ran-refl}
 use Rattle.alloc_cache.specs.declared.cache.Cache.{Cache}
 use Rattle.play_end.specs.Done.{turn_word}
 use Rattle.play_end.specs.Parts.{HasLeft}
 use Rattle.play_end.proofs.Within.{left-all}
 use Rattle.warehouse.specs.Commands.{HasPlayedSoFar, IsNextOf, MayPlayPart, PlaysOne, StopsBefore, StopsWithin}
-use Rattle.warehouse.specs.Playing.{Acts, HasRoomForCommands, IsPlaying, collects_by, commands_of_part, player_of, is_collect}
+use Rattle.warehouse.specs.Playing.{Acts, DoesEach, HasRoomForCommands, IsPlaying, PollsAndDoes, collects_by, commands_of_part, player_of, is_collect}
 use Rattle.warehouse.specs.declared.mutator.Mutator.{Mutator}
 use Rattle.warehouse.proofs.Leavings.{acts-join}
+use Rattle.warehouse.proofs.InOrder.{each-later, each-next}
 use Rattle.warehouse.proofs.InTheStop.{waits-none}
 use Rattle.std.specs.Prelude.{count_by, slice_index_or}
 use Rattle.std.specs.List.{list_any}
@@ -103,6 +105,7 @@ so-far-none h p z turn rest m playing word is =
       part = is;
       count = plus_zero m.count;
       room = λ later r. subst (λ es. HasRoomForCommands (es ++ later) m) is r;
+      each = ran-refl (view_of m.seat);
       acts = waits-none (view_of m.seat) (turn_word p.number z);
     }
   where
@@ -129,10 +132,10 @@ module _ (h : Heap) (p : Parts) (z turn : ℕ) (kept : Option Cache) (e : Execut
         part = part_is ∙ sym (append_assoc k.front (e ∷ []) rest);
         count = omega (arith, o.count, k.count, length-append k.front (e ∷ []));
         room = λ later r. o.room (rest ++ later) (subst (λ es. HasRoomForCommands (es ++ later) y) is (k.room later r));
+        each = each-next x.count k.front e (view_of x.seat) (view_of y.seat) (view_of w.seat) k.each (subst (λ n. PollsAndDoes n e (view_of y.seat) (view_of w.seat)) k.count o.own);
         acts =
-            acts-join (turn_word p.number z) (length k.front) (collects_by k.front) (collects_by k.front) 1 c c (length (k.front ++ e ∷ [])) (collects_by (k.front ++ e ∷ [])) (collects_by (k.front ++ e ∷ []))
-            (view_of x.seat) (view_of y.seat) (view_of w.seat) k.acts (subst (λ t. Acts t 1 c c (view_of y.seat) (view_of w.seat)) k.turn_is o.acts) (omega (arith, length-append k.front (e ∷ []))) (omega (arith, both))
-            (omega (arith, both));
+            acts-join (turn_word p.number z) (length k.front) (collects_by k.front) 1 c (length (k.front ++ e ∷ [])) (collects_by (k.front ++ e ∷ []))
+            (view_of x.seat) (view_of y.seat) (view_of w.seat) k.acts (subst (λ t. Acts t 1 c (view_of y.seat) (view_of w.seat)) k.turn_is o.acts) (omega (arith, length-append k.front (e ∷ []))) (omega (arith, both));
       }
 
   -- the next one
@@ -168,8 +171,9 @@ module _ (h : Heap) (p : Parts) (z turn : ℕ) (kept : Option Cache) (e : Execut
         left = left_is;
         stops = s;
         count = s.says.count ∙ k.count;
+        each = subst (λ es. DoesEach x.count es (view_of x.seat) (view_of w.seat)) (sym taken) (each-later x.count k.front (view_of x.seat) (view_of y.seat) (view_of w.seat) k.each (s.acts 0).ran);
         acts =
-            subst (λ es. Acts season (length k.front) (collects_by es) (collects_by es + c) (view_of x.seat) (view_of w.seat)) (sym taken)
-            (acts-join season (length k.front) (collects_by k.front) (collects_by k.front) 0 0 c (length k.front) (collects_by k.front) (collects_by k.front + c) (view_of x.seat) (view_of y.seat) (view_of w.seat) k.acts
-            (s.acts season) (omega arith) (omega arith) (omega arith));
+            subst (λ es. Acts season (length k.front) (collects_by es + c) (view_of x.seat) (view_of w.seat)) (sym taken)
+            (acts-join season (length k.front) (collects_by k.front) 0 c (length k.front) (collects_by k.front + c) (view_of x.seat) (view_of y.seat) (view_of w.seat) k.acts
+            (s.acts season) (omega arith) (omega arith));
       }

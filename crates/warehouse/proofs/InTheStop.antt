@@ -91,12 +91,11 @@ spares-stores step b = fills-stores step (spares-fills step b)
 pub stored-spared : (season : ℕ) (v w : View) → Only spares_part v w → stores_in season v (events v w) ≡ true
 stored-spared season v w only = stored-none season (events v w) v (only-more spares_part stores_none spares-stores v w only)
 
-pub acts-calm : (season : ℕ) (v w : View) → Ran v w → Only spares_part v w → never raises_flag (events v w) ≡ true → Paces v w → Acts season 0 0 0 v w
+pub acts-calm : (season : ℕ) (v w : View) → Ran v w → Only spares_part v w → never raises_flag (events v w) ≡ true → Paces v w → Acts season 0 0 v w
 acts-calm season v w ran only b paced =
     record {
       ran = ran;
       polled = omega arith;
-      collected = omega arith;
       stopped = λ since. omega (arith, calm v.shape since (events v w) b);
       stored = stored-spared season v w only;
       uncounted = fills-uncounted (events v w) (only-more spares_part fills_part spares-fills v w only);

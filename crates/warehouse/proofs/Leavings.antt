@@ -17,8 +17,8 @@ use Rattle.play_end.proofs.FullKnown.{full-kept}
 use Rattle.warehouse.specs.Commands.{Leaves, DoesOne, IsAtCommand, PlaysOne, StopsBefore}
 use Rattle.gc_cycle.specs.Events.{never}
 use Rattle.warehouse.specs.Pacing.{Paces}
-use Rattle.warehouse.specs.Playing.{Acts, Stays, DoesNothing, counts_part, collects_by, player_of}
-use Rattle.gc_cycle.specs.Sorts.{ends_cycle, polls, raises_flag, stores_new}
+use Rattle.warehouse.specs.Playing.{Acts, DoesAt, Stays, DoesNothing, counts_part, collects_by, is_collect, player_of}
+use Rattle.gc_cycle.specs.Sorts.{polls, raises_flag, stores_new}
 use Rattle.mark_core.specs.Numbers.{done_count}
 use Rattle.gc_cycle.specs.Sparing.{spares_part}
 use Rattle.gc_cycle.proofs.Sequences.{count-none as none-count}
@@ -28,6 +28,7 @@ use Rattle.warehouse.specs.Storing.{stores_in}
 use Rattle.packet_pools.specs.Seeking.{some_event}
 use Rattle.warehouse.proofs.Pacing.{paces-counted, paces-join}
 use Rattle.warehouse.proofs.Counting.{stored-join}
+use Rattle.warehouse.proofs.InOrder.{polls-does}
 use Rattle.warehouse.proofs.InTheStop.{waits-calm}
 use Rattle.mark_core.specs.declared.kinds.Shape.{Shape}
 use Rattle.plain_heap.specs.Placement.{IsNew}
@@ -57,15 +58,13 @@ stops-both sh since (x ∷ xs) ys a b p q =
     sums : (h m k a b : ℕ) → h + m ≤ a → k ≤ m + b → h + k ≤ a + b
     sums h m k a b p r = omega (arith, p, r)
 
-pub acts-join : (season a b c a' b' c' A B C : ℕ) (u v w : View) → Acts season a b c u v → Acts season a' b' c' v w → A ≤ a + a' → B ≤ b + b' → c + c' ≤ C → Acts season A B C u w
-acts-join season a b c a' b' c' A B C u v w x y p q r =
+pub acts-join : (season a c a' c' A C : ℕ) (u v w : View) → Acts season a c u v → Acts season a' c' v w → A ≤ a + a' → c + c' ≤ C → Acts season A C u w
+acts-join season a c a' c' A C u v w x y p r =
     let both : events u w ≡ events u v ++ events v w = ran-events u v w x.ran y.ran in
     let polled : count_of polls (events u w) ≡ count_of polls (events u v) + count_of polls (events v w) = ap (count_of polls) both ∙ count_both polls (events u v) (events v w) in
-    let ended : count_of ends_cycle (events u w) ≡ count_of ends_cycle (events u v) + count_of ends_cycle (events v w) = ap (count_of ends_cycle) both ∙ count_both ends_cycle (events u v) (events v w) in
     record {
       ran = ran-join u v w x.ran y.ran;
       polled = omega (arith, p, x.polled, y.polled, polled);
-      collected = omega (arith, q, x.collected, y.collected, ended);
       stopped = λ since.
           let later : (s : List Entry) → stops_without_cause u.shape s (events v w) ≤ c' = λ s. subst (λ sh. stops_without_cause sh s (events v w) ≤ c') (ran-shape u v x.ran) (y.stopped s) in
           let all : stops_without_cause u.shape since (events u w) ≤ c + c' = subst (λ es. stops_without_cause u.shape since es ≤ c + c') (sym both) (stops-both u.shape since (events u v) (events v w) c c' (x.stopped since) later) in
@@ -78,7 +77,7 @@ acts-join season a b c a' b' c' A B C u v w x y p q r =
 
 -- waiting after waiting
 pub waits-join : (u v w : View) → DoesNothing u v → DoesNothing v w → DoesNothing u w
-waits-join u v w x y = λ season. acts-join season 0 0 0 0 0 0 0 0 0 u v w (x season) (y season) (omega arith) (omega arith) (omega arith)
+waits-join u v w x y = λ season. acts-join season 0 0 0 0 0 0 u v w (x season) (y season) (omega arith) (omega arith)
 
 pub waits-ran : (v w : View) → DoesNothing v w → Ran v w
 waits-ran v w x = (x 0).ran
@@ -129,7 +128,8 @@ plays-from h p turn kept still e x m y at ends =
           left-command p z e rest old (player_of x) (player_of m) (player_of y) pos (stays-of (view_of x.seat) (view_of m.seat) (at.acts 0).ran) at.stays.still at.says (at.season ∙ ap (λ n. Some n) word) ends.does left;
       count = ends.does.count ∙ ap (λ n. n + 1) at.says.count;
       room = λ later r. ends.room later (at.room (e ∷ later) r);
-      acts = acts-join turn 1 0 0 0 c c 1 c c (view_of x.seat) (view_of m.seat) (view_of y.seat) (at.acts turn) (ends.acts turn at.season) (omega arith) (omega arith) (omega arith);
+      own = polls-does x.count e (view_of x.seat) (view_of m.seat) (view_of y.seat) (at.acts 0).ran (at.acts 0).polled (subst (λ n. DoesAt n (is_collect e.op) (view_of m.seat) (view_of y.seat)) at.says.count ends.own);
+      acts = acts-join turn 1 0 0 c 1 c (view_of x.seat) (view_of m.seat) (view_of y.seat) (at.acts turn) (ends.acts turn at.season) (omega arith) (omega arith);
     }
   where
     c : ℕ
@@ -150,7 +150,7 @@ stops-from h p turn kept e x m y at ends =
       position = ends.position ∙ at.says.count;
       known = ends.known;
       found = λ full. subst (λ b. IsTrue b ⊎ IsNew e.op) at.stays.still.full (ends.found full);
-      acts = λ season. acts-join season 1 0 0 0 0 c 0 0 c (view_of x.seat) (view_of m.seat) (view_of y.seat) (at.acts season) (ends.acts season) (omega arith) (omega arith) (omega arith);
+      acts = λ season. acts-join season 1 0 0 c 0 c (view_of x.seat) (view_of m.seat) (view_of y.seat) (at.acts season) (ends.acts season) (omega arith) (omega arith);
     }
   where
     c : ℕ
@@ -222,22 +222,20 @@ full-left done n v w ran left known =
     full-kept v w ran (ap (all_steps (λ step. not (moves_phase step))) left) known
 
 -- what the commands of a part did, with the leaving after them
-pub record Told (season commands collects stops times : ℕ) (v w : View) : Type 0 where
+pub record Told (season commands stops times : ℕ) (v w : View) : Type 0 where
   pub ran : Ran v w
   pub polled : commands ≤ count_of polls (events v w)
-  pub collected : collects ≤ count_of ends_cycle (events v w)
   pub stopped : stops_without_cause v.shape [] (events v w) ≤ stops
   pub stored : stores_in season v (events v w) ≡ true
   pub counted : count_of counts_part (events v w) ≡ times
   pub seasons : w.own.seasons ≡ v.own.seasons
   pub paced : Paces v w
 
-pub told-left : (season n c s times : ℕ) (u v w : View) → Acts season n c s u v → Leaves times v w → Told season n c s times u w
-told-left season n c s times u v w x y =
+pub told-left : (season n s times : ℕ) (u v w : View) → Acts season n s u v → Leaves times v w → Told season n s times u w
+told-left season n s times u v w x y =
     record {
       ran = ran-join u v w x.ran y.ran;
       polled = omega (arith, x.polled, ap (count_of polls) both ∙ count-join polls (events u v) (events v w));
-      collected = omega (arith, x.collected, ap (count_of ends_cycle) both ∙ count-join ends_cycle (events u v) (events v w));
       stopped =
           let later : (k : List Entry) → stops_without_cause u.shape k (events v w) ≤ 0 =
           λ k. let e = y.stopped k in subst (λ sh. stops_without_cause sh k (events v w) ≤ 0) (ran-shape u v x.ran) (omega (arith, e)) in

@@ -7,6 +7,7 @@ pub mod Causes
 pub mod FullStops
 pub mod Coming
 pub mod Collecting
+pub mod InOrder
 pub mod Going
 pub mod Leavings
 pub mod Parting

@@ -25,7 +25,7 @@ use Rattle.alloc_cache.specs.declared.cache.Cache.{Cache}
 use Rattle.mutator_ops.specs.Doing.{Does, belongs}
 use Rattle.gc_cycle.specs.Answering.{HasCache}
 use Rattle.warehouse.specs.Commands.{is_other}
-use Rattle.warehouse.specs.Playing.{Acts, collects_by}
+use Rattle.warehouse.specs.Playing.{Acts, collects_by, is_collect}
 use Rattle.gc_cycle.specs.Sorts.{stores_new, raises_flag}
 use Rattle.gc_cycle.specs.Standing.{Mutates, is_at_rest}
 use Rattle.cache_refills.specs.Stops.{may_stop, stops_without_cause}
@@ -71,26 +71,24 @@ stops-none sh since (e ∷ es) b =
     plus : (m : ℕ) → 0 + m ≡ m
     plus m = omega arith
 
-collects_none : (line : ℕ) (label : List ℕ) (op : Op) → is_other op ≡ true → collects_by (record { line = line; label = label; op = op } ∷ []) ≡ 0
-collects_none line label (ops.New v n) b = absurd (false≢true b)
-collects_none line label (ops.Let v w) b = refl
-collects_none line label (ops.Nil v) b = refl
-collects_none line label (ops.Set v i w) b = refl
-collects_none line label (ops.Get v w i) b = refl
-collects_none line label (ops.Cat v c) b = refl
-collects_none line label (ops.Put v n) b = refl
-collects_none line label (ops.Say v) b = refl
-collects_none line label (ops.Sum v i limit) b = refl
-collects_none line label ops.Collect b = absurd (false≢true b)
+pub collects-not : (op : Op) → is_other op ≡ true → is_collect op ≡ false
+collects-not (ops.New v n) b = absurd (false≢true b)
+collects-not (ops.Let v w) b = refl
+collects-not (ops.Nil v) b = refl
+collects-not (ops.Set v i w) b = refl
+collects-not (ops.Get v w i) b = refl
+collects-not (ops.Cat v c) b = refl
+collects-not (ops.Put v n) b = refl
+collects-not (ops.Say v) b = refl
+collects-not (ops.Sum v i limit) b = refl
+collects-not ops.Collect b = absurd (false≢true b)
 
-pub acts-other : (e : Execution) (d : ℕ) (v w : View) → is_other e.op ≡ true → Does e.op d v w → (season : ℕ) → v.state.season_seen ≡ Some season → Acts season 0 (collects_by (e ∷ [])) (collects_by (e ∷ [])) v w
+pub acts-other : (e : Execution) (d : ℕ) (v w : View) → is_other e.op ≡ true → Does e.op d v w → (season : ℕ) → v.state.season_seen ≡ Some season → Acts season 0 (collects_by (e ∷ [])) v w
 acts-other e d v w other k season read =
     let all = only-more (belongs e.op) is_of_command (of-command e.op) v w k.only in
-    let none : collects_by (e ∷ []) ≡ 0 = collects_none e.line e.label e.op other in
     record {
       ran = k.ran;
       polled = omega arith;
-      collected = omega (arith, none);
       stopped = λ since. omega (arith, stops-none v.shape since (events v w) all);
       stored = stored-turn season (events v w) v all read;
       uncounted = command-uncounted (events v w) all;

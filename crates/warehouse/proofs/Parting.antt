@@ -16,7 +16,6 @@ use Rattle.gc_table.specs.declared.seat.Heap.{Heap}
 use Rattle.gc_table.specs.declared.seat.HeapSeat.{HeapSeat}
 use Rattle.gc_table.specs.declared.view.Entry.{Entry}
 use Rattle.gc_table.specs.declared.view.View.{View}
-use Rattle.packet_pools.specs.Counts.{count_of}
 use Rattle.packet_pools.specs.Seeking.{some_event}
 use Rattle.alloc_cache.specs.declared.cache.Cache.{Cache}
 use Rattle.play_end.specs.Done.{HasSaid, IsStill, turn_word}
@@ -27,8 +26,8 @@ use Rattle.play_end.proofs.Within.{said-still, left-full, left-none}
 use Rattle.play_end.proofs.Doing.{done-still}
 use Rattle.warehouse.specs.Commands.{CountsPart, MayPlayPart, PlaysAll, StopsWithin}
 use Rattle.gc_cycle.specs.Cycles.{never_fills}
-use Rattle.warehouse.specs.Playing.{HasRoomForCommands, IsPartPlayed, IsPlaying, MayPlay, Stays, DoesNothing, collects_by, commands_of_part, player_of}
-use Rattle.gc_cycle.specs.Sorts.{ends_cycle, moves_to}
+use Rattle.warehouse.specs.Playing.{DoesEach, HasRoomForCommands, IsPartPlayed, IsPlaying, MayPlay, Stays, DoesNothing, collects_by, commands_of_part, player_of}
+use Rattle.gc_cycle.specs.Sorts.{moves_to}
 use Rattle.gc_cycle.specs.Standing.{Mutates}
 use Rattle.cache_refills.specs.Stops.{stops_without_cause}
 use Rattle.warehouse.specs.declared.mutator.Mutator.{Mutator}
@@ -37,6 +36,7 @@ use Rattle.warehouse.proofs.Commanding.{stays-of}
 use Rattle.warehouse.proofs.Coming.{moved, room-moved, says-moved}
 use Rattle.warehouse.proofs.FullStops.{counted-kept}
 use Rattle.warehouse.proofs.Going.{part-then}
+use Rattle.warehouse.proofs.InOrder.{each-within}
 
 -- a section that didn't find the heap full moved the phase nowhere so
 full_step : (v : View) (step : Step) (n : ℕ) → (after step n v).own.full ≡ false → (v.own.full ≡ false) × (moves_to Full step n ≡ false)
@@ -107,12 +107,12 @@ module _
     done_plays : PlaysPart plays.Done p z (player_of x) (player_of w)
     done_plays = plays_since plays.Done (player_of w) (left-none p z (player_of (moved x s)) (player_of y) (player_of w) may.season all.left leaves.stays.still leaves.says (leaves.position ∙ leaves.says.count))
 
-    done_told : Told (turn_word p.number z) (length (commands_of_part p z)) (collects_by (commands_of_part p z)) (collects_by (commands_of_part p z)) 1 (view_of x.seat) (view_of w.seat)
+    done_told : Told (turn_word p.number z) (length (commands_of_part p z)) (collects_by (commands_of_part p z)) 1 (view_of x.seat) (view_of w.seat)
     done_told =
         let n : ℕ = length (commands_of_part p z) in
         let c : ℕ = collects_by (commands_of_part p z) in
-        told-left (turn_word p.number z) n c c 1 (view_of x.seat) (view_of y.seat) (view_of w.seat)
-        (acts-join (turn_word p.number z) 0 0 0 n c c n c c (view_of x.seat) (view_of s) (view_of y.seat) (waits (turn_word p.number z)) all.acts (omega arith) (omega arith) (omega arith)) leaves.leaves
+        told-left (turn_word p.number z) n c 1 (view_of x.seat) (view_of y.seat) (view_of w.seat)
+        (acts-join (turn_word p.number z) 0 0 n c n c (view_of x.seat) (view_of s) (view_of y.seat) (waits (turn_word p.number z)) all.acts (omega arith) (omega arith)) leaves.leaves
 
     done_count : w.count - x.count ≡ length (commands_of_part p z)
     done_count = omega (arith, leaves.says.count, all.count)
@@ -132,7 +132,8 @@ module _
           position = leaves.position;
           tells =
               record {
-                plays = record { polled = omega (arith, t.polled, done_count); collected = t.collected; stopped = t.stopped };
+                each = each-within x.count (commands_of_part p z) (view_of x.seat) (view_of s) (view_of y.seat) (view_of w.seat) (waits-ran (view_of x.seat) (view_of s) waits) leaves.leaves.ran all.each;
+                plays = record { polled = omega (arith, t.polled, done_count); stopped = t.stopped };
                 all = done_count;
                 counted = t.counted;
                 stored = t.stored;
@@ -166,13 +167,13 @@ module _
           ⊎_elim (λ before. absurd (false≢true (sym was_room ∙ before))) (λ new. new) (k.stops.found (sym leaves.stays.still.full ∙ full)),
         )
 
-    full_told : Told (turn_word p.number z) k.done (collects_by (take k.done (commands_of_part p z))) (collects_by (take k.done (commands_of_part p z)) + collects_by (k.e ∷ [])) 0 (view_of x.seat) (view_of w.seat)
+    full_told : Told (turn_word p.number z) k.done (collects_by (take k.done (commands_of_part p z)) + collects_by (k.e ∷ [])) 0 (view_of x.seat) (view_of w.seat)
     full_told =
         let season : ℕ = turn_word p.number z in
         let c : ℕ = collects_by (take k.done (commands_of_part p z)) in
         let t : ℕ = c + collects_by (k.e ∷ []) in
-        told-left season k.done c t 0 (view_of x.seat) (view_of y.seat) (view_of w.seat)
-        (acts-join season 0 0 0 k.done c t k.done c t (view_of x.seat) (view_of s) (view_of y.seat) (waits season) k.acts (omega arith) (omega arith) (omega arith)) leaves.leaves
+        told-left season k.done t 0 (view_of x.seat) (view_of y.seat) (view_of w.seat)
+        (acts-join season 0 0 k.done t k.done t (view_of x.seat) (view_of s) (view_of y.seat) (waits season) k.acts (omega arith) (omega arith)) leaves.leaves
 
     full_count : w.count - x.count ≡ k.done
     full_count = omega (arith, leaves.says.count, k.count)
@@ -194,10 +195,12 @@ module _
           position = leaves.position;
           tells =
               record {
+                each =
+                    subst (λ d. DoesEach x.count (take d part) (view_of x.seat) (view_of w.seat)) (sym full_count)
+                    (each-within x.count (take k.done part) (view_of x.seat) (view_of s) (view_of y.seat) (view_of w.seat) (waits-ran (view_of x.seat) (view_of s) waits) leaves.leaves.ran k.each);
                 stops =
                     record {
                       polled = omega (arith, t.polled, full_count);
-                      collected = subst (λ d. collects_by (take d part) ≤ count_of ends_cycle es) (sym full_count) t.collected;
                       stopped = subst (λ d. stops ≤ collects_by (take d part) + collects_by (take 1 (drop d part))) (sym full_count)
                           (subst (λ l. stops ≤ collects_by (take k.done part) + collects_by (take 1 l)) (sym k.next) t.stopped);
                     };

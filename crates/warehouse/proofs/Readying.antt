@@ -92,7 +92,6 @@ module _ (n : ℕ) (w x : View) (found : Found ReadSeason n w x) where
       record {
         ran = season_ran;
         polled = omega arith;
-        collected = omega arith;
         stopped = λ since. let none : stops_without_cause w.shape since (events w x) ≡ 0 = ap (λ (es : List Entry). stops_without_cause w.shape since es) one in omega (arith, none);
         stored = stored-none season (events w x) w season_spares;
         uncounted = ap (λ (es : List Entry). never counts_part es) one;
@@ -189,10 +188,10 @@ pub polled-read : (v w x : View) → Ran v w → Ran w x → Only spares_part v 
 polled-read v w x r s a b h =
     polled-calm (events v x) (ran-only stores_none v w x r s (spares-none v w a) b) (ap (some_event polls) (ran-events v w x r s) ∙ some-left polls (events v w) (events w x) h)
 
-pub acts-polled : (v w : View) → DoesNothing v w → some_event polls (events v w) ≡ true → (season : ℕ) → Acts season 1 0 0 v w
+pub acts-polled : (v w : View) → DoesNothing v w → some_event polls (events v w) ≡ true → (season : ℕ) → Acts season 1 0 v w
 acts-polled v w a h season =
     let k = a season in
-    record { ran = k.ran; polled = some-count polls (events v w) h; collected = omega arith; stopped = k.stopped; stored = k.stored; uncounted = k.uncounted; seasons = k.seasons; paced = k.paced }
+    record { ran = k.ran; polled = some-count polls (events v w) h; stopped = k.stopped; stored = k.stored; uncounted = k.uncounted; seasons = k.seasons; paced = k.paced }
 
 -- so a safe point and the season make ready, if it is the turn
 pub reads-ready :
@@ -220,7 +219,7 @@ pub ready-after : (turn : ℕ) (kept : Option Cache) (u v w : View) → Stays u 
 ready-after turn kept u v w stays waits k =
     record {
       mutates = k.mutates;
-      acts = λ season. acts-join season 0 0 0 1 0 0 1 0 0 u v w (waits season) (k.acts season) (omega arith) (omega arith) (omega arith);
+      acts = λ season. acts-join season 0 0 1 0 1 0 u v w (waits season) (k.acts season) (omega arith) (omega arith);
       stays = stays-join u v w stays k.stays;
       turn_is = k.turn_is;
       cached = k.cached;
@@ -229,4 +228,4 @@ ready-after turn kept u v w stays waits k =
 
 -- what made it ready was a wait too
 pub ready-waits : (turn : ℕ) (kept : Option Cache) (v w : View) → GetsReady turn kept v w → DoesNothing v w
-ready-waits turn kept v w k = λ season. let a = k.acts season in record { ran = a.ran; polled = omega arith; collected = omega arith; stopped = a.stopped; stored = a.stored; uncounted = a.uncounted; seasons = a.seasons; paced = a.paced }
+ready-waits turn kept v w k = λ season. let a = k.acts season in record { ran = a.ran; polled = omega arith; stopped = a.stopped; stored = a.stored; uncounted = a.uncounted; seasons = a.seasons; paced = a.paced }

@@ -19,7 +19,7 @@ use Rattle.warehouse.specs.declared.mutator.Mutator.{Mutator}
 use Rattle.gc_cycle.specs.declared.counts.Safe.{Safe}
 use Rattle.gc_cycle.specs.declared.counts.Safe.TheVariants as safes
 use Rattle.plain_heap.specs.Sections.{makes_object}
-use Rattle.warehouse.specs.Playing.{HasFree, HasRoomForCommands, Acts, IsInTurn, IsPlaying, MayPass, Stays, collects_by, counts_part, commands_of_part, player_of}
+use Rattle.warehouse.specs.Playing.{HasFree, HasRoomForCommands, Acts, DoesAt, DoesEach, IsInTurn, IsPlaying, MayPass, PollsAndDoes, Stays, collects_by, counts_part, commands_of_part, is_collect, player_of}
 use Rattle.gc_cycle.specs.Standing.{IsOut}
 use Rattle.cache_refills.specs.Stops.{stops_without_cause}
 use Rattle.warehouse.specs.Pacing.{Paces}
@@ -55,15 +55,16 @@ pub record MayDo (p : Parts) (e : Execution) (m : Mutator) : Type 0 where
   pub next : IsNextOf p turn e m
 
 -- the seat did this in the season that it had read
-abbrev pub ActsIn : ℕ → ℕ → Mutator → Mutator → Type 0
-ActsIn collects stops x y = (season : ℕ) → (view_of x.seat).state.season_seen ≡ Some season → Acts season 0 collects stops (view_of x.seat) (view_of y.seat)
+abbrev pub ActsIn : ℕ → Mutator → Mutator → Type 0
+ActsIn stops x y = (season : ℕ) → (view_of x.seat).state.season_seen ≡ Some season → Acts season 0 stops (view_of x.seat) (view_of y.seat)
 
 -- one command was done, of a player that is in its turn
 pub record DoesOne (h : Heap) (p : Parts) (kept : Option Cache) (e : Execution) (x y : Mutator) : Type 0 where
   pub playing : IsPlaying h p kept y
   pub does : DoesCommand e (player_of x) (player_of y)
   pub room : (later : List Execution) → HasRoomForCommands (e ∷ later) x → HasRoomForCommands later y
-  pub acts : ActsIn (collects_by (e ∷ [])) (collects_by (e ∷ [])) x y
+  pub own : DoesAt x.count (is_collect e.op) (view_of x.seat) (view_of y.seat)
+  pub acts : ActsIn (collects_by (e ∷ [])) x y
 
 -- the same, with the cache that the mutator has
 abbrev pub DoesOneWithOwn : Heap → Parts → Execution → Mutator → Mutator → Type 0
@@ -77,14 +78,14 @@ pub record StopsBefore (h : Heap) (p : Parts) (e : Execution) (x y : Mutator) : 
   pub position : (view_of y.seat).own.position ≡ x.count
   pub known : KnowsFull (view_of y.seat)
   pub found : IsTrue (view_of y.seat).own.full → IsTrue (view_of x.seat).own.full ⊎ IsNew e.op
-  pub acts : (season : ℕ) → Acts season 0 0 (collects_by (e ∷ [])) (view_of x.seat) (view_of y.seat)
+  pub acts : (season : ℕ) → Acts season 0 (collects_by (e ∷ [])) (view_of x.seat) (view_of y.seat)
 
 -- the mutator is at the command, and the section is as it was
 pub record IsAtCommand (h : Heap) (p : Parts) (turn : ℕ) (kept : Option Cache) (e : Execution) (x y : Mutator) : Type 0 where
   pub playing : IsPlaying h p kept y
   pub stays : Stays (view_of x.seat) (view_of y.seat)
   pub says : SaysSame (player_of x) (player_of y)
-  pub acts : (season : ℕ) → Acts season 1 0 0 (view_of x.seat) (view_of y.seat)
+  pub acts : (season : ℕ) → Acts season 1 0 (view_of x.seat) (view_of y.seat)
   pub may : MayDo p e y
   pub season : (view_of y.seat).state.season_seen ≡ Some turn
   pub room : (left : List Execution) → HasRoomForCommands left x → HasRoomForCommands left y
@@ -107,7 +108,8 @@ pub record PlaysOne (h : Heap) (p : Parts) (turn : ℕ) (kept : Option Cache) (e
   pub left : (old : Player) (z : ℕ) (rest : List Execution) → (0 < z) → (turn ≡ turn_word p.number z) → HasLeft p z (e ∷ rest) old (player_of x) → HasLeft p z rest old (player_of y)
   pub count : y.count ≡ x.count + 1
   pub room : (later : List Execution) → HasRoomForCommands (e ∷ later) x → HasRoomForCommands later y
-  pub acts : Acts turn 1 (collects_by (e ∷ [])) (collects_by (e ∷ [])) (view_of x.seat) (view_of y.seat)
+  pub own : PollsAndDoes x.count e (view_of x.seat) (view_of y.seat)
+  pub acts : Acts turn 1 (collects_by (e ∷ [])) (view_of x.seat) (view_of y.seat)
 
 -- all commands that were left were done
 pub record PlaysAll (h : Heap) (p : Parts) (z : ℕ) (kept : Option Cache) (part : List Execution) (x y : Mutator) : Type 0 where
@@ -115,7 +117,8 @@ pub record PlaysAll (h : Heap) (p : Parts) (z : ℕ) (kept : Option Cache) (part
   pub left : HasLeft p z [] (player_of x) (player_of y)
   pub count : y.count ≡ x.count + length part
   pub room : (later : List Execution) → HasRoomForCommands (part ++ later) x → HasRoomForCommands later y
-  pub acts : Acts (turn_word p.number z) (length part) (collects_by part) (collects_by part) (view_of x.seat) (view_of y.seat)
+  pub each : DoesEach x.count part (view_of x.seat) (view_of y.seat)
+  pub acts : Acts (turn_word p.number z) (length part) (collects_by part) (view_of x.seat) (view_of y.seat)
 
 -- the heap was found full before one of them
 pub record StopsWithin (h : Heap) (p : Parts) (z : ℕ) (part : List Execution) (x y : Mutator) : Type 0 where
@@ -127,7 +130,8 @@ pub record StopsWithin (h : Heap) (p : Parts) (z : ℕ) (part : List Execution) 
   pub left : HasLeft p z (e ∷ rest) (player_of x) (player_of before)
   pub stops : StopsBefore h p e before y
   pub count : y.count ≡ x.count + done
-  pub acts : Acts (turn_word p.number z) done (collects_by (take done part)) (collects_by (take done part) + collects_by (e ∷ [])) (view_of x.seat) (view_of y.seat)
+  pub each : DoesEach x.count (take done part) (view_of x.seat) (view_of y.seat)
+  pub acts : Acts (turn_word p.number z) done (collects_by (take done part) + collects_by (e ∷ [])) (view_of x.seat) (view_of y.seat)
 
 -- how the commands of a part end: all were played, or the heap was found full and the rest is left
 abbrev pub AllEnds : Safe → Heap → Parts → ℕ → List Execution → Mutator → Mutator → Type 0
@@ -171,4 +175,5 @@ pub record HasPlayedSoFar (h : Heap) (p : Parts) (z turn : ℕ) (kept : Option C
   pub part : commands_of_part p z ≡ front ++ rest
   pub count : y.count ≡ x.count + length front
   pub room : (later : List Execution) → HasRoomForCommands (commands_of_part p z ++ later) x → HasRoomForCommands (rest ++ later) y
-  pub acts : Acts (turn_word p.number z) (length front) (collects_by front) (collects_by front) (view_of x.seat) (view_of y.seat)
+  pub each : DoesEach x.count front (view_of x.seat) (view_of y.seat)
+  pub acts : Acts (turn_word p.number z) (length front) (collects_by front) (view_of x.seat) (view_of y.seat)

@@ -1,5 +1,5 @@
 -- A mutator that plays a part: what it has between its commands, and what it says at the end.
-use Rattle.std.specs.Prelude.{ℕ, ◌≡◌, ◌⊎◌, ◌+◌, ◌-◌, ◌<◌, ◌≤◌, ◌==◌, ◌&&◌, not, List, [], length, map, take, drop, count_by, slice_index_or, Bool, true, false, Option, Some, None, is_some, IsTrue, IsFalse, vec_capacity}
+use Rattle.std.specs.Prelude.{ℕ, ◌≡◌, ◌⊎◌, ◌+◌, ◌-◌, ◌<◌, ◌≤◌, ◌==◌, ◌&&◌, not, List, [], ◌∷◌, length, map, take, drop, count_by, slice_index_or, Bool, true, false, Option, Some, None, is_some, IsTrue, IsFalse, vec_capacity}
 use Rattle.std.specs.Int.Count.{ones}
 use Rattle.mark_core.specs.declared.kinds.Step.{Step}
 use Rattle.mark_core.specs.declared.kinds.Step.TheVariants.{AddStat}
@@ -26,13 +26,13 @@ use Rattle.play_end.specs.Parts.{Player, AreOf, IsAfterParts, PlaysPart}
 use Rattle.play_end.specs.declared.played.Played.{Played}
 use Rattle.play_end.specs.declared.played.Played.TheVariants as plays
 use Rattle.warehouse.specs.declared.mutator.Mutator.{Mutator}
-use Rattle.gc_cycle.specs.Answering.{EndsFull, HasCache}
+use Rattle.gc_cycle.specs.Answering.{Collects, EndsFull, HasCache}
 use Rattle.gc_cycle.specs.Cycles.{never_fills}
 use Rattle.gc_cycle.specs.Events.{never}
 use Rattle.gc_cycle.specs.Mutating.{GoesOut}
 use Rattle.cache_refills.specs.PartEvents.{PlaysCommands, StopsAtFull, polled_last}
 use Rattle.gc_cycle.specs.Polling.{poll_found_stop, saw_full}
-use Rattle.gc_cycle.specs.Sorts.{ends_cycle, polls}
+use Rattle.gc_cycle.specs.Sorts.{polls}
 use Rattle.gc_cycle.specs.Standing.{IsOut, Mutates}
 use Rattle.gc_cycle.specs.Statistics.{leaves_numbers}
 use Rattle.cache_refills.specs.Stops.{stops_without_cause}
@@ -62,6 +62,29 @@ is_collect op = false
 abbrev pub collects_by : List Execution → ℕ
 collects_by es = count_by (λ e. is_collect e.op) es
 
+-- the seat made a precise collection of its own, for which it stood at this many commands
+pub record CollectsAt (done : ℕ) (v w : View) : Type 0 where
+  pub given : View
+  pub before : Ran v given
+  pub collects : Collects done given w
+
+-- a command was done after this many, of which it is known whether it collects
+abbrev pub DoesAt : ℕ → Bool → View → View → Type 0
+DoesAt done true v w = CollectsAt done v w
+DoesAt done false v w = Ran v w
+
+-- the same, after a poll
+pub record PollsAndDoes (done : ℕ) (e : Execution) (v w : View) : Type 0 where
+  pub came : View
+  pub ran : Ran v came
+  pub polled : IsTrue (some_event polls (events v came))
+  pub does : DoesAt done (is_collect e.op) came w
+
+-- these commands were done one after another, the first of them after this many
+abbrev pub DoesEach : ℕ → List Execution → View → View → Type 0
+DoesEach done [] v w = Ran v w
+DoesEach done (e ∷ es) v w = (after : View) × PollsAndDoes done e v after × DoesEach (done + 1) es after w
+
 -- in its turn, and ready for a command
 pub record IsInTurn (turn : ℕ) (v : View) : Type 0 where
   pub ready : IsReady v
@@ -76,11 +99,10 @@ abbrev pub counts_part : Step → ℕ → Bool
 counts_part (AddStat which by down) found = (which == done_count) && not down
 counts_part step found = false
 
--- this many commands and collections were done, with this many stops that had no cause, and what was stored was stored in this season
-pub record Acts (season commands collects stops : ℕ) (v w : View) : Type 0 where
+-- this many commands were done, with this many stops that had no cause, and what was stored was stored in this season
+pub record Acts (season commands stops : ℕ) (v w : View) : Type 0 where
   pub ran : Ran v w
   pub polled : commands ≤ count_of polls (events v w)
-  pub collected : collects ≤ count_of ends_cycle (events v w)
   pub stopped : (since : List Entry) → stops_without_cause v.shape since (events v w) ≤ stops
   pub stored : IsTrue (stores_in season v (events v w))
   -- none of it counted a part
@@ -98,7 +120,7 @@ pub record Stays (v w : View) : Type 0 where
 
 -- nothing was done that a part tells of
 abbrev pub DoesNothing : View → View → Type 0
-DoesNothing v w = (season : ℕ) → Acts season 0 0 0 v w
+DoesNothing v w = (season : ℕ) → Acts season 0 0 v w
 
 -- the first poll found a stop under way, or the phase was read as Full
 abbrev pub IsHindered : View → View → Type 0
@@ -114,7 +136,7 @@ pub record Glances (v w : View) : Type 0 where
 -- between two commands: the mutator polled, and is in its turn
 pub record GetsReady (turn : ℕ) (kept : Option Cache) (v w : View) : Type 0 where
   pub mutates : Mutates w
-  pub acts : (season : ℕ) → Acts season 1 0 0 v w
+  pub acts : (season : ℕ) → Acts season 1 0 v w
   pub stays : Stays v w
   pub turn_is : IsInTurn turn w
   pub cached : HasCache kept w
@@ -168,8 +190,9 @@ pub record MayPlay (h : Heap) (p : Parts) (z : ℕ) (m : Mutator) : Type 0 where
 abbrev pub commands_of_part : Parts → ℕ → List Execution
 commands_of_part p z = slice_index_or p.parts (z - 1) []
 
--- what the events of a part say, if it was played to its end by n commands
-pub record TellsDone (p : Parts) (z n : ℕ) (v w : View) : Type 0 where
+-- what the events of a part say, if it was played to its end by n commands, the first of them after `before`
+pub record TellsDone (p : Parts) (z before n : ℕ) (v w : View) : Type 0 where
+  pub each : DoesEach before (commands_of_part p z) v w
   pub plays : PlaysCommands v.shape n (collects_by (commands_of_part p z)) (events v w)
   pub all : n ≡ length (commands_of_part p z)
   pub counted : count_of counts_part (events v w) ≡ 1
@@ -179,16 +202,17 @@ pub record TellsDone (p : Parts) (z n : ℕ) (v w : View) : Type 0 where
   pub unfilled : IsTrue (never_fills (events v w))
 
 -- what the events of a part say, if it stopped after n commands because the heap was found full
-pub record PartTellsFull (p : Parts) (z n : ℕ) (v w : View) : Type 0 where
+pub record PartTellsFull (p : Parts) (z before n : ℕ) (v w : View) : Type 0 where
+  pub each : DoesEach before (take n (commands_of_part p z)) v w
   pub stops : StopsAtFull v.shape n (collects_by (take n (commands_of_part p z))) (collects_by (take 1 (drop n (commands_of_part p z)))) (events v w)
   pub counted : count_of counts_part (events v w) ≡ 0
   pub stored : IsTrue (stores_in (turn_word p.number z) v (events v w))
   pub paced : Paces v w
 
 -- what the events of a part say, if it was played to its end or the heap was found full
-abbrev pub PartTells : Played → Parts → ℕ → ℕ → View → View → Type 0
-PartTells plays.Done p z n v w = TellsDone p z n v w
-PartTells plays.Full p z n v w = PartTellsFull p z n v w
+abbrev pub PartTells : Played → Parts → ℕ → ℕ → ℕ → View → View → Type 0
+PartTells plays.Done p z before n v w = TellsDone p z before n v w
+PartTells plays.Full p z before n v w = PartTellsFull p z before n v w
 
 -- the whole of it
 pub record IsPartPlayed (played : Played) (h : Heap) (p : Parts) (z : ℕ) (x y : Mutator) : Type 0 where
@@ -201,7 +225,7 @@ pub record IsPartPlayed (played : Played) (h : Heap) (p : Parts) (z : ℕ) (x y 
   pub plays : PlaysPart played p z (player_of x) (player_of y)
   -- however it ended, the section stands at as many commands as the mutator counted
   pub position : (view_of y.seat).own.position ≡ y.count
-  pub tells : PartTells played p z (y.count - x.count) (view_of x.seat) (view_of y.seat)
+  pub tells : PartTells played p z x.count (y.count - x.count) (view_of x.seat) (view_of y.seat)
 
 -- when a gate may be passed: the seat is active and the section's, its plain heap is that of any script with this section after this many commands, and of the
 -- seat's stores and polls the last is a poll

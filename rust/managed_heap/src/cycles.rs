@@ -80,6 +80,8 @@ struct Course {
 /// What a world knows of its cycles.
 pub(crate) struct Cycles {
     course: Mutex<Course>,
+    /// How many have ended.
+    ended: AtomicU64,
     /// Whether a cycle was seen to mark since the last one ended.
     seen: AtomicBool,
     /// How many objects all tracers have told as traced.
@@ -103,12 +105,18 @@ impl Cycles {
             paid_before: 0,
             last: None,
         };
-        Cycles { course: Mutex::new(course), seen: AtomicBool::new(false), traced: AtomicU64::new(0), paid: AtomicU64::new(0) }
+        let (ended, traced, paid) = (AtomicU64::new(0), AtomicU64::new(0), AtomicU64::new(0));
+        Cycles { course: Mutex::new(course), ended, seen: AtomicBool::new(false), traced, paid }
     }
 
     /// The last cycle that has ended.
     pub fn last(&self) -> Option<Cycle> {
         self.course.lock().unwrap_or_else(PoisonError::into_inner).last
+    }
+
+    /// How many have ended.
+    pub fn ended(&self) -> u64 {
+        self.ended.load(Ordering::SeqCst)
     }
 
     /// A tracer has traced so many objects more.
@@ -153,6 +161,7 @@ impl Cycles {
             SWEEP => course.swept = Instant::now(),
             END => {
                 course.end(now, work, self.traced.load(Ordering::SeqCst), self.paid.load(Ordering::SeqCst));
+                self.ended.fetch_add(1, Ordering::SeqCst);
                 self.seen.store(false, Ordering::Relaxed);
             }
             _ => (),

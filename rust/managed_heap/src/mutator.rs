@@ -268,6 +268,25 @@ impl Mutator {
         }
     }
 
+    /// How many cycles have ended in its world. While the number is the same, what [`Mutator::upgrade`] found alive isn't dead.
+    pub fn cycles(&self) -> u64 {
+        self.shared.cycles.ended()
+    }
+
+    /// Which of these weak references have dead objects: `dead` becomes their numbers in the slice, in order. Variable v is nil afterwards. It has no safe point,
+    /// so a large table is gone through in pieces, with a safe point between two. If one is refused, as by [`Mutator::upgrade`], those before it are told.
+    pub fn deaths(&mut self, weaks: &[Weak], v: u32, dead: &mut Vec<usize>) -> Result<(), Error> {
+        self.forget(v)?;
+        dead.clear();
+        let told = weaks.iter().enumerate().try_for_each(|(k, weak)| {
+            if !self.upgrade(weak, v)? {
+                dead.push(k);
+            }
+            Ok(())
+        });
+        told.and(self.forget(v))
+    }
+
     /// All variables refer to nothing any more, and all slots.
     pub fn forget_all(&mut self) -> Result<(), Error> {
         (0..VARIABLES).try_for_each(|v| self.forget(v))?;

@@ -52,6 +52,43 @@ fn refuses_by_name() -> Result<(), Error> {
     Ok(())
 }
 
+#[test]
+fn tells_deaths_in_pieces() -> Result<(), Error> {
+    let world = World::open(Sizes::of_cells(1024).fields(1).shared(true))?;
+    let other = World::open(Sizes::of_cells(64).shared(true))?;
+    let (mut m, mut n) = (world.mutator()?, other.mutator()?);
+    let (mut weaks, mut dead) = (Vec::new(), vec![77]);
+    m.enter()?;
+    n.enter()?;
+    for k in 0..300 {
+        m.make(NEW, k)?;
+        weaks.push(m.weak(NEW)?);
+        if k % 3 == 0 {
+            m.set(NEW, 0, 3)?;
+            m.copy(3, NEW)?;
+        }
+    }
+    m.forget(NEW)?;
+    let before = m.cycles();
+    m.collect()?;
+    assert_eq!(m.cycles(), before + 1);
+    for (piece, from) in weaks.chunks(64).zip((0..).step_by(64)) {
+        m.deaths(piece, AGAIN, &mut dead)?;
+        let wanted: Vec<_> = (0..piece.len()).filter(|k| (from + k) % 3 != 0).collect();
+        assert_eq!(dead, wanted);
+        assert!(m.is_nil(AGAIN)?);
+    }
+    n.make(NEW, 0)?;
+    weaks[4] = n.weak(NEW)?;
+    assert_eq!(m.deaths(&weaks, AGAIN, &mut dead), Err(Error::OtherWorld));
+    assert_eq!(dead, [1, 2]);
+    assert_eq!(m.deaths(&weaks, 32, &mut dead), Err(Error::OutOfRange));
+    m.leave()?;
+    assert_eq!(m.deaths(&[], AGAIN, &mut dead), Err(Error::Outside));
+    assert_eq!(dead, [1, 2]);
+    Ok(())
+}
+
 /// Each thread makes objects, keeps every tenth in a list in a field of the root, and takes a weak reference to each.
 #[test]
 fn tells_exactly_the_dead_of_four_threads() -> Result<(), Error> {
@@ -117,6 +154,7 @@ fn drops_each_payload_once_after_its_death() -> Result<(), Error> {
     m.collect()?;
     payloads.sweep(&mut m, AGAIN)?;
     assert_eq!((payloads.len(), Rc::strong_count(&counted)), (1000, 1001));
+    assert_eq!(payloads.sweep(&mut m, AGAIN)?, 0);
     while !m.is_nil(3)? {
         assert!(payloads.get(&mut m, 3)?.is_some());
         m.get(3, 3, 0)?;
@@ -125,5 +163,41 @@ fn drops_each_payload_once_after_its_death() -> Result<(), Error> {
     assert_eq!(payloads.sweep(&mut m, AGAIN)?, 1000);
     assert!(payloads.is_empty());
     assert_eq!(Rc::strong_count(&counted), 1);
+    Ok(())
+}
+
+/// Values come and go while a sweep is under way: each dead one is dropped by its end, and none of a living object.
+#[test]
+fn sweeps_in_pieces() -> Result<(), Error> {
+    let world = World::open(Sizes::of_cells(1024).fields(1).slots(200).shared(true))?;
+    let mut m = world.mutator()?;
+    let mut payloads = Payloads::new();
+    m.enter()?;
+    for k in 0..200 {
+        m.make(NEW, k)?;
+        payloads.insert(&mut m, NEW, k)?;
+        m.spill(NEW, k)?;
+    }
+    for k in (0..200).filter(|k| k % 4 == 1) {
+        m.forget_slots(k..k + 1)?;
+    }
+    m.forget(NEW)?;
+    m.collect()?;
+    assert!(!payloads.sweep_step(&mut m, AGAIN, 100)?);
+    assert_eq!(payloads.len(), 175);
+    for k in [0, 2, 150, 198] {
+        m.fill(NEW, k)?;
+        assert_eq!(payloads.remove(&mut m, NEW)?, Some(k));
+    }
+    m.make(NEW, 200)?;
+    assert_eq!(payloads.insert(&mut m, NEW, 200)?, None);
+    assert_eq!(payloads.insert(&mut m, NEW, 201)?, Some(200));
+    assert!(payloads.sweep_step(&mut m, AGAIN, 98)?);
+    assert_eq!(payloads.len(), 147);
+    assert_eq!(payloads.get(&mut m, NEW)?.copied(), Some(201));
+    for k in (0..200).filter(|k| k % 4 != 1 && ![0, 2, 150, 198].contains(k)) {
+        m.fill(NEW, k)?;
+        assert_eq!(payloads.get(&mut m, NEW)?.copied(), Some(k));
+    }
     Ok(())
 }

@@ -9,37 +9,22 @@ use Rattle.gc_table.specs.declared.view.Entry.{Entry}
 use Rattle.gc_table.specs.declared.view.View.{View}
 use Rattle.packet_pools.specs.Seeking.{some_event}
 use Rattle.packet_pools.proofs.Searches.{some-left, some-right}
-use Rattle.gc_cycle.specs.Answering.{answers}
 use Rattle.gc_cycle.specs.Events.{before_last, each_after, since_or_all, Sort}
 use Rattle.gc_cycle.specs.Mutating.{is_in_stop, pops_in_stops, stays_calm}
 use Rattle.gc_cycle.specs.Sorts.{claims, pops, raises_flag, resumes}
 use Rattle.cache_refills.specs.Pace.Paying.{pops_where_paid}
 use Rattle.cache_refills.specs.Refilling.{prepares}
-use Rattle.cache_refills.proofs.Causes.{after-none}
-use Rattle.cache_refills.proofs.Stops.Visits.{before-later, causes-join, up-to}
+use Rattle.cache_refills.proofs.Stops.Visits.{before-later, up-to}
 use Rattle.gc_cycle.proofs.Sequences.{none-of-steps, some-none}
 use Rattle.gc_cycle.proofs.Since.{since-unlike}
-use Rattle.gc_cycle.proofs.Stops.Outside.{stop-later}
+pub use Rattle.gc_cycle.proofs.Stops.Popping.{answered-pops, pops-join, unpopped}
 
 prepares-unpopped : (step : Step) (n : ℕ) → prepares step ≡ true → pops step n ≡ false
 prepares-unpopped (Pop h) n e = absurd (false≢true e)
 prepares-unpopped step n e = refl
 
-answers-unpopped : (step : Step) (n : ℕ) → answers step ≡ true → pops step n ≡ false
-answers-unpopped (Pop h) n e = absurd (false≢true e)
-answers-unpopped step n e = refl
-
 pub prepared-pops : (v w : View) → Only prepares v w → some_event pops (events v w) ≡ false
 prepared-pops v w o = none-of-steps prepares pops prepares-unpopped (events v w) o
-
-pub answered-pops : (v w : View) → Only answers v w → some_event pops (events v w) ≡ false
-answered-pops v w o = none-of-steps answers pops answers-unpopped (events v w) o
-
-pub unpopped : (es : List Entry) → some_event pops es ≡ false → pops_in_stops es ≡ true
-unpopped es n = after-none is_in_stop pops [] es n
-
-pub pops-join : (xs ys : List Entry) → pops_in_stops xs ≡ true → pops_in_stops ys ≡ true → pops_in_stops (xs ++ ys) ≡ true
-pops-join xs ys a b = causes-join is_in_stop pops stop-later xs ys a b
 
 pub stops-paid : (es : List Entry) → pops_in_stops es ≡ true → pops_where_paid es ≡ true
 stops-paid es h = either (some_event claims es)

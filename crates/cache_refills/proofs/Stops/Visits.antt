@@ -18,10 +18,7 @@ use Rattle.cache_refills.proofs.Stops.StopsAgain.{none-counted, since-none}
 use Rattle.gc_cycle.proofs.Ends.Finishes.{since-later}
 use Rattle.gc_cycle.proofs.Sequences.{some-none}
 use Rattle.gc_cycle.proofs.Since.{all-since, since-earlier, since-unlike}
-
--- two calls, each of which had cause by a test that what came before doesn't spoil
-pub causes-join : (test : List Entry → Bool) (f : Sort) → ((xs ys : List Entry) → test ys ≡ true → test (xs ++ ys) ≡ true) → (xs ys : List Entry) → each_after test f [] xs ≡ true → each_after test f [] ys ≡ true → each_after test f [] (xs ++ ys) ≡ true
-causes-join test f more xs ys a b = after-join test f [] xs ys a (subst (λ zs. each_after test f zs ys ≡ true) (append-nil xs) (after-earlier test test f xs (λ zs k. more xs zs k) [] ys b))
+use Rattle.gc_cycle.proofs.Stops.Popping.{causes-join}
 
 -- causes in a visit
 

@@ -1,5 +1,5 @@
 -- A mutator's answer: it goes on, or the heap is full.
-use Rattle.std.proofs.Common.{ℕ, ◌≡◌, List, [], ◌∷◌, ◌++◌, refl, sym, ap, ◌∙◌, subst, Bool, true, false, not, ◌||◌, Some, None, Option, is_some}
+use Rattle.std.proofs.Common.{ℕ, ◌≡◌, ◌≤◌, ◌+◌, arith, length, List, [], ◌∷◌, ◌++◌, refl, sym, ap, ◌∙◌, subst, Bool, true, false, not, ◌||◌, Some, None, Option, is_some}
 use Rattle.std.specs.Prelude.{if◌then◌else◌}
 use Rattle.std.proofs.lemmas.Bool.{and_from, false≢true, or_left, or_parts, true≢false}
 use Rattle.mark_core.specs.Bits.{has_flag}
@@ -25,15 +25,19 @@ use Rattle.alloc_cache.specs.declared.cache.Cache.{Cache}
 use Rattle.gc_cycle.specs.Answering.{answers, AnswersTo, EndsFull, GivesWay, HasCache, retires, SafeTo, TellsFull, waits_helping}
 use Rattle.gc_cycle.specs.declared.counts.Safe.{Safe}
 use Rattle.gc_cycle.specs.declared.counts.Safe.TheVariants as safes
-use Rattle.gc_cycle.specs.Events.{first_is, Sort}
-use Rattle.gc_cycle.specs.Mutating.{GoesOut, HasEntered, stays_calm, tries_stopping}
+use Rattle.gc_cycle.specs.Events.{each_after, first_is, never, Sort}
+use Rattle.gc_cycle.specs.Mutating.{GoesOut, HasEntered, is_in_stop, pops_in_stops, stays_calm, tries_stopping}
 use Rattle.gc_cycle.specs.Polling.{offered_help, poll_found_stop, saw_full}
-use Rattle.gc_cycle.specs.Sorts.{leaves, polls, reads_phase, sees_flag}
+use Rattle.gc_cycle.specs.Sorts.{joins, leaves, polls, pops, reads_phase, sees_flag}
 use Rattle.gc_cycle.specs.Standing.{Mutates}
+use Rattle.gc_cycle.specs.Turns.{HelpsInTurns, StaysApart}
+use Rattle.gc_cycle.proofs.Few.{few-events, few-join}
 use Rattle.gc_cycle.proofs.Refills.KnownFull.{full-seen, tells-more, tells-none}
 use Rattle.gc_cycle.proofs.SectionKept.{calm-tries, goes-out, out-join}
 use Rattle.gc_cycle.proofs.Sequences.{none-of-steps}
+use Rattle.gc_cycle.proofs.Stops.Popping.{answered-pops, pops-join, unpopped}
 use Rattle.gc_cycle.proofs.Stops.Waits.{stayed-waits, waits-join}
+use Rattle.gc_cycle.proofs.Turns.{apart-join, apart-look, turns-join, turns-none}
 
 pub answers-calm : (step : Step) → answers step ≡ true → stays_calm step ≡ true
 answers-calm ReadPhase e = refl
@@ -67,6 +71,18 @@ no-poll (AddStat which by down) n e = refl
 no-poll ReleaseBlock n e = refl
 no-poll (StorePosition done) n e = refl
 no-poll step n e = absurd (false≢true e)
+
+no-join : (step : Step) (n : ℕ) → answers step ≡ true → joins step n ≡ false
+no-join ReadPhase n e = refl
+no-join PublishCells n e = refl
+no-join (AddStat which by down) n e = refl
+no-join ReleaseBlock n e = refl
+no-join (StorePosition done) n e = refl
+no-join step n e = absurd (false≢true e)
+
+-- nobody joins the helpers by such steps
+apart-answers : (v w : View) → Ran v w → Only answers v w → StaysApart v w
+apart-answers v w r o = record { ran = r; apart = ap not (none-of-steps answers joins no-join (events v w) o) }
 
 -- such steps leave nothing and poll nothing
 pub answers-stay : (es : List Entry) → all_steps answers es ≡ true → some_event leaves es ≡ false
@@ -160,6 +176,9 @@ kept-way v w handed done n r e f h =
       same = ap (λ (b : Bool). if b then None else handed) (sym found);
       position = λ k. absurd (true≢false (sym k ∙ found));
       waits = ap waits_helping es;
+      looks = λ k. (n, es);
+      pops = ap pops_in_stops es;
+      helps = turns-none v w (apart-look v w n r e);
     }
 
 -- what the waiting says of events before which the seat didn't leave
@@ -170,8 +189,8 @@ waits-later (x ∷ xs) ys h w =
     and_from (not (leaves x.step x.found) || offered_help (xs ++ ys)) (waits_helping (xs ++ ys)) (or_left (not (leaves x.step x.found)) _ (ap not p.0)) (waits-later xs ys p.1 w)
 
 -- a stop was under way
-pub gave-way : (u v w x y : View) (handed : Option Cache) (done n m : ℕ) → Ran u v → v ≡ after Observe n u → has_flag n ≡ true → Ran v w → Only retires v w → GoesOut w x → events w x ≡ event (StorePosition done) done ∷ event LeaveStep m ∷ [] → x.own.position ≡ done → HasEntered x y → waits_helping (events x y) ≡ true → offered_help (events x y) ≡ true → GivesWay handed None done u y
-gave-way u v w x y handed done n m r e f q o g es at h waits offered =
+pub gave-way : (u v w x y : View) (handed : Option Cache) (done n m : ℕ) → Ran u v → v ≡ after Observe n u → has_flag n ≡ true → Ran v w → Only retires v w → GoesOut w x → events w x ≡ event (StorePosition done) done ∷ event LeaveStep m ∷ [] → x.own.position ≡ done → HasEntered x y → waits_helping (events x y) ≡ true → offered_help (events x y) ≡ true → ((before : List Entry) → is_in_stop before ≡ true → each_after is_in_stop pops before (events x y) ≡ true) → HelpsInTurns x y → GivesWay handed None done u y
+gave-way u v w x y handed done n m r e f q o g es at h waits offered away helps =
     let last : Ran w y = ran-join w x y g.ran h.out.ran in
     let later : Ran v y = ran-join v w y q last in
     let ends : events w y ≡ event (StorePosition done) done ∷ event LeaveStep m ∷ events x y = ran-events w x y g.ran h.out.ran ∙ ap (λ xs. xs ++ events x y) es in
@@ -195,6 +214,14 @@ gave-way u v w x y handed done n m r e f q o g es at h waits offered =
       waits =
           ap waits_helping all
           ∙ waits-later (events v w) (event (StorePosition done) done ∷ event LeaveStep m ∷ events x y) (answers-stay (events v w) (only-more retires answers retires-answer v w o)) waited;
+      looks = λ k. absurd (true≢false (sym found ∙ k));
+      pops =
+          ap pops_in_stops all
+          ∙ pops-join (event Observe n ∷ events v w) (event (StorePosition done) done ∷ event LeaveStep m ∷ events x y) (unpopped (event Observe n ∷ events v w) (answered-pops v w (only-more retires answers retires-answer v w o)))
+          (away (event (StorePosition done) done ∷ event LeaveStep m ∷ []) refl);
+      helps =
+          turns-join u w y (turns-none u w (apart-join u v w (apart-look u v n r e) (apart-answers v w q (only-more retires answers retires-answer v w o))))
+          (turns-join w x y (turns-none w x (record { ran = g.ran; apart = ap (never joins) es })) helps);
     }
 
 -- a safe point: the mutator gave way, and then looked whether the heap is full
@@ -211,16 +238,30 @@ passes u v w handed kept done (safes.Going k) g r a =
           λ h.
           let p = g.position (sym found ∙ h) in
           (ap (λ (z : View). z.own.position) a.looked.1.0 ∙ p.0, ap (some_event leaves) (ran-events u v w g.out.ran r) ∙ some-left leaves (events u v) (events v w) p.1);
+      looks =
+          λ h.
+          let l = g.looks (sym found ∙ h) in
+          (l.0, a.looked.0, ran-events u v w g.out.ran r ∙ (ap (λ es. es ++ events v w) l.1 ∙ ap (λ es. event Observe l.0 ∷ es) (events-after v w ReadPhase a.looked.0 a.looked.1.0)));
     }
 passes u v w handed kept done safes.Full g r a = full-later done u v w g.out.ran r a.0
 
 pub answers-out : (v w : View) → Ran v w → Only answers v w → GoesOut v w
 answers-out v w r o = goes-out v w r (only-more answers stays_calm answers-calm v w o)
 
-pub passed-out : (u v w : View) (handed kept : Option Cache) (done : ℕ) → GivesWay handed kept done u v → Ran v w → Only answers v w → GoesOut u w × (some_event polls (events u w) ≡ true) × (waits_helping (events u w) ≡ true)
+-- no stop was under way: it looked at the world, and did what its answer takes
+pub passed-few : (u v w : View) (handed kept : Option Cache) (done m : ℕ) → GivesWay handed kept done u v → Ran v w → length (events v w) ≤ m → poll_found_stop (events u w) ≡ false → length (events u w) ≤ 1 + m
+passed-few u v w handed kept done m g r few h =
+    let found : poll_found_stop (events u w) ≡ poll_found_stop (events u v) =
+    ap poll_found_stop (ran-events u v w g.out.ran r) ∙ first-left polls sees_flag (events u v) (events v w) g.polled in
+    let l = g.looks (sym found ∙ h) in
+    few-join 1 m u v w g.out.ran r (few-events 1 u v (event Observe l.0 ∷ []) l.1 (omega arith)) few
+
+pub passed-out : (u v w : View) (handed kept : Option Cache) (done : ℕ) → GivesWay handed kept done u v → Ran v w → Only answers v w → GoesOut u w × (some_event polls (events u w) ≡ true) × (waits_helping (events u w) ≡ true) × (pops_in_stops (events u w) ≡ true) × HelpsInTurns u w
 passed-out u v w handed kept done g r o =
     let es = ran-events u v w g.out.ran r in (
       out-join u v w g.out (answers-out v w r o),
       ap (some_event polls) es ∙ some-left polls (events u v) (events v w) g.polled,
       ap waits_helping es ∙ waits-join (events u v) (events v w) g.waits (stayed-waits (events v w) (ap not (answers-stay (events v w) o))) (answers-offered (events v w) o),
+      ap pops_in_stops es ∙ pops-join (events u v) (events v w) g.pops (unpopped (events v w) (answered-pops v w o)),
+      turns-join u v w g.helps (turns-none v w (apart-answers v w r o)),
     )

@@ -38,7 +38,7 @@ returns-clause-gives g c =
     let o = c.go_out.ensures in
     let i = c.go_in.ensures in
     subst (λ kept. GivesWay c.args.cache.now kept c.args.done (view_of c.args.seat.now) (view_of c.go_in.new.seat)) (sym c.take.ensures.after)
-    (gave-way (view_of c.args.seat.now) (view_of c.poll.new.seat) (view_of c.retire_some.new.seat) (view_of c.go_out.new.seat) (view_of c.go_in.new.seat) c.args.cache.now c.args.done t.0 o.left.0 c.poll.ensures.ran t.1 (sym t.3 ∙ c.if-not-poll.false) r.ran r.only o.out o.left.1 o.position i.entered i.waits i.offered)
+    (gave-way (view_of c.args.seat.now) (view_of c.poll.new.seat) (view_of c.retire_some.new.seat) (view_of c.go_out.new.seat) (view_of c.go_in.new.seat) c.args.cache.now c.args.done t.0 o.left.0 c.poll.ensures.ran t.1 (sym t.3 ∙ c.if-not-poll.false) r.ran r.only o.out o.left.1 o.position i.entered i.waits i.offered i.away i.helps)
 
 pub returns-then-not-poll-clause-numbers : goal.returns-then-not-poll-clause-numbers
 returns-then-not-poll-clause-numbers g c =

@@ -6,7 +6,7 @@ use Rattle.gc_table.proofs.Running.{ran-join}
 use Rattle.gc_cycle.specs.Mutating.{stays_calm}
 use Rattle.gc_cycle.specs.declared.counts.Safe.TheVariants as safes
 use Rattle.gc_cycle.specs.Sparing.{spares_part}
-use Rattle.gc_cycle.proofs.Refills.Answered.{passed-out, passes}
+use Rattle.gc_cycle.proofs.Refills.Answered.{passed-few, passed-out, passes}
 use Rattle.gc_cycle.proofs.Refills.Collected.{calm-spares}
 use Rattle.gc_cycle.proofs.Changes.{gives-join}
 use Rattle.gc_cycle.proofs.Unbegun.{calm-unbegun}
@@ -45,6 +45,16 @@ returns-clause-calm g c = (passed-out (view_of c.args.seat.now) (view_of c.give_
 
 pub returns-clause-helping : goal.returns-clause-helping
 returns-clause-helping g c = (passed-out (view_of c.args.seat.now) (view_of c.give_way.new.seat) (view_of c.goes_on.new.seat) c.args.cache.now c.give_way.new.cache c.args.done c.give_way.ensures.gives c.goes_on.ensures.ran c.goes_on.ensures.only).2
+
+pub returns-clause-helps : goal.returns-clause-helps
+returns-clause-helps g c = (passed-out (view_of c.args.seat.now) (view_of c.give_way.new.seat) (view_of c.goes_on.new.seat) c.args.cache.now c.give_way.new.cache c.args.done c.give_way.ensures.gives c.goes_on.ensures.ran c.goes_on.ensures.only).4
+
+pub returns-clause-pops : goal.returns-clause-pops
+returns-clause-pops g c = (passed-out (view_of c.args.seat.now) (view_of c.give_way.new.seat) (view_of c.goes_on.new.seat) c.args.cache.now c.give_way.new.cache c.args.done c.give_way.ensures.gives c.goes_on.ensures.ran c.goes_on.ensures.only).3
+
+pub returns-clause-few : goal.returns-clause-few
+returns-clause-few g c =
+    passed-few (view_of c.args.seat.now) (view_of c.give_way.new.seat) (view_of c.goes_on.new.seat) c.args.cache.now c.give_way.new.cache c.args.done 5 c.give_way.ensures.gives c.goes_on.ensures.ran c.goes_on.ensures.few
 
 pub returns-clause-not_full : goal.returns-clause-not_full
 returns-clause-not_full g c = (passed-out (view_of c.args.seat.now) (view_of c.give_way.new.seat) (view_of c.goes_on.new.seat) c.args.cache.now c.give_way.new.cache c.args.done c.give_way.ensures.gives c.goes_on.ensures.ran c.goes_on.ensures.only).0.not_full

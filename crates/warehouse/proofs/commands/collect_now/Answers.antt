@@ -40,7 +40,7 @@ returns-in-Going-clause-does g c =
     let had = subst (λ o. HasCache o (view_of m.seat)) (sym c.take.ensures.value) c.requires.playing.cached in
     subst (λ o. DoesOne c.args.heap.now c.args.section.now o e m (counted_up m t)) (sym c.take.ensures.after)
     (collects-going c.args.heap.now c.args.section.now e m c.args.cache.now s t c.requires.op c.requires.playing c.requires.may k.seat (retired-waits c.take.result (view_of m.seat) (view_of s) had r.ran r.only r.state r.numbers) (retired-stays (view_of m.seat) (view_of s) r.ran r.state r.own)
-    k.ran k.spares k.keeps.0 k.once (paces-collected (view_of s) (view_of t) k.numbers k.unbegun) None m.count (subst (λ o. CollectsTo (safes.Going o) m.count (view_of s) (view_of t)) (no-cache-left c.in-Going.kept m.count (view_of s) (view_of t) c.in-Going.ensures.collects) c.in-Going.ensures.collects))
+    k.ran k.spares k.keeps.0 k.once (paces-collected (view_of s) (view_of t) k.numbers k.unbegun) None (subst (λ o. CollectsTo (safes.Going o) m.count (view_of s) (view_of t)) (no-cache-left c.in-Going.kept m.count (view_of s) (view_of t) c.in-Going.ensures.collects) c.in-Going.ensures.collects))
 
 pub spend_none-requires : goal.spend_none-requires
 spend_none-requires g c = no-cache-left c.in-Going.kept c.args.mutator.now.count (view_of c.retire_some.new.seat) (view_of c.collect.new.seat) c.in-Going.ensures.collects

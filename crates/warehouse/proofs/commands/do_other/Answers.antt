@@ -1,12 +1,12 @@
-use Rattle.std.proofs.Common.{ℕ, ◌≡◌, ◌+◌, ◌++◌, [], ◌∷◌, map, refl, sym, ap, ◌∙◌, arith, if◌then◌else◌}
+use Rattle.std.proofs.Common.{ℕ, ◌≡◌, ◌+◌, ◌++◌, [], ◌∷◌, map, refl, sym, subst, ap, ◌∙◌, arith, if◌then◌else◌}
 use Rattle.gc_table.specs.Seats.{view_of}
 use Rattle.mark_core.specs.declared.seat.SeatState.{SeatState}
 use Rattle.plain_heap.specs.Sections.{Execution, printed_by, prints_line}
 use Rattle.gc_script.specs.Shown.{execution_of}
-use Rattle.warehouse.specs.Playing.{player_of}
+use Rattle.warehouse.specs.Playing.{DoesAt, player_of}
 use Rattle.warehouse.proofs.commands.do_other.Goals as goal
 use Rattle.warehouse.proofs.Commanding.{command-other}
-use Rattle.warehouse.proofs.Others.{mutates-other, has-cache, acts-other, makes-none, made-later, one-at-most, one-for, printed-more, prints-line}
+use Rattle.warehouse.proofs.Others.{mutates-other, has-cache, acts-other, collects-not, makes-none, made-later, one-at-most, one-for, printed-more, prints-line}
 use Rattle.std.specs.Prelude.{Option, unwrap_or, is_some}
 use Rattle.play_report.specs.Report.{printed_of}
 use Rattle.plain_heap.specs.PlainRun.{with_label}
@@ -61,5 +61,6 @@ returns c =
             made = omega (arith, r.made, made-later e later, ap (λ (s : SeatState). s.made) k.state, ap (λ (sh : Shape). sh.objects) (ran-shape v w k.ran));
             dropped = omega (arith, r.dropped, c.one_if.ensures, one-at-most c.command-done.result.dropped);
           };
+      own = subst (λ b. DoesAt c.args.mutator.now.count b v w) (sym (collects-not e.op c.requires.op)) k.ran;
       acts = acts-other e _ v w c.requires.op k;
     }

@@ -1,10 +1,10 @@
-use Rattle.std.proofs.Common.{ℕ, ◌≡◌, ◌+◌, ◌++◌, [], ◌∷◌, refl, ap, ◌∙◌, arith}
+use Rattle.std.proofs.Common.{ℕ, ◌≡◌, ◌+◌, ◌++◌, [], ◌∷◌, refl, sym, subst, ap, ◌∙◌, arith}
 use Rattle.gc_table.specs.Seats.{view_of}
 use Rattle.mark_core.specs.declared.seat.SeatState.{SeatState}
 use Rattle.plain_heap.specs.Sections.{Execution, made_by}
 use Rattle.gc_script.specs.Shown.{execution_of}
 use Rattle.mutator_ops.specs.Creating.{Creates}
-use Rattle.warehouse.specs.Playing.{player_of}
+use Rattle.warehouse.specs.Playing.{DoesAt, is_collect, player_of}
 use Rattle.warehouse.proofs.commands.make_object.Goals as goal
 use Rattle.warehouse.proofs.Commanding.{command-new}
 use Rattle.mark_core.specs.declared.kinds.Shape.{Shape}
@@ -54,5 +54,6 @@ returns c =
             made = omega (arith, r.made, one, ap (λ (s : SeatState). s.made) k.state, ap (λ (sh : Shape). sh.objects) (ran-shape v w k.ran));
             dropped = omega (arith, r.dropped);
           };
+      own = subst (λ op. DoesAt c.args.mutator.now.count (is_collect op) v w) (sym c.requires.op) k.ran;
       acts = acts-new e c.args.v c.args.n cell v w c.requires.op k;
     }
