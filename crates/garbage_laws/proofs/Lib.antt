@@ -4,3 +4,4 @@ pub mod ShunsWords
 pub mod ShunsKept
 pub mod Beginning
 pub mod Goes
+pub mod OpenTables
