@@ -1,0 +1,2 @@
+pub mod Garbage
+pub mod OpenTables
