@@ -30,4 +30,5 @@ part "tests/wrong_bodies.py" python3 tests/wrong_bodies.py load_gen
 part "tests/embedding.sh" sh tests/embedding.sh
 part "tests/library.sh" sh tests/library.sh
 needs "$library cc" "examples/c/run.sh" sh examples/c/run.sh
+needs "$library cc" "examples/cpp/run.sh" sh examples/cpp/run.sh
 needs "$library cc" "examples/scheme/run.sh" sh examples/scheme/run.sh
