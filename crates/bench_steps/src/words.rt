@@ -192,19 +192,13 @@ fn program<'a>(alloc: Global, names: &[&'a str]) -> Result<Command<'a>, AllocErr
         .no_binary_name(true)
         .disable_help_flag(true);
     for name in names {
-        let word = Arg::new(alloc, *name)
-            .required(true)
-            .action(ArgAction::Set);
+        let word = Arg::new(alloc, *name).required(true).action(ArgAction::Set);
         program = program.arg(word)?;
     }
     Ok(program)
 }
 
-fn matches_of<'a>(
-    alloc: Global,
-    words: &'a [String],
-    names: &[&'a str],
-) -> Option<ArgMatches<'a>> {
+fn matches_of<'a>(alloc: Global, words: &'a [String], names: &[&'a str]) -> Option<ArgMatches<'a>> {
     let program = program(alloc, names).ok()?;
     program.try_get_matches_from(words).ok()
 }
