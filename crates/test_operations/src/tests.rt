@@ -7,7 +7,6 @@ mod objects;
 mod opening;
 mod orders;
 mod pools;
-mod refusing;
 mod scanning;
 mod seasons;
 mod stops;
