@@ -55,7 +55,7 @@ module _ (h : Heap) (s : Sections) (z : ℕ) where
       record { seated = q.seated; played = q.after.played; moved_is = x.seasons ∙ e.moved_is; goes_on = (e.goes_on.0, q) }
   catalogue-part Full moved m n a is e x =
       let q = part-full h s 0 z m n e.goes_on.1 (subst (λ (y : Parts). IsPartPlayed Full h y z m n) is x) in
-      record { seated = q.seated; at = q.at; stopped = q.stopped; full = q.full }
+      record { seated = q.seated; moved_is = x.seasons ∙ e.moved_is; at = q.at; stopped = q.stopped; full = q.full }
 
   none-parts : (o : Option (List (List Execution))) → IsNone o → unwrap_or o [] ≡ []
   none-parts None e = refl
@@ -123,7 +123,7 @@ module _ (h : Heap) (s : Sections) (z : ℕ) where
       record { seated = q.seated; played = q.after.played; moved_is = t.2 ∙ ap (λ k. k + 1) e.moved_is; goes_on = (e.goes_on.0, q) }
   turned-playing Full moved m n kept l t e =
       let q = player-left m n kept l e.goes_on.1 in
-      (record { seated = q.seated; played = q.after.played }, t.3)
+      (record { seated = q.seated; moved_is = t.2 ∙ e.moved_is; played = q.after.played }, t.3)
 
   turned-absent : (r : Played) (moved : ℕ) (x y : HeapSeat) → Leaves h x y → Turns r (view_of x) (view_of y) → CatalogueAt h s z moved (Absent x) → TurnMoves r h s z moved (Absent y)
   turned-absent Done moved x y l t e = record {
@@ -132,7 +132,7 @@ module _ (h : Heap) (s : Sections) (z : ℕ) where
     moved_is = t.2 ∙ ap (λ k. k + 1) e.moved_is;
     goes_on = e.goes_on;
   }
-  turned-absent Full moved x y l t e = (record { seated = left-seated x y l e.seated; played = left-played z x y l e.played }, t.3)
+  turned-absent Full moved x y l t e = (record { seated = left-seated x y l e.seated; moved_is = t.2 ∙ e.moved_is; played = left-played z x y l e.played }, t.3)
 
   pub turned : (r : Played) (moved : ℕ) (c d : Catalogue) → LeavesCatalogue h c d → Turns r (view_of (seat_in c)) (view_of (seat_in d)) → CatalogueAt h s z moved c → TurnMoves r h s z moved d
   turned r moved (Playing m) d l t e = subst (λ (b : Catalogue). TurnMoves r h s z moved b) (sym l.kept) (turned-playing r moved m (record m { seat = seat_in d }) refl (record { seat = l.seat; keeps = l.keeps }) t e)
@@ -145,18 +145,18 @@ module _ (h : Heap) (s : Sections) (z : ℕ) where
       eq-true a b q = grind (arith, q)
 
   -- the last stop
-  settled-playing : (r : Played) (m n : Mutator) → 0 < z → n ≡ record m { seat = n.seat } → Leaves h m.seat n.seat → Settles r (view_of m.seat) (view_of n.seat) → CatalogueAt h s z (2 * z - 1) (Playing m) → CatalogueSettles r h s z (Playing n)
-  settled-playing Done m n season kept l t e =
+  settled-playing : (r : Played) (m n : Mutator) → 0 < z → n ≡ record m { seat = n.seat } → Leaves h m.seat n.seat → Turns r (view_of m.seat) (view_of n.seat) → Settles r (view_of m.seat) (view_of n.seat) → CatalogueAt h s z (2 * z - 1) (Playing m) → CatalogueSettles r h s z (Playing n)
+  settled-playing Done m n season kept l w t e =
       let q = player-left m n kept l e.goes_on.1 in (
         record { seated = q.seated; played = q.after.played; moved_is = t.0 ∙ omega (arith, e.moved_is, season); goes_on = (e.goes_on.0, q) },
         t.1 (odd (view_of m.seat).own.seasons season e.moved_is),
       )
-  settled-playing Full m n season kept l t e =
+  settled-playing Full m n season kept l w t e =
       let q = player-left m n kept l e.goes_on.1 in
-      (record { seated = q.seated; played = q.after.played }, t)
+      (record { seated = q.seated; moved_is = w.2 ∙ e.moved_is; played = q.after.played }, t)
 
-  settled-absent : (r : Played) (x y : HeapSeat) → 0 < z → Leaves h x y → Settles r (view_of x) (view_of y) → CatalogueAt h s z (2 * z - 1) (Absent x) → CatalogueSettles r h s z (Absent y)
-  settled-absent Done x y season l t e = (
+  settled-absent : (r : Played) (x y : HeapSeat) → 0 < z → Leaves h x y → Turns r (view_of x) (view_of y) → Settles r (view_of x) (view_of y) → CatalogueAt h s z (2 * z - 1) (Absent x) → CatalogueSettles r h s z (Absent y)
+  settled-absent Done x y season l w t e = (
     record {
       seated = left-seated x y l e.seated;
       played = left-played z x y l e.played;
@@ -165,11 +165,11 @@ module _ (h : Heap) (s : Sections) (z : ℕ) where
     },
     t.1 (odd (view_of x).own.seasons season e.moved_is),
   )
-  settled-absent Full x y season l t e = (record { seated = left-seated x y l e.seated; played = left-played z x y l e.played }, t)
+  settled-absent Full x y season l w t e = (record { seated = left-seated x y l e.seated; moved_is = w.2 ∙ e.moved_is; played = left-played z x y l e.played }, t)
 
-  pub settled : (r : Played) (c d : Catalogue) → 0 < z → LeavesCatalogue h c d → Settles r (view_of (seat_in c)) (view_of (seat_in d)) → CatalogueAt h s z (2 * z - 1) c → CatalogueSettles r h s z d
-  settled r (Playing m) d season l t e = subst (λ (b : Catalogue). CatalogueSettles r h s z b) (sym l.kept) (settled-playing r m (record m { seat = seat_in d }) season refl (record { seat = l.seat; keeps = l.keeps }) t e)
-  settled r (Absent x) d season l t e = subst (λ (b : Catalogue). CatalogueSettles r h s z b) (sym l.kept) (settled-absent r x (seat_in d) season (record { seat = l.seat; keeps = l.keeps }) t e)
+  pub settled : (r : Played) (c d : Catalogue) → 0 < z → LeavesCatalogue h c d → Turns r (view_of (seat_in c)) (view_of (seat_in d)) → Settles r (view_of (seat_in c)) (view_of (seat_in d)) → CatalogueAt h s z (2 * z - 1) c → CatalogueSettles r h s z d
+  settled r (Playing m) d season l w t e = subst (λ (b : Catalogue). CatalogueSettles r h s z b) (sym l.kept) (settled-playing r m (record m { seat = seat_in d }) season refl (record { seat = l.seat; keeps = l.keeps }) w t e)
+  settled r (Absent x) d season l w t e = subst (λ (b : Catalogue). CatalogueSettles r h s z b) (sym l.kept) (settled-absent r x (seat_in d) season (record { seat = l.seat; keeps = l.keeps }) w t e)
 
   -- when the season may be moved on
   pub may-move : (moved : ℕ) (c : Catalogue) → 0 < z → moved < 128 → (moved ≡ 2 * z - 2) ⊎ (moved ≡ 2 * z - 1) → CatalogueAt h s z moved c → (Sits h (seat_in c) × IsOut (view_of (seat_in c))) × MayTurnSeason (view_of (seat_in c))
@@ -203,4 +203,4 @@ turn-moved Full h s z moved c n e = absurd (n refl)
 -- the next season begins
 pub starts-after : (r : Played) (h : Heap) (s : Sections) (z moved : ℕ) (c : Catalogue) → 1 < z → moved ≡ 2 * z - 3 → TurnMoves r h s (z - 1) moved c → CatalogueStarts r h s z c
 starts-after Done h s z moved c season e t = subst (λ n. CatalogueAt h s (z - 1) n c) (omega (arith, season, e)) t
-starts-after Full h s z moved c season e t = record { seated = t.0.seated; at = end_of s 0 (z - 1); stopped = waiting-stops s 0 z (own_of c) (omega (arith, season)) t.0.played; full = t.1 }
+starts-after Full h s z moved c season e t = record { seated = t.0.seated; moved_is = t.0.moved_is ∙ e; at = end_of s 0 (z - 1); stopped = waiting-stops s 0 z (own_of c) (omega (arith, season)) t.0.played; full = t.1 }

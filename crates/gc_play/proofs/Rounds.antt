@@ -1,8 +1,8 @@
 -- The events of a tracer, turn by turn.
 use Rattle.std.proofs.Common.{ℕ, ◌≡◌, ◌<◌, ◌≤◌, ◌⊎◌, ⊎_elim, inl, inr, List, [], ◌∷◌, ◌++◌, refl, sym, ap, ◌∙◌, subst, arith, Bool, true, false, not, cond, ◌&&◌, ◌||◌, Some}
-use Rattle.std.specs.Prelude.{IsTrue, IsFalse, nat_le}
+use Rattle.std.specs.Prelude.{IsTrue, IsFalse, nat_le, nat_lt, ◌==◌}
 use Rattle.std.proofs.lemmas.List.{append-nil}
-use Rattle.std.proofs.lemmas.Bool.{true≢false, false≢true, and_from, and_left, not_from_true, or_cases, or_from, or_left, or_parts, or_right, le-leb, lt-leb}
+use Rattle.std.proofs.lemmas.Bool.{true≢false, false≢true, and_from, and_left, not_from_true, and_parts, or_cases, or_from, or_left, or_parts, or_right, le-leb, lt-leb}
 use Rattle.mark_core.specs.Bits.{has_flag}
 use Rattle.mark_core.specs.Effects.{seat_after}
 use Rattle.mark_core.specs.Numbers.{done_count}
@@ -24,7 +24,7 @@ use Rattle.gc_table.proofs.Running.{ran-events, ran-join, ran-took}
 use Rattle.gc_table.specs.Entries.{event}
 use Rattle.packet_pools.specs.Counts.{count_of}
 use Rattle.packet_pools.specs.Seeking.{some_event}
-use Rattle.packet_pools.proofs.Searches.{some-left}
+use Rattle.packet_pools.proofs.Counting.{count-join}
 use Rattle.tracer.specs.Moments.{at_some_moment, finds_no_work}
 use Rattle.tracer.specs.Tally.{pops}
 use Rattle.gc_cycle.specs.Sorts.{enters, looks_at_phase, tries_marking}
@@ -33,6 +33,7 @@ use Rattle.gc_cycle.specs.Statistics.{numbers_changed}
 use Rattle.gc_cycle.proofs.Searched.{moment-longer, work-longer}
 use Rattle.gc_cycle.proofs.Ends.Swept.{unless as not-true}
 use Rattle.gc_cycle.proofs.Ends.Finishes.{never-both as never-join}
+use Rattle.seat_turns.specs.Tending.{turn_quota}
 use Rattle.gc_play.specs.Turns.{LeavesNumbers, payments, Turn, lead, turns_of, record_after, sees_full, enters_full, is_leave, until_leave, seat_traces_on, seat_traces_where_marking, visits, payment, PaysForPops, IsTracerTurn, AreTurns, AllTurns, HasTakenTurns, ReadsNoParts, WaitsOutside, IsOneTurn, SeesPhase, TracesInside, IsVisit}
 use Rattle.gc_play.proofs.TurnCuts.{changes-left, payments-none, kept-head, quiet-turns, quiet-join, quiet-one, waits-join, visits-none, pays-none, lead-more, turns-more}
 
@@ -136,14 +137,18 @@ ran-state-in sh v w e r = ap (λ (x : Shape). record_after x v.state (events v w
 pub turn-after : (sh : Shape) (until : ℕ) (last : Bool) (a b d : View) → a.shape ≡ sh → Ran a b → IsOneTurn sh until last b.state (events b d) → IsOneTurn sh until last (record_after sh a.state (events a b)) (events b d)
 turn-after sh until last a b d e r o = subst (λ (s : SeatState). IsOneTurn sh until last s (events b d)) (sym (ran-state-in sh a b e r)) o
 
--- what a trace says, more events say too
-pub traces-more : (sh : Shape) (s : SeatState) (xs ys : List Entry) → seat_traces_on sh s xs ≡ true → seat_traces_on sh s (xs ++ ys) ≡ true
-traces-more sh s xs ys t =
+-- what a trace says, more events say too if none of them pops a cell
+pub traces-more : (sh : Shape) (s : SeatState) (xs ys : List Entry) → count_of pops ys ≡ 0 → seat_traces_on sh s xs ≡ true → seat_traces_on sh s (xs ++ ys) ≡ true
+traces-more sh s xs ys none t =
+    let all : count_of pops (xs ++ ys) ≡ count_of pops xs = count-join pops xs ys ∙ omega (arith, none) in
+    let idle : Bool = at_some_moment sh (finds_no_work sh) (record { state = s; deferring = [] }) xs in
     ⊎_elim
-    (λ (p : some_event pops xs ≡ true). or_left (some_event pops (xs ++ ys)) _ (some-left pops xs ys p))
-    (λ (n : at_some_moment sh (finds_no_work sh) (record { state = s; deferring = [] }) xs ≡ true).
-    or_right (some_event pops (xs ++ ys)) _ (moment-longer sh (finds_no_work sh) ys (work-longer sh ys) xs (record { state = s; deferring = [] }) n))
-    (or_cases (some_event pops xs) _ t)
+    (λ (p : (count_of pops xs == turn_quota) ≡ true). or_left (count_of pops (xs ++ ys) == turn_quota) _ (ap (λ (n : ℕ). n == turn_quota) all ∙ p))
+    (λ (n : (nat_lt (count_of pops xs) turn_quota && idle) ≡ true).
+    let q = and_parts (nat_lt (count_of pops xs) turn_quota) idle n in
+    or_right (count_of pops (xs ++ ys) == turn_quota) _
+    (and_from _ _ (ap (λ (k : ℕ). nat_lt k turn_quota) all ∙ q.0) (moment-longer sh (finds_no_work sh) ys (work-longer sh ys) xs (record { state = s; deferring = [] }) q.1)))
+    (or_cases (count_of pops xs == turn_quota) _ t)
 
 inside-leave : (xs : List Entry) (n : ℕ) → until_leave xs ≡ xs → until_leave (xs ++ event LeaveStep n ∷ []) ≡ xs
 inside-leave [] n e = refl

@@ -1,5 +1,6 @@
 -- What tracers did, season by season.
-use Rattle.std.proofs.Common.{ℕ, zero, suc, ◌≡◌, ◌+◌, ◌-◌, ◌<◌, List, [], ◌∷◌, ◌++◌, length, get_or, drop, sym, ap, ◌∙◌, subst, inl, inr, ⊎_elim, arith, add-one, length-append}
+use Rattle.std.proofs.Common.{ℕ, zero, suc, ◌≡◌, ◌+◌, ◌-◌, ◌*◌, ◌/◌, ◌<◌, ◌≤◌, ◌⊎◌, List, [], ◌∷◌, ◌++◌, length, get_or, drop, sym, ap, ◌∙◌, subst, ⊎_elim, arith, add-one, length-append}
+use Rattle.std.proofs.lemmas.Bool.{cases_lt}
 use Rattle.std.proofs.lemmas.Option.{get_or_from_slice_get, slice_get_within}
 use Rattle.mark_core.specs.Start.{start_seat}
 use Rattle.mark_core.specs.declared.seat.SeatState.{SeatState}
@@ -15,8 +16,9 @@ use Rattle.gc_table.specs.declared.seat.Heap.{Heap}
 use Rattle.gc_table.specs.declared.seat.HeapSeat.{HeapSeat}
 use Rattle.gc_play.specs.declared.season.Ended.{Ended}
 use Rattle.gc_play.specs.declared.season.Ended.TheVariants.{Done, First, Later}
-use Rattle.gc_play.specs.Crews.{AreAfter, IsNewSeatOfPlay, Numbered}
-use Rattle.gc_play.specs.Traced.{AllTracedUntil, EndTraced, SeasonTraced, SeasonsTraced, PlayTraced, TracedSeasons, TracersRan, parts_by}
+use Rattle.gc_play.specs.declared.crew.Crew.{Crew}
+use Rattle.gc_play.specs.Crews.{AreAfter, CrewEnds, IsNewSeatOfPlay, Numbered, PlayEnds, own_of}
+use Rattle.gc_play.specs.Traced.{AllTracedUntil, EndTraced, HasMoved, MovedBy, SeasonTraced, SeasonsTraced, TracedSeasons, TracersRan, parts_by, turns_reached}
 use Rattle.gc_play.specs.Turns.{HasTakenTurns}
 use Rattle.gc_play.proofs.Rounds.{ran-state-in}
 
@@ -25,15 +27,40 @@ module _ (h : Heap) (s : Sections) (z : ℕ) (xs zs ys : List HeapSeat) (before 
   pub seasons-more : AllTracedUntil h (parts_by s (z + 1)) zs ys → SeasonsTraced h s (z + 1) xs ys
   seasons-more last = subst (λ n. AllTracedUntil h (parts_by s n) zs ys → SeasonsTraced h s n xs ys) (sym (add-one z)) (λ t. (zs, before, t)) last
 
-  -- none more
-  seasons-same : ys ≡ zs → SeasonsTraced h s (z + 1 - 1) xs ys
-  seasons-same same = subst (λ n. SeasonsTraced h s n xs ys) (omega arith) (subst (SeasonsTraced h s z xs) (sym same) before)
-
   -- the season in which a play ended
-  pub play-traced : (r : Ended) → SeasonTraced r h s (z + 1) zs ys → PlayTraced r h s (z + 1) xs ys
-  play-traced Done t = seasons-more t
-  play-traced First t = seasons-same t
-  play-traced Later t = ⊎_elim (λ (e : ys ≡ zs). inl (seasons-same e)) (λ (a : AllTracedUntil h (parts_by s (z + 1)) zs ys). inr (seasons-more a)) t
+  pub play-traced : (moved : ℕ) → 2 * (z + 1) - 3 ≤ moved → moved ≤ 2 * (z + 1) - 1 → SeasonTraced h s (z + 1) moved zs ys → SeasonsTraced h s (turns_reached moved) xs ys
+  play-traced moved least most t =
+      ⊎_elim
+      (λ (few : moved < 2 * (z + 1) - 1).
+      subst (λ n. SeasonsTraced h s n xs ys) (let is : z ≡ (moved + 1) / 2 = omega (arith, few, least) in is) (subst (SeasonsTraced h s z xs) (sym (t.unreached few)) before))
+      (λ (all : 2 * (z + 1) - 1 ≤ moved).
+      let is : moved ≡ 2 * (z + 1) - 1 = omega (arith, all, most) in
+      subst (λ n. SeasonsTraced h s n xs ys) (let turns : z + 1 ≡ (moved + 1) / 2 = omega (arith, is) in turns) (seasons-more (t.reached is)))
+      (cases_lt moved (2 * (z + 1) - 1))
+
+-- all seasons were played before the last stop, which moves the season on once more, or finds the heap full
+pub seasons-all : (h : Heap) (s : Sections) (n : ℕ) (xs ys : List HeapSeat) → SeasonsTraced h s n xs ys → (moved : ℕ) → 0 < n → (moved ≡ 2 * n - 1) ⊎ (moved ≡ 2 * n) → SeasonsTraced h s (turns_reached moved) xs ys
+seasons-all h s n xs ys t moved first turn =
+    let turns : n ≡ (moved + 1) / 2 = ⊎_elim (λ once. omega (arith, once, first)) (λ twice. omega (arith, twice)) turn in
+    subst (λ k. SeasonsTraced h s k xs ys) turns t
+
+-- how often the season was moved on when one ended
+pub season-moved : (r : Ended) (h : Heap) (s : Sections) (z : ℕ) (c : Crew) → CrewEnds r h s z c → (2 * z - 3 ≤ (own_of c.catalogue).seasons) × ((own_of c.catalogue).seasons ≤ 2 * z - 1)
+season-moved Done h s z c e = let is = e.catalogue.moved_is in (omega (arith, is), omega (arith, is))
+season-moved First h s z c e =
+    let is = e.catalogue.moved_is in
+    let turn = e.turn in
+    (omega (arith, is, turn.0), omega (arith, is, turn.1))
+season-moved Later h s z c e =
+    let is = e.catalogue.moved_is in
+    let turn = e.turn in
+    (omega (arith, is, turn.0), omega (arith, is, turn.1))
+
+-- and when a play did
+pub play-moved : (r : Ended) (h : Heap) (s : Sections) (z : ℕ) (c : Crew) → PlayEnds r h s z c → MovedBy r z (own_of c.catalogue).seasons
+play-moved Done h s z c e = e.0.catalogue.moved_is
+play-moved First h s z c e = subst (MovedBy First z) (sym e.catalogue.moved_is) e.turn
+play-moved Later h s z c e = subst (MovedBy Later z) (sym e.catalogue.moved_is) e.turn
 
 -- what one of them did in those seasons
 pub record OneTraced (h : Heap) (s : Sections) (z : ℕ) (x y : View) : Type 0 where
@@ -102,7 +129,5 @@ module _ (h : Heap) (s : Sections) (tracers : ℕ) (xs ys seats : List HeapSeat)
       same-length zero zs same = ap length same
       same-length (suc n) zs (us, before, last) = last.count ∙ same-length n us before
 
-  pub end-traced : (r : Ended) (z : ℕ) → PlayTraced r h s z xs ys → EndTraced r s h.shape tracers z seats
-  end-traced Done z t = seasons-ran z t
-  end-traced First z t = seasons-ran (z - 1) t
-  end-traced Later z t = ⊎_elim (λ (e : SeasonsTraced h s (z - 1) xs ys). inl (seasons-ran (z - 1) e)) (λ (e : SeasonsTraced h s z xs ys). inr (seasons-ran z e)) t
+  pub end-traced : (r : Ended) (z moved : ℕ) → MovedBy r z moved → HasMoved moved seats → SeasonsTraced h s (turns_reached moved) xs ys → EndTraced r s h.shape tracers z seats
+  end-traced r z moved ended is t = record { moved = moved; moved_is = is; ended = ended; traced = seasons-ran (turns_reached moved) t }

@@ -1,7 +1,8 @@
 -- What a tracer did inside, by what a marking tells.
-use Rattle.std.proofs.Common.{ℕ, ◌≡◌, ◌<◌, ◌≤◌, ◌+◌, ⊎_elim, List, [], ◌∷◌, ◌++◌, refl, sym, ap, ◌∙◌, subst, arith, Bool, true, false, not, cond, ◌||◌}
+use Rattle.std.proofs.Common.{ℕ, ◌≡◌, ◌<◌, ◌≤◌, ⊎_elim, List, [], ◌∷◌, ◌++◌, refl, sym, ap, ◌∙◌, subst, arith, Bool, true, false, not, cond, eq-eqb}
+use Rattle.std.specs.Prelude.{◌==◌}
 use Rattle.std.proofs.lemmas.List.{append-nil}
-use Rattle.std.proofs.lemmas.Bool.{true≢false, and_parts, and_from, or_left, or_right, ne_eqb}
+use Rattle.std.proofs.lemmas.Bool.{true≢false, and_parts, and_from, lt-ltb, or_left, or_right, ne_eqb}
 use Rattle.mark_core.specs.Numbers.{traced_count}
 use Rattle.mark_core.specs.Steps.WorldSteps.{has_nothing}
 use Rattle.mark_core.specs.declared.kinds.Shape.{Shape}
@@ -46,25 +47,17 @@ marked-stays n h x y a b t =
       ran = t.ran;
     }
 
--- if cells were popped, one was
-pub some-counted : (f : Step → ℕ → Bool) (es : List Entry) → 0 < count_of f es → some_event f es ≡ true
-some-counted f [] low = absurd (omega (arith, low))
-some-counted f (x ∷ xs) low = of (f x.step x.found) (some_event f xs) (count_of f xs) (some-counted f xs) low
-  where
-    of : (b later : Bool) (n : ℕ) → (0 < n → later ≡ true) → 0 < cond b 1 0 + n → (b || later) ≡ true
-    of true later n h l = refl
-    of false later n h l = h (omega (arith, l))
-
--- a marking popped a cell, or nothing was left in hand and there was no packet to read from
+-- a marking popped as many cells as a turn traces, or fewer, and then nothing was left in hand and there was no packet to read from
 pub marked-on : (sh : Shape) (n : ℕ) (v w : View) → v.shape ≡ sh → MarksSome n v w → seat_traces_on sh v.state (events v w) ≡ true
 marked-on sh n v w e m =
     let u : View = m.between in
     let t = m.traces.tends in
     let some : n ≡ turn_quota → seat_traces_on sh v.state (events v u) ≡ true =
-    λ q. or_left (some_event pops (events v u)) _ (some-counted pops (events v u) (let d = t.done in omega (arith, d, q))) in
+    λ q. or_left (count_of pops (events v u) == turn_quota) _ (eq-eqb (count_of pops (events v u)) turn_quota (t.done ∙ q)) in
     let none : (n < turn_quota) × FoundNoWork v u → seat_traces_on sh v.state (events v u) ≡ true =
-    λ q. subst (λ (z : Shape). seat_traces_on z v.state (events v u) ≡ true) e (or_right (some_event pops (events v u)) _ q.1) in
-    subst (λ l. seat_traces_on sh v.state l ≡ true) (sym (ran-events v u w t.ran m.tends.ran)) (traces-more sh v.state (events v u) (events u w) (⊎_elim some none m.traces.ends))
+    λ q. subst (λ (z : Shape). seat_traces_on z v.state (events v u) ≡ true) e
+    (or_right (count_of pops (events v u) == turn_quota) _ (and_from _ _ (lt-ltb (count_of pops (events v u)) turn_quota (let d = t.done in let low = q.0 in omega (arith, d, low))) q.1)) in
+    subst (λ l. seat_traces_on sh v.state l ≡ true) (sym (ran-events v u w t.ran m.tends.ran)) (traces-more sh v.state (events v u) (events u w) m.tends.done (⊎_elim some none m.traces.ends))
 
 -- what such a step doesn't do
 tend-leaves : (step : Step) → tends_inside step ≡ true → is_leave step ≡ false
@@ -143,7 +136,7 @@ inside-counted sh s n m es low o count t =
     let last : List Entry = event (AddStat traced_count n false) m ∷ [] in
     let all : count_of pops (es ++ last) ≡ n = count-join pops es last ∙ omega (arith, count) in
     record {
-      traces = traces-more sh s es last t;
+      traces = traces-more sh s es last refl t;
       pays = none-changed es last o ∙ (sym (payment-some n low) ∙ ap payment (sym all));
       unbegun = ap not (some-none tries_marking es last (tend-unbegun es o) refl);
       stays_in = tend-inside es last o refl;

@@ -1,5 +1,5 @@
 -- What a play answers, with the heap that it closed at its end.
-use Rattle.std.specs.Prelude.{ℕ, ◌-◌, ◌⊎◌, List, Result, Ok, Err}
+use Rattle.std.specs.Prelude.{ℕ, ◌-◌, ◌*◌, ◌≤◌, List, Result, Ok, Err}
 use Rattle.mark_core.specs.declared.kinds.Shape.{Shape}
 use Rattle.plain_heap.specs.Sections.{Sections, seasons}
 use Rattle.play_end.specs.declared.error.PlayError.{PlayError}
@@ -11,7 +11,7 @@ use Rattle.gc_table.specs.declared.seat.HeapSeat.{HeapSeat}
 use Rattle.gc_table.specs.declared.words.Words.{Words}
 use Rattle.play_end.specs.Closed.{IsClosed, PlayedAll, SeatsStopped}
 use Rattle.play_end.specs.Reported.{AreSurvivorsPlaced, AreParts, AreStored}
-use Rattle.gc_play.specs.Traced.{TracersRan}
+use Rattle.gc_play.specs.Traced.{HasMoved, TracersRan, turns_reached}
 
 -- a heap of these sizes was closed with these words when each section had played all its parts; the report's parts are those of its seats,
 -- a survivor's place is the cell that holds it, and each of this many tracers traced in each season until its parts were played
@@ -23,8 +23,8 @@ pub record IsPlayed (s : Sections) (sh : Shape) (tracers : ℕ) (r : Report) (w 
   pub held : AreSurvivorsPlaced s w r
   pub traced : TracersRan s sh tracers (seasons s) seats
 
--- the heap was closed when the sections had stopped in some season, because it was full, and the positions are those that it stored;
--- each tracer traced in each season before that one, and in that one too if its warehouses had their turn
+-- the heap was closed when the sections had stopped in some season, because it was full, and the positions are those that it stored; each tracer traced in each
+-- season whose warehouses had their turn, in that one too if it was reached: the season was moved on so often
 pub record IsStopped (s : Sections) (sh : Shape) (tracers : ℕ) (p : Positions) : Type 0 where
   pub season : ℕ
   pub words : Words
@@ -32,7 +32,10 @@ pub record IsStopped (s : Sections) (sh : Shape) (tracers : ℕ) (p : Positions)
   pub closed : IsClosed s sh.cells sh seats words
   pub stopped : SeatsStopped s season seats
   pub stored : AreStored words p
-  pub traced : TracersRan s sh tracers (season - 1) seats ⊎ TracersRan s sh tracers season seats
+  pub moved : ℕ
+  pub moved_is : HasMoved moved seats
+  pub within : (2 * season - 3 ≤ moved) × (moved ≤ 2 * season - 1)
+  pub traced : TracersRan s sh tracers (turns_reached moved) seats
 
 -- how a play that has no report ended
 abbrev pub StopsIn : PlayError → Sections → Shape → ℕ → Type 0

@@ -25,6 +25,7 @@ use Rattle.gc_play.specs.declared.season.Ended.TheVariants as plays
 use Rattle.gc_play.specs.declared.workers.Worker.{Worker}
 use Rattle.gc_play.specs.Dealing.{EachOne, IsDealt, StandsAt, HaltsAt, SomeAt}
 use Rattle.gc_play.specs.Standing.{IsSeated, IsTracerSeat, PlayedTo, Rests}
+use Rattle.gc_play.specs.Traced.{MovedBy}
 
 -- each of these is what P says of its number, counted from n
 abbrev pub Numbered : {X : Type 0} → (ℕ → X → Type 0) → ℕ → List X → Type 0
@@ -79,37 +80,39 @@ pub record CatalogueAt (h : Heap) (s : Sections) (z moved : ℕ) (c : Catalogue)
   pub moved_is : (own_of c).seasons ≡ moved
   pub goes_on : MayGoOn h s z c
 
--- section 0 stopped within part z, since the heap is full
-pub record CatalogueStops (h : Heap) (s : Sections) (z : ℕ) (c : Catalogue) : Type 0 where
+-- section 0 stopped within part z, since the heap is full, and had moved the season on so often
+pub record CatalogueStops (h : Heap) (s : Sections) (z moved : ℕ) (c : Catalogue) : Type 0 where
   pub seated : IsSeated h s 0 (seat_in c)
+  pub moved_is : (own_of c).seasons ≡ moved
   pub at : ℕ
   pub stopped : HasStoppedInPart s 0 z at (own_of c)
   pub full : KnowsFull (view_of (seat_in c))
 
--- section 0 played its part z, and another stop found the heap full
-pub record CatalogueWaits (h : Heap) (s : Sections) (z : ℕ) (c : Catalogue) : Type 0 where
+-- section 0 played its part z and moved the season on so often, and another stop found the heap full
+pub record CatalogueWaits (h : Heap) (s : Sections) (z moved : ℕ) (c : Catalogue) : Type 0 where
   pub seated : IsSeated h s 0 (seat_in c)
+  pub moved_is : (own_of c).seasons ≡ moved
   pub played : HasPlayed s 0 z (own_of c)
 
 -- how the catalogue's part ends
 abbrev pub CatalogueEnds : Played → Heap → Sections → ℕ → ℕ → Catalogue → Type 0
 CatalogueEnds ends.Done h s z moved c = CatalogueAt h s z moved c
-CatalogueEnds ends.Full h s z moved c = CatalogueStops h s z c
+CatalogueEnds ends.Full h s z moved c = CatalogueStops h s z moved c
 
 -- how a stop between two turns ends
 abbrev pub TurnMoves : Played → Heap → Sections → ℕ → ℕ → Catalogue → Type 0
 TurnMoves ends.Done h s z moved c = CatalogueAt h s z (moved + 1) c
-TurnMoves ends.Full h s z moved c = CatalogueWaits h s z c × KnowsFull (view_of (seat_in c))
+TurnMoves ends.Full h s z moved c = CatalogueWaits h s z moved c × KnowsFull (view_of (seat_in c))
 
 -- how a season begins: the turn is the catalogue's again, or that stop found the heap full
 abbrev pub CatalogueStarts : Played → Heap → Sections → ℕ → Catalogue → Type 0
 CatalogueStarts ends.Done h s z c = CatalogueAt h s (z - 1) (2 * z - 2) c
-CatalogueStarts ends.Full h s z c = CatalogueStops h s z c
+CatalogueStarts ends.Full h s z c = CatalogueStops h s z (2 * z - 3) c
 
 -- how the last stop ends
 abbrev pub CatalogueSettles : Played → Heap → Sections → ℕ → Catalogue → Type 0
 CatalogueSettles ends.Done h s z c = CatalogueAt h s z (2 * z) c × IsTrue (own_of c).settled
-CatalogueSettles ends.Full h s z c = CatalogueWaits h s z c × KnowsFull (view_of (seat_in c))
+CatalogueSettles ends.Full h s z c = CatalogueWaits h s z (2 * z - 1) c × KnowsFull (view_of (seat_in c))
 
 -- the tracers' seats come after those of the sections
 abbrev pub AreTracers : Heap → Sections → List HeapSeat → Type 0
@@ -139,7 +142,9 @@ SomeKnows ws = SomeAt (λ (x : Worker). SomeAt (λ (m : Mutator). KnowsFull (vie
 
 -- the catalogue's turn of season z found the heap full: the warehouses wait for theirs
 pub record IsHaltedFirst (h : Heap) (s : Sections) (z : ℕ) (c : Crew) : Type 0 where
-  pub catalogue : CatalogueStops h s z c.catalogue
+  pub moved : ℕ
+  pub turn : MovedBy plays.First z moved
+  pub catalogue : CatalogueStops h s z moved c.catalogue
   pub some : 0 < vec_len c.workers
   pub dealt : IsDealt (vec_len c.workers) (length s.warehouses) c.workers.items
   pub waiting : EachOne (StandsAt h s (z - 1)) c.workers.items
@@ -148,7 +153,9 @@ pub record IsHaltedFirst (h : Heap) (s : Sections) (z : ℕ) (c : Crew) : Type 0
 -- the warehouses' turn of season z, or a stop after a turn, found the heap full
 pub record IsHaltedLater (h : Heap) (s : Sections) (z : ℕ) (c : Crew) : Type 0 where
   pub season : 0 < z
-  pub catalogue : CatalogueWaits h s z c.catalogue
+  pub moved : ℕ
+  pub turn : MovedBy plays.Later z moved
+  pub catalogue : CatalogueWaits h s z moved c.catalogue
   pub some : 0 < vec_len c.workers
   pub dealt : IsDealt (vec_len c.workers) (length s.warehouses) c.workers.items
   pub halted : EachOne (HaltsAt h s z) c.workers.items

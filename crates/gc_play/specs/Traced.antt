@@ -1,5 +1,5 @@
 -- What the tracers did while seasons were played.
-use Rattle.std.specs.Prelude.{ℕ, zero, suc, ◌≡◌, ◌+◌, ◌-◌, ◌*◌, ◌<◌, ◌≤◌, ◌⊎◌, List, [], ◌++◌, length, Some, slice_get, slice_index_or}
+use Rattle.std.specs.Prelude.{ℕ, zero, suc, ◌≡◌, ◌+◌, ◌-◌, ◌*◌, ◌/◌, ◌<◌, ◌≤◌, List, [], ◌++◌, length, Some, slice_get, slice_index_or}
 use Rattle.mark_core.specs.Start.{start_seat}
 use Rattle.mark_core.specs.declared.kinds.Shape.{Shape}
 use Rattle.mark_core.specs.declared.seat.SeatState.{SeatState}
@@ -28,11 +28,21 @@ pub record AllTracedUntil (h : Heap) (until : ℕ) (xs ys : List HeapSeat) : Typ
   pub count : length ys ≡ length xs
   pub each : (i : ℕ) (d : HeapSeat) → i < length xs → TracedUntil h until (slice_index_or xs i d) (slice_index_or ys i d)
 
--- what the tracers did in season z: each traced until its parts were played, unless it was not played to the warehouses' turn
-abbrev pub SeasonTraced : Ended → Heap → Sections → ℕ → List HeapSeat → List HeapSeat → Type 0
-SeasonTraced plays.Done h s z xs ys = AllTracedUntil h (parts_by s z) xs ys
-SeasonTraced plays.First h s z xs ys = ys ≡ xs
-SeasonTraced plays.Later h s z xs ys = (ys ≡ xs) ⊎ AllTracedUntil h (parts_by s z) xs ys
+-- how many turns of the warehouses were reached when the season was moved on so often: in each season the catalogue's turn comes first
+abbrev pub turns_reached : ℕ → ℕ
+turns_reached moved = (moved + 1) / 2
+
+-- how often the season was moved on when a play ended in season z
+abbrev pub MovedBy : Ended → ℕ → ℕ → Type 0
+MovedBy plays.Done z moved = moved ≡ 2 * z
+MovedBy plays.First z moved = (2 * z - 3 ≤ moved) × (moved ≤ 2 * z - 2)
+MovedBy plays.Later z moved = (2 * z - 2 ≤ moved) × (moved ≤ 2 * z - 1)
+
+-- what the tracers did in season z, if the season was moved on so often by its end: each traced until its parts were played if the warehouses had their turn, and
+-- else did nothing
+pub record SeasonTraced (h : Heap) (s : Sections) (z moved : ℕ) (xs ys : List HeapSeat) : Type 0 where
+  pub reached : moved ≡ 2 * z - 1 → AllTracedUntil h (parts_by s z) xs ys
+  pub unreached : moved < 2 * z - 1 → ys ≡ xs
 
 -- each of them traced in each of the first z seasons
 abbrev pub SeasonsTraced : Heap → Sections → ℕ → List HeapSeat → List HeapSeat → Type 0
@@ -50,14 +60,13 @@ pub record TracersRan (s : Sections) (sh : Shape) (tracers z : ℕ) (seats : Lis
   pub count : length seats ≡ 1 + length s.warehouses + tracers
   pub each : (i : ℕ) (x : HeapSeat) → slice_get seats i ≡ Some x → 1 + length s.warehouses ≤ i → TracedSeasons sh s z (start_seat sh i) (view_of x).log
 
--- what they did in a play that ended in season z
-abbrev pub PlayTraced : Ended → Heap → Sections → ℕ → List HeapSeat → List HeapSeat → Type 0
-PlayTraced plays.Done h s z xs ys = SeasonsTraced h s z xs ys
-PlayTraced plays.First h s z xs ys = SeasonsTraced h s (z - 1) xs ys
-PlayTraced plays.Later h s z xs ys = SeasonsTraced h s (z - 1) xs ys ⊎ SeasonsTraced h s z xs ys
+-- the seat of the catalogue moved the season on so often
+abbrev pub HasMoved : ℕ → List HeapSeat → Type 0
+HasMoved moved seats = (seat : HeapSeat) → slice_get seats 0 ≡ Some seat → (view_of seat).own.seasons ≡ moved
 
--- what the tracers did in a play that ended in season z, told by the logs of the seats at its end
-abbrev pub EndTraced : Ended → Sections → Shape → ℕ → ℕ → List HeapSeat → Type 0
-EndTraced plays.Done s sh tracers z seats = TracersRan s sh tracers z seats
-EndTraced plays.First s sh tracers z seats = TracersRan s sh tracers (z - 1) seats
-EndTraced plays.Later s sh tracers z seats = TracersRan s sh tracers (z - 1) seats ⊎ TracersRan s sh tracers z seats
+-- what the tracers did in a play that ended in season z, told by the logs of the seats at its end: each traced in each season whose warehouses had their turn
+pub record EndTraced (r : Ended) (s : Sections) (sh : Shape) (tracers z : ℕ) (seats : List HeapSeat) : Type 0 where
+  pub moved : ℕ
+  pub moved_is : HasMoved moved seats
+  pub ended : MovedBy r z moved
+  pub traced : TracersRan s sh tracers (turns_reached moved) seats

@@ -1,5 +1,5 @@
 -- The turns of a tracer, by its events: what comes after each read of the number of parts that were played.
-use Rattle.std.specs.Prelude.{ℕ, ◌≡◌, ◌<◌, ◌==◌, ◌&&◌, ◌||◌, if◌then◌else◌, List, [], ◌∷◌, ◌++◌, not, nat_le, Bool, true, false, Some, IsTrue}
+use Rattle.std.specs.Prelude.{ℕ, ◌≡◌, ◌<◌, ◌==◌, ◌&&◌, ◌||◌, if◌then◌else◌, List, [], ◌∷◌, ◌++◌, not, nat_le, nat_lt, Bool, true, false, Some, IsTrue}
 use Rattle.mark_core.specs.Numbers.{done_count}
 use Rattle.mark_core.specs.Bits.{has_flag}
 use Rattle.mark_core.specs.Effects.{seat_after}
@@ -20,6 +20,7 @@ use Rattle.gc_cycle.specs.Events.{never}
 use Rattle.gc_cycle.specs.Sorts.{enters, enters_freely, looks_at_phase, tries_marking}
 use Rattle.gc_cycle.specs.Sorts.{reads_phase as sees_phase}
 use Rattle.gc_cycle.specs.Statistics.{numbers_changed, tells}
+use Rattle.seat_turns.specs.Tending.{turn_quota}
 
 -- a read of the number of parts that were played
 abbrev pub is_read_of_done : Step → Bool
@@ -87,9 +88,9 @@ abbrev pub until_leave : List Entry → List Entry
 until_leave [] = []
 until_leave (e ∷ es) = if is_leave e.step then [] else e ∷ until_leave es
 
--- a cell was popped, or nothing was left in hand and there was no packet to read from
+-- as many cells were popped as a turn traces, or fewer, and at some moment nothing was left in hand and there was no packet to read from
 abbrev pub seat_traces_on : Shape → SeatState → List Entry → Bool
-seat_traces_on sh s es = some_event pops es || at_some_moment sh (finds_no_work sh) (record { state = s; deferring = [] }) es
+seat_traces_on sh s es = (count_of pops es == turn_quota) || (nat_lt (count_of pops es) turn_quota && at_some_moment sh (finds_no_work sh) (record { state = s; deferring = [] }) es)
 
 -- each time that the phase was read as Marking, it traced from there on
 abbrev pub seat_traces_where_marking : Shape → SeatState → List Entry → Bool

@@ -99,6 +99,7 @@ fn deal<'a>(
     requires seats { Numbered (IsNewSeatOfPlay heap.now script.now.sections) 1 seats.old.items }
     requires enough { length script.now.sections.warehouses ≤ vec_len seats.old }
     ensures some { OnOk result (0 < vec_len workers.new) }
+    ensures same { OnOk result (vec_len workers.new ≡ vec_len workers.old) }
     ensures dealt { OnOk result (IsDealt (vec_len workers.new) (length script.now.sections.warehouses) workers.new.items) }
     ensures played { OnOk result (EachOne (StandsAt heap.now script.now.sections 0) workers.new.items) }
     ensures going { OnOk result (All (λ x. x.full ≡ false) workers.new.items) }
@@ -115,7 +116,7 @@ fn deal<'a>(
     Ok(())
 }
 
-/// All seats of a heap, dealt out, with the memory that playing needs.
+/// All seats of a heap, dealt out to so many workers, with the memory that playing needs.
 pub(crate) fn muster<'a>(
     alloc: Global,
     heap: &Heap,
@@ -127,6 +128,7 @@ pub(crate) fn muster<'a>(
     requires seats { Numbered (IsNewSeatOfPlay heap.now script.now.sections) 0 seats.items }
     requires enough { 1 + length script.now.sections.warehouses ≤ vec_len seats }
     ensures crew { IfOk result (IsCrew heap.now script.now.sections 0 0) }
+    ensures workers { IfOk result (λ c. vec_len c.workers ≡ workers) }
     ensures tracers { IfOk result (λ c. vec_len c.tracers + (1 + length script.now.sections.warehouses) ≡ vec_len seats) }
     ensures new { IfOk result (λ c. Numbered (IsNewSeatOfPlay heap.now script.now.sections) (1 + length script.now.sections.warehouses) c.tracers.items) }
 {

@@ -1,7 +1,7 @@
-ghost use Rattle.std.specs.Prelude.{◌≡◌, ◌+◌, ◌%◌, ◌<◌, ◌≤◌, [], ◌∷◌, IfOk, OnOk, length, vec_len};
+ghost use Rattle.std.specs.Prelude.{◌≡◌, ◌+◌, ◌%◌, ◌<◌, ◌≤◌, [], ◌∷◌, IfOk, OnOk, length, slice_index_or, vec_len};
 ghost use Rattle.plain_heap.specs.Sections.{seasons};
 ghost use Rattle.gc_play.specs.declared.season.Ended.TheVariants as ends;
-ghost use Rattle.gc_play.specs.Crews.{AreAfter, AreLeftBy, AreSaid, AreTracers, WarehouseEndsAt, HandsOver, IsSeatLeftBy, Numbered, PlayEnds, SomeKnows, SomeSeatKnows};
+ghost use Rattle.gc_play.specs.Crews.{AreAfter, AreLeftBy, AreSaid, AreTracers, WarehouseEndsAt, HandsOver, IsSeatLeftBy, Numbered, PlayEnds, SomeKnows, SomeSeatKnows, seat_in};
 ghost use Rattle.gc_play.specs.Dealing.{EachOne, IsDealt, TakesLast, seat_number};
 
 use crate::crew::{Catalogue, Crew};
@@ -121,6 +121,7 @@ pub(crate) fn put_away<'a>(
     requires parts { parts.items ≡ [] }
     ensures left { IfOk result (λ r. AreLeftBy ended heap.now script.now.sections season r.0.items r.1.items) }
     ensures count { IfOk result (λ r. vec_len r.0 ≡ vec_len crew.entry.tracers + (1 + length script.now.sections.warehouses)) }
+    ensures first { IfOk result (λ r. (d : HeapSeat) → slice_index_or r.0.items 0 d ≡ seat_in crew.entry.catalogue) }
     ensures tracers { IfOk result (λ r. AreAfter (1 + length script.now.sections.warehouses) crew.entry.tracers.items r.0.items) }
 {
     let Crew {

@@ -4,10 +4,10 @@ ghost use Rattle.plain_heap.specs.Sections.{seasons};
 ghost use Rattle.mark_core.specs.Shapes.{IsShape};
 ghost use Rattle.play_end.specs.Answers.{AreInRange, PlayAnswers};
 ghost use Rattle.gc_play.specs.declared.season.Ended.TheVariants as ends;
-ghost use Rattle.gc_play.specs.Crews.{AreLeftBy, IsCrew, IsMadeForScript, IsNewSeatOfPlay, Numbered, PlayEnds};
+ghost use Rattle.gc_play.specs.Crews.{AreLeftBy, IsCrew, IsMadeForScript, IsNewSeatOfPlay, Numbered, PlayEnds, own_of};
 ghost use Rattle.gc_play.specs.Answers.{EndsIn, FinalAnswers, FinalEnds};
 ghost use Rattle.gc_play.specs.Options.{IsPlayable, shape_for};
-ghost use Rattle.gc_play.specs.Traced.{EndTraced, PlayTraced};
+ghost use Rattle.gc_play.specs.Traced.{EndTraced, SeasonsTraced, turns_reached};
 
 use crate::crew::{Crew, muster};
 use crate::gathering::put_away;
@@ -91,7 +91,7 @@ fn play_seasons<'a, R: Threads + Wait + Sync, G: Gate + Sync>(
     ensures ends { PlayEnds result.0 heap.now script.now.sections result.1 crew.new }
     ensures season { 1 ≤ result.1 }
     ensures all { result.0 ≡ ends.Done → result.1 ≡ seasons script.now.sections }
-    ensures traced { PlayTraced result.0 heap.now script.now.sections result.1 crew.old.tracers.items crew.new.tracers.items }
+    ensures traced { SeasonsTraced heap.now script.now.sections (turns_reached (own_of crew.new.catalogue).seasons) crew.old.tracers.items crew.new.tracers.items }
 {
     let sections = count_sections(script);
     let all = script.seasons();
@@ -144,6 +144,7 @@ fn prepare<'a>(
     requires script { IsPlayable script.now.sections }
     ensures shape { IfOk result (λ r. r.0.shape ≡ shape_for options.now script.now.sections) }
     ensures crew { IfOk result (λ r. IsCrew r.0 script.now.sections 0 0 r.1) }
+    ensures workers { IfOk result (λ r. vec_len r.1.workers ≡ options.now.workers) }
     ensures parts { IfOk result (λ r. r.2.items ≡ []) }
     ensures tracers { IfOk result (λ r. (vec_len r.1.tracers ≡ options.now.tracers) × Numbered (IsNewSeatOfPlay r.0 script.now.sections) (1 + length script.now.sections.warehouses) r.1.tracers.items) }
 {

@@ -4,7 +4,7 @@ ghost use Rattle.gc_table.specs.Seats.{Sits, view_of};
 ghost use Rattle.gc_cycle.specs.Standing.{IsOut};
 ghost use Rattle.warehouse.specs.Ending.{PlaySettles};
 ghost use Rattle.warehouse.specs.Turns.{MayTurnSeason, TurnEnds};
-ghost use Rattle.gc_play.specs.Crews.{AreTracers, CatalogueAt, CatalogueEnds, CatalogueStarts, CrewEnds, IsAnyTracer, IsCrew, LeavesCatalogue, SeasonTurnEnds, seat_in};
+ghost use Rattle.gc_play.specs.Crews.{AreTracers, CatalogueAt, CatalogueEnds, CatalogueStarts, CrewEnds, IsAnyTracer, IsCrew, LeavesCatalogue, SeasonTurnEnds, own_of, seat_in};
 ghost use Rattle.gc_play.specs.Dealing.{EachOne, SameShares, ShareEnds, StandsAt};
 ghost use Rattle.gc_play.specs.Options.{IsPlayable};
 ghost use Rattle.gc_play.specs.Traced.{AllTracedUntil, SeasonTraced, parts_by};
@@ -141,6 +141,7 @@ pub(crate) fn settle<'a, R: Threads + Wait + Sync>(
     requires seat { Sits heap.now (seat_in catalogue.old) × IsOut (view_of (seat_in catalogue.old)) }
     requires turn { MayTurnSeason (view_of (seat_in catalogue.old)) }
     ensures leaves { LeavesCatalogue heap.now catalogue.old catalogue.new }
+    ensures ends { TurnEnds result (view_of (seat_in catalogue.old)) (view_of (seat_in catalogue.new)) }
     ensures settles { PlaySettles result (view_of (seat_in catalogue.old)) (view_of (seat_in catalogue.new)) }
 {
     match catalogue {
@@ -181,7 +182,7 @@ pub(crate) fn play_season<'a, R: Threads + Wait + Sync, G: Gate + Sync>(
     requires script { IsPlayable script.now.sections }
     requires before { IsCrew heap.now script.now.sections (season - 1) (2 * (season - 1) - 1) crew.old }
     ensures ends { CrewEnds result heap.now script.now.sections season crew.new }
-    ensures traced { SeasonTraced result heap.now script.now.sections season crew.old.tracers.items crew.new.tracers.items }
+    ensures traced { SeasonTraced heap.now script.now.sections season (own_of crew.new.catalogue).seasons crew.old.tracers.items crew.new.tracers.items }
 {
     if let Played::Full = begin_season(rt, heap, script, &mut crew.catalogue, season) {
         return Ended::First;

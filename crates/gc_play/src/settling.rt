@@ -13,7 +13,7 @@ pub fn settle<K: Sink + Drop>(status: u8, sink: GatheredSink<K>) -> (u8, K)
     ensures whole { result.0 ≢ 5 → Keeps sink.bytes (K.written result.1) × (K.faults result.1 ≡ sink.faults) }
     ensures fault { status ≢ 5 → result.0 ≡ 5 → Rose sink.faults (K.faults result.1) }
     ensures prefix { IfSome sink.bytes (λ all. IfSome (K.written result.1) (λ handed. StartsWith all handed)) }
-    ensures stopped { status ≡ 5 → K.written result.1 ≡ sink.handed }
+    ensures stopped { status ≡ 5 → (K.written result.1 ≡ sink.handed) × (K.faults result.1 ≡ sink.faults) }
 {
     let failed = Status::WriteFault.code();
     if status == failed {

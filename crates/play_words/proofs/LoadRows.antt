@@ -1,12 +1,12 @@
 -- Generated scripts that are played, with their five lines.
-use Rattle.std.proofs.Common.{refl, codes, false, ◌≡◌, ℕ, List, [], sym, subst, inl, Bool, true, ◌∷◌, arith}
+use Rattle.std.proofs.Common.{refl, codes, false, ◌≡◌, ℕ, List, [], sym, subst, inl, Bool, true}
 use Rattle.std.specs.Fmt.{digits}
 use Rattle.play_report.specs.Text.{named_text, report_text, outcomes, fault_text, load_text, IsReportText}
 use Rattle.command_words.specs.Words.{Options}
 use Rattle.play_words.specs.Loading.{IsLoadAnswer, LoadsTo}
-use Rattle.std.specs.Prelude.{Result, Ok, Err, None, MatchBool, slice_index_or}
-use Rattle.plain_heap.specs.Sections.{Sections, Execution, part_of}
-use Rattle.plain_heap.specs.PlainRun.{last_heaps, heaps_at}
+use Rattle.std.specs.Prelude.{Result, Ok, Err, None, MatchBool}
+use Rattle.plain_heap.specs.Sections.{Sections}
+use Rattle.plain_heap.specs.PlainRun.{last_heaps}
 use Rattle.play_report.specs.Order.{IsPlaced}
 use Rattle.plain_heap.proofs.Found.{Witness, are_found, survivors_of, found}
 use Rattle.plain_heap.proofs.Search.{searched}
@@ -14,8 +14,6 @@ use Rattle.gc_script.specs.Faults.{Fault, BadHeader}
 use Rattle.gc_script.specs.Script.{Script, script}
 use Rattle.load_gen.specs.Generated.{generated}
 use Rattle.gc_play.specs.RunAnswers.{IsRunAnswer, PlaysTo}
-use Rattle.plain_heap.specs.declared.operation.Op.TheVariants as ops
-use Rattle.play_end.proofs.FreeCells.{cells-free}
 use Rattle.gc_play.specs.Promise.{OfRead}
 
 -- What shows an answer of `run`.
@@ -74,34 +72,6 @@ loaded o rounds number size text ok test written = subst (λ (r : Result Script 
     written = written;
   },
 ))
-
--- Places that are not legal: a new object would take the cell of one that is still reachable.
-abbrev next_of : Sections → ℕ → ℕ → ℕ → Execution
-next_of s w z place = slice_index_or (part_of s w z) place (record { line = 0; label = []; op = ops.Collect })
-
--- the variable still refers to its old object
-abbrev twice : Sections
-twice = sections_in (script (codes "gcscript 1\nwarehouse\nnew x 1\nnew x 2\n"))
-
-old_counts : IsPlaced twice 64 ([] ∷ (0 ∷ 0 ∷ []) ∷ []) → ⊥
-old_counts p = cells-free twice 64 ([] ∷ (0 ∷ 0 ∷ []) ∷ []) p 1 1 1 (next_of twice 1 1 1) (omega arith) (record { season = omega arith; place = 1; before = refl; there = refl }) tt
-    (record { section = 1; number = 0 }) 0 (((found (heaps_at twice 1 1 1) (searched (heaps_at twice 1 1 1) 2) refl).reachable.each (record { section = 1; number = 0 })).0 (0, omega arith, refl)) refl refl
-
--- an object of the catalogue that a warehouse holds since the season before
-abbrev held : Sections
-held = sections_in (script (codes "gcscript 3\nfields 1\ncatalogue\nnew a 1\nseason\nnil a\nnew a 2\nwarehouse\ncat k a\n"))
-
-held_counts : IsPlaced held 64 ((0 ∷ 0 ∷ []) ∷ [] ∷ []) → ⊥
-held_counts p = cells-free held 64 ((0 ∷ 0 ∷ []) ∷ [] ∷ []) p 0 2 2 (next_of held 0 2 1) (omega arith) (record { season = omega arith; place = 1; before = refl; there = refl }) tt
-    (record { section = 0; number = 0 }) 0 (((found (heaps_at held 0 2 2) (searched (heaps_at held 0 2 2) 2) refl).reachable.each (record { section = 0; number = 0 })).0 (0, omega arith, refl)) refl refl
-
--- an object of the catalogue and one of a warehouse, which both live when the warehouse says their values
-abbrev shared : Sections
-shared = sections_in (script (codes "gcscript 1\ncatalogue\nnew item 40\nwarehouse\ncat i item\nnew o 1\nsay a i\nsay b o\nnil o\n"))
-
-shared_counts : IsPlaced shared 64 ((0 ∷ []) ∷ (0 ∷ []) ∷ []) → ⊥
-shared_counts p = cells-free shared 64 ((0 ∷ []) ∷ (0 ∷ []) ∷ []) p 1 1 1 (next_of shared 1 1 1) (omega arith) (record { season = omega arith; place = 1; before = refl; there = refl }) tt
-    (record { section = 0; number = 0 }) 0 (((found (heaps_at shared 1 1 1) (searched (heaps_at shared 1 1 1) 2) refl).reachable.each (record { section = 0; number = 0 })).0 (0, omega arith, refl)) refl refl
 
 abbrev usual : Options
 usual = record { cells = 4096; workers = 4; tracers = 1; packets = 64; entries = 32; place = false }

@@ -48,6 +48,20 @@ module _ (reads reads_now : ℕ) (old new : Option (List ℕ)) (before now : ℕ
   pub wrote : (A : ℕ → List ℕ → Type 0) (status : Status) (n : ℕ) → n ≡ number_of_status status → CommandEnds A status reads reads_now old new before now → Wrote A n old new
   wrote A status n is h = record { whole = text_written A status n is h; front = λ five. front_at A status h (sym is ∙ five) }
 
+  stays_at : (A : ℕ → List ℕ → Type 0) (status : Status) → CommandEnds A status reads reads_now old new before now → (number_of_status status ≡ 5 → ⊥) → now ≡ before
+  stays_at A ends.Done h n = h.0.1
+  stays_at A ends.Usage h n = h.0.1
+  stays_at A ends.InputFault h n = h.0.1
+  stays_at A ends.Full h n = h.0.1
+  stays_at A ends.ReadFault h n = h.1
+  stays_at A ends.WriteFault h n = absurd (n refl)
+  stays_at A ends.Memory h n = h.0.1
+  stays_at A ends.Refused h n = h.0.1
+
+  -- the sink's count rises with the status 5 alone
+  pub count_stays : (A : ℕ → List ℕ → Type 0) (status : Status) (n : ℕ) → n ≡ number_of_status status → CommandEnds A status reads reads_now old new before now → (n ≡ 5 → ⊥) → now ≡ before
+  count_stays A status n is h other = stays_at A status h (λ five. other (is ∙ five))
+
   module _ (asked : Option Command) (left : Option (List ℕ)) where
     -- of the command that was asked for
     pub wrote_as : (status : Status) (n : ℕ) → n ≡ number_of_status status → CommandEnds (IsAnswer asked left) status reads reads_now old new before now

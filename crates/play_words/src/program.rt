@@ -128,9 +128,10 @@ pub fn play_words<R: Threads + Wait + Sync, S: Source, K: Sink, G: Gate + Sync>(
     ensures read_rose { S.faults source.old < S.faults source.new → (result ≡ 4) ⊎ (result ≡ 6) }
     ensures silent { (result ≡ 4) ⊎ (result ≡ 6) → Keeps (K.written sink.old) (K.written sink.new) }
 
-    // A write fault comes exactly if the sink's count rose.
+    // A write fault comes exactly if the sink's count rose, and else that count stays.
     ensures write_fault { result ≡ 5 → K.faults sink.old < K.faults sink.new }
     ensures write_rose { K.faults sink.old < K.faults sink.new → result ≡ 5 }
+    ensures write_stays { result ≢ 5 → K.faults sink.new ≡ K.faults sink.old }
 
     // 3 doesn't come if the cells are more than may be reachable at once.
     ensures roomy { result ≡ 3 → (s : Sections) (cells : ℕ) → PlaysIn (wanted (map string_bytes words.now)) (S.left source.old) s cells → AreFew s cells }

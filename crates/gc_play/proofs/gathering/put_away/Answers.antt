@@ -1,4 +1,4 @@
-use Rattle.std.proofs.Common.{ℕ, ◌∷◌, length, ap, sym, subst, add_comm, arith}
+use Rattle.std.proofs.Common.{ℕ, ◌∷◌, List, length, get_or, ap, sym, ◌∙◌, subst, add_comm, arith}
 use Rattle.play_report.specs.declared.report.Part.{Part}
 use Rattle.gc_table.specs.declared.seat.HeapSeat.{HeapSeat}
 use Rattle.gc_play.specs.Crews.{AreAfter, AreSaid, IsSeatLeftBy, KnowsEnd, Numbered, SettlesEnd}
@@ -37,3 +37,8 @@ returns-in-Ok-hand_over-clause-tracers c =
     let n = length c.args.script.now.sections.warehouses in
     subst (λ k. AreAfter k c.args.crew.tracers.items c.hand_over.new.seats.items) (add_comm n 1)
     (one-before c.hand_catalogue-first.result.0 n c.args.crew.tracers.items c.gather.new.seats.items c.hand_over.new.seats.items c.in-Ok.ensures.tracers c.in-Ok-hand_over.ensures.seats)
+
+pub returns-in-Ok-hand_over-clause-first : goal.returns-in-Ok-hand_over-clause-first
+returns-in-Ok-hand_over-clause-first c d =
+    let o = c.hand_catalogue-first.result in
+    ap (λ (l : List HeapSeat). get_or l 0 d) c.in-Ok-hand_over.ensures.seats ∙ sym (handed-seat c.args.crew.catalogue o.0 o.1.items o.2.items o.3 c.hand_catalogue-first.ensures)

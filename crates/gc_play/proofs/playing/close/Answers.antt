@@ -1,11 +1,9 @@
-use Rattle.std.proofs.Common.{ℕ, ◌≢◌, ◌-◌, ◌⊎◌, inl, List, refl, subst, arith}
-use Rattle.mark_core.specs.declared.kinds.Shape.{Shape}
-use Rattle.plain_heap.specs.Sections.{Sections}
-use Rattle.gc_table.specs.declared.seat.HeapSeat.{HeapSeat}
+use Rattle.std.proofs.Common.{ℕ, ◌≡◌, ◌≢◌, ◌+◌, ◌-◌, ◌*◌, ◌/◌, ◌≤◌, refl, subst, arith}
+use Rattle.plain_heap.specs.Sections.{seasons}
 use Rattle.gc_play.specs.declared.season.Ended.{Ended}
 use Rattle.gc_play.specs.declared.season.Ended.TheVariants.{Done, First, Later}
 use Rattle.gc_play.specs.Crews.{AreSaid, IsSeatLeftBy, Numbered, SettlesEnd}
-use Rattle.gc_play.specs.Traced.{EndTraced, TracersRan}
+use Rattle.gc_play.specs.Traced.{MovedBy, TracersRan}
 use Rattle.gc_play.proofs.Ending.{all-played, are-parts, are-ready, are-seated, have-stopped, some-knows}
 use Rattle.gc_play.proofs.playing.close.Goals as goal
 
@@ -42,13 +40,15 @@ returns-in-Ok-clause-ends c tracers z l traced =
     let xs = c.args.seats.items in
     let all = l.all c.in-Done.is in
     let left : Numbered (IsSeatLeftBy Done h s z) 0 xs = subst (λ r. Numbered (IsSeatLeftBy r h s z) 0 xs) c.in-Done.is l.left in
+    let twice : traced.moved ≡ 2 * z = subst (λ r. MovedBy r z traced.moved) c.in-Done.is traced.ended in
+    let turns : (traced.moved + 1) / 2 ≡ seasons s = omega (arith, twice, all) in
     record {
       seats = xs;
       closed = record { end = c.in-Ok.ensures.words; made = are-seated Done h s z xs c.requires.made left };
       played = all-played h s z xs c.requires.made left all (subst (λ r. SettlesEnd r xs) c.in-Done.is l.settles);
       parts = c.in-Ok.ensures.parts;
       held = c.in-Ok.ensures.held;
-      traced = subst (λ n. TracersRan s h.shape tracers n xs) all (subst (λ r. EndTraced r s h.shape tracers z xs) c.in-Done.is traced);
+      traced = subst (λ n. TracersRan s h.shape tracers n xs) turns traced.traced;
     }
 
 pub close_full-requires : goal.close_full-requires
@@ -67,11 +67,11 @@ close_full-requires c =
       full = some-knows h s z xs c.requires.made r c.in_default.not-Done l.knows;
     }
 
--- the tracers of a play that came to no end
-stopped-traced : (r : Ended) (s : Sections) (sh : Shape) (tracers z : ℕ) (xs : List HeapSeat) → r ≢ Done → EndTraced r s sh tracers z xs → TracersRan s sh tracers (z - 1) xs ⊎ TracersRan s sh tracers z xs
-stopped-traced Done s sh tracers z xs n t = absurd (n refl)
-stopped-traced First s sh tracers z xs n t = inl t
-stopped-traced Later s sh tracers z xs n t = t
+-- how often a play that came to no end moved the season on
+stopped-moved : (r : Ended) (z moved : ℕ) → r ≢ Done → MovedBy r z moved → (2 * z - 3 ≤ moved) × (moved ≤ 2 * z - 1)
+stopped-moved Done z moved n e = absurd (n refl)
+stopped-moved First z moved n (least, most) = (least, omega (arith, most))
+stopped-moved Later z moved n (least, most) = (omega (arith, least), most)
 
 pub returns-in-Ok-close_full-clause-ends : goal.returns-in-Ok-close_full-clause-ends
 returns-in-Ok-close_full-clause-ends c tracers z l traced =
@@ -87,5 +87,8 @@ returns-in-Ok-close_full-clause-ends c tracers z l traced =
       closed = record { end = w.1; made = are-seated r h s z xs c.requires.made l.left };
       stopped = have-stopped h s z xs c.requires.made r c.in_default.not-Done l.season l.left;
       stored = w.2;
-      traced = stopped-traced r s h.shape tracers z xs c.in_default.not-Done traced;
+      moved = traced.moved;
+      moved_is = traced.moved_is;
+      within = stopped-moved r z traced.moved c.in_default.not-Done traced.ended;
+      traced = traced.traced;
     }

@@ -7,7 +7,7 @@ use Rattle.play_words.specs.Answers.{IsAnswer}
 use Rattle.gc_play.specs.Promise.{wanted, WritesSome}
 use Rattle.play_words.proofs.Meant.{done_run, full_run}
 use Rattle.play_words.proofs.Roomy.{full-few, load-fits}
-use Rattle.play_words.proofs.Statuses.{text_written, wrote_as, usage_comes, refused_comes, complete}
+use Rattle.play_words.proofs.Statuses.{count_stays, text_written, wrote_as, usage_comes, refused_comes, complete}
 use Rattle.play_words.proofs.program.play_words.Goals as goal
 
 pub returns-clause-run : goal.returns-clause-run
@@ -69,6 +69,11 @@ pub returns-clause-complete : goal.returns-clause-complete
 returns-clause-complete g c reads writes =
     complete _ _ (g.K.Sink.written c.args.sink.now) (g.K.Sink.written c.do_words.new.sink) _ _ (wanted (map string_bytes c.args.words.now)) (g.S.Source.left c.args.source.now)
     c.requires.source c.requires.sink reads writes c.do_words.result _ c.code.ensures c.do_words.ensures.ends
+
+pub returns-clause-write_stays : goal.returns-clause-write_stays
+returns-clause-write_stays g c =
+    count_stays _ _ (g.K.Sink.written c.args.sink.now) (g.K.Sink.written c.do_words.new.sink) _ _ (IsAnswer (wanted (map string_bytes c.args.words.now)) (g.S.Source.left c.args.source.now)) c.do_words.result _
+    c.code.ensures c.do_words.ensures.ends
 
 pub returns-clause-roomy : goal.returns-clause-roomy
 returns-clause-roomy g c three =
