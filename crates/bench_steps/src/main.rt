@@ -31,7 +31,7 @@ fn main(rt: HostRuntime) -> io::Result<()> {
     if words.is_empty() {
         return do_all(&rt);
     }
-    match asked_by(words.as_slice()) {
+    match asked_by(rt.alloc(), words.as_slice()) {
         Some(asked) => does(&rt, asked),
         None => println!(rt;
             "usage: bench_steps [table WORK ROUNDS | operations WORK ROUNDS | cycles CONTENT CELLS ROUNDS]"

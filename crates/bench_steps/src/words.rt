@@ -1,4 +1,11 @@
-use test_heaps::{named_rounds, rounds_of};
+use clap::{Arg, ArgAction, ArgMatches, Command};
+use std::alloc::{AllocError, Global};
+
+/// The words behind `table` and `operations`.
+const WORK: [&str; 2] = ["work", "rounds"];
+
+/// The words behind `cycles`.
+const COLLECTIONS: [&str; 3] = ["content", "cells", "rounds"];
 
 /// Works of typed steps.
 #[derive(Clone, Copy, Drop)]
@@ -179,34 +186,55 @@ fn size_named(name: &str) -> Option<Size> {
     }
 }
 
-fn steps_by(words: &[String]) -> Option<Asked> {
-    let (name, rounds) = named_rounds(words)?;
-    Some(Asked::Table(table_work(name)?, rounds))
+/// So many words, each with a name.
+fn program<'a>(alloc: Global, names: &[&'a str]) -> Result<Command<'a>, AllocError> {
+    let mut program = Command::new(alloc, "bench_steps")
+        .no_binary_name(true)
+        .disable_help_flag(true);
+    for name in names {
+        let word = Arg::new(alloc, *name).required(true).action(ArgAction::Set);
+        program = program.arg(word)?;
+    }
+    Ok(program)
 }
 
-fn operations_by(words: &[String]) -> Option<Asked> {
-    let (name, rounds) = named_rounds(words)?;
-    Some(Asked::Operations(operation_work(name)?, rounds))
+fn matches_of<'a>(alloc: Global, words: &'a [String], names: &[&'a str]) -> Option<ArgMatches<'a>> {
+    let program = program(alloc, names).ok()?;
+    program.try_get_matches_from(words).ok()
 }
 
-fn cycles_by(words: &[String]) -> Option<Asked> {
-    let [content, size, rounds] = words else {
-        return None;
-    };
+fn rounds_of(matches: &ArgMatches<'_>) -> Option<u64> {
+    matches.get_str("rounds")?.parse::<u64>().ok()
+}
+
+fn steps_by(alloc: Global, words: &[String]) -> Option<Asked> {
+    let matches = matches_of(alloc, words, WORK.as_slice())?;
+    let work = table_work(matches.get_str("work")?)?;
+    Some(Asked::Table(work, rounds_of(&matches)?))
+}
+
+fn operations_by(alloc: Global, words: &[String]) -> Option<Asked> {
+    let matches = matches_of(alloc, words, WORK.as_slice())?;
+    let work = operation_work(matches.get_str("work")?)?;
+    Some(Asked::Operations(work, rounds_of(&matches)?))
+}
+
+fn cycles_by(alloc: Global, words: &[String]) -> Option<Asked> {
+    let matches = matches_of(alloc, words, COLLECTIONS.as_slice())?;
     Some(Asked::Cycles(Collections {
-        content: content_named(content.as_str())?,
-        size: size_named(size.as_str())?,
-        rounds: rounds_of(rounds)?,
+        content: content_named(matches.get_str("content")?)?,
+        size: size_named(matches.get_str("cells")?)?,
+        rounds: rounds_of(&matches)?,
     }))
 }
 
-/// What the words ask for, if anything.
-pub fn asked_by(words: &[String]) -> Option<Asked> {
+/// What the words ask for. None if they ask for nothing, or memory ran out.
+pub fn asked_by(alloc: Global, words: &[String]) -> Option<Asked> {
     let (kind, others) = words.split_first()?;
     match kind.as_str() {
-        "table" => steps_by(others),
-        "operations" => operations_by(others),
-        "cycles" => cycles_by(others),
+        "table" => steps_by(alloc, others),
+        "operations" => operations_by(alloc, others),
+        "cycles" => cycles_by(alloc, others),
         _ => None,
     }
 }

@@ -15,19 +15,6 @@ pub fn command_words<R: Env + AllocGlobal>(rt: &R) -> io::Result<Vec<String>> {
     Ok(words)
 }
 
-/// How many rounds the word asks for, if any.
-pub fn rounds_of(word: &String) -> Option<u64> {
-    word.as_str().parse::<u64>().ok()
-}
-
-/// The name and the number of rounds that two words say, if any.
-pub fn named_rounds(words: &[String]) -> Option<(&str, u64)> {
-    let [name, rounds] = words else {
-        return None;
-    };
-    Some((name.as_str(), rounds_of(rounds)?))
-}
-
 /// Writes what was done this many times, or that it failed.
 pub fn report<R: Runtime>(rt: &R, name: &str, rounds: u64, is_done: bool) -> io::Result<()> {
     if is_done {

@@ -18,7 +18,7 @@ pub use checks::{
     is_marking, is_ready, marks_as_mutator, may_mutate, work_in_hand,
 };
 pub use closing::{close_one, leaves, opens, try_close};
-pub use command_line::{command_words, named_rounds, report, rounds_of};
+pub use command_line::{command_words, report};
 pub use draining::{begins_sweep, drained, drains, resets, scans_all};
 pub use ending::{end_clear, end_sweep};
 pub use marking::{sees_marking, try_marking};

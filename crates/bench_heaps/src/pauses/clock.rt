@@ -103,7 +103,7 @@ impl<'a, R: Clock> StopClock<'a, R> {
 
     /// It has ended.
     pub fn goes(&mut self) {
-        self.log.line.end_long(self.rt, Doing::Waiting);
+        self.log.line.end(self.rt, Doing::Waiting);
     }
 }
 
@@ -117,7 +117,7 @@ impl<'a, R: Clock> Watch for StopClock<'a, R> {
     }
 
     fn asks(&mut self) {
-        self.log.line.end_long(self.rt, Doing::Waiting);
+        self.log.line.end(self.rt, Doing::Waiting);
         self.asked = Instant::now(self.rt).ok();
     }
 

@@ -32,7 +32,7 @@ impl Marker {
         self.line.begin(rt);
         let turn = self.tracer.trace_turn(rt);
         if self.tracer.traced() == before {
-            self.line.end_long(rt, Doing::Tending);
+            self.line.end(rt, Doing::Tending);
             sleep(rt, Duration::from_micros(SLEEP));
         } else {
             self.line.end(rt, Doing::Tracing);

@@ -24,6 +24,7 @@ pub enum Doing {
 }
 
 impl Doing {
+    /// Its name.
     pub fn word(self) -> &'static str {
         match self {
             Doing::Paying => "paying",
@@ -31,6 +32,14 @@ impl Doing {
             Doing::Waiting => "waiting",
             Doing::Tracing => "tracing",
             Doing::Tending => "tending",
+        }
+    }
+
+    /// From how many nanoseconds on it is noted. In a shorter wait a mutator got a cache for nothing.
+    fn least(self) -> u64 {
+        match self {
+            Doing::Waiting | Doing::Tending => 100_000,
+            _ => 0,
         }
     }
 }
@@ -43,6 +52,7 @@ pub struct Interval {
     pub to: u64,
 }
 
+/// The intervals of one thread, in order.
 #[derive(Drop)]
 pub struct Timeline {
     /// When the run began. None if no intervals are asked for, and then no clock is read.
@@ -51,9 +61,6 @@ pub struct Timeline {
     pub from: u64,
     pub noted: Vec<Interval>,
 }
-
-/// A shorter call of which nothing was told isn't noted: in it a cache was got for nothing.
-const LONG: u64 = 100_000;
 
 impl Timeline {
     /// A line on which nothing is noted.
@@ -65,17 +72,8 @@ impl Timeline {
         }
     }
 
-    /// 0 if no intervals are asked for.
     fn now<R: Clock>(&self, rt: &R) -> u64 {
         nanos_since(rt, self.began).unwrap_or(0)
-    }
-
-    /// Notes what was done since the last interval.
-    fn note(&mut self, doing: Doing, to: u64) {
-        let from = self.from;
-        self.from = to;
-        // An interval that finds no memory isn't told.
-        let _kept = self.noted.push(Interval { doing, from, to });
     }
 
     /// An interval begins.
@@ -87,21 +85,14 @@ impl Timeline {
 
     /// The interval ends, in which this was done.
     pub fn end<R: Clock>(&mut self, rt: &R, doing: Doing) {
-        if self.began.is_some() {
-            let to = self.now(rt);
-            self.note(doing, to);
-        }
-    }
-
-    /// Ends the interval, and notes it if it was long.
-    pub fn end_long<R: Clock>(&mut self, rt: &R, doing: Doing) {
         if self.began.is_none() {
             return;
         }
-        let to = self.now(rt);
-        if to.saturating_sub(self.from) >= LONG {
-            self.note(doing, to);
-        }
+        let (from, to) = (self.from, self.now(rt));
         self.from = to;
+        if to.saturating_sub(from) >= doing.least() {
+            // An interval that finds no memory isn't told.
+            let _kept = self.noted.push(Interval { doing, from, to });
+        }
     }
 }

@@ -12,7 +12,7 @@ use std::thread::Threads;
 use std::time::Duration;
 
 /// How often a held job looks before it gives up, after each look asleep for a millisecond at most.
-const LOOKS: u64 = 5_000;
+const LOOKS: u64 = 40_000;
 
 /// Answers with the script itself, and counts plays and their jobs' numbers. It holds a job whose script is `0` until
 /// one whose script is `1` was played.
