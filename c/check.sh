@@ -1,7 +1,7 @@
 #!/bin/sh
-# Compiles the header by itself under each compiler that is there, installs the library into a folder of its own, builds by what pkg-config says two programs of
-# docs/EMBEDDING_C.md and examples/c/edges.c, has a file in C and one in C++ open worlds beside each other, and runs the tests of rust/managed_heap. It says what is
-# wrong, and at the end whether all is right.
+# Compiles the headers by themselves under each compiler that is there, installs the library into a folder of its own, builds by what pkg-config says two programs
+# of docs/EMBEDDING_C.md, one there in C++, examples/c/edges.c and the programs of examples/cpp, has a file in C and one in C++ open worlds beside each other, and
+# runs the tests of rust/managed_heap. It says what is wrong, and at the end whether all is right.
 #
 #     sh c/check.sh                the proved library
 #     LIBRARY=ARCHIVE sh c/check.sh
@@ -25,6 +25,8 @@ compile() {
 }
 for compiler in gcc clang; do for standard in c99 c11 gnu17; do compile $compiler $standard c; done; done
 for compiler in g++ clang++; do for standard in c++11 c++17; do compile $compiler $standard cpp; done; done
+printf '#include "managed_heap.hpp"\nint main() { mh::world w; mh::mutator m; return w.take(m) == mh::status::empty ? 0 : 1; }\n' >"$work/alone.cpp"
+for compiler in g++ clang++; do for standard in c++17 c++20; do compile $compiler $standard cpp; done; done
 
 sh "$top/c/install.sh" "$work/prefix" || fail "it isn't installed"
 export PKG_CONFIG_PATH="$work/prefix/lib/pkgconfig"
@@ -39,6 +41,14 @@ sed -n '/^### Weak references/,/^## Tracers/s/^    //p' "$top/docs/EMBEDDING_C.m
 cc -std=c99 -o "$work/weak" "$work/weak.c" $flags && [ "$("$work/weak")" = "object 0 is dead
 object 1 is alive" ] || fail "the program of docs/EMBEDDING_C.md with weak references"
 cc -std=c99 -o "$work/edges" -D_GNU_SOURCE -I "$top/examples/c" "$top/examples/c/edges.c" $flags && "$work/edges" || fail "the program at the edges"
+
+{
+    printf '#include "managed_heap.hpp"\n#include <stdio.h>\nint main() {\nmh_sizes sizes = {64, 1, 1, 0, 0, 0, 0};\n'
+    sed -n '/^## From C++/,/^## Tracers/s/^    //p' "$top/docs/EMBEDDING_C.md" | grep -v '^#include'
+    printf 'uint32_t value = 0;\nmh::must(list.value(value));\nprintf("%%u\\n", (unsigned)value);\nreturn 0;\n}\n'
+} >"$work/from.cpp"
+c++ -std=c++17 -o "$work/from" "$work/from.cpp" $flags && [ "$("$work/from")" = 9 ] || fail "the program of docs/EMBEDDING_C.md in C++"
+PREFIX="$work/prefix" sh "$top/examples/cpp/run.sh" --quick || fail "the programs in C++"
 
 # Worlds that files of a program open without names have names apart.
 cat >"$work/one.c" <<'END'

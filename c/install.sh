@@ -1,5 +1,5 @@
 #!/bin/sh
-# Installs the header, the library and what pkg-config reads:
+# Installs the headers, the library and what pkg-config reads:
 #
 #     sh c/install.sh PREFIX
 #     cc program.c $(PKG_CONFIG_PATH=PREFIX/lib/pkgconfig pkg-config --cflags --libs managed_heap)
@@ -27,7 +27,7 @@ if ! nm "$work/one.a" 2>/dev/null | grep -q ' T rattle_alloc$'; then
     (cd "$work" && mkdir of_kit && cd of_kit && ar x "$kit/c/liblibc_c.a" && ar rs ../one.a ./*.o 2>/dev/null)
 fi
 cp "$work/one.a" "$to"
-cp "$top/c/include/managed_heap.h" "$prefix/include/"
+cp "$top/c/include/managed_heap.h" "$top/c/include/managed_heap.hpp" "$prefix/include/"
 cat >"$prefix/lib/pkgconfig/managed_heap.pc" <<END
 prefix=$prefix
 libdir=\${prefix}/lib
@@ -39,4 +39,4 @@ Version: $(sed -n 's/^#define MH_VERSION "\(.*\)"/\1/p' "$top/c/include/managed_
 Libs: -L\${libdir} -lmanaged_heap -lpthread
 Cflags: -I\${includedir}
 END
-echo "installed: $prefix/include/managed_heap.h, $to and $prefix/lib/pkgconfig/managed_heap.pc"
+echo "installed: $prefix/include/managed_heap.h and managed_heap.hpp, $to and $prefix/lib/pkgconfig/managed_heap.pc"

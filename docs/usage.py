@@ -36,6 +36,7 @@ def main():
     options = [option(*row) for row in rows_of(PAGE, "Option", "Range", "Without it")]
     print("usage: ./play SCRIPT [OPTIONS]\n\nPlays a script of mutations on a heap that collects garbage. Options:")
     print_rows([it for it in options if it[0].split()[0][2:] in played], 16)
+    print_rows([("--trace", "writes a line for each cycle to standard error, by an unproved build; an option of ./play alone")], 16)
     print("\nOther commands are those of the program, crates/gcplay/out/gcplay; sh bench/unproved.sh gcplay FILE makes an unproved one:")
     for names, reads, writes in rows_of(PAGE, "Command", "Reads", "Writes"):
         print_rows([(plain(names), f"reads {plain(reads)}, writes {plain(writes)}")], 16)

@@ -31,4 +31,14 @@ for answer in examples/*.out; do
     if [ -e "examples/$name.args" ]; then options=$(cat "examples/$name.args"); fi
     look "$name" $status "$answer" "examples/$name.gc" $options
 done
+
+# With --trace each cycle is told besides. This script makes 40,001 objects in 4,096 cells and then collects, so there are nine cycles before the last, which is exact.
+if command -v cc >/dev/null; then
+    look traced 0 examples/collects.out examples/collects.gc --trace
+    awk -F '[ =]' '/^play: cycle=/ { n++; if ($3 != n) wrong = 1; exact = $NF } END { exit wrong || n < 10 || !exact }' "$work/traced.said" || {
+        echo "DIFFERS: the cycles of traced"
+        grep ^play: "$work/traced.said"
+        : >"$work/wrong"
+    }
+fi
 [ ! -e "$work/wrong" ]

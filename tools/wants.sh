@@ -30,6 +30,7 @@ what_is() {
         ar | nm | objcopy) echo "a tool for archives (Debian: binutils)" ;;
         pkg-config) echo "what tells a compiler where a library is (Debian: pkg-config)" ;;
         git) echo "what keeps the repository's history (Debian: git)" ;;
+        chromium) echo "a browser (Debian: chromium)" ;;
         cargo) echo "Rust, 1.65 or later (Debian: cargo)" ;;
         *) echo "a command that is run here" ;;
     esac

@@ -2,6 +2,7 @@
 through the functions of gc_table whose names end in _told. The counts stand in mh_steps_taken, a number for each kind of step, each thread's own.
 
     python3 bench/steps/count.py count FROM.ll TO.ll     the module that counts
+    python3 bench/steps/count.py calls FROM.ll TO.ll     the module that calls mh_step in front of each step, with it
     python3 bench/steps/count.py kinds KINDS.h           the kinds, in order, for C: an enum, and their names
 """
 import pathlib
@@ -18,6 +19,8 @@ COUNT = """  %step.kind = load i8, ptr {step}
   %step.after = add i64 %step.before, 1
   store i64 %step.after, ptr %step.at
 """
+CALLED = "declare void @mh_step(ptr)\n"
+CALL = "  call void @mh_step(ptr {step})\n"
 
 
 def kinds():
@@ -25,14 +28,14 @@ def kinds():
     return re.findall(r"^    ([A-Z]\w+)", text, re.M)
 
 
-def count(source, made):
+def put_in(source, made, head, body):
+    """Writes the module with this head, and this body in front of each step."""
     text = pathlib.Path(source).read_text()
     operations = {it[1] for it in TOLD.findall(text)}
-    wanted = set(re.findall(r"_told::<.*?>", text)) and {"load", "store", "swap", "fetch_add", "fetch_sub", "fetch_and", "fetch_or", "compare_exchange"}
-    if operations != wanted:
+    if operations != {"take", "store"}:
         sys.exit(f"steps: the operations of the table are {', '.join(sorted(operations))}")
     at = text.index("\ndefine ") + 1
-    text = TOLD.sub(lambda it: it[1] + COUNT.format(step=it[3]), text[:at] + COUNTS + text[at:])
+    text = TOLD.sub(lambda it: it[1] + body.format(step=it[3]), text[:at] + head + text[at:])
     pathlib.Path(made).write_text(text)
 
 
@@ -46,6 +49,8 @@ def tell(made):
 
 if __name__ == "__main__":
     if sys.argv[1] == "count":
-        count(*sys.argv[2:])
+        put_in(*sys.argv[2:], COUNTS, COUNT)
+    elif sys.argv[1] == "calls":
+        put_in(*sys.argv[2:], CALLED, CALL)
     else:
         tell(*sys.argv[2:])

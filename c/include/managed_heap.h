@@ -206,7 +206,7 @@ typedef struct mh_weak {
 /* Where a mutator stands: outside, inside, or between two steps of its collection. */
 enum {
     MH_AT_OUTSIDE = 0, MH_AT_INSIDE = 1, MH_AT_STOP = 2, MH_AT_ROOTS = 3, MH_AT_DRAIN = 4, MH_AT_LOOK = 5, MH_AT_CLEAN = 6, MH_AT_CLEAR = 7, MH_AT_SWEEP = 8,
-    MH_AT_COUNT = 9, MH_AT_END = 10, MH_AT_PART = 11
+    MH_AT_COUNT = 9, MH_AT_END = 10, MH_AT_PART = 11, MH_AT_SHARE = 12, MH_AT_PASS = 13, MH_AT_EMPTY = 14, MH_AT_CLOSE = 15
 };
 
 /* What the library exports. Each takes a handle that isn't all zero: call the functions below. */
@@ -280,6 +280,8 @@ typedef struct mh_book {
     uint64_t began, asked, stopped, swept; /* when marking was first seen, and when it got so far */
     uint64_t traced, traced_before;  /* what all tracers have told, and had as the last cycle ended */
     uint64_t paid, paid_before;      /* and all mutators */
+    uint64_t cells;
+    uint64_t pressure, most_pressure; /* bytes told by mh_pressure since the last cycle, and how many bring a collection: 0 if none do */
 } mh_book;
 
 static inline uint64_t mh_noted(const uint64_t *number) { return __atomic_load_n(number, __ATOMIC_ACQUIRE); }
@@ -328,6 +330,7 @@ static inline void mh_write_cycle(mh_book *book, const mh_course *course, const 
     mh_note(&book->traced_before, traced);
     mh_note(&book->paid_before, paid);
     mh_note(&book->began, 0);
+    mh_note(&book->pressure, 0);
 }
 
 /* What is noted of a collection after a step of it, by the mutator that has the stop. */
@@ -398,6 +401,7 @@ static inline mh_status mh_open(const mh_sizes *sizes, mh_world *w) {
     if (!book) return MH_OUT_OF_MEMORY;
     book->watch = mh_now;
     book->slots = named.slots;
+    book->cells = named.cells;
 #ifdef MH_TRACED
     book->prints = (uint32_t)mh_is_traced();
 #endif
@@ -476,6 +480,22 @@ static inline mh_status mh_read_cycle(const mh_book *book, mh_cycle *cycle) {
 }
 /* The last cycle that has ended; MH_NOT_YET if none has, and nothing is written. Any thread may ask, while the world is open. */
 static inline mh_status mh_last_cycle(const mh_world *w, mh_cycle *cycle) { return w->book ? mh_read_cycle(w->book, cycle) : MH_GIVEN_BACK; }
+
+/* How full the world is: how many of 100 cells were in use as the last cycle ended, rounded up. What was garbage then counts too unless the cycle was exact.
+   MH_NOT_YET if none has ended, and nothing is written. It takes no step. Any thread may ask, while the world is open. */
+static inline mh_status mh_percent_kept(const mh_world *w, uint32_t *percent) {
+    mh_cycle cycle;
+    mh_status s = mh_last_cycle(w, &cycle);
+    if (s == MH_OK) *percent = (uint32_t)((cycle.kept * 100u + w->book->cells - 1u) / w->book->cells);
+    return s;
+}
+
+/* So many bytes, told by mh_pressure since the last cycle ended, bring a collection; 0, as at first: none do. Any thread may set it, while the world is open. */
+static inline mh_status mh_limit_pressure(mh_world *w, uint64_t bytes) {
+    if (!w->book) return MH_GIVEN_BACK;
+    mh_note(&w->book->most_pressure, bytes);
+    return MH_OK;
+}
 
 /* From now on the sink is called with each cycle that ends, once, by the thread that made the last step of its collection, in that call and after the world went
    on; no sink, and none is. It is set before the world's mutators are at work. Cycles that end one behind the other may be told beside each other or in another
@@ -723,7 +743,8 @@ static inline mh_status mh_safe_point(mh_mutator *m) {
 /* How many roots, objects, cards or blocks a step of mh_collect does. */
 enum { MH_STEP = 4096 };
 
-/* A collection, with rests while others are inside. `last` becomes how far it was before its last step: at MH_AT_END, unless another's collection came first. */
+/* A collection, with rests while others are inside, or help. `last` becomes how far it was before its last step: at MH_AT_END, unless another's collection came
+   first. */
 static inline mh_status mh_collect_once(mh_mutator *m, int precise, uint64_t why, mh_course *last) {
     uint32_t rests = 0, stopping;
     mh_status s;
@@ -731,6 +752,7 @@ static inline mh_status mh_collect_once(mh_mutator *m, int precise, uint64_t why
     while ((s = mh_step_for(m, precise, MH_STEP, why)) == MH_NOT_YET) {
         (void)MH_BY(m, mhl_course(m, last));
         if (mh_is_stopping(m, &stopping) == MH_OK && stopping) mh_rest(&rests);
+        else if (last->stage == MH_AT_PART || last->stage == MH_AT_CLOSE) sched_yield();
     }
     return s == MH_STOPPED ? mh_enter(m) : s;
 }
@@ -748,6 +770,16 @@ static inline mh_status mh_collect(mh_mutator *m) {
 static inline mh_status mh_finish(mh_mutator *m) {
     mh_course last;
     return mh_collect_once(m, 0, MH_ASKED, &last);
+}
+
+/* Tells that the program has allocated so many bytes beside the heap that it frees once an object is dead. If all that mutators told since the last cycle ended
+   are as many as mh_limit_pressure says, it makes an ordinary collection, whose end sets the count to 0. Then what died since its cycle began may be kept, and
+   the bytes beside it; if no cycle was marking, all is marked in the stop. Where it collects it is a safe point. MH_OUTSIDE: the bytes are counted, and a
+   collection is due, which a mutator inside makes. */
+static inline mh_status mh_pressure(mh_mutator *m, uint64_t bytes) {
+    uint64_t told = 0, most = 0;
+    mh_status s = MH_BY(m, (told = __atomic_add_fetch(&m->book->pressure, bytes, __ATOMIC_SEQ_CST), most = mh_noted(&m->book->most_pressure), MH_OK));
+    return s == MH_OK && most && told >= most ? mh_finish(m) : s;
 }
 
 /* How many collections of its own mh_make makes for one object, before it answers MH_NO_CELL. The first is ordinary, and the others are precise. */

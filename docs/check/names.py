@@ -41,7 +41,7 @@ def sources():
 
 FILES = sources()
 WORDS = {path: set(WORD.findall(read(path))) for path in FILES if path.endswith((".rt", ".antt", ".edit"))}
-ALL = set().union(*WORDS.values(), *(WORD.findall(read(path)) for path in glob.glob("examples/c/*.h") + glob.glob("c/include/*.h")))
+ALL = set().union(*WORDS.values(), *(WORD.findall(read(path)) for path in glob.glob("examples/c/*.h") + glob.glob("c/include/*.h*")))
 
 
 def words_of(path):

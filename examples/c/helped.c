@@ -31,9 +31,8 @@ static void check_list(mh_mutator *m, uint32_t length) {
     wrong("the end of the list", nil, 1);
 }
 
-/* Collects, with the helper after each step; how many of its steps did some of the sweep. */
-static uint32_t collect_helped(mh_mutator *m, mh_mutator *helper) {
-    uint32_t steps = 0;
+/* Collects, with the helper after each step, and counts those of its steps that marked, and those that swept. */
+static void collect_helped(mh_mutator *m, mh_mutator *helper, uint32_t *marked, uint32_t *swept) {
     mh_course course;
     mh_status s;
     MUST_BE(MH_NO_HELP, mh_help_step(helper, 1));
@@ -41,12 +40,10 @@ static uint32_t collect_helped(mh_mutator *m, mh_mutator *helper) {
         MUST(mhl_course(m, &course));
         MUST_BE(MH_COLLECTING, mh_help_step(m, 1));
         MUST_BE(MH_STOPPED, mh_enter_step(helper));
-        while (mh_help_step(helper, 1) == MH_OK)
-            if (course.stage == MH_AT_SWEEP) steps++;
+        while (mh_help_step(helper, 1) == MH_OK) ++*(course.stage == MH_AT_SWEEP ? swept : marked);
     }
     must(s, MH_OK, "mh_collect_step", __FILE__, __LINE__);
     MUST_BE(MH_NO_HELP, mh_help_step(helper, 1));
-    return steps;
 }
 
 int main(int count_of, char **words) {
@@ -55,7 +52,7 @@ int main(int count_of, char **words) {
     mh_sizes sizes = {.fields = 1, .mutators = 2};
     mh_cycle c;
     mh_numbers numbers;
-    uint32_t length = number(count_of, words, 1, 1000), cells = number(count_of, words, 2, 16384), steps;
+    uint32_t length = number(count_of, words, 1, 1000), cells = number(count_of, words, 2, 16384), marked = 0, swept = 0;
     sizes.cells = cells;
     MUST(mh_open(&sizes, &world));
     MUST(mh_take_mutator(&world, &m));
@@ -64,8 +61,9 @@ int main(int count_of, char **words) {
     make_list(&m, length);
     MUST_BE(MH_OUT_OF_RANGE, mh_help_step(&helper, 0));
     MUST_BE(MH_INSIDE, mh_help_step(&m, 1));
-    steps = collect_helped(&m, &helper);
-    if (!steps) wrong("the steps that the helper swept", 0, 1);
+    collect_helped(&m, &helper, &marked, &swept);
+    if (!marked) wrong("the steps that the helper marked", 0, 1);
+    if (!swept) wrong("the steps that the helper swept", 0, 1);
     MUST(mh_last_cycle(&world, &c));
     wrong("the cells in use", c.kept, length);
     if (c.freed >= length) wrong("the cells that the collecting mutator freed", c.freed, 0);
@@ -78,6 +76,7 @@ int main(int count_of, char **words) {
     MUST_BE(MH_GIVEN_BACK, mh_help_step(&helper, 1));
     MUST(mh_give_back(&world, &m));
     MUST(mh_close(&world));
-    printf("%-13s %-12s %u objects kept in %u cells, by a collection of which another mutator swept %u steps\n", "helped", COLLECTOR, length, cells, steps);
+    printf("%-13s %-12s %u objects kept in %u cells, by a collection that another mutator helped: %u steps of marking, %u of the sweep\n", "helped", COLLECTOR, length, cells,
+           marked, swept);
     return 0;
 }

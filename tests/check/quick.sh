@@ -28,6 +28,7 @@ part "an unproved program and library" compile
 export LIBRARY
 part "./play" sh tests/examples.sh "$work/clone"
 part "./schedules" "$work/clone/schedules"
+needs chromium "tests/page.py" python3 tests/page.py
 part "tests/plays.py" env SCRIPTS=1 python3 tests/plays.py 1 "$program"
 part "tests/mutants.py" python3 tests/mutants.py 100 "$program"
 part "tests/words.py" python3 tests/words.py 30 "$program"

@@ -1,5 +1,6 @@
 # The parts of ./check. The gate says of each crate that it passed.
 gcplay=crates/gcplay/out/gcplay trees=crates/bench_heaps/out/bench_heaps library=crates/managed_heap_c/out/libmanaged_heap_c.a
+states=crates/schedule_states/out/schedule_states
 
 part "docs/check.sh" documents
 part "tests/shown.py" python3 tests/shown.py
@@ -16,6 +17,7 @@ fi
 
 needs "$gcplay" "./play" sh tests/examples.sh
 needs "$gcplay" "./schedules" ./schedules
+needs "$states chromium" "tests/page.py" python3 tests/page.py
 needs "$gcplay" "tests/plays.py" env SCRIPTS=1 python3 tests/plays.py 1
 needs "$gcplay" "tests/mutants.py" python3 tests/mutants.py 100
 needs "$gcplay" "tests/words.py" python3 tests/words.py 30
@@ -28,4 +30,5 @@ part "tests/wrong_bodies.py" python3 tests/wrong_bodies.py load_gen
 part "tests/embedding.sh" sh tests/embedding.sh
 part "tests/library.sh" sh tests/library.sh
 needs "$library cc" "examples/c/run.sh" sh examples/c/run.sh
+needs "$library cc" "examples/cpp/run.sh" sh examples/cpp/run.sh
 needs "$library cc" "examples/scheme/run.sh" sh examples/scheme/run.sh

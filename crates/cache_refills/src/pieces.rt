@@ -3,17 +3,20 @@
 //!
 //! `SeenBelow` says which blocks the pieces since block 0 saw without a free cell. Once that is each block, a
 //! collection is called for (`may_collect`).
-ghost use Rattle.std.specs.Prelude.{◌≡◌, ◌≤◌, None, Some, IfNone, IfSome, IsTrue, ◌+◌, ◌*◌, length};
+ghost use Rattle.std.specs.Prelude.{◌≡◌, ◌≤◌, None, Some, IfNone, IfSome, IsFalse, IsTrue, ◌+◌, ◌*◌, length};
 ghost use Rattle.mark_core.specs.Layout.{block_count};
 ghost use Rattle.gc_table.specs.Log.{events};
 ghost use Rattle.gc_table.specs.Running.{Ran};
 ghost use Rattle.gc_table.specs.Seats.{Across, did, Sits, state_of, view_of};
 ghost use Rattle.gc_table.specs.declared.view.View.{View};
+ghost use Rattle.packet_pools.specs.Seeking.{some_event};
 ghost use Rattle.cache_refills.specs.Getting.{RefillsTo};
 ghost use Rattle.gc_cycle.specs.Answering.{StoredAt, TellsFull};
 ghost use Rattle.cache_refills.specs.Pace.Pacing.{begins_where_due, card_looks};
+ghost use Rattle.cache_refills.specs.Pace.Paying.{pops_where_paid};
 ghost use Rattle.cache_refills.specs.Pieces.{ComesTo, IsShort, SeenBelow, SeesTo, refill_of};
 ghost use Rattle.cache_refills.specs.Refilling.{IsPaced};
+ghost use Rattle.gc_cycle.specs.Sorts.{pops};
 ghost use Rattle.gc_cycle.specs.Sparing.{SparesRefill};
 ghost use Rattle.gc_cycle.specs.Standing.{KeepsSeat, KeepsSection, Mutates};
 ghost use Rattle.gc_cycle.specs.Statistics.{RoundNumbers};
@@ -59,6 +62,8 @@ fn search_some(heap: &Heap, seat: &mut HeapSeat, done: u32, from: u32, most: u32
     ensures spares { IfSome (refill_of result) (λ r. Across (SparesRefill r) seat.old seat.new) }
     ensures none { IfNone (refill_of result) (Across GoesWithout seat.old seat.new) }
     ensures due { IsTrue (begins_where_due (did seat.old seat.new)) }
+    ensures pops { IsTrue (pops_where_paid (did seat.old seat.new)) }
+    ensures unpopped { IfNone (refill_of result) (IsFalse (some_event pops (did seat.old seat.new))) }
     ensures numbers { Across (RoundNumbers (refill_of result)) seat.old seat.new }
     ensures sees { Across (SeesTo from most result) seat.old seat.new }
     ensures calls { (u : View) → SeenBelow from u (view_of seat.old) → ComesTo result u (view_of seat.new) }
@@ -90,6 +95,8 @@ pub fn try_refill_some(heap: &Heap, seat: &mut HeapSeat, done: u32, from: u32, m
     ensures few { IsShort 5 most result (did seat.old seat.new) }
     ensures keeps { Across KeepsSeat seat.old seat.new × Across KeepsSection seat.old seat.new }
     ensures due { IsTrue (begins_where_due (did seat.old seat.new)) }
+    ensures pops { IsTrue (pops_where_paid (did seat.old seat.new)) }
+    ensures unpopped { IfNone (refill_of result) (IsFalse (some_event pops (did seat.old seat.new))) }
     ensures numbers { Across (RoundNumbers (refill_of result)) seat.old seat.new }
     ensures longest { length (did seat.old seat.new) ≤ 3 * most + 6 + payment_steps 1024 card_looks heap.now.shape }
 {

@@ -2,7 +2,7 @@
 ghost use Rattle.std.specs.Arc.{arc_value};
 ghost use Rattle.std.specs.Prelude.{◌≡◌, ◌⊎◌, IfErr, IfOk, IsFalse, IsTrue};
 ghost use Rattle.gc_table.specs.Seats.{Across};
-ghost use Rattle.managed_heap.specs.Calls.{heap_of};
+ghost use Rattle.managed_heap.specs.Calls.{LeavesFrom, heap_of};
 ghost use Rattle.mutator_ops.specs.Few.{AtMost};
 ghost use Rattle.managed_heap.specs.declared.mutator.Place.TheVariants as places;
 ghost use Rattle.seat_steps.specs.Handing.{IsNewStepper};
@@ -22,6 +22,7 @@ impl Mutator {
         ensures new { IsNewStepper result }
         ensures stops { result.in_stops ≡ self.in_stops }
         ensures rests { self.place ≡ places.Outside → result.seat ≡ self.seat }
+        ensures leaves { LeavesFrom self.place self.seat result.seat }
     {
         let mut mutator = self;
         mutator.leave();

@@ -30,6 +30,10 @@ number_of_stage stages.Sweeping = 8
 number_of_stage stages.Counting = 9
 number_of_stage stages.Ending = 10
 number_of_stage stages.Parting = 11
+number_of_stage stages.Sharing = 12
+number_of_stage stages.Passing = 13
+number_of_stage stages.Emptying = 14
+number_of_stage stages.Closing = 15
 
 -- how far the mutator's collection is: at the last stage the next step ends the cycle by these counts, as Finishes says
 abbrev pub course_of : Stepper → CCourse

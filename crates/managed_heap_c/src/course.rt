@@ -46,6 +46,10 @@ fn number_at(stage: Stage) -> u32
         Stage::Counting => 9,
         Stage::Ending => 10,
         Stage::Parting => 11,
+        Stage::Sharing => 12,
+        Stage::Passing => 13,
+        Stage::Emptying => 14,
+        Stage::Closing => 15,
     }
 }
 

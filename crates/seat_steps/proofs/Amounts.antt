@@ -21,8 +21,9 @@ use Rattle.mutator_ops.proofs.Few.{at-most-events, at-most-join}
 use Rattle.gc_cycle.specs.Answering.{retires}
 use Rattle.gc_cycle.specs.Courses.{TakesCourse, phase_stored}
 use Rattle.gc_cycle.specs.Events.{Sort, never}
-use Rattle.gc_cycle.specs.Finishing.{IsMove, IsPart}
+use Rattle.gc_cycle.specs.Finishing.{IsMove, IsOpenPart, IsPart}
 use Rattle.gc_cycle.specs.Pieces.{LooksAt, ReadsCount, CountsFrom, SeesRootsFrom}
+use Rattle.gc_cycle.specs.SharedSteps.{IsShared}
 use Rattle.gc_cycle.specs.Sorts.{draws_block, pops}
 use Rattle.gc_cycle.specs.Statistics.{changing_step}
 use Rattle.gc_cycle.specs.Stepping.{AsksOnce, FindsRunning, FindsStopped, IsAtRoots, IsOwner}
@@ -44,7 +45,7 @@ use Rattle.card_clean.specs.Drained.{roots_read, sees_roots}
 use Rattle.tracer.specs.StepBounds.{object_steps, recycle_steps, trace_steps, turn_steps}
 use Rattle.gc_cycle.proofs.Changes.{part-unpopped}
 use Rattle.seat_steps.specs.Passes.{SeesRoots}
-use Rattle.seat_steps.proofs.Undrawn.{IsApart, all_apart, alone-apart, course-draws-none, part-draws-none}
+use Rattle.seat_steps.proofs.Undrawn.{IsApart, all_apart, alone-apart, course-draws-none, open-apart, part-draws-none, stays-draws-none}
 
 -- one, if it is so
 abbrev bit : Bool → ℕ
@@ -179,6 +180,13 @@ drain-draws-none v w p o a = part-draws-none Drain v w p (alone-apart Drain v re
 
 pub drain-few : (k : ℕ) (v w : View) → never pops (events v w) ≡ true → IsPart Drain v w → IsOwner v → Alone Drain v → AtMost k v w → DoesFew k v w
 drain-few k v w n p o a few = ((unpopped v w n, drain-draws-none v w p o a), few)
+
+-- nor does what is done beside helpers
+pub shared-draws-none : (v w : View) → IsOpenPart Drain v w → IsShared Drain v → DrawsNone v w
+shared-draws-none v w p s = stays-draws-none Drain v w p.ran p.only (open-apart v s.owner.unhelping s.opened)
+
+pub shared-few : (k : ℕ) (v w : View) → never pops (events v w) ≡ true → IsOpenPart Drain v w → IsShared Drain v → AtMost k v w → DoesFew k v w
+shared-few k v w n p s few = ((unpopped v w n, shared-draws-none v w p s), few)
 
 pub count-few : (k from counted : ℕ) (v w : View) → IsPart Idle v w → CountsFrom from counted v → AtMost k v w → DoesFew k v w
 count-few k from counted v w p c few = ((unpopped v w (part-unpopped Idle refl v w p), part-draws-none Idle v w p (alone-apart Idle v refl refl c.owner.unhelping c.alone.alone)), few)

@@ -1,15 +1,16 @@
 -- What a stepper's call answers, by where the stepper was.
 use Rattle.std.proofs.Common.{◌≡◌, refl, sym, subst, true}
+use Rattle.plain_heap.specs.declared.operation.Op.{Op}
 use Rattle.gc_table.specs.Seats.{Across, view_of}
 use Rattle.gc_table.specs.declared.seat.Heap.{Heap}
 use Rattle.gc_table.specs.declared.seat.HeapSeat.{HeapSeat}
 use Rattle.seat_turns.specs.Standing.{IsMutatorOutside}
 use Rattle.seat_turns.proofs.Leaving.{leaves-none}
-use Rattle.seat_steps.specs.Causes.{EntersBy, EntersFreely, PassesBy}
-use Rattle.seat_steps.specs.Arriving.{Arrives}
+use Rattle.seat_steps.specs.Causes.{EntersBy, EntersFreely, MakesBy, PassesBy}
+use Rattle.seat_steps.specs.Arriving.{Arrives, MakesOne}
 use Rattle.seat_steps.specs.declared.came.Came.{Came}
 use Rattle.seat_steps.specs.declared.came.Came.TheVariants as cames
-use Rattle.seat_steps.specs.Stepping.{Entered, EntersFrom, KeepsAll, Passed, is_collecting}
+use Rattle.seat_steps.specs.Stepping.{Entered, EntersFrom, KeepsAll, KeepsHeap, KeepsPlace, Passed, StepperMakes, heap_of_stepper, is_collecting}
 use Rattle.seat_steps.specs.declared.stepper.Stage.{Stage}
 use Rattle.seat_steps.specs.declared.stepper.Stage.TheVariants as stages
 use Rattle.seat_steps.specs.declared.stepper.Stepper.{Stepper}
@@ -45,6 +46,16 @@ passes-out cames.Done h x y other a p e f k = absurd (other refl)
 passes-out cames.Stopped h x y other a p e f k = (p, e, f, k)
 passes-out cames.Full h x y other a p e f k = (p, e, f, k)
 passes-out came h x y other a p e f k = absurd a
+
+-- who was to make an object and left
+pub makes-out :
+    (came : Came) (op : Op) (h : Heap) (x y : Stepper) → (came ≡ cames.Done → ⊥) → (came ≡ cames.NoCell → ⊥) → MakesOne came op h x.seat y.seat → Across (MakesBy came) x.seat y.seat → x.stage ≡ stages.Inside → y.stage ≡ stages.Outside
+    → (heap_of_stepper y ≡ heap_of_stepper x → KeepsHeap x y) → KeepsPlace x y → StepperMakes came op x y
+makes-out cames.Done op h x y other some m p e f k q = absurd (other refl)
+makes-out cames.NoCell op h x y other some m p e f k q = absurd (some refl)
+makes-out cames.Stopped op h x y other some m p e f k q = (p, e, f, k m.1, q)
+makes-out cames.Full op h x y other some m p e f k q = (p, e, f, k m.1, q)
+makes-out came op h x y other some m p e f k q = absurd m.0
 
 -- who tried to come to its turn and hasn't is outside
 pub arrives-out : (came : Came) (h : Heap) (s : HeapSeat) → (came ≡ cames.Done → ⊥) → Arrives came h s → IsMutatorOutside h s

@@ -16,6 +16,7 @@ use Rattle.mutator_ops.proofs.Few.{at-most-join, at-most-more}
 use Rattle.seat_steps.specs.Causes.{ArrivesBy, FillsBy, LacksBy, MakesBy, ComesFreely, MakesFreely, PassesBy}
 use Rattle.seat_steps.specs.Filling.{TriesOnce, TriesToFill, filling_steps, search_steps, TriesSome, make_steps}
 use Rattle.seat_steps.specs.Arriving.{LeavesWorld, Refills}
+use Rattle.seat_steps.specs.Pacing.{Paces}
 use Rattle.seat_steps.specs.declared.came.Came.{Came}
 use Rattle.seat_steps.specs.declared.came.Came.TheVariants as cames
 use Rattle.seat_steps.proofs.Found.{found-right, full-left, full-right}
@@ -93,24 +94,24 @@ pub full-refills : (r : Refill) (h : Heap) (s : HeapSeat) → r ≡ refills.Full
 full-refills r h s is p = (subst (λ (z : Refill). Refills z h s) is p).1
 
 -- and before it two looks
-pub passes-makes : (c : Came) (v w : View) → (c ≡ cames.Done → ⊥) → PassesBy c v w → MakesBy c v w
-passes-makes cames.Done v w n g = absurd (n refl)
-passes-makes cames.Stopped v w n g = ((g.0.0, at-most-more 6 (filling_steps v.shape + 13) v w (omega arith) g.0.1), inl (at-most-more 6 8 v w (omega arith) g.0.1))
-passes-makes cames.Full v w n g = ((g.0.0, at-most-more 7 (filling_steps v.shape + 13) v w (omega arith) g.0.1), inl (at-most-more 7 8 v w (omega arith) g.0.1))
-passes-makes c v w n g = absurd g
+pub passes-makes : (c : Came) (v w : View) → (c ≡ cames.Done → ⊥) → PassesBy c v w → Paces v w → MakesBy c v w
+passes-makes cames.Done v w n g p = absurd (n refl)
+passes-makes cames.Stopped v w n g p = ((g.0.0, at-most-more 6 (filling_steps v.shape + 13) v w (omega arith) g.0.1), inl (at-most-more 6 8 v w (omega arith) g.0.1), p)
+passes-makes cames.Full v w n g p = ((g.0.0, at-most-more 7 (filling_steps v.shape + 13) v w (omega arith) g.0.1), inl (at-most-more 7 8 v w (omega arith) g.0.1), p)
+passes-makes c v w n g p = absurd g
 
 in_thirteen : (o : Option Refill) (v w : View) → TriesOnce 5 8 o v w → AtMost (filling_steps v.shape + 13) v w
 in_thirteen o v w t = let all = tries-few 5 8 o v w t in omega (arith, all)
 
-pub fills-makes : (c : Came) (u v w : View) → Ran u v → AtMost 2 u v → Ran v w → FillsBy c v w → MakesBy c u w
-fills-makes cames.Done u v w a few b g = absurd g
-fills-makes cames.NoCell u v w a few b g =
+pub fills-makes : (c : Came) (u v w : View) → Ran u v → AtMost 2 u v → Ran v w → FillsBy c v w → Paces u w → MakesBy c u w
+fills-makes cames.Done u v w a few b g p = absurd g
+fills-makes cames.NoCell u v w a few b g p =
     let t = tries-first 2 3 3 None u v w a few g in
     let all = none-few 5 3 u w t in
-    (t, omega (arith, all))
-fills-makes cames.Stopped u v w a few b g = let t = tries-first 2 3 8 g.1.0 u v w a few g.1.1 in ((found-right u v w a b g.0, in_thirteen g.1.0 u w t), inr (g.1.0, t))
-fills-makes cames.Full u v w a few b g = let t = tries-first 2 3 8 g.1.0 u v w a few g.1.1 in (((full-right u v w a b g.0.0, g.0.1), in_thirteen g.1.0 u w t), inr (g.1.0, t))
-fills-makes c u v w a few b g = g
+    ((t, omega (arith, all)), p)
+fills-makes cames.Stopped u v w a few b g p = let t = tries-first 2 3 8 g.1.0 u v w a few g.1.1 in ((found-right u v w a b g.0, in_thirteen g.1.0 u w t), inr (g.1.0, t), p)
+fills-makes cames.Full u v w a few b g p = let t = tries-first 2 3 8 g.1.0 u v w a few g.1.1 in (((full-right u v w a b g.0.0, g.0.1), in_thirteen g.1.0 u w t), inr (g.1.0, t), p)
+fills-makes c u v w a few b g p = g
 
 -- How many steps are taken until an object is made.
 -- more steps are allowed after a try
@@ -130,8 +131,8 @@ tries_more before later more v w le t = (
 )
 
 -- an object was made
-pub made-free : (h : Heap) (x : HeapSeat) (v w : View) → Sits h x → Ran (view_of x) v → Ran v w → ComesFreely (view_of x) v → AtMost (h.shape.fields + 3) v w → MakesFreely (view_of x) w
-made-free h x v w sits a b c m =
+pub made-free : (h : Heap) (x : HeapSeat) (v w : View) → Sits h x → Ran (view_of x) v → Ran v w → ComesFreely (view_of x) v → AtMost (h.shape.fields + 3) v w → Paces (view_of x) w → MakesFreely (view_of x) w
+made-free h x v w sits a b c m paces =
     let u : View = view_of x in
     let same : u.shape.fields ≡ h.shape.fields = ap (λ (sh : Shape). sh.fields) sits.1 in
     let in_all : AtMost 2 u v → AtMost (u.shape.fields + 5) u w = λ few. at-most-more (2 + (h.shape.fields + 3)) (u.shape.fields + 5) u w (omega (arith, same)) (at-most-join 2 (h.shape.fields + 3) u v w a b few m) in
@@ -139,6 +140,7 @@ made-free h x v w sits a b c m =
       passed = c.passed;
       passes = c.passes;
       ran = ran-join c.passed v w c.ran b;
+      paces = paces;
       few = λ f. in_all (c.few f);
       besides =
           ⊎_elim

@@ -35,6 +35,7 @@ use Rattle.seat_turns.specs.Standing.{LacksFree}
 use Rattle.seat_turns.proofs.Seats.{looks-ran}
 use Rattle.seat_steps.specs.Causes.{ArrivesBy, ComesFreely, EntersBy, FoundStop, GoesFreely, HasFree, LacksBy, LooksBy, LooksFreely, LooksTo, PassesBy, PassesFreely, SawOther, finds_flag}
 use Rattle.seat_steps.specs.Filling.{TriesSome}
+use Rattle.seat_steps.specs.Pacing.{CarriesPace}
 use Rattle.seat_steps.specs.Arriving.{Arrives, LacksCell, LeavesWorld}
 use Rattle.seat_steps.specs.declared.came.Came.{Came}
 use Rattle.seat_steps.specs.declared.came.Came.TheVariants as cames
@@ -133,8 +134,8 @@ entered_few : (u v : View) → EntersOnce u v → AtMost 2 u v
 entered_few u v e =
     at-most-join 1 1 u e.entered v e.ran (ran-took e.entered v ReadPhase refl e.reads) (at-most-events 1 u e.entered _ e.enters.events (omega arith)) (at-most-after e.entered v ReadPhase e.reads.0 e.reads.1.0)
 
-pub enters-by : (c : Came) (u v w : View) → Ran u v → EntersOnce u v → Ran v w → ArrivesBy c v w → EntersBy c u w
-enters-by cames.Done u v w r e q g =
+pub enters-by : (c : Came) (u v w : View) → Ran u v → EntersOnce u v → Ran v w → ArrivesBy c v w → CarriesPace u w → EntersBy c u w
+enters-by cames.Done u v w r e q g p =
     record {
       ran = ran-join u v w r q;
       entered = v;
@@ -142,9 +143,9 @@ enters-by cames.Done u v w r e q g =
       goes = g;
       few = at-most-join 2 3 u v w r q (entered_few u v e) g.few;
     }
-enters-by cames.Stopped u v w r e q g = (found-right u v w r q g.0, at-most-join 2 8 u v w r q (entered_few u v e) g.1)
-enters-by cames.Full u v w r e q g = ((full-right u v w r q g.0.0, g.0.1), at-most-join 2 8 u v w r q (entered_few u v e) g.1)
-enters-by c u v w r e q g = g
+enters-by cames.Stopped u v w r e q g p = ((found-right u v w r q g.0, at-most-join 2 8 u v w r q (entered_few u v e) g.1), p)
+enters-by cames.Full u v w r e q g p = (((full-right u v w r q g.0.0, g.0.1), at-most-join 2 8 u v w r q (entered_few u v e) g.1), p)
+enters-by c u v w r e q g p = g
 
 -- without a cell
 pub lacks-by : (c : Came) (v w : View) → (c ≡ cames.Done → ⊥) → ArrivesBy c v w → LacksBy c v w

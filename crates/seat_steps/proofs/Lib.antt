@@ -11,6 +11,7 @@ mod SinceAsked
 mod Sparing
 mod Stages
 mod Undrawn
+mod Paced
 mod PaidCounts
 mod Doing
 mod Filled

@@ -13,6 +13,7 @@ use Rattle.gc_cycle.specs.declared.counts.Refill.{Refill}
 use Rattle.gc_cycle.specs.declared.counts.Refill.TheVariants as refills
 use Rattle.mutator_ops.specs.Few.{AtMost}
 use Rattle.mutator_ops.proofs.Few.{at-most-join, at-most-more}
+use Rattle.seat_steps.specs.Pacing.{CarriesPace}
 use Rattle.seat_steps.specs.Causes.{ArrivesBy, GoesFreely, LacksBy}
 use Rattle.seat_steps.specs.Filling.{TriesOnce}
 use Rattle.seat_steps.specs.PaidTries.{CountsBeside, CountsMaking, CountsPiece, CountsTry, counts_after, counts_more}
@@ -45,9 +46,9 @@ either-few (Err came) v w p q = arrives-few came v w q
 pub counts-first : (more earlier later a b : ℕ) (u v w : View) → Ran u v → AtMost more u v → CountsTry earlier later a b v w → CountsTry (more + earlier) later a b u w
 counts-first more earlier later a b u v w r few t = record { tried = t.tried; tries = tries-first more earlier later t.tried u v w r few t.tries; counts = t.counts }
 
-pub pieces-first : (more earlier later from most a b : ℕ) (u v w : View) → Ran u v → AtMost more u v → CountsPiece earlier later from most a b v w → CountsPiece (more + earlier) later from most a b u w
-pieces-first more earlier later from most a b u v w r few t =
-    record { piece = t.piece; seeks = seeks-first more earlier from most (AtMost later) t.piece u v w r few t.seeks; counts = t.counts }
+pub pieces-first : (more earlier later from most a b : ℕ) (u v w : View) → Ran u v → AtMost more u v → CarriesPace u v → CountsPiece earlier later from most a b v w → CountsPiece (more + earlier) later from most a b u w
+pieces-first more earlier later from most a b u v w r few e t =
+    record { piece = t.piece; seeks = seeks-first more earlier from most (AtMost later) t.piece u v w r few e t.seeks; counts = t.counts }
 
 -- an object was made after that
 module _ (h : Heap) (x : HeapSeat) (v w : View) (sits : Sits h x) (a : Ran (view_of x) v) (b : Ran v w) (few : AtMost (h.shape.fields + 3) v w) where

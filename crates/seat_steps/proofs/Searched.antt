@@ -31,6 +31,10 @@ use Rattle.mutator_ops.specs.Few.{AtMost}
 use Rattle.mutator_ops.proofs.Few.{at-most-join, at-most-more, at-most-none}
 use Rattle.seat_turns.specs.Standing.{Works, plain_of, Halts, IsMutatorOutside}
 use Rattle.seat_turns.proofs.Seats.{kept-works, going-seen, mutator-kept}
+use Rattle.gc_cycle.specs.Statistics.{RoundNumbers}
+use Rattle.cache_refills.specs.Pace.Pacing.{begins_where_due}
+use Rattle.seat_steps.specs.Pacing.{CarriesPace, KeepsPace}
+use Rattle.seat_steps.proofs.Paced.{carries-none, paces-first, paces-try}
 use Rattle.seat_steps.specs.Causes.{ArrivesBy, GoesFreely, HasFree, PassesBy, PassesFreely}
 use Rattle.seat_steps.specs.Seeking.{CachedBy, FailsBy, MakesHere, MakesOwn, RefillsBy, SeeksOnce, SoughtBy, StandsAfter, TriesPiece}
 use Rattle.seat_steps.specs.Arriving.{Arrives, LeavesWorld, Passes, Refills, Tries}
@@ -107,13 +111,13 @@ gets (Some r) done v w e p = subst (λ (n : ℕ). RefillsTo r n v w) e p.0
 
 pub tries-piece :
     (p : Piece) (from most done : ℕ) (v w : View) → done ≡ v.state.made → SeesTo from most p v w → IsShort 5 most p (events v w) → length (events v w) ≤ 3 * most + 6 + payment_steps 1024 card_looks v.shape → IfSome (refill_of p) (λ r. RefillsTo r done v w × SparesRefill r v w)
-    → TriesPiece from most p v w
-tries-piece p from most done v w e sees short longest some = record { sees = sees; short = short; longest = longest; gets = gets (refill_of p) done v w e some }
+    → begins_where_due (events v w) ≡ true → RoundNumbers (refill_of p) v w → TriesPiece from most p v w
+tries-piece p from most done v w e sees short longest some due numbers = record { sees = sees; short = short; longest = longest; gets = gets (refill_of p) done v w e some; due = due; numbers = numbers }
 
 -- a piece, and then the way to its turn, or out
-module _ (from most : ℕ) (p : Piece) (v w x : View) (a : Ran v w) (t : TriesPiece from most p v w) (b : Ran w x) where
+module _ (from most : ℕ) (p : Piece) (v w x : View) (a : Ran v w) (t : TriesPiece from most p v w) (b : Ran w x) (e : CarriesPace w x) where
   pub seeks : (Later : View → View → Type 0) → Later w x → SeeksOnce 0 Later from most p v x
-  seeks Later k = record { asked = v; first = ran-refl v; first_few = at-most-none 0 v; got = w; ran = a; tries = t; last = b; later = k }
+  seeks Later k = record { asked = v; first = ran-refl v; first_few = at-most-none 0 v; got = w; ran = a; tries = t; last = b; later = k; paces = paces-try (refill_of p) v v w x (carries-none v) a t.gets t.due t.numbers e }
 
   pub fails : (c : Came) (h : Heap) (s : HeapSeat) → LeavesWorld c h s → ArrivesBy c w x → FailsBy 0 from most c v x
   fails cames.Stopped h s l g = (found-right v w x a b g.0, (p, seeks (AtMost 8) g.1))
@@ -121,8 +125,8 @@ module _ (from most : ℕ) (p : Piece) (v w x : View) (a : Ran v w) (t : TriesPi
   fails c h s l g = absurd l
 
 -- more steps before it
-pub seeks-first : (more before from most : ℕ) (Later : View → View → Type 0) (p : Piece) (u v w : View) → Ran u v → AtMost more u v → SeeksOnce before Later from most p v w → SeeksOnce (more + before) Later from most p u w
-seeks-first more before from most Later p u v w r few t =
+pub seeks-first : (more before from most : ℕ) (Later : View → View → Type 0) (p : Piece) (u v w : View) → Ran u v → AtMost more u v → CarriesPace u v → SeeksOnce before Later from most p v w → SeeksOnce (more + before) Later from most p u w
+seeks-first more before from most Later p u v w r few e t =
     record {
       asked = t.asked;
       first = ran-join u v t.asked r t.first;
@@ -132,19 +136,20 @@ seeks-first more before from most Later p u v w r few t =
       tries = t.tries;
       last = t.last;
       later = t.later;
+      paces = paces-first u v w e t.paces;
     }
 
 -- the cache was given up first
-module _ (from most : ℕ) (u v w : View) (r : Ran u v) (few : AtMost 3 u v) where
+module _ (from most : ℕ) (u v w : View) (r : Ran u v) (few : AtMost 3 u v) (e : CarriesPace u v) where
   pub given-up : (s : Sought) → SoughtBy 0 from most s v w → RefillsBy from most s u w
-  given-up soughts.Free k = (k.0, inr (k.1.0, k.1.1, seeks-first 3 0 from most GoesFreely (pieces.Cache k.1.0 k.1.1) u v w r few k.1.2))
-  given-up (soughts.Next n) k = seeks-first 3 0 from most GoesFreely (pieces.Next n) u v w r few k
-  given-up soughts.Ended k = seeks-first 3 0 from most GoesFreely pieces.Ended u v w r few k
-  given-up soughts.MarkingDone k = seeks-first 3 0 from most GoesFreely pieces.MarkingDone u v w r few k
+  given-up soughts.Free k = (k.0, inr (k.1.0, k.1.1, seeks-first 3 0 from most GoesFreely (pieces.Cache k.1.0 k.1.1) u v w r few e k.1.2))
+  given-up (soughts.Next n) k = seeks-first 3 0 from most GoesFreely (pieces.Next n) u v w r few e k
+  given-up soughts.Ended k = seeks-first 3 0 from most GoesFreely pieces.Ended u v w r few e k
+  given-up soughts.MarkingDone k = seeks-first 3 0 from most GoesFreely pieces.MarkingDone u v w r few e k
 
   pub fails-first : (c : Came) → Ran v w → FailsBy 0 from most c v w → FailsBy 3 from most c u w
-  fails-first cames.Stopped q k = (found-right u v w r q k.0, (k.1.0, seeks-first 3 0 from most (AtMost 8) k.1.0 u v w r few k.1.1))
-  fails-first cames.Full q k = ((full-right u v w r q k.0.0, k.0.1), (k.1.0, seeks-first 3 0 from most (AtMost 8) k.1.0 u v w r few k.1.1))
+  fails-first cames.Stopped q k = (found-right u v w r q k.0, (k.1.0, seeks-first 3 0 from most (AtMost 8) k.1.0 u v w r few e k.1.1))
+  fails-first cames.Full q k = ((full-right u v w r q k.0.0, k.0.1), (k.1.0, seeks-first 3 0 from most (AtMost 8) k.1.0 u v w r few e k.1.1))
   fails-first c q k = k
 
 -- who tried to come to its turn and hasn't left the world
@@ -168,12 +173,12 @@ lacked from most s v w x (Ok t) e g k = subst (λ (u : Sought). SoughtBy 0 from 
 lacked from most s v w x (Err c) e g k = tt
 
 -- a piece that found the heap full
-pub seeks-full : (from most : ℕ) (v w x : View) → Ran v w → TriesPiece from most pieces.Full v w → Ran w x → AtMost 2 w x → KnowsFull x → FailsBy 0 from most cames.Full v x
-seeks-full from most v w x a t b few known = ((full-left v w x a b t.gets.read, known), (pieces.Full, seeks from most pieces.Full v w x a t b (AtMost 8) (at-most-more 2 8 w x (omega arith) few)))
+pub seeks-full : (from most : ℕ) (v w x : View) → Ran v w → TriesPiece from most pieces.Full v w → Ran w x → CarriesPace w x → AtMost 2 w x → KnowsFull x → FailsBy 0 from most cames.Full v x
+seeks-full from most v w x a t b e few known = ((full-left v w x a b t.gets.read, known), (pieces.Full, seeks from most pieces.Full v w x a t b e (AtMost 8) (at-most-more 2 8 w x (omega arith) few)))
 
 -- an object was made of a cell of the cache
-pub makes-own : (h : Heap) (x : HeapSeat) (v w : View) → Sits h x → Ran v w → PassesFreely (view_of x) v → HasFree v.state.cache → AtMost (h.shape.fields + 3) v w → MakesOwn (view_of x) w
-makes-own h x v w sits b p had m =
+pub makes-own : (h : Heap) (x : HeapSeat) (v w : View) → Sits h x → Ran v w → PassesFreely (view_of x) v → HasFree v.state.cache → AtMost (h.shape.fields + 3) v w → KeepsPace (view_of x) w → MakesOwn (view_of x) w
+makes-own h x v w sits b p had m paces =
     let u : View = view_of x in
     let same : u.shape.fields ≡ h.shape.fields = ap (λ (sh : Shape). sh.fields) sits.1 in
     record {
@@ -181,6 +186,7 @@ makes-own h x v w sits b p had m =
       passed = v;
       passes = p;
       ran = b;
+      paces = paces;
       few = at-most-more (2 + (h.shape.fields + 3)) (u.shape.fields + 5) u w (omega (arith, same)) (at-most-join 2 (h.shape.fields + 3) u v w p.ran b p.few m);
     }
 

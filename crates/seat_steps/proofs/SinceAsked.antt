@@ -160,9 +160,9 @@ marks-begun precise ss v w h full a c x =
     ))
 
 -- it goes on
-pub marks-on : (exact again : Bool) (v w : View) → IsPart Drain v w → ((u : View) → IsExactSince u v → IsExactSince u w) → MarksSinceAsked exact again v → MarksSinceAsked exact again w
-marks-on exact again v w p x m =
-    ∥∥₁_map m (λ (q : (u : View) × HasAsked 0 u v × (IsTrue exact → IsFalse again → IsExactSince u v)). (q.0, asked_on 0 q.0 v w q.1 p.ran (part_calm Drain v w p), λ e k. x q.0 (q.2 e k)))
+pub marks-on : (exact again : Bool) (v w : View) → Ran v w → Only (stays_in Drain) v w → ((u : View) → IsExactSince u v → IsExactSince u w) → MarksSinceAsked exact again v → MarksSinceAsked exact again w
+marks-on exact again v w r o x m =
+    ∥∥₁_map m (λ (q : (u : View) × HasAsked 0 u v × (IsTrue exact → IsFalse again → IsExactSince u v)). (q.0, asked_on 0 q.0 v w q.1 r (stays_calm Drain v w o), λ e k. x q.0 (q.2 e k)))
 
 -- all marks are taken away
 pub clears-begun : (exact again : Bool) (v w : View) → IsMove Drain Clear v w → MarksSinceAsked exact again v → WaitsSinceAsked w

@@ -16,9 +16,9 @@ use Rattle.mark_core.specs.declared.kinds.Step.TheVariants.{DropStep, JoinHelpSt
 use Rattle.mark_core.specs.declared.seat.SeatState.{SeatState}
 use Rattle.mark_core.proofs.Known.{parts_hold, some_none}
 use Rattle.mark_core.proofs.Notes.NotesKept.{single-word}
-use Rattle.gc_table.specs.Log.{all_steps, events}
+use Rattle.gc_table.specs.Log.{Only, all_steps, events}
 use Rattle.gc_table.specs.Notes.{look}
-use Rattle.gc_table.specs.Running.{AllSeen, Alone, IsSeen}
+use Rattle.gc_table.specs.Running.{AllSeen, Alone, IsSeen, Ran}
 use Rattle.gc_table.specs.Taking.{after}
 use Rattle.gc_table.specs.declared.view.Entry.{Entry}
 use Rattle.gc_table.specs.declared.view.View.{View}
@@ -29,7 +29,7 @@ use Rattle.packet_pools.specs.Seeking.{some_event}
 use Rattle.stop_world.proofs.Standing.{bare-admitted}
 use Rattle.gc_cycle.specs.Collecting.{HoldsWorld}
 use Rattle.gc_cycle.specs.Courses.{TakesCourse, goes_on, phase_stored}
-use Rattle.gc_cycle.specs.Finishing.{IsPart, stays_in}
+use Rattle.gc_cycle.specs.Finishing.{IsOpen, IsPart, stays_in}
 use Rattle.gc_cycle.specs.Sorts.{draws_block}
 use Rattle.gc_cycle.proofs.Sequences.{count-none}
 use Rattle.seat_steps.specs.Amounts.{DrawsNone}
@@ -197,6 +197,10 @@ all_undrawn blocks (e ∷ es) v a s i =
 pub alone-apart : (p : Phase) (v : View) → is_phase (phase_number p) Sweep ≡ false → is_phase (phase_number p) Clear ≡ false → v.state.helping ≡ false → Alone p v → IsApart v
 alone-apart p v s c h a = record { unhelping = h; apart = inl (record { knows = a.knows; phase = phase_number p; noted = a.phase; sweepless = s; clearless = c }) }
 
+-- so does one that drains beside helpers
+pub open-apart : (v : View) → v.state.helping ≡ false → IsOpen Drain v → IsApart v
+open-apart v h o = record { unhelping = h; apart = inl (record { knows = o.knows; phase = phase_number Drain; noted = o.phase.0; sweepless = refl; clearless = refl }) }
+
 other : (p q : Phase) → (phase_number p == phase_number p) ≡ true → (phase_number p == phase_number q) ≡ false → p ≡ q → ⊥
 other p q s n e = true≢false (sym s ∙ (ap (λ (r : Phase). phase_number p == phase_number r) e ∙ n))
 
@@ -222,8 +226,11 @@ part_keeps p (Pop packet) e = refl
 part_keeps p (ReadField c i) e = refl
 part_keeps p step e = e
 
+pub stays-draws-none : (p : Phase) (v w : View) → Ran v w → Only (stays_in p) v w → IsApart v → DrawsNone v w
+stays-draws-none p v w r o i = λ blocks. count-none (draws_block blocks) (events v w) (all_undrawn blocks (events v w) v (only-more (stays_in p) keeps_apart (part_keeps p) v w o) r.seen i)
+
 pub part-draws-none : (p : Phase) (v w : View) → IsPart p v w → IsApart v → DrawsNone v w
-part-draws-none p v w h i = λ blocks. count-none (draws_block blocks) (events v w) (all_undrawn blocks (events v w) v (only-more (stays_in p) keeps_apart (part_keeps p) v w h.only) h.ran.seen i)
+part-draws-none p v w h i = stays-draws-none p v w h.ran h.only i
 
 -- a course through such phases
 abbrev pub all_apart : List Phase → Bool

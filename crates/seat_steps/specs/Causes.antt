@@ -19,6 +19,7 @@ use Rattle.cache_refills.specs.declared.trying.Pass.TheVariants as passes
 use Rattle.seat_turns.specs.Coming.{LeavesTurn}
 use Rattle.seat_turns.specs.SeasonLooks.{LooksAtSeason, SeesOther}
 use Rattle.seat_steps.specs.Filling.{FewBesides, TriesOnce, TriesSome, filling_steps, make_steps, search_steps}
+use Rattle.seat_steps.specs.Pacing.{CarriesPace, Paces}
 use Rattle.seat_steps.specs.declared.came.Came.{Came}
 use Rattle.seat_steps.specs.declared.came.Came.TheVariants as cames
 
@@ -124,6 +125,7 @@ pub record MakesFreely (v w : View) : Type 0 where
   pub few : HasFree v.state.cache → AtMost (v.shape.fields + 5) v w
   pub besides : FewBesides (v.shape.fields + 5) 5 (v.shape.fields + 6) v w
   pub longest : AtMost (make_steps v.shape) v w
+  pub paces : Paces v w
 
 -- what a mutator found that came to its turn, or left
 abbrev pub ArrivesBy : Came → View → View → Type 0
@@ -142,8 +144,8 @@ PassesBy c v w = ⊥
 -- what it found on its way in
 abbrev pub EntersBy : Came → View → View → Type 0
 EntersBy cames.Done v w = EntersFreely v w
-EntersBy cames.Stopped v w = FoundStopIn 10 v w
-EntersBy cames.Full v w = FoundFullIn 10 v w
+EntersBy cames.Stopped v w = FoundStopIn 10 v w × CarriesPace v w
+EntersBy cames.Full v w = FoundFullIn 10 v w × CarriesPace v w
 EntersBy c v w = ⊥
 
 -- what it found that came to its turn without a cell
@@ -163,7 +165,7 @@ FillsBy c v w = ⊥
 -- what it found that was to make an object
 abbrev pub MakesBy : Came → View → View → Type 0
 MakesBy cames.Done v w = MakesFreely v w
-MakesBy cames.NoCell v w = FoundNoCell v w
-MakesBy cames.Stopped v w = FoundStopIn (filling_steps v.shape + 13) v w × FewBesides 8 5 8 v w
-MakesBy cames.Full v w = FoundFullIn (filling_steps v.shape + 13) v w × FewBesides 8 5 8 v w
+MakesBy cames.NoCell v w = FoundNoCell v w × Paces v w
+MakesBy cames.Stopped v w = FoundStopIn (filling_steps v.shape + 13) v w × FewBesides 8 5 8 v w × Paces v w
+MakesBy cames.Full v w = FoundFullIn (filling_steps v.shape + 13) v w × FewBesides 8 5 8 v w × Paces v w
 MakesBy c v w = ⊥

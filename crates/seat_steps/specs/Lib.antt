@@ -17,6 +17,7 @@ pub mod Arriving
 pub mod Causes
 pub mod Doing
 pub mod Filling
+pub mod Pacing
 pub mod PaidTries
 pub mod Seeking
 pub mod Helping

@@ -61,6 +61,42 @@ pub record BeginsAgain (most : ℕ) (v w : View) : Type 0 where
   pub stretches : count_of (draws_block (block_count v.shape)) (events v cleared) < most
   pub course : TakesCourse (Drain ∷ []) (Reset card_counter ∷ Reset block_counter ∷ []) cleared w
 
+-- this many roots from this one on were seen to, and then the stop was opened to helpers
+pub record BeginsSharing (from n : ℕ) (v w : View) : Type 0 where
+  pub rooted : View
+  pub sees : SeesRoots from n v rooted
+  pub opens : Took OpenStep rooted w
+
+-- what was deferred was brought back, and this many objects were popped and no more, or fewer, and then at some moment there was none to pop; helpers might trace
+-- too
+pub record SharesFor (most : ℕ) (v w : View) : Type 0 where
+  pub part : IsOpenPart Drain v w
+  pub brings : BringsBack v w
+  pub worked : DrainsFor most v w
+  pub at_most : count_of pops (events v w) ≤ most
+
+-- fewer were popped, and then the count said that a packet isn't empty
+pub record LeavesPacket (most : ℕ) (v w : View) : Type 0 where
+  pub traced : View
+  pub traces : SharesFor most v traced
+  pub found : ℕ
+  pub left : found ≢ empty_offset + v.shape.packets
+  pub looks : events traced w ≡ event ReadCount found ∷ []
+
+-- fewer were popped, the count said that all packets are empty, and then no more helpers were let in
+pub record EndsSharing (most : ℕ) (v w : View) : Type 0 where
+  pub traced : View
+  pub traces : SharesFor most v traced
+  pub looked : View
+  pub looks : events traced looked ≡ event ReadCount (empty_offset + v.shape.packets) ∷ []
+  pub shuts : Took CloseStep looked w
+
+-- one look at the helpers found none, and then the roots were to be seen to once more
+pub record DrainsAlone (v w : View) : Type 0 where
+  pub alone : View
+  pub looks : events v alone ≡ event SeeHelp 0 ∷ []
+  pub course : TakesCourse [] (Reset block_counter ∷ []) alone w
+
 -- the last blocks were swept, and then no more helpers were let in
 pub record EndsSweep (v w : View) : Type 0 where
   pub swept : View

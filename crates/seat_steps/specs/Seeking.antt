@@ -1,5 +1,5 @@
 -- A mutator's search for a cell in pieces: what a piece of it came to, where it left the seat, and how many steps were taken.
-use Rattle.std.specs.Prelude.{ℕ, ◌≡◌, ◌<◌, ◌≤◌, ◌+◌, ◌*◌, ◌⊎◌, length, IfSome}
+use Rattle.std.specs.Prelude.{ℕ, ◌≡◌, ◌<◌, ◌≤◌, ◌+◌, ◌*◌, ◌⊎◌, length, IfSome, IsTrue}
 use Rattle.std.specs.Int.Count.{ones}
 use Rattle.gc_table.specs.Log.{events}
 use Rattle.gc_table.specs.Rule.{KnowsFull}
@@ -14,7 +14,8 @@ use Rattle.mutator_ops.specs.Few.{AtMost}
 use Rattle.gc_cycle.specs.declared.counts.Paid.{Paid}
 use Rattle.plain_heap.specs.declared.operation.Op.{Op}
 use Rattle.cache_refills.specs.Getting.{RefillsTo}
-use Rattle.cache_refills.specs.Pace.Pacing.{card_looks}
+use Rattle.gc_cycle.specs.Statistics.{RoundNumbers}
+use Rattle.cache_refills.specs.Pace.Pacing.{begins_where_due, card_looks}
 use Rattle.cache_refills.specs.Pace.StepBounds.{payment_steps}
 use Rattle.cache_refills.specs.Pieces.{IsShort, SeesTo, refill_of}
 use Rattle.cache_refills.specs.declared.pieces.Piece.{Piece}
@@ -22,6 +23,7 @@ use Rattle.cache_refills.specs.declared.pieces.Piece.TheVariants as pieces
 use Rattle.seat_turns.specs.Standing.{Halts, IsAtTurn, Works, plain_of}
 use Rattle.seat_steps.specs.Causes.{FoundFull, FoundStop, GoesFreely, HasFree, PassesBy, PassesFreely}
 use Rattle.seat_steps.specs.Doing.{Does}
+use Rattle.seat_steps.specs.Pacing.{KeepsPace, Paces}
 use Rattle.seat_steps.specs.Arriving.{LeavesWorld}
 use Rattle.seat_steps.specs.declared.seeking.Sought.{Sought}
 use Rattle.seat_steps.specs.declared.seeking.Sought.TheVariants as soughts
@@ -36,13 +38,15 @@ StandsAfter pieces.Ended heap s = Halts heap s
 StandsAfter pieces.MarkingDone heap s = Halts heap s
 StandsAfter pieces.Full heap s = Halts heap s × KnowsFull (view_of s)
 
--- what a piece did that looks at this many blocks from this one on: which it saw, how many steps it took, up to the claim of a cache and with what was paid for it, and
--- what it paid
+-- what a piece did that looks at this many blocks from this one on: which it saw, how many steps it took, up to the claim of a cache and with what was paid for it,
+-- what it paid, that it began a cycle only where one was due, and the numbers
 pub record TriesPiece (from most : ℕ) (piece : Piece) (v w : View) : Type 0 where
   pub sees : SeesTo from most piece v w
   pub short : IsShort 5 most piece (events v w)
   pub longest : length (events v w) ≤ 3 * most + 6 + payment_steps 1024 card_looks v.shape
   pub gets : IfSome (refill_of piece) (λ r. RefillsTo r v.state.made v w)
+  pub due : IsTrue (begins_where_due (events v w))
+  pub numbers : RoundNumbers (refill_of piece) v w
 
 -- this many steps were taken at most, then a piece was made that came to this, and then what is so `Later`
 pub record SeeksOnce (before : ℕ) (Later : View → View → Type 0) (from most : ℕ) (piece : Piece) (v w : View) : Type 0 where
@@ -54,6 +58,7 @@ pub record SeeksOnce (before : ℕ) (Later : View → View → Type 0) (from mos
   pub tries : TriesPiece from most piece asked got
   pub last : Ran got w
   pub later : Later got w
+  pub paces : Paces v w
 
 -- what the search came to: the mutator has a cache with a free cell, or is to go on, or no block is left, or marking is done. After the piece a look at the world
 -- found no stop
@@ -81,6 +86,7 @@ pub record MakesOwn (v w : View) : Type 0 where
   pub passes : PassesFreely v passed
   pub ran : Ran passed w
   pub few : AtMost (v.shape.fields + 5) v w
+  pub paces : KeepsPace v w
 
 -- what a mutator found that was to make an object of its cache
 abbrev pub CachedBy : Came → View → View → Type 0

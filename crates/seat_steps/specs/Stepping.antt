@@ -12,7 +12,7 @@ use Rattle.seat_turns.specs.Coming.{LeavesTurn}
 use Rattle.seat_turns.specs.Sharing.{LeavesHeap}
 use Rattle.seat_turns.specs.Standing.{plain_of}
 use Rattle.seat_steps.specs.Doing.{Does, FindsNone, FindsSome}
-use Rattle.seat_steps.specs.Causes.{EntersFreely, FoundFullIn, FoundStopIn, MakesBy, MakesFreely, PassesBy, PassesFreely}
+use Rattle.seat_steps.specs.Causes.{EntersBy, EntersFreely, MakesBy, MakesFreely, PassesBy, PassesFreely}
 use Rattle.seat_steps.specs.declared.came.Came.{Came}
 use Rattle.seat_steps.specs.declared.came.Came.TheVariants as cames
 use Rattle.seat_steps.specs.declared.stepper.Stage.{Stage}
@@ -108,8 +108,8 @@ EntersFrom stage x y = ⊥
 -- what entering came to
 abbrev pub Entered : Came → Stepper → Stepper → Type 0
 Entered cames.Done x y = EntersFrom x.stage x y × (y.stage ≡ Inside) × KeepsAll x y
-Entered cames.Stopped x y = Across (FoundStopIn 10) x.seat y.seat × (x.stage ≡ Outside) × (y.stage ≡ Outside) × KeepsAll x y
-Entered cames.Full x y = Across (FoundFullIn 10) x.seat y.seat × (x.stage ≡ Outside) × (y.stage ≡ Outside) × KeepsAll x y
+Entered cames.Stopped x y = Across (EntersBy cames.Stopped) x.seat y.seat × (x.stage ≡ Outside) × (y.stage ≡ Outside) × KeepsAll x y
+Entered cames.Full x y = Across (EntersBy cames.Full) x.seat y.seat × (x.stage ≡ Outside) × (y.stage ≡ Outside) × KeepsAll x y
 Entered cames.Collecting x y = IsTrue (is_collecting x.stage) × (y ≡ x)
 Entered c x y = ⊥
 

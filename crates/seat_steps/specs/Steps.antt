@@ -19,7 +19,7 @@ use Rattle.gc_cycle.specs.Stepping.{FindsRunning}
 use Rattle.gc_cycle.specs.declared.card_steps.Look.TheVariants as looks
 use Rattle.gc_cycle.specs.declared.counts.Counts.{Counts}
 use Rattle.seat_steps.specs.Course.{AsksForStop, BeginsMarking, EndsBy, FindsHeapFull}
-use Rattle.seat_steps.specs.Passes.{BeginsAgain, BeginsClear, BeginsSweep, EndsAlone, EndsSweep, FindsHelpers, FindsPacketLeft, SeesRoots, TracesFor}
+use Rattle.seat_steps.specs.Passes.{BeginsAgain, BeginsClear, BeginsSharing, BeginsSweep, DrainsAlone, EndsAlone, EndsSharing, EndsSweep, FindsHelpers, FindsPacketLeft, LeavesPacket, SeesRoots, SharesFor, TracesFor}
 use Rattle.seat_steps.specs.declared.came.Came.{Came}
 use Rattle.seat_steps.specs.declared.came.Came.TheVariants as cames
 use Rattle.seat_steps.specs.Stepping.{KeepsAll}
@@ -69,9 +69,9 @@ objects_rescanned x y = rescanned_in (view_of x.seat) (did x.seat y.seat)
 abbrev pub KeepsAim : Stepper → Stepper → Type 0
 KeepsAim x y = (y.precise ≡ x.precise) × (y.exact ≡ x.exact)
 
--- and whether it is to mark once more
+-- and whether it is to mark once more, and whether helpers were let into its drain
 abbrev pub KeepsCourse : Stepper → Stepper → Type 0
-KeepsCourse x y = KeepsAim x y × (y.again ≡ x.again)
+KeepsCourse x y = KeepsAim x y × (y.again ≡ x.again) × (y.shared ≡ x.shared)
 
 -- what its collection has traced, cleaned and scanned again is counted as before
 abbrev pub KeepsWork : Stepper → Stepper → Type 0
@@ -93,17 +93,27 @@ CountsNone y = (y.traced ≡ 0) × (y.cleaned ≡ 0) × (y.rescanned ≡ 0)
 abbrev pub SeesSome : ℕ → Stepper → Stepper → Type 0
 SeesSome most x y = ((most ≤ roots_left x) × (y.next ≡ x.next + most) × Across (SeesRoots x.next most) x.seat y.seat) ⊎ ((y.next ≡ x.next) × Across LacksPacket x.seat y.seat)
 
+-- this many cards were passed, and cleaned if they were dirty
+abbrev pub PassesSome : ℕ → Stepper → Stepper → Type 0
+PassesSome most x y = (most ≤ cards_left x) × (y.next ≡ x.next + most) × Across (CleansCards x.next most) x.seat y.seat × CountsCleaned x y
+
+-- no packet was found for it
+abbrev pub LacksSome : Stepper → Stepper → Type 0
+LacksSome x y = (y.next ≡ x.next) × Across LacksPacket x.seat y.seat × (cards_cleaned x y ≡ 0) × (objects_rescanned x y ≡ 0) × KeepsWork x y
+
 -- this many cards were passed, and cleaned if they were dirty, or no packet was found for it
 abbrev pub CleansSome : ℕ → Stepper → Stepper → Type 0
-CleansSome most x y =
-    ((most ≤ cards_left x) × (y.next ≡ x.next + most) × Across (CleansCards x.next most) x.seat y.seat × CountsCleaned x y)
-    ⊎ ((y.next ≡ x.next) × Across LacksPacket x.seat y.seat × (cards_cleaned x y ≡ 0) × (objects_rescanned x y ≡ 0) × KeepsWork x y)
+CleansSome most x y = PassesSome most x y ⊎ LacksSome x y
+
+-- this many objects were popped; or fewer, and a packet isn't empty
+abbrev pub Empties : ℕ → Stepper → Stepper → Type 0
+Empties most x y = ((objects_popped x y ≡ most) × Across (SharesFor most) x.seat y.seat) ⊎ ((objects_popped x y < most) × Across (LeavesPacket most) x.seat y.seat)
 
 -- what a step did after which there is more to do. A collection that it began is to be precise, or not
 abbrev pub StepsOn : Bool → Stage → Stage → ℕ → Stepper → Stepper → Type 0
 StepsOn precise stages.Inside stages.Stopping most x y = Across (AsksForStop true) x.seat y.seat × (y.precise ≡ precise)
 StepsOn precise stages.Stopping stages.Stopping most x y = Across FindsRunning x.seat y.seat × (y.precise ≡ x.precise)
-StepsOn precise stages.Stopping stages.Rooting most x y = Across (BeginsMarking x.precise y.exact y.again) x.seat y.seat × (y.precise ≡ x.precise) × (y.next ≡ 0) × CountsNone y
+StepsOn precise stages.Stopping stages.Rooting most x y = Across (BeginsMarking x.precise y.exact y.again) x.seat y.seat × (y.precise ≡ x.precise) × (y.next ≡ 0) × CountsNone y × (y.shared ≡ y.again)
 StepsOn precise stages.Rooting stages.Rooting most x y = SeesSome most x y × KeepsCourse x y × KeepsWork x y
 StepsOn precise stages.Rooting stages.Draining most x y = (roots_left x < most) × Across (SeesRoots x.next (roots_left x)) x.seat y.seat × KeepsCourse x y × KeepsWork x y
 StepsOn precise stages.Draining stages.Draining most x y = (objects_popped x y ≡ most) × Across (TracesFor most) x.seat y.seat × KeepsCourse x y × CountsTraced x y
@@ -116,7 +126,17 @@ StepsOn precise stages.Looking stages.Sweeping most x y = (cards_left x < most) 
 StepsOn precise stages.Cleaning stages.Cleaning most x y = CleansSome most x y × KeepsCourse x y
 StepsOn precise stages.Cleaning stages.Draining most x y = (cards_left x < most) × Across (CleansCards x.next (cards_left x)) x.seat y.seat × KeepsCourse x y × CountsCleaned x y
 StepsOn precise stages.Clearing stages.Clearing most x y = (stretches_drawn x y ≡ draws_for most x) × Across (IsPart Clear) x.seat y.seat × KeepsCourse x y × KeepsWork x y
-StepsOn precise stages.Clearing stages.Rooting most x y = Across (BeginsAgain (draws_for most x)) x.seat y.seat × (y.next ≡ 0) × IsFalse y.again × KeepsAim x y × KeepsWork x y
+StepsOn precise stages.Clearing stages.Rooting most x y = Across (BeginsAgain (draws_for most x)) x.seat y.seat × (y.next ≡ 0) × IsFalse y.again × KeepsAim x y × KeepsWork x y × IsFalse y.shared
+StepsOn precise stages.Rooting stages.Sharing most x y = (roots_left x < most) × Across (BeginsSharing x.next (roots_left x)) x.seat y.seat × IsFalse x.shared × IsTrue y.shared × (y.next ≡ 0) × KeepsAim x y × (y.again ≡ x.again) × KeepsWork x y
+StepsOn precise stages.Sharing stages.Sharing most x y = (objects_popped x y ≡ most) × Across (SharesFor most) x.seat y.seat × (y.next ≡ x.next) × KeepsCourse x y × CountsTraced x y
+StepsOn precise stages.Sharing stages.Passing most x y = (objects_popped x y < most) × Across (SharesFor most) x.seat y.seat × (y.next ≡ x.next) × KeepsCourse x y × CountsTraced x y
+StepsOn precise stages.Passing stages.Passing most x y = PassesSome most x y × KeepsCourse x y
+StepsOn precise stages.Passing stages.Sharing most x y = LacksSome x y × KeepsCourse x y
+StepsOn precise stages.Passing stages.Emptying most x y = (cards_left x < most) × Across (CleansCards x.next (cards_left x)) x.seat y.seat × KeepsCourse x y × CountsCleaned x y
+StepsOn precise stages.Emptying stages.Emptying most x y = Empties most x y × KeepsCourse x y × CountsTraced x y
+StepsOn precise stages.Emptying stages.Closing most x y = (objects_popped x y < most) × Across (EndsSharing most) x.seat y.seat × KeepsCourse x y × CountsTraced x y
+StepsOn precise stages.Closing stages.Closing most x y = Across FindsHelpers x.seat y.seat × KeepsCourse x y × KeepsWork x y
+StepsOn precise stages.Closing stages.Rooting most x y = Across DrainsAlone x.seat y.seat × (y.next ≡ 0) × KeepsCourse x y × KeepsWork x y
 StepsOn precise stages.Sweeping stages.Sweeping most x y = (stretches_drawn x y ≡ draws_for most x) × Across (IsOpenPart Sweep) x.seat y.seat × CountsFreed x y × KeepsCourse x y × KeepsWork x y
 StepsOn precise stages.Sweeping stages.Parting most x y = (stretches_drawn x y < draws_for most x) × CountsFreed x y × Across EndsSweep x.seat y.seat × KeepsCourse x y × KeepsWork x y
 StepsOn precise stages.Parting stages.Parting most x y = Across FindsHelpers x.seat y.seat × (y.freed ≡ x.freed) × KeepsCourse x y × KeepsWork x y

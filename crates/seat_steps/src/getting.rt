@@ -1,17 +1,20 @@
 //! How a mutator gets a free cell without waiting.
-ghost use Rattle.std.specs.Prelude.{◌≡◌, ◌<◌, length, IfErr, IfNone, IfOk, IfSome, None};
+ghost use Rattle.std.specs.Prelude.{◌≡◌, ◌<◌, length, IfErr, IfNone, IfOk, IfSome, IsTrue, None};
 ghost use Rattle.std.specs.Int.Count.{ones};
 ghost use Rattle.mark_core.specs.Numbers.{section_variables};
 ghost use Rattle.plain_heap.specs.declared.operation.Op.TheVariants as ops;
 ghost use Rattle.alloc_cache.specs.Caching.{IsCached};
 ghost use Rattle.gc_cycle.specs.Answering.{HasCache};
 ghost use Rattle.gc_table.specs.Running.{Ran};
-ghost use Rattle.gc_table.specs.Seats.{Across, view_of};
+ghost use Rattle.gc_table.specs.Seats.{Across, did, view_of};
+ghost use Rattle.gc_cycle.specs.Statistics.{RoundNumbers};
+ghost use Rattle.cache_refills.specs.Pace.Pacing.{begins_where_due};
 ghost use Rattle.mutator_ops.specs.Few.{AtMost};
 ghost use Rattle.seat_turns.specs.Sharing.{LeavesHeap};
 ghost use Rattle.seat_turns.specs.Standing.{Halts, IsAtTurn, Plays, Works, plain_of};
 ghost use Rattle.seat_steps.specs.Causes.{ArrivesBy, ComesFreely, FillsBy, GoesFreely, LacksBy, MakesBy};
 ghost use Rattle.seat_steps.specs.Filling.{TriesSome, TriesToFill};
+ghost use Rattle.seat_steps.specs.Pacing.{CarriesPace, Paces};
 ghost use Rattle.seat_steps.specs.PaidTries.{CountsBeside, CountsMaking, CountsTry};
 ghost use Rattle.seat_steps.specs.declared.came.Came.TheVariants as cames;
 ghost use Rattle.seat_steps.specs.Arriving.{LacksCell, LeavesWorld, MakesOne, Refills};
@@ -34,6 +37,8 @@ fn try_fill(heap: &Heap, seat: &mut HeapSeat) -> Option<Refill>
     ensures leaves { Across LeavesHeap seat.old seat.new }
     ensures ran { Across Ran seat.old seat.new }
     ensures tries { Across (TriesToFill result) seat.old seat.new }
+    ensures due { IsTrue (begins_where_due (did seat.old seat.new)) }
+    ensures numbers { Across (RoundNumbers result) seat.old seat.new }
 {
     let made = seat.state().made;
     try_refill(heap, seat, made)
@@ -46,6 +51,7 @@ fn lacks_cell(heap: &Heap, seat: &mut HeapSeat) -> Came
     ensures leaves { Across LeavesHeap seat.old seat.new }
     ensures ran { Across Ran seat.old seat.new }
     ensures found { Across (LacksBy result) seat.old seat.new }
+    ensures paces { Across CarriesPace seat.old seat.new }
 {
     match arrive(heap, seat) {
         Came::Done => Came::NoCell,
@@ -67,6 +73,7 @@ pub fn point_with(heap: &Heap, seat: &mut HeapSeat, cache: Cache) -> Result<Cach
     ensures few { IfOk result (λ _. Across (AtMost 3) seat.old seat.new) }
     ensures freely { IfOk result (λ _. Across GoesFreely seat.old seat.new) }
     ensures found { IfErr result (λ came. Across (ArrivesBy came) seat.old seat.new) }
+    ensures paces { Across CarriesPace seat.old seat.new }
 {
     match point(heap, seat, Some(cache)) {
         Err(came) => Err(came),
@@ -97,6 +104,7 @@ fn fill(
     ensures besides { IfOk result (λ _. Across (TriesSome 3 3) seat.old seat.new) }
     ensures found { IfErr result (λ came. Across (FillsBy came) seat.old seat.new) }
     ensures pays { Across (CountsTry 3 8 paid.old paid.new) seat.old seat.new }
+    ensures paces { Across Paces seat.old seat.new }
 {
     retire_some(heap, seat, cache);
     match try_fill(heap, seat) {
@@ -123,6 +131,7 @@ fn come_once(heap: &Heap, seat: &mut HeapSeat, paid: &mut u64) -> Result<Cache, 
     ensures freely { IfOk result (λ _. Across ComesFreely seat.old seat.new) }
     ensures found { IfErr result (λ came. Across (MakesBy came) seat.old seat.new) }
     ensures pays { Across (CountsBeside 8 5 8 paid.old paid.new) seat.old seat.new }
+    ensures paces { Across Paces seat.old seat.new }
 {
     match pass_once(heap, seat) {
         Came::Done => match with_free(cache_of(seat)) {

@@ -21,6 +21,7 @@ impl Stepper {
             precise: false,
             exact: false,
             again: false,
+            shared: false,
             freed: 0,
             traced: 0,
             cleaned: 0,

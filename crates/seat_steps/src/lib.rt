@@ -4,7 +4,7 @@
 //! or the heap is full, the seat is outside the world afterwards, and the answer says why ([`Came`]).
 //!
 //! The calls are in `stepping`, `asking` and `refills`, those of a world that shares its objects in `acting`,
-//! `spilling`, `knowing` and `weak`; the collection is in `steps` and `sweeps`, and help in another's in `helping`. What
+//! `spilling`, `knowing` and `weak`; the collection is in `steps`, `sharing` and `sweeps`, and help in another's in `helping`. What
 //! they do with the heap and the seat is in `tries`, `operations`, `getting` and `seeking`.
 #![tactic(auto)]
 
@@ -20,6 +20,7 @@ mod payments;
 mod refills;
 mod resting;
 mod seeking;
+mod sharing;
 mod spilling;
 mod stepper;
 mod stepping;

@@ -1,12 +1,15 @@
 //! One operation of a mutator at its turn, whether or not its heap's objects are shared.
-ghost use Rattle.std.specs.Prelude.{◌<◌, ◌+◌, IfNone, IfSome, IsTrue};
+ghost use Rattle.std.specs.Prelude.{[], ◌<◌, ◌+◌, IfNone, IfSome, IsTrue};
 ghost use Rattle.std.specs.Bool.{OnFalse, OnTrue};
 ghost use Rattle.std.specs.Int.Count.{ones};
 ghost use Rattle.mark_core.specs.Numbers.{section_variables};
 ghost use Rattle.plain_heap.specs.declared.operation.Op.TheVariants as ops;
 ghost use Rattle.gc_table.specs.Running.{Ran};
-ghost use Rattle.gc_table.specs.Seats.{Across, state_of, view_of};
+ghost use Rattle.gc_table.specs.Seats.{Across, did, state_of, view_of};
 ghost use Rattle.alloc_cache.specs.Caching.{IsCached};
+ghost use Rattle.gc_cycle.specs.Events.{never};
+ghost use Rattle.gc_cycle.specs.Sorts.{tries_marking};
+ghost use Rattle.gc_cycle.specs.Statistics.{ChangesBy};
 ghost use Rattle.mutator_ops.specs.Few.{AtMost};
 ghost use Rattle.seat_turns.specs.Standing.{IsAtTurn, Plays};
 ghost use Rattle.seat_steps.specs.Doing.{Does, FindsNone, FindsSome, MakesNow, RefersToNothing, RefersToOne};
@@ -31,6 +34,8 @@ pub fn makes(heap: &Heap, seat: &mut HeapSeat, cache: Cache, v: u8, value: u32)
     ensures made { MakesNow v value heap.now seat.old seat.new }
     ensures ran { Across Ran seat.old seat.new }
     ensures few { Across (AtMost (heap.now.shape.fields + 3)) seat.old seat.new }
+    ensures quiet { IsTrue (never tries_marking (did seat.old seat.new)) }
+    ensures numbers { Across (ChangesBy []) seat.old seat.new }
 {
     if heap.shape().sharing {
         make_shared_in(heap, seat, cache, v, value);

@@ -8,6 +8,7 @@ ghost use Rattle.gc_table.specs.Seats.{Across, view_of};
 ghost use Rattle.seat_turns.specs.Sharing.{LeavesHeap};
 ghost use Rattle.seat_turns.specs.Standing.{Halts, IsAtTurn, plain_of};
 ghost use Rattle.seat_steps.specs.Causes.{ArrivesBy, GoesFreely};
+ghost use Rattle.seat_steps.specs.Pacing.{CarriesPace};
 ghost use Rattle.seat_steps.specs.PaidTries.{CountsPiece, CountsRefill};
 ghost use Rattle.seat_steps.specs.Seeking.{CachedBy, FailsBy, MakesHere, RefillsBy, SoughtBy, StandsAfter, TriesPiece};
 ghost use Rattle.seat_steps.specs.Arriving.{LeavesWorld};
@@ -59,6 +60,7 @@ fn lacks_some(heap: &Heap, seat: &mut HeapSeat, sought: Sought) -> Result<Sought
     ensures ran { Across Ran seat.old seat.new }
     ensures freely { IfOk result (λ _. Across GoesFreely seat.old seat.new) }
     ensures found { IfErr result (λ came. Across (ArrivesBy came) seat.old seat.new) }
+    ensures paces { Across CarriesPace seat.old seat.new }
 {
     match arrive(heap, seat) {
         Came::Done => Ok(sought),

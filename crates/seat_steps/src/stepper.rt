@@ -2,9 +2,9 @@
 ghost use Rattle.std.specs.Arc.{arc_value};
 ghost use Rattle.std.specs.Prelude.{◌≡◌, ◌≤◌};
 ghost use Rattle.mark_core.specs.Layout.{block_count};
-ghost use Rattle.mark_core.specs.declared.kinds.Phase.TheVariants.{Sweep};
+ghost use Rattle.mark_core.specs.declared.kinds.Phase.TheVariants.{Drain, Sweep};
 ghost use Rattle.gc_cycle.specs.Pieces.{CountsFrom, HasCounted, IsAtClear, LooksFrom, SeesRootsFrom};
-ghost use Rattle.gc_cycle.specs.SharedSteps.{HasSweptShared, IsShared};
+ghost use Rattle.gc_cycle.specs.SharedSteps.{HasSweptShared, IsClosing, IsShared};
 ghost use Rattle.gc_cycle.specs.Stepping.{AwaitsStop, Drains};
 ghost use Rattle.seat_steps.specs.Asked.{CountsSinceAsked, MarksSinceAsked, SweepsSinceAsked, WaitsSinceAsked};
 ghost use Rattle.seat_steps.specs.Collecting.{Collects};
@@ -40,6 +40,14 @@ pub enum Stage {
     Counting,
     /// It has counted all cells in use.
     Ending,
+    /// It traces objects, while helpers may.
+    Sharing,
+    /// It passes all cards and cleans the dirty ones, while helpers may trace.
+    Passing,
+    /// It traces objects, while helpers may, until all packets are empty.
+    Emptying,
+    /// It lets no more helpers trace, and waits until those that do have left.
+    Closing,
     /// It lets no more helpers sweep, and waits until those that do have left.
     Parting,
 }
@@ -60,6 +68,8 @@ pub struct Stepper {
     pub(crate) exact: bool,
     /// Whether its collection is to mark once more, since it is precise and a cycle was marking.
     pub(crate) again: bool,
+    /// Whether helpers were let into its drain.
+    pub(crate) shared: bool,
     /// How many cells it has freed by its own sweep, as far as 32 bits hold, like the next three.
     pub(crate) freed: u32,
     pub(crate) traced: u32,
@@ -84,6 +94,10 @@ pub struct Stepper {
     ghost looking: { stage ≡ stages.Looking → Collects (LooksFrom next) (MarksSinceAsked exact again) (arc_value heap) seat },
     ghost cleaning: { stage ≡ stages.Cleaning → Collects Drains (MarksSinceAsked exact again) (arc_value heap) seat },
     ghost clearing: { stage ≡ stages.Clearing → Collects IsAtClear WaitsSinceAsked (arc_value heap) seat },
+    ghost sharing: { stage ≡ stages.Sharing → Collects (IsShared Drain) (MarksSinceAsked exact again) (arc_value heap) seat },
+    ghost passing: { stage ≡ stages.Passing → Collects (IsShared Drain) (MarksSinceAsked exact again) (arc_value heap) seat },
+    ghost emptying: { stage ≡ stages.Emptying → Collects (IsShared Drain) (MarksSinceAsked exact again) (arc_value heap) seat },
+    ghost closing: { stage ≡ stages.Closing → Collects (IsClosing Drain) (MarksSinceAsked exact again) (arc_value heap) seat },
     ghost sweeping: { stage ≡ stages.Sweeping → Collects (IsShared Sweep) (SweepsSinceAsked exact) (arc_value heap) seat },
     ghost parting: { stage ≡ stages.Parting → Collects HasSweptShared (SweepsSinceAsked exact) (arc_value heap) seat },
     ghost counting: { stage ≡ stages.Counting → Collects (CountsFrom next counted) (CountsSinceAsked exact) (arc_value heap) seat },

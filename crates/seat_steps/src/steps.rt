@@ -19,9 +19,9 @@ use crate::stepper::{Stage, Stepper};
 use crate::telling::read_marking;
 use crate::tries::arrive;
 use gc_cycle::{
-    Counts, Look, ask_to_stop, begin_collection, clean_step, clear_step, count_step,
-    finds_all_marked, finds_stopped, finish_clear, finish_count, look_step, open_stop, root_piece,
-    start_clear, start_sweep, stretches_of, trace_step,
+    Counts, Look, ask_to_stop, begin_collection, clean_step, clear_step, finds_all_marked,
+    finds_stopped, finish_clear, finish_count, look_step, open_stop, root_piece, start_clear,
+    start_sweep, stretches_of, trace_step,
 };
 use gc_table::{Heap, HeapSeat};
 use seat_turns::{leave, retire_own_cache};
@@ -119,6 +119,10 @@ impl Stepper {
             Stage::Sweeping => self.sweep(most),
             Stage::Counting => self.count(most),
             Stage::Ending => self.end(),
+            Stage::Sharing => self.share(most),
+            Stage::Passing => self.pass(most),
+            Stage::Emptying => self.empty(most),
+            Stage::Closing => self.close(),
             Stage::Parting => self.part(),
         }
     }
@@ -154,6 +158,7 @@ impl Stepper {
             self.traced = 0;
             self.cleaned = 0;
             self.rescanned = 0;
+            self.shared = self.again;
             self.stage = Stage::Rooting;
             return Came::NotYet;
         }
@@ -174,7 +179,14 @@ impl Stepper {
             self.next += number;
             return Came::NotYet;
         }
-        self.stage = Stage::Draining;
+        if self.shared {
+            self.stage = Stage::Draining;
+            return Came::NotYet;
+        }
+        open_stop(&self.heap, &mut self.seat);
+        self.shared = true;
+        self.next = 0;
+        self.stage = Stage::Sharing;
         Came::NotYet
     }
 
@@ -256,23 +268,9 @@ impl Stepper {
         }
         finish_clear(&self.heap, &mut self.seat);
         self.again = false;
+        self.shared = false;
         self.next = 0;
         self.stage = Stage::Rooting;
-        Came::NotYet
-    }
-
-    fn count(&mut self, most: u32) -> Came
-        requires counting { self.old.stage ≡ stages.Counting }
-        ensures collects { (precise : Bool) → StepsCollection precise most result self.old self.new }
-        ensures bounded { IsBoundedStep most self.old self.new }
-    {
-        let step = count_step(&self.heap, &mut self.seat, self.next, self.counted, most);
-        self.counted = step.counted;
-        if step.blocks == most {
-            self.next += step.blocks;
-            return Came::NotYet;
-        }
-        self.stage = Stage::Ending;
         Came::NotYet
     }
 

@@ -1,4 +1,4 @@
-//! A stepper sweeps, with helpers.
+//! A stepper sweeps, with helpers, and counts.
 ghost use Rattle.std.specs.Prelude.{ℕ, ◌≡◌, Bool};
 ghost use Rattle.seat_steps.specs.Bounds.{IsBoundedStep};
 ghost use Rattle.seat_steps.specs.Steps.{StepsCollection};
@@ -6,7 +6,9 @@ ghost use Rattle.seat_steps.specs.declared.stepper.Stage.TheVariants as stages;
 
 use crate::came::Came;
 use crate::stepper::{Stage, Stepper};
-use gc_cycle::{finds_helpers_gone, shut_stop, start_count, stretches_of, sweep_shared};
+use gc_cycle::{
+    count_step, finds_helpers_gone, shut_stop, start_count, stretches_of, sweep_shared,
+};
 
 impl Stepper {
     pub(crate) fn sweep(&mut self, most: u32) -> Came
@@ -37,6 +39,21 @@ impl Stepper {
         self.next = 0;
         self.counted = 0;
         self.stage = Stage::Counting;
+        Came::NotYet
+    }
+
+    pub(crate) fn count(&mut self, most: u32) -> Came
+        requires counting { self.old.stage ≡ stages.Counting }
+        ensures collects { (precise : Bool) → StepsCollection precise most result self.old self.new }
+        ensures bounded { IsBoundedStep most self.old self.new }
+    {
+        let step = count_step(&self.heap, &mut self.seat, self.next, self.counted, most);
+        self.counted = step.counted;
+        if step.blocks == most {
+            self.next += step.blocks;
+            return Came::NotYet;
+        }
+        self.stage = Stage::Ending;
         Came::NotYet
     }
 }

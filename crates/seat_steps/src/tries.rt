@@ -13,6 +13,7 @@ ghost use Rattle.seat_turns.specs.SeasonLooks.{LooksAtSeason, SeesOther};
 ghost use Rattle.seat_turns.specs.Sharing.{LeavesHeap};
 ghost use Rattle.seat_turns.specs.Standing.{Halts, IsAtTurn, Plays, IsMutatorOutside, Works, plain_of};
 ghost use Rattle.seat_steps.specs.Causes.{ArrivesBy, EntersBy, GoesFreely, LooksBy, LooksTo, PassesBy};
+ghost use Rattle.seat_steps.specs.Pacing.{CarriesPace};
 ghost use Rattle.seat_steps.specs.Arriving.{Arrives, HasLooked, HasPassed, LeavesWorld, Passes, Tries};
 
 use crate::came::Came;
@@ -32,6 +33,7 @@ fn try_in(heap: &Heap, seat: &mut HeapSeat) -> Pass
     ensures ran { Across Ran seat.old seat.new }
     ensures enters { Across (EntersTo result) seat.old seat.new }
     ensures few { Across (AtMost 2) seat.old seat.new }
+    ensures paces { Across CarriesPace seat.old seat.new }
 {
     try_enter(heap, seat)
 }
@@ -46,6 +48,7 @@ fn try_pass(heap: &Heap, seat: &mut HeapSeat, cache: &mut Option<Cache>) -> Pass
     ensures ran { Across Ran seat.old seat.new }
     ensures looks { Across (LooksBy result cache.old cache.new) seat.old seat.new }
     ensures few { Across (AtMost 6) seat.old seat.new }
+    ensures paces { Across CarriesPace seat.old seat.new }
 {
     let made = seat.state().made;
     try_safe_point(heap, seat, cache, made)
@@ -76,6 +79,7 @@ fn leave_with(heap: &Heap, seat: &mut HeapSeat, cache: Option<Cache>)
     ensures full { KnowsFull (view_of seat.old) → KnowsFull (view_of seat.new) }
     ensures out { Across LeavesTurn seat.old seat.new }
     ensures few { Across (AtMost 5) seat.old seat.new }
+    ensures paces { Across CarriesPace seat.old seat.new }
 {
     retire_some(heap, seat, cache);
     leave(heap, seat);
@@ -113,6 +117,7 @@ fn leave_hindered(heap: &Heap, seat: &mut HeapSeat)
     ensures full { KnowsFull (view_of seat.old) → KnowsFull (view_of seat.new) }
     ensures out { Across LeavesTurn seat.old seat.new }
     ensures few { Across (AtMost 5) seat.old seat.new }
+    ensures paces { Across CarriesPace seat.old seat.new }
 {
     let cache = cache_of(seat);
     leave_with(heap, seat, cache);
@@ -129,6 +134,7 @@ pub fn point(heap: &Heap, seat: &mut HeapSeat, cache: Option<Cache>) -> Result<O
     ensures ran { Across Ran seat.old seat.new }
     ensures freely { IfOk result (λ kept. (kept ≡ cache) × Across GoesFreely seat.old seat.new) }
     ensures found { IfErr result (λ came. Across (ArrivesBy came) seat.old seat.new) }
+    ensures paces { Across CarriesPace seat.old seat.new }
 {
     let mut cache = cache;
     match try_pass(heap, seat, &mut cache) {
@@ -158,6 +164,7 @@ pub fn arrive(heap: &Heap, seat: &mut HeapSeat) -> Came
     ensures leaves { Across LeavesHeap seat.old seat.new }
     ensures ran { Across Ran seat.old seat.new }
     ensures found { Across (ArrivesBy result) seat.old seat.new }
+    ensures paces { Across CarriesPace seat.old seat.new }
 {
     match point(heap, seat, None) {
         Ok(none) => {
@@ -174,6 +181,7 @@ pub fn enter_once(heap: &Heap, seat: &mut HeapSeat) -> Came
     ensures same { plain_of seat.new ≡ plain_of seat.old }
     ensures leaves { Across LeavesHeap seat.old seat.new }
     ensures found { Across (EntersBy result) seat.old seat.new }
+    ensures paces { Across CarriesPace seat.old seat.new }
 {
     match try_in(heap, seat) {
         Pass::Out => Came::Stopped,
@@ -194,6 +202,7 @@ pub fn pass_once(heap: &Heap, seat: &mut HeapSeat) -> Came
     ensures leaves { Across LeavesHeap seat.old seat.new }
     ensures ran { Across Ran seat.old seat.new }
     ensures found { Across (PassesBy result) seat.old seat.new }
+    ensures paces { Across CarriesPace seat.old seat.new }
 {
     match look(heap, seat) {
         Came::Done => Came::Done,

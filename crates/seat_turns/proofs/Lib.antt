@@ -2,6 +2,7 @@ mod Clearing
 mod Coming
 pub mod Done
 mod Fulls
+mod Passing
 pub mod Leaving
 mod Naming
 pub mod Seats

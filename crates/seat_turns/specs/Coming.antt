@@ -1,8 +1,10 @@
 -- How a mutator goes into the world, to its turn, to a free cell, and out again: when it polls and when it stops the world, what it pays, and which of the
 -- numbers that pace a cycle it changes.
-use Rattle.std.specs.Prelude.{ℕ, ◌≡◌, ◌≤◌, ◌⊎◌, Bool, true, false, List, [], ◌∷◌, Option, Some, None, IsTrue}
+use Rattle.std.specs.Prelude.{ℕ, ◌≡◌, ◌≤◌, ◌⊎◌, ◌||◌, Bool, true, false, List, [], ◌∷◌, Option, Some, None, IsTrue}
 use Rattle.mark_core.specs.declared.kinds.Shape.{Shape}
-use Rattle.mark_core.specs.declared.kinds.Step.TheVariants.{LeaveStep, StorePosition}
+use Rattle.mark_core.specs.declared.kinds.Phase.TheVariants.{Full}
+use Rattle.mark_core.specs.declared.kinds.Step.{Step}
+use Rattle.mark_core.specs.declared.kinds.Step.TheVariants.{LeaveStep, Observe, ReadPhase, ReadSeason, StorePosition}
 use Rattle.gc_table.specs.Log.{Only, event, events, steps_of}
 use Rattle.gc_table.specs.Running.{Ran}
 use Rattle.gc_table.specs.declared.view.View.{View}
@@ -14,7 +16,7 @@ use Rattle.gc_cycle.specs.Cycles.{fills_with_cause, never_fills}
 use Rattle.gc_cycle.specs.Events.{never}
 use Rattle.gc_cycle.specs.Mutating.{HasEntered, pops_in_stops}
 use Rattle.gc_cycle.specs.Polling.{offered_help}
-use Rattle.gc_cycle.specs.Sorts.{ends_cycle, polls, raises_flag, tries_marking}
+use Rattle.gc_cycle.specs.Sorts.{ends_cycle, polls, raises_flag, reads_phase, sees_flag, tries_marking}
 use Rattle.gc_cycle.specs.Sparing.{fills_part}
 use Rattle.gc_cycle.specs.Statistics.{ChangesNumbers, GivesUp, RefillsNumbers, leaves_numbers}
 use Rattle.gc_cycle.specs.Turns.{HelpsInTurns}
@@ -51,13 +53,27 @@ pub record GivesCache (handed : Option Cache) (v w : View) : Type 0 where
   pub only : Only retires v w
   pub numbers : GivesUp handed None v w
 
--- safe points: the seat polled, raised no flag, began no cycle, didn't say that the heap is full, and changed a number only if it gave up its cache
+-- the event found a stop under way, or read the phase as Full
+abbrev pub hinders : Step → ℕ → Bool
+hinders step found = sees_flag step found || reads_phase Full step found
+
+-- what safe points that found neither a stop nor a full heap took: one look at the world, one at the phase, and one at the season if the seat didn't know it
+abbrev pub passing : Option ℕ → List Step
+passing None = Observe ∷ ReadPhase ∷ ReadSeason ∷ []
+passing (Some season) = Observe ∷ ReadPhase ∷ []
+
+-- safe points: the seat polled, raised no flag, began no cycle, didn't say that the heap is full, popped cells only in stops, by turns of help, and changed a number
+-- only if it gave up its cache; it gave that up only if it found a stop, or the heap full, and without either it did nothing but look
 pub record Polls (handed kept : Option Cache) (v w : View) : Type 0 where
   pub polled : IsTrue (some_event polls (events v w))
   pub calm : IsTrue (never raises_flag (events v w))
   pub not_full : IsTrue (never_fills (events v w))
   pub unbegun : IsTrue (never tries_marking (events v w))
   pub numbers : GivesUp handed kept v w
+  pub pops : IsTrue (pops_in_stops (events v w))
+  pub helps : HelpsInTurns v w
+  pub cause : (kept ≡ handed) ⊎ IsTrue (some_event hinders (events v w))
+  pub looks : IsTrue (never hinders (events v w)) → steps_of (events v w) ≡ passing v.state.season_seen
 
 -- a refill answered so: what was paid and popped, the cause of each stop, in this visit, of a second one, of a second cycle, of finding the heap full and of
 -- beginning a cycle, that each stop collects, and the numbers

@@ -59,6 +59,9 @@ const ROOTS: u32 = 3;
 const SWEEP: u32 = 8;
 /// The stage before the last step of a collection.
 pub(crate) const END: u32 = 10;
+/// The stages at which it waits for helpers, of the sweep and of the drain.
+pub(crate) const PART: u32 = 11;
+pub(crate) const CLOSE: u32 = 15;
 
 /// The collection under way, and the last cycle.
 struct Course {

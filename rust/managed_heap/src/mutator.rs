@@ -1,6 +1,6 @@
 //! Mutators.
 
-use crate::cycles::{Why, END};
+use crate::cycles::{Why, CLOSE, END, PART};
 use crate::error::{Error, DEAD, NOT_YET, NO_CACHE, NO_CELL, OK, STOPPED};
 use crate::library::{Handle, RawCourse};
 use crate::resting::Rests;
@@ -325,6 +325,8 @@ impl Mutator {
                     self.shared.cycles.note(&last, &self.handle.work(), why);
                     if self.handle.is_stopping() {
                         rests.rest();
+                    } else if last.stage == PART || last.stage == CLOSE {
+                        std::thread::yield_now();
                     }
                 }
                 STOPPED => return self.come_back().map(|()| last),

@@ -141,6 +141,9 @@ first-found lo hi h v x w r q k none =
 pub of-some : (P : Refill → Type 0) (o : Piece) (r : Refill) → refill_of o ≡ Some r → P r → IfSome (refill_of o) P
 of-some P o r e p = subst (λ (z : Option Refill). IfSome z P) (sym e) p
 
+pub of-none : (P : Type 0) (o : Piece) (r : Refill) → refill_of o ≡ Some r → IfNone (refill_of o) P
+of-none P o r e = subst (λ (z : Option Refill). IfNone z P) (sym e) tt
+
 pub some-same : {X : Type 0} {x y : X} → Some x ≡ Some y → x ≡ y
 some-same e = cc
 

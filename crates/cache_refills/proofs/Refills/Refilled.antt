@@ -2,7 +2,7 @@
 use Rattle.std.proofs.Common.{ℕ, ◌≡◌, List, [], ◌∷◌, ◌++◌, ◌+◌, length, arith, refl, sym, ap, ◌∙◌, subst, Bool, true, false, not, ◌&&◌, ◌||◌, Some, None, Option, ⊎_elim, ◌⊎◌}
 use Rattle.std.specs.Prelude.{if◌then◌else◌, is_some, unwrap_or}
 use Rattle.std.specs.Int.Count.{ones}
-use Rattle.std.proofs.lemmas.Bool.{not-true, or_cases, or_left, or_right}
+use Rattle.std.proofs.lemmas.Bool.{not-true, or_cases, or_left, or_right, true≢false}
 use Rattle.std.proofs.lemmas.List.{append_assoc}
 use Rattle.mark_core.specs.Cells.{or_else}
 use Rattle.mark_core.specs.Steps.MutatorSteps.{used_bits}
@@ -27,7 +27,7 @@ use Rattle.gc_table.proofs.Running.{ran-events, ran-found, ran-join, ran-only, r
 use Rattle.packet_pools.specs.Counts.{count_of}
 use Rattle.packet_pools.specs.Fields.{picked}
 use Rattle.packet_pools.specs.Seeking.{some_event}
-use Rattle.packet_pools.proofs.Searches.{some-right}
+use Rattle.packet_pools.proofs.Searches.{some-left, some-right}
 use Rattle.tracer.specs.declared.traced.Stopped.{Stopped}
 use Rattle.tracer.specs.declared.traced.Stopped.TheVariants.{Quota, NoWork, NoPacket}
 use Rattle.alloc_cache.specs.Caching.{IsCached}
@@ -35,7 +35,9 @@ use Rattle.mark_core.specs.Numbers.{free_count, last_count, rescanned_count, tra
 use Rattle.alloc_cache.specs.Claiming.{claimed_by}
 use Rattle.alloc_cache.specs.Retiring.{retiring_steps}
 use Rattle.alloc_cache.specs.declared.cache.Cache.{Cache}
-use Rattle.cache_refills.specs.Getting.{GetsCache}
+use Rattle.cache_refills.specs.Getting.{GetsCache, LooksBeyond}
+use Rattle.cache_refills.specs.Pace.Early.{PassesNext}
+use Rattle.cache_refills.specs.Pace.Others.{SeesToNext}
 use Rattle.gc_cycle.specs.Answering.{answers, EndsFull, GoesOn, last_phase}
 use Rattle.gc_cycle.specs.declared.counts.Paid.{Paid}
 use Rattle.gc_cycle.specs.Events.{before_last, never, Sort, until_first}
@@ -139,8 +141,8 @@ module _ (h : Cache) (done : ℕ) (u v w x : View) (n : ℕ) (k : HasClaimed h d
   told : picked lowers_free (since_claim (events u x)) ≡ ones h.cells ∷ []
   told = ap (picked lowers_free) since ∙ ap (λ l. ones h.cells ∷ l) (picked-none pays_cells lowers_free pays-unlowered (events w x) o)
 
-  gets-cache : (p : Paid) → Mutates v → IsCached h v → Mutates x → x.state.cache ≡ w.state.cache → x.state.phase_seen ≡ w.state.phase_seen → saw (Some (phase_of n)) Full ≡ false → Pays u.shape (own_section u.state) (ones h.cells) p (begins u) (events u x) → GetsCache h p done u x
-  gets-cache p m cached now kept seen low pays =
+  gets-cache : (p : Paid) → Mutates v → IsCached h v → Mutates x → x.state.cache ≡ w.state.cache → x.state.phase_seen ≡ w.state.phase_seen → saw (Some (phase_of n)) Full ≡ false → Pays u.shape (own_section u.state) (ones h.cells) p (begins u) (events u x) → (some_event (reads_phase Marking) (since_claim (events u x)) ≡ true → LooksBeyond u.shape (ones h.cells) u x) → GetsCache h p done u x
+  gets-cache p m cached now kept seen low pays beyond =
       record {
         goes_on = goes m now seen low;
         cached = cached-still (Some h) v x (kept ∙ ap (λ (z : View). z.state.cache) f.0) cached;
@@ -148,6 +150,7 @@ module _ (h : Cache) (done : ℕ) (u v w x : View) (n : ℕ) (k : HasClaimed h d
         free = k.claimed.free;
         told = told;
         pays = pays;
+        beyond = λ outside marking. beyond marking;
       }
 
   section : own_section w.state ≡ own_section u.state
@@ -220,11 +223,20 @@ module _ (h : Cache) (done : ℕ) (u v w x : View) (n : ℕ) (k : HasClaimed h d
           (λ c. absurd (⊎_elim (λ (a : Known v the_phase 1). other 0 a) (λ (b : Known v the_phase 5). other 4 b) c))
           k.paced
 
-  pub gets-paid : (p : Paid) → Mutates v → IsCached h v → HasPaid (ones h.cells) p w x → phase_of n ≡ Marking → GetsCache h p done u x
-  gets-paid p m cached q e = gets-cache p m cached q.mutates q.cache q.seen (ap (λ z. saw (Some z) Full) e) (in_marking (pays-marking p q e))
+  pub gets-paid : (p : Paid) → Mutates v → IsCached h v → HasPaid (ones h.cells) p w x → phase_of n ≡ Marking → PassesNext u.shape (ones h.cells) w x → SeesToNext u.shape w x → GetsCache h p done u x
+  gets-paid p m cached q e passes others =
+      gets-cache p m cached q.mutates q.cache q.seen (ap (λ z. saw (Some z) Full) e) (in_marking (pays-marking p q e))
+      (λ marking. record { paying = w; before = before; pays = r; claimed = claimed; unclaimed = untaken pays_cells claims pays-unclaimed (events w x) o; passes = passes; others = others })
+    where
+      claimed : some_event claims (events u w) ≡ true
+      claimed =
+          ap (some_event claims) (ran-events u v w k.ran looked)
+          ∙ some-left claims (events u v) (events v w)
+          (ap (some_event claims) k.claimed.all ∙ some-right claims k.first (claimed_by h k.claimed.word k.claimed.count) refl)
 
   pub gets-free : (p : Paid) → Mutates v → IsCached h v → IsFree p → n ≡ 0 → events w x ≡ [] → Mutates x → x.state.cache ≡ w.state.cache → x.state.phase_seen ≡ w.state.phase_seen → GetsCache h p done u x
   gets-free p m cached free e none now kept seen = gets-cache p m cached now kept seen (ap (λ i. saw (Some (phase_of i)) Full) e) (in_idle (pays-idle p free e none))
+      (λ marking. absurd (true≢false (sym marking ∙ not-true _ (pays-idle p free e none).unmarked)))
 
 -- it looked at the phase, and paid
 pub looked-ran : (v w x : View) (n : ℕ) → Found ReadPhase n v w → Ran w x → Ran v x

@@ -285,5 +285,6 @@ module _ (o : Option Cache) (u v w x y : View) (t : TriesToStop u v) (once : cou
         position = λ left. position-end (Some h) k ∙ at;
         free = e.free;
         told = ap (picked lowers_free) since;
+        beyond = λ outside marking. absurd (true≢false (sym (ap (some_event resumes) since) ∙ outside));
         pays = in_stop (record { inside = ap (some_event resumes) since; unpopped = ap (never pops) since; untold = ap (picked raises_traced) since; free = free });
       }

@@ -10,12 +10,14 @@ use Rattle.gc_cycle.specs.Sparing.{SparesRefill}
 use Rattle.gc_cycle.specs.Statistics.{RoundNumbers}
 use Rattle.gc_cycle.proofs.Changes.{numbers-one, seeks-by}
 use Rattle.cache_refills.proofs.Due.{due-calm, due-join, due-none}
-use Rattle.cache_refills.proofs.Refills.Claimed.{claims-cached, claims-claimed, claims-only}
+use Rattle.cache_refills.proofs.Refills.Claimed.{claims-block, claims-cached, claims-claimed, claims-only}
 use Rattle.cache_refills.proofs.Refills.Paced.{seeks-prepare}
 use Rattle.cache_refills.proofs.Refills.Passed.{plays-calm, plays-join, plays-leads}
-use Rattle.cache_refills.proofs.Refills.Pieced.{misses-blocks, misses-without, of-some, paid-sees, paid-short}
+use Rattle.cache_refills.proofs.Refills.Pieced.{misses-blocks, misses-without, of-none, of-some, paid-sees, paid-short}
+use Rattle.cache_refills.proofs.Refills.Popping.{calm-claims, stops-paid, unpopped}
 use Rattle.cache_refills.proofs.Refills.RoundsSoFar.{claims-refill}
 use Rattle.cache_refills.proofs.Refills.Rounds.{leads-prepared, spares-refill}
+use Rattle.cache_refills.proofs.Refills.Visiting.{leads-claimed}
 use Rattle.cache_refills.proofs.Refills.Together.{answered-comes, ended-collects, seen-on}
 use Rattle.cache_refills.proofs.Stops.InStops.{unbegun-claims, unbegun-seeks}
 use Rattle.cache_refills.specs.Pace.Pacing.{card_looks}
@@ -183,3 +185,43 @@ returns-in-Ended-clause-longest c =
     let end = s.0 in
     let few = s.1.few in
     omega (arith, few, end)
+
+pub returns-in-Next-clause-pops : goal.returns-in-Next-clause-pops
+returns-in-Next-clause-pops c =
+    let v : View = view_of c.args.seat.now in
+    let x : View = view_of c.claim_some.new.seat in
+    let k = c.in-Next.ensures in
+    stops-paid (events v x) (unpopped (events v x) (leads-prepared v x k.ran (only-more seeks_block prepares seeks-prepare v x k.searches.2.seeks)).unpopped)
+
+pub returns-in-Next-clause-unpopped : goal.returns-in-Next-clause-unpopped
+returns-in-Next-clause-unpopped c =
+    let v : View = view_of c.args.seat.now in
+    let x : View = view_of c.claim_some.new.seat in
+    let k = c.in-Next.ensures in
+    (leads-prepared v x k.ran (only-more seeks_block prepares seeks-prepare v x k.searches.2.seeks)).unpopped
+
+pub returns-in-Ended-clause-pops : goal.returns-in-Ended-clause-pops
+returns-in-Ended-clause-pops c =
+    let v : View = view_of c.args.seat.now in
+    let x : View = view_of c.claim_some.new.seat in
+    let k = c.in-Ended.ensures in
+    stops-paid (events v x) (unpopped (events v x) (leads-prepared v x k.ran (only-more seeks_block prepares seeks-prepare v x k.searches.1.seeks)).unpopped)
+
+pub returns-in-Ended-clause-unpopped : goal.returns-in-Ended-clause-unpopped
+returns-in-Ended-clause-unpopped c =
+    let v : View = view_of c.args.seat.now in
+    let x : View = view_of c.claim_some.new.seat in
+    let k = c.in-Ended.ensures in
+    (leads-prepared v x k.ran (only-more seeks_block prepares seeks-prepare v x k.searches.1.seeks)).unpopped
+
+pub returns-in-Claimed-clause-pops : goal.returns-in-Claimed-clause-pops
+returns-in-Claimed-clause-pops c =
+    let v : View = view_of c.args.seat.now in
+    let x : View = view_of c.claim_some.new.seat in
+    let w : View = view_of c.pay_for.new.seat in
+    let p = c.pay_for.ensures in
+    let k = c.in-Claimed.ensures in
+    leads-claimed v x w (leads-prepared v x k.ran (claims-only c.in-Claimed.cache v x k.searches.claims)) p.ran (claims-block c.in-Claimed.cache v x k.searches.claims) (calm-claims x w p.only)
+
+pub returns-in-Claimed-clause-unpopped : goal.returns-in-Claimed-clause-unpopped
+returns-in-Claimed-clause-unpopped c = of-none _ c.piece_of.result c.pay_for.result c.piece_of.ensures

@@ -18,6 +18,8 @@ use Rattle.cache_refills.proofs.Due.{due-calm, due-join}
 use Rattle.cache_refills.proofs.Positions.{stored-more, stored-none}
 use Rattle.cache_refills.proofs.Refills.Passed.{both-some, plays-calm, plays-join, plays-keeps, plays-leads, unseen-full, unseen-join}
 use Rattle.cache_refills.proofs.Refills.Pieced.{calm-leaves, leaves-join, looked-leaves, none-without, sees-later, short-later}
+use Rattle.cache_refills.proofs.Refills.Popping.{answered-pops, stops-paid, unpopped}
+use Rattle.cache_refills.proofs.Refills.Visiting.{leads-paid, none-pops}
 use Rattle.cache_refills.proofs.Refills.RoundsSoFar.{leaves-first, leaves-full}
 use Rattle.cache_refills.proofs.Refills.Rounds.{later-some, leads-join, leads-looked, leads-prepared, looked-seen, marking-known, paced-after, spares-refill}
 use Rattle.cache_refills.proofs.Refills.Together.{done-collects, marked-done, seen-keeps}
@@ -46,6 +48,8 @@ returns-then-stores_if_full c =
       longest = omega (arith, few);
       keeps = plays-keeps v w p;
       due = due-calm v w calm;
+      pops = stops-paid (events v w) (unpopped (events v w) (answered-pops v w e.only));
+      unpopped = tt;
       numbers = leaves-full v w e.numbers;
     }
 
@@ -85,6 +89,8 @@ returns-then-begins_or_ends c =
       longest = omega (arith, five);
       keeps = plays-keeps v x p;
       due = due-join v w x e.ran s.ran (due-calm v w (only-more answers stays_calm answers-calm v w e.only)) s.due;
+      pops = stops-paid (events v x) (unpopped (events v x) l.unpopped);
+      unpopped = l.unpopped;
       numbers = numbers-one [] v x (by-join [] [] v w x e.numbers s.numbers);
     }
 
@@ -121,5 +127,7 @@ returns c =
       longest = omega (arith, long);
       keeps = plays-keeps v y p;
       due = due-join v w y e.ran (ran-join w x y s.ran t.plays.ran) (due-calm v w (only-more answers stays_calm answers-calm v w e.only)) (due-join w x y s.ran t.plays.ran s.due t.due);
+      pops = leads-paid v x y l t.plays.ran t.pops;
+      unpopped = none-pops o v x y l t.plays.ran t.unpopped;
       numbers = leaves-first o v x y (by-join [] [] v w x e.numbers s.numbers) t.numbers;
     }

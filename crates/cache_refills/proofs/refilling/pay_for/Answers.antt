@@ -3,13 +3,16 @@ use Rattle.std.proofs.lemmas.Bool.{false≢true}
 use Rattle.gc_table.specs.Seats.{view_of}
 use Rattle.gc_table.specs.declared.view.View.{View}
 use Rattle.gc_table.proofs.History.Log.{events-none, only-more, only-none}
-use Rattle.gc_table.proofs.Running.{ran-join, ran-refl, ran-stored, ran-found}
+use Rattle.gc_table.proofs.Running.{ran-join, ran-refl, ran-shape, ran-stored, ran-found}
 use Rattle.alloc_cache.specs.declared.cache.Cache.{Cache}
 use Rattle.gc_cycle.specs.declared.counts.Paid.{Paid}
 use Rattle.gc_cycle.specs.declared.counts.Refill.TheVariants as refills
 use Rattle.gc_cycle.proofs.Few.{few-after, few-join, few-steps, giving-few}
 use Rattle.gc_cycle.specs.Answering.{answers}
 use Rattle.gc_cycle.specs.Mutating.{stays_calm}
+use Rattle.std.specs.Int.Count.{ones}
+use Rattle.cache_refills.specs.Pace.Early.{PassesNext}
+use Rattle.cache_refills.specs.Pace.Others.{SeesToNext}
 use Rattle.cache_refills.specs.Pace.Payment.{HasPaid, pays_cells}
 use Rattle.gc_cycle.specs.Sparing.{spares_part}
 use Rattle.gc_cycle.proofs.Refills.Answered.{answers-calm, full-later}
@@ -105,7 +108,12 @@ returns-in-Marking c =
       longest =
           few-join 1 (payment_steps 1024 card_looks sh) v w x (ran-found v w ReadPhase t.0 refl (t.1, t.2)) q.ran (few-after v w ReadPhase t.0 t.1)
           (payment-fewer c.pay-paid.result.done 1024 card_looks sh _ (let most = q.most in let short = q.short in omega (arith, most, short)) c.pay-paid.ensures.few);
-      refills = λ u k. gets-paid c.args.cache c.args.done u v w x t.0 k (t.1, t.2) q.ran q.only c.pay-paid.result c.requires.seat.1 c.requires.cache q (sym t.3 ∙ c.in-Marking.is);
+      refills =
+          λ u k.
+          let same : sh ≡ u.shape = sym c.requires.seat.0.1 ∙ ran-shape u v k.ran in
+          gets-paid c.args.cache c.args.done u v w x t.0 k (t.1, t.2) q.ran q.only c.pay-paid.result c.requires.seat.1 c.requires.cache q (sym t.3 ∙ c.in-Marking.is)
+          (subst (λ (z : Shape). PassesNext z (ones c.args.cache.cells) w x) same (subst (λ n. PassesNext sh n w x) c.free.ensures c.pay-paid.ensures.passes))
+          (subst (λ (z : Shape). SeesToNext z w x) same c.pay-paid.ensures.others);
     }
 
 pub returns-in_default : goal.returns-in_default

@@ -12,6 +12,7 @@ use Rattle.gc_table.proofs.Running.{ran-join}
 use Rattle.seat_steps.proofs.PaidCounts.{counts-first}
 use Rattle.seat_steps.proofs.Filled.{fills-makes, passes-makes, tries-first}
 use Rattle.seat_steps.proofs.Found.{arrives-lacks, comes-filled, comes-free, err-weaker, hindered-few}
+use Rattle.seat_steps.proofs.Paced.{carries-keeps, paces-first}
 use Rattle.seat_steps.proofs.getting.come_once.Goals as goal
 
 pub returns-in-Ok-clause-ok : goal.returns-in-Ok-clause-ok
@@ -24,6 +25,7 @@ returns-in_default-clause-err c = arrives-lacks c.pass_once.result c.args.heap.n
 
 pub returns-in_default-clause-found : goal.returns-in_default-clause-found
 returns-in_default-clause-found c = passes-makes c.pass_once.result (view_of c.args.seat.now) (view_of c.pass_once.new.seat) c.in_default.not-Done c.pass_once.ensures.found
+    (inl (carries-keeps (view_of c.args.seat.now) (view_of c.pass_once.new.seat) c.pass_once.ensures.paces))
 
 pub returns-in_default-clause-pays : goal.returns-in_default-clause-pays
 returns-in_default-clause-pays c = inl (hindered-few c.pass_once.result (view_of c.args.seat.now) (view_of c.pass_once.new.seat) c.in_default.not-Done c.pass_once.ensures.found, refl)
@@ -54,7 +56,7 @@ returns-in-Err-clause-found c =
     let v : View = view_of c.pass_once.new.seat in
     let w : View = view_of c.fill.new.seat in
     let p = c.in-Done.ensures.found in
-    err-weaker c.fill.result _ _ (λ came m. fills-makes came u v w p.ran p.few c.fill.ensures.ran m) c.fill.ensures.found
+    err-weaker c.fill.result _ _ (λ came m. fills-makes came u v w p.ran p.few c.fill.ensures.ran m (paces-first u v w c.pass_once.ensures.paces c.fill.ensures.paces)) c.fill.ensures.found
 
 pub returns-in-Err-clause-leaves : goal.returns-in-Err-clause-leaves
 returns-in-Err-clause-leaves c = leaves-join (view_of c.args.seat.now) (view_of c.pass_once.new.seat) (view_of c.fill.new.seat) c.pass_once.ensures.leaves c.fill.ensures.leaves
@@ -65,3 +67,12 @@ returns-in-Err-clause-pays c =
     let v : View = view_of c.pass_once.new.seat in
     let p = c.in-Done.ensures.found in
     inr (counts-first 2 3 8 c.args.paid.now c.fill.new.paid u v (view_of c.fill.new.seat) p.ran p.few c.fill.ensures.pays)
+
+pub returns-in-Ok-clause-paces : goal.returns-in-Ok-clause-paces
+returns-in-Ok-clause-paces c = inl (carries-keeps (view_of c.args.seat.now) (view_of c.pass_once.new.seat) c.pass_once.ensures.paces)
+
+pub returns-in-Err-clause-paces : goal.returns-in-Err-clause-paces
+returns-in-Err-clause-paces c = paces-first (view_of c.args.seat.now) (view_of c.pass_once.new.seat) (view_of c.fill.new.seat) c.pass_once.ensures.paces c.fill.ensures.paces
+
+pub returns-in_default-clause-paces : goal.returns-in_default-clause-paces
+returns-in_default-clause-paces c = inl (carries-keeps (view_of c.args.seat.now) (view_of c.pass_once.new.seat) c.pass_once.ensures.paces)

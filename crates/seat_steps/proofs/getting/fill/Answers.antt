@@ -8,6 +8,7 @@ use Rattle.std.proofs.lemmas.Result.{IfOk-weaker}
 use Rattle.seat_steps.proofs.PaidCounts.{cache-counts, either-few, full-counts, lacks-few}
 use Rattle.seat_steps.proofs.Filled.{arrives-fills, fills-on, full-fills, full-refills, lacks-fills, once}
 use Rattle.seat_steps.proofs.Found.{err-both, err-weaker, leaves-lacks}
+use Rattle.seat_steps.proofs.Paced.{carries-given, carries-out, paces-try}
 use Rattle.seat_steps.proofs.getting.fill.Goals as goal
 
 pub returns-in-None-clause-ran : goal.returns-in-None-clause-ran
@@ -101,3 +102,33 @@ returns-in-Some-Cache-clause-pays c =
       tries = once (view_of c.args.seat.now) (view_of c.retire_some.new.seat) w x c.retire_some.ensures.ran c.retire_some.ensures.few (Some r) c.try_fill.ensures.ran c.in-Some-Cache.ensures.tries p.ran 8 (either-few c.point_with.result w x p.freely p.found);
       counts = cache-counts r c.in-Some-Cache.cache c.in-Some-Cache.traced c.args.paid.now c.count_paid.new.count c.in-Some-Cache.field-0-is c.count_paid.ensures.counts;
     }
+
+pub returns-in-None-clause-paces : goal.returns-in-None-clause-paces
+returns-in-None-clause-paces c =
+    let u = view_of c.args.seat.now in
+    let v = view_of c.retire_some.new.seat in
+    let w = view_of c.try_fill.new.seat in
+    let x = view_of c.lacks_cell.new.seat in
+    let r = c.retire_some.ensures in
+    let t = c.try_fill.ensures in
+    paces-try None u v w x (carries-given c.args.cache u v c.requires.cache r.halts.cache r.gives) t.ran tt t.due c.in-None.ensures.numbers c.lacks_cell.ensures.paces
+
+pub returns-in-Some-Full-clause-paces : goal.returns-in-Some-Full-clause-paces
+returns-in-Some-Full-clause-paces c =
+    let u = view_of c.args.seat.now in
+    let v = view_of c.retire_some.new.seat in
+    let w = view_of c.try_fill.new.seat in
+    let x = view_of c.leave.new.seat in
+    let r = c.retire_some.ensures in
+    let t = c.try_fill.ensures in
+    paces-try (Some c.in-Some-Full.field-0) u v w x (carries-given c.args.cache u v c.requires.cache r.halts.cache r.gives) t.ran c.in-Some-Full.ensures.tries.0 t.due c.in-Some-Full.ensures.numbers (carries-out w x c.leave.ensures.ran c.leave.ensures.out)
+
+pub returns-in-Some-Cache-clause-paces : goal.returns-in-Some-Cache-clause-paces
+returns-in-Some-Cache-clause-paces c =
+    let u = view_of c.args.seat.now in
+    let v = view_of c.retire_some.new.seat in
+    let w = view_of c.try_fill.new.seat in
+    let x = view_of c.point_with.new.seat in
+    let r = c.retire_some.ensures in
+    let t = c.try_fill.ensures in
+    paces-try (Some c.in-Some-Cache.field-0) u v w x (carries-given c.args.cache u v c.requires.cache r.halts.cache r.gives) t.ran c.in-Some-Cache.ensures.tries.0 t.due c.in-Some-Cache.ensures.numbers c.point_with.ensures.paces

@@ -3,6 +3,7 @@ use Rattle.gc_table.specs.Seats.{view_of}
 use Rattle.seat_steps.proofs.PaidCounts.{makes-counts, misses-counts}
 use Rattle.seat_steps.proofs.Doing.{makes-after}
 use Rattle.seat_steps.proofs.Filled.{made-free}
+use Rattle.seat_steps.proofs.Paced.{paces-last}
 use Rattle.seat_steps.proofs.getting.make_once.Goals as goal
 
 pub returns-in-Ok-clause-makes : goal.returns-in-Ok-clause-makes
@@ -14,6 +15,7 @@ returns-in-Ok-clause-leaves c = λ other. absurd (other refl)
 pub returns-in-Ok-clause-found : goal.returns-in-Ok-clause-found
 returns-in-Ok-clause-found c =
     made-free c.args.heap.now c.args.seat.now (view_of c.come_once.new.seat) (view_of c.makes.new.seat) c.requires.turn.works.sits c.come_once.ensures.ran c.makes.ensures.ran c.in-Ok.ensures.freely c.makes.ensures.few
+    (paces-last (view_of c.args.seat.now) (view_of c.come_once.new.seat) (view_of c.makes.new.seat) c.come_once.ensures.paces c.makes.ensures.quiet c.makes.ensures.numbers)
 
 pub returns-in-Ok-clause-pays : goal.returns-in-Ok-clause-pays
 returns-in-Ok-clause-pays c =

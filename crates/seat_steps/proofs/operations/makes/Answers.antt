@@ -1,4 +1,6 @@
 use Rattle.seat_steps.proofs.Doing.{alone-of, makes-alone, makes-sharing, shared-of}
+use Rattle.gc_table.specs.Seats.{view_of}
+use Rattle.seat_steps.proofs.Paced.{creates-quiet}
 use Rattle.seat_steps.proofs.operations.makes.Goals as goal
 
 pub returns-then-shape-clause-made : goal.returns-then-shape-clause-made
@@ -8,3 +10,23 @@ pub returns-else-shape-clause-made : goal.returns-else-shape-clause-made
 returns-else-shape-clause-made c =
     let e = c.make_in.ensures in
     makes-alone c.args.heap.now c.args.seat.now c.make_in.new.seat c.args.v c.args.value (alone-of c.args.heap.now c.shape.result c.shape.ensures c.if-shape.false) c.requires.plays.works.sits e.steps e.takes
+
+pub returns-then-shape-clause-quiet : goal.returns-then-shape-clause-quiet
+returns-then-shape-clause-quiet c =
+    let m = c.make_shared_in.ensures.makes in
+    (creates-quiet _ m.cell _ _ _ (view_of c.args.seat.now) (view_of c.make_shared_in.new.seat) m.creates.ran m.creates.steps_are).0
+
+pub returns-then-shape-clause-numbers : goal.returns-then-shape-clause-numbers
+returns-then-shape-clause-numbers c =
+    let m = c.make_shared_in.ensures.makes in
+    (creates-quiet _ m.cell _ _ _ (view_of c.args.seat.now) (view_of c.make_shared_in.new.seat) m.creates.ran m.creates.steps_are).1
+
+pub returns-else-shape-clause-quiet : goal.returns-else-shape-clause-quiet
+returns-else-shape-clause-quiet c =
+    let e = c.make_in.ensures in
+    (creates-quiet _ e.takes.0 _ _ _ (view_of c.args.seat.now) (view_of c.make_in.new.seat) e.ran e.takes.1).0
+
+pub returns-else-shape-clause-numbers : goal.returns-else-shape-clause-numbers
+returns-else-shape-clause-numbers c =
+    let e = c.make_in.ensures in
+    (creates-quiet _ e.takes.0 _ _ _ (view_of c.args.seat.now) (view_of c.make_in.new.seat) e.ran e.takes.1).1

@@ -7,6 +7,7 @@ use Rattle.gc_table.specs.declared.view.View.{View}
 use Rattle.seat_turns.proofs.Seats.{turn-plays}
 use Rattle.seat_steps.proofs.Doing.{makes-after}
 use Rattle.seat_steps.proofs.Found.{lacked-before}
+use Rattle.seat_steps.proofs.Paced.{carries-keeps, keeps-last}
 use Rattle.seat_steps.proofs.Searched.{arrives-leaves, had-free, makes-own, misses, missed}
 use Rattle.seat_steps.proofs.seeking.make_here.Goals as goal
 
@@ -22,6 +23,7 @@ returns-in-Ok-clause-found c =
     let v : View = view_of c.pass_once.new.seat in
     let e = c.in-Ok.ensures in
     makes-own c.args.heap.now c.args.seat.now v (view_of c.makes.new.seat) c.requires.turn.works.sits c.makes.ensures.ran c.in-Done.ensures.found (had-free c.cache_of.result c.in-Ok.free v c.cache_of.ensures.some e.ok.0 e.ok.1) c.makes.ensures.few
+    (keeps-last (view_of c.args.seat.now) v (view_of c.makes.new.seat) (carries-keeps (view_of c.args.seat.now) v c.pass_once.ensures.paces) c.makes.ensures.quiet c.makes.ensures.numbers)
 
 pub returns-in-Err-clause-found : goal.returns-in-Err-clause-found
 returns-in-Err-clause-found c =

@@ -24,4 +24,4 @@ returns-clause-tries c =
     let e = c.try_refill_some.ensures in
     tries-piece c.try_refill_some.result c.args.from c.args.most _ (view_of c.args.seat.now) (view_of c.try_refill_some.new.seat) (ap (λ (s : SeatState). s.made) c.state.ensures) e.sees e.few
     (subst (λ (sh : Shape). length (did c.args.seat.now c.try_refill_some.new.seat) ≤ 3 * c.args.most + 6 + payment_steps 1024 card_looks sh) (sym c.requires.halts.works.sits.1) e.longest)
-    e.refills
+    e.refills e.due e.numbers

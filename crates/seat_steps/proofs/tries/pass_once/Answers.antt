@@ -4,6 +4,7 @@ use Rattle.gc_table.proofs.Running.{ran-join}
 use Rattle.seat_turns.proofs.Leaving.{leaves-join}
 use Rattle.seat_steps.proofs.AtTurn.{hindered-out, hindered-whole, hindered-works}
 use Rattle.seat_steps.proofs.Found.{hindered-by, two-few}
+use Rattle.seat_steps.proofs.Paced.{carries-join, carries-looked, carries-looks}
 use Rattle.seat_steps.proofs.tries.pass_once.Goals as goal
 
 pub returns-in-Done-clause-found : goal.returns-in-Done-clause-found
@@ -35,3 +36,13 @@ returns-in_default-clause-found c =
     let w : View = view_of c.leave_hindered.new.seat in
     let l = c.leave_hindered.ensures in
     hindered-by c.look.result u v w c.in_default.not-Done c.look.ensures.looks c.look.ensures.ran l.out l.ran l.few l.full
+
+pub returns-in-Done-clause-paces : goal.returns-in-Done-clause-paces
+returns-in-Done-clause-paces c = carries-looks (view_of c.args.seat.now) (view_of c.look.new.seat) c.look.ensures.ran c.in-Done.ensures.looks
+
+pub returns-in_default-clause-paces : goal.returns-in_default-clause-paces
+returns-in_default-clause-paces c =
+    let u = view_of c.args.seat.now in
+    let v = view_of c.look.new.seat in
+    let l = c.look.ensures in
+    carries-join u v (view_of c.leave_hindered.new.seat) (carries-looked c.look.result u v l.ran l.looks) c.leave_hindered.ensures.paces

@@ -7,6 +7,7 @@ use Rattle.gc_table.proofs.Running.{ran-join}
 use Rattle.mutator_ops.proofs.Few.{at-most-join, at-most-more}
 use Rattle.seat_turns.proofs.Seats.{looks-cached, looks-ran}
 use Rattle.seat_steps.proofs.Found.{found-other, full-left, goes-freely}
+use Rattle.seat_steps.proofs.Paced.{carries-join, carries-out, carries-season}
 use Rattle.seat_steps.proofs.tries.point.Goals as goal
 
 pub returns-in-Out-clause-found : goal.returns-in-Out-clause-found
@@ -75,3 +76,25 @@ returns-then-comes_to_turn-clause-ok c =
 pub leave_with-requires-clause-cache : goal.leave_with-requires-clause-cache
 leave_with-requires-clause-cache c =
     looks-cached c.try_pass.new.cache (view_of c.try_pass.new.seat) (view_of c.comes_to_turn.new.seat) c.in-Going.ensures.passes.1 c.comes_to_turn.ensures.looks
+
+pub returns-in-Full-clause-paces : goal.returns-in-Full-clause-paces
+returns-in-Full-clause-paces c =
+    let v = view_of c.try_pass.new.seat in
+    let w = view_of c.leave.new.seat in
+    let l = c.leave.ensures in
+    carries-join (view_of c.args.seat.now) v w c.try_pass.ensures.paces (carries-out v w l.ran l.out)
+
+pub returns-then-comes_to_turn-clause-paces : goal.returns-then-comes_to_turn-clause-paces
+returns-then-comes_to_turn-clause-paces c =
+    let v = view_of c.try_pass.new.seat in
+    let w = view_of c.comes_to_turn.new.seat in
+    let t = c.comes_to_turn.ensures.looks in
+    carries-join (view_of c.args.seat.now) v w c.try_pass.ensures.paces (carries-season v w (looks-ran v w t) t)
+
+pub returns-else-comes_to_turn-clause-paces : goal.returns-else-comes_to_turn-clause-paces
+returns-else-comes_to_turn-clause-paces c =
+    let v = view_of c.try_pass.new.seat in
+    let w = view_of c.comes_to_turn.new.seat in
+    let x = view_of c.leave_with.new.seat in
+    let t = c.comes_to_turn.ensures.looks in
+    carries-join (view_of c.args.seat.now) v x c.try_pass.ensures.paces (carries-join v w x (carries-season v w (looks-ran v w t) t) c.leave_with.ensures.paces)

@@ -1,12 +1,18 @@
-use Rattle.std.proofs.Common.{◌∙◌, refl, None}
+use Rattle.std.proofs.Common.{◌∙◌, ap, inl, inr, refl, sym, None}
+use Rattle.std.proofs.lemmas.Bool.{OnFalse_at, not-true, true≢false}
+use Rattle.gc_table.specs.Log.{events}
+use Rattle.packet_pools.specs.Seeking.{some_event}
+use Rattle.packet_pools.proofs.Searches.{some-left, some-right}
+use Rattle.gc_cycle.specs.Sorts.{polls}
 use Rattle.gc_table.specs.Seats.{view_of}
 use Rattle.gc_cycle.specs.Answering.{HasCache}
 use Rattle.seat_turns.specs.Standing.{Plays, Works}
-use Rattle.gc_table.proofs.Running.{ran-join, ran-refl}
+use Rattle.gc_table.proofs.Running.{ran-events, ran-join, ran-refl}
 use Rattle.seat_turns.proofs.Seats.{first-turn, going-seen, kept-heap, kept-works, looks-cached, looks-heap, looks-ran, looks-seen, looks-works, plays-turn, whole-cache, works-ready}
 use Rattle.seat_turns.proofs.Leaving.{leaves-join, leaves-looked, leaves-none, leaves-spared}
-use Rattle.seat_turns.specs.Coming.{Polls}
-use Rattle.seat_turns.proofs.Coming.{calm-join, calm-looked, calm-none, polls-after, polls-before}
+use Rattle.seat_turns.specs.Coming.{hinders}
+use Rattle.seat_turns.proofs.Coming.{Calm, calm-join, calm-looked, calm-none, full-cause, passes-cause, polls-by}
+use Rattle.seat_turns.proofs.Passing.{turn-looks}
 use Rattle.seat_turns.proofs.turns.pass.Goals as goal
 
 pub returns-in-Full-clause-err : goal.returns-in-Full-clause-err
@@ -76,7 +82,10 @@ loop-preserved g c =
           (leaves-join (view_of x) (view_of y) (view_of z) (leaves-spared (view_of x) (view_of y) s.ran s.spares s.keeps.0) (leaves-looked (view_of y) (view_of z) t.looks));
       quiet =
           calm-join c.args.cache c.loop.cache c.in-Going.kept (view_of c.args.seat.now) (view_of x) (view_of z) c.loop.invariant.quiet
-          (calm-join c.loop.cache c.in-Going.kept c.in-Going.kept (view_of x) (view_of y) (view_of z) (record { calm = s.calm; not_full = s.not_full; unbegun = s.unbegun; numbers = c.in-Going.ensures.numbers }) (calm-looked c.in-Going.kept (view_of y) (view_of z) t.looks));
+          (calm-join c.loop.cache c.in-Going.kept c.in-Going.kept (view_of x) (view_of y) (view_of z)
+          (record { calm = s.calm; not_full = s.not_full; unbegun = s.unbegun; numbers = c.in-Going.ensures.numbers; pops = s.pops; helps = s.helps; cause = passes-cause c.loop.cache c.in-Going.kept _ (view_of x) (view_of y) safe })
+          (calm-looked c.in-Going.kept (view_of y) (view_of z) t.looks));
+      since = inr (OnFalse_at c.if-is_turn.false t.other);
     }
 
 pub returns-in-Full-clause-leaves : goal.returns-in-Full-clause-leaves
@@ -93,20 +102,38 @@ returns-then-is_turn-clause-leaves g c =
     leaves-join (view_of c.args.seat.now) x z c.loop.invariant.leaves (leaves-join x y z (leaves-spared x y s.ran s.spares s.keeps.0) (leaves-looked y z c.is_turn.ensures.looks))
 
 pub loop-init : goal.loop-init
-loop-init g c = record { next = tt; finite = tt; works = c.requires.works; cached = c.requires.cache; same = refl; ran = ran-refl (view_of c.args.seat.now); leaves = leaves-none (view_of c.args.seat.now); quiet = calm-none c.args.cache (view_of c.args.seat.now) }
+loop-init g c = record { next = tt; finite = tt; works = c.requires.works; cached = c.requires.cache; same = refl; ran = ran-refl (view_of c.args.seat.now); leaves = leaves-none (view_of c.args.seat.now); quiet = calm-none c.args.cache (view_of c.args.seat.now); since = inl refl }
 
 pub returns-in-Full-clause-full : goal.returns-in-Full-clause-full
 returns-in-Full-clause-full g c =
+    let a = view_of c.args.seat.now in
+    let x = view_of c.loop.seat in
+    let y = view_of c.safe_point.new.seat in
     let s = c.safe_point.ensures in
-    polls-after c.args.cache c.loop.cache None (view_of c.args.seat.now) (view_of c.loop.seat) (view_of c.safe_point.new.seat) c.loop.invariant.quiet
-    (record { polled = s.polled; calm = s.calm; not_full = s.not_full; unbegun = s.unbegun; numbers = c.in-Full.ensures.numbers })
+    let i = c.loop.invariant in
+    let full = full-cause x y c.in-Full.ensures.safe.read in
+    let here : Calm c.loop.cache None x y =
+    record { calm = s.calm; not_full = s.not_full; unbegun = s.unbegun; numbers = c.in-Full.ensures.numbers; pops = s.pops; helps = s.helps; cause = inr full } in
+    let all = ran-events a x y i.ran s.ran in
+    polls-by c.args.cache None a y (calm-join c.args.cache c.loop.cache None a x y i.quiet here) (ap (some_event polls) all ∙ some-right polls (events a x) (events x y) s.polled)
+    (λ n. absurd (true≢false (sym (ap (some_event hinders) all ∙ some-right hinders (events a x) (events x y) full) ∙ not-true _ n)))
 
 pub returns-then-is_turn-clause-polls : goal.returns-then-is_turn-clause-polls
 returns-then-is_turn-clause-polls g c =
+    let a = view_of c.args.seat.now in
     let x = view_of c.loop.seat in
     let y = view_of c.safe_point.new.seat in
     let z = view_of c.is_turn.new.seat in
     let s = c.safe_point.ensures in
+    let t = c.is_turn.ensures in
+    let i = c.loop.invariant in
     let kept = c.in-Going.kept in
-    let here : Polls c.loop.cache kept x y = record { polled = s.polled; calm = s.calm; not_full = s.not_full; unbegun = s.unbegun; numbers = c.in-Going.ensures.numbers } in
-    polls-after c.args.cache c.loop.cache kept (view_of c.args.seat.now) x z c.loop.invariant.quiet (polls-before c.loop.cache kept kept x y z here (calm-looked kept y z c.is_turn.ensures.looks))
+    let safe = c.in-Going.ensures.safe in
+    let here : Calm c.loop.cache kept x y =
+    record { calm = s.calm; not_full = s.not_full; unbegun = s.unbegun; numbers = c.in-Going.ensures.numbers; pops = s.pops; helps = s.helps; cause = passes-cause c.loop.cache kept _ x y safe } in
+    let looked = looks-ran y z t.looks in
+    let later = ran-join x y z s.ran looked in
+    polls-by c.args.cache kept a z (calm-join c.args.cache c.loop.cache kept a x z i.quiet (calm-join c.loop.cache kept kept x y z here (calm-looked kept y z t.looks)))
+    (ap (some_event polls) (ran-events a x z i.ran later)
+    ∙ some-right polls (events a x) (events x z) (ap (some_event polls) (ran-events x y z s.ran looked) ∙ some-left polls (events x y) (events y z) s.polled))
+    (turn-looks c.loop.cache kept _ 1 a x y z i.ran s.ran looked i.since safe t.looks t.known (t.turn c.if-is_turn.true))

@@ -1,8 +1,10 @@
 use Rattle.std.proofs.Common.{◌≡◌}
+use Rattle.std.specs.Prelude.{◌⊎◌}
 use Rattle.gc_table.specs.Running.{Ran}
 use Rattle.gc_table.specs.Seats.{view_of}
 use Rattle.gc_cycle.specs.Answering.{HasCache}
 use Rattle.seat_turns.specs.Sharing.{LeavesHeap}
+use Rattle.seat_turns.specs.SeasonLooks.{SeesOther}
 use Rattle.seat_turns.specs.Standing.{Works, plain_of}
 use Rattle.seat_turns.proofs.Coming.{Calm}
 use Rattle.seat_turns.proofs.turns.pass.Given as goal
@@ -17,4 +19,5 @@ invariant-loop g l = record {
   ran : Ran (view_of l.fn.seat) (view_of l.seat);
   leaves : LeavesHeap (view_of l.fn.seat) (view_of l.seat);
   quiet : Calm l.fn.cache l.cache (view_of l.fn.seat) (view_of l.seat);
+  since : (view_of l.seat ≡ view_of l.fn.seat) ⊎ SeesOther 1 (view_of l.seat);
 }

@@ -60,7 +60,7 @@ returns-then-begin_collection c =
     record {
       collects = λ precise most.
           step-on precise most x _ stages.Stopping stages.Rooting c.requires.stopping refl
-          (record { stopped = v; finds = stopped.1; course = course; once_more = c.marks_again-self.ensures.again ∙ ap (λ (m : Bool). x.precise && m) read; exactly = c.leaves_none-self.ensures.exact ∙ ap (λ (m : Bool). x.precise || not m) read }, refl, refl, (refl, refl, refl))
+          (record { stopped = v; finds = stopped.1; course = course; once_more = c.marks_again-self.ensures.again ∙ ap (λ (m : Bool). x.precise && m) read; exactly = c.leaves_none-self.ensures.exact ∙ ap (λ (m : Bool). x.precise || not m) read }, refl, refl, (refl, refl, refl), refl)
           (keeps-all x _ (kept-join x.seat c.finds_stopped.new.seat c.begin_collection.new.seat found begun) refl refl);
       bounded = λ most.
           bounded-on most x _ stages.Stopping stages.Rooting c.requires.stopping refl

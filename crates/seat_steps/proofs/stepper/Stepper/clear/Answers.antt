@@ -50,7 +50,7 @@ returns-then-clear_step-draws c =
     let here = (goal.at.returns-then-clear_step-draws c).After-clear_step in
     let all = drawn here ∙ (c.if-clear_step-draws.true ∙ draws here) in
     record {
-      collects = λ precise. step-on precise c.args.most x _ stages.Clearing stages.Clearing c.requires.clearing c.requires.clearing (all, c.clear_step.ensures.part, ((refl, refl), refl), (refl, refl, refl)) (keeps-all x _ (kept here) refl refl);
+      collects = λ precise. step-on precise c.args.most x _ stages.Clearing stages.Clearing c.requires.clearing c.requires.clearing (all, c.clear_step.ensures.part, ((refl, refl), refl, refl), (refl, refl, refl)) (keeps-all x _ (kept here) refl refl);
       bounded = bounded-on c.args.most x _ stages.Clearing stages.Clearing c.requires.clearing c.requires.clearing (omega (arith, all), few here);
     }
 
@@ -84,6 +84,7 @@ returns-clause-collects c =
       refl,
       (refl, refl),
       (refl, refl, refl),
+      refl,
     )
     (keeps-all x _ (kept-join x.seat y z (kept here) (course-kept y z b.ran b.course.only b.keeps)) refl refl)
 

@@ -47,7 +47,7 @@ returns-then-step-most-clause-collects c =
     let is = c.if-step-most.true in
     let count : n ≡ min c.args.most (blocks_left x) = subst (λ (h : Heap). n ≡ min c.args.most (block_count h.shape - x.next)) c.deref.ensures e.blocks in
     λ precise. step-on precise c.args.most x _ stages.Counting stages.Counting c.requires.counting c.requires.counting
-    (as-many n c.args.most (blocks_left x) count is, subst (λ k. steps_of (did x.seat c.count_step-step.new.seat) ≡ alloc_reads x.next k) is e.reads, ap (λ k. x.next + k) is, refl, ((refl, refl), refl), (refl, refl, refl))
+    (as-many n c.args.most (blocks_left x) count is, subst (λ k. steps_of (did x.seat c.count_step-step.new.seat) ≡ alloc_reads x.next k) is e.reads, ap (λ k. x.next + k) is, refl, ((refl, refl), refl, refl), (refl, refl, refl))
     (keeps-all x _ (kept (goal.at.returns-then-step-most-clause-collects c).After-count_step-step) refl refl)
 
 pub returns-then-step-most-clause-bounded : goal.returns-then-step-most-clause-bounded
@@ -65,7 +65,7 @@ returns-clause-collects c =
     let count : n ≡ min c.args.most (blocks_left x) = subst (λ (h : Heap). n ≡ min c.args.most (block_count h.shape - x.next)) c.deref.ensures e.blocks in
     let all = all-left n c.args.most (blocks_left x) count c.if-step-most.false in
     λ precise. step-on precise c.args.most x _ stages.Counting stages.Ending c.requires.counting refl
-    (all.0, subst (λ k. steps_of (did x.seat c.count_step-step.new.seat) ≡ alloc_reads x.next k) all.1 e.reads, refl, ((refl, refl), refl), (refl, refl, refl))
+    (all.0, subst (λ k. steps_of (did x.seat c.count_step-step.new.seat) ≡ alloc_reads x.next k) all.1 e.reads, refl, ((refl, refl), refl, refl), (refl, refl, refl))
     (keeps-all x _ (kept (goal.at.returns-clause-collects c).After-count_step-step) refl refl)
 
 pub returns-clause-bounded : goal.returns-clause-bounded

@@ -31,7 +31,7 @@ kept : (c : After-look_step) → Kept c.args.self.now.seat c.look_step.new.seat
 kept c = let e = c.look_step.ensures in part-kept Drain c.args.self.now.seat c.look_step.new.seat e.part e.keeps
 
 marks : (c : After-look_step) → MarksSinceAsked c.args.self.now.exact c.args.self.now.again (view_of c.look_step.new.seat)
-marks c = let x = c.args.self.now in let e = c.look_step.ensures in marks-on x.exact x.again (view_of x.seat) (view_of c.look_step.new.seat) e.part e.exact (x.looking c.requires.looking).since
+marks c = let x = c.args.self.now in let e = c.look_step.ensures in marks-on x.exact x.again (view_of x.seat) (view_of c.look_step.new.seat) e.part.ran e.part.only e.exact (x.looking c.requires.looking).since
 
 few : (c : After-look_step) → Across (DoesFew c.args.most) c.args.self.now.seat c.look_step.new.seat
 few c =
@@ -49,7 +49,7 @@ pub returns-in-Dirty-clause-collects : goal.returns-in-Dirty-clause-collects
 returns-in-Dirty-clause-collects c =
     let x = c.args.self.now in
     λ precise. step-on precise c.args.most x _ stages.Looking stages.Cleaning c.requires.looking refl
-    (subst (λ (h : Heap). LooksAt h.shape x.next c.args.most (looks.Dirty c.in-Dirty.card) (did x.seat c.look_step.new.seat)) c.deref.ensures c.in-Dirty.ensures.looked, ((refl, refl), refl), (refl, refl, refl))
+    (subst (λ (h : Heap). LooksAt h.shape x.next c.args.most (looks.Dirty c.in-Dirty.card) (did x.seat c.look_step.new.seat)) c.deref.ensures c.in-Dirty.ensures.looked, ((refl, refl), refl, refl), (refl, refl, refl))
     (keeps-all x _ (kept (goal.at.returns-in-Dirty-clause-collects c).After-look_step) refl refl)
 
 pub returns-in-Dirty-clause-bounded : goal.returns-in-Dirty-clause-bounded
@@ -66,7 +66,7 @@ returns-then-number-most-clause-collects c =
       subst (λ (h : Heap). LooksAt h.shape x.next c.args.most (looks.Clean c.args.most) (did x.seat c.look_step.new.seat)) c.deref.ensures
           (subst (λ k. LooksAt c.deref.result.now.shape x.next c.args.most (looks.Clean k) (did x.seat c.look_step.new.seat)) is c.in-Clean.ensures.looked),
       ap (λ k. x.next + k) is,
-      ((refl, refl), refl),
+      ((refl, refl), refl, refl),
       (refl, refl, refl),
     )
     (keeps-all x _ (kept (goal.at.returns-then-number-most-clause-collects c).After-look_step) refl refl)
@@ -93,7 +93,7 @@ marked c =
     let e = c.look_step.ensures in
     let f = c.finds_all_marked.ensures in
     let v = view_of c.look_step.new.seat in
-    marks-on x.exact x.again v (view_of c.finds_all_marked.new.seat) f.part f.exact (marks-on x.exact x.again (view_of x.seat) v e.part e.exact (x.looking c.requires.looking).since)
+    marks-on x.exact x.again v (view_of c.finds_all_marked.new.seat) f.part.ran f.part.only f.exact (marks-on x.exact x.again (view_of x.seat) v e.part.ran e.part.only e.exact (x.looking c.requires.looking).since)
 
 left : (c : After-finds_all_marked) → card_count (arc_value c.args.self.now.heap).shape - c.args.self.now.next < c.args.most
 left c =
@@ -113,7 +113,7 @@ returns-then-not-finds_all_marked-clause-collects c =
     λ precise. step-on precise c.args.most x _ stages.Looking stages.Draining c.requires.looking refl (
       left here,
       packet-left c.finds_all_marked.result c.deref.result.now.shape x.next c.in-Clean.number c.args.most (view_of x.seat) (view_of c.look_step.new.seat) (view_of c.finds_all_marked.new.seat) shape e.part.ran f.part.ran c.in-Clean.ensures.looked c.if-number-most.false f.reads c.if-not-finds_all_marked.true,
-      ((refl, refl), refl),
+      ((refl, refl), refl, refl),
       (refl, refl, refl),
     )
     (keeps-all x _ (read here) refl refl)
@@ -153,7 +153,7 @@ returns-then-self-clause-collects c =
         moved = b.moved;
       },
       c.if-self.true,
-      ((refl, refl), refl),
+      ((refl, refl), refl, refl),
       (refl, refl, refl),
     )
     (keeps-all x _ (kept-join x.seat c.finds_all_marked.new.seat c.start_clear.new.seat (read here) (move-kept Drain Clear c.finds_all_marked.new.seat c.start_clear.new.seat b.moved b.keeps)) refl refl)
@@ -208,7 +208,7 @@ returns-clause-collects c =
       },
       c.if-self.false,
       refl,
-      ((refl, refl), refl),
+      ((refl, refl), refl, refl),
       (refl, refl, refl),
     )
     (keeps-all x _ (begun x.seat c.finds_all_marked.new.seat c.start_sweep.new.seat c.open_stop.new.seat (read here) b.moved b.keeps o.step o.keeps) refl refl)

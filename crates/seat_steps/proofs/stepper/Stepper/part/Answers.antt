@@ -55,7 +55,7 @@ returns-then-not-finds_helpers_gone-clause-collects c =
     λ precise most. step-on precise most x _ stages.Parting stages.Parting c.requires.parting c.requires.parting (
       record { found = s.0; some = λ z. true≢false (sym (s.3 ∙ eq-eqb s.0 0 z) ∙ c.if-not-finds_helpers_gone.true); all = events-after (view_of x.seat) (view_of c.finds_helpers_gone.new.seat) SeeHelp s.0 s.1 },
       refl,
-      ((refl, refl), refl),
+      ((refl, refl), refl, refl),
       (refl, refl, refl),
     )
     (keeps-all x _ (kept here) refl refl)
@@ -94,7 +94,7 @@ returns-clause-collects c =
       refl,
       refl,
       refl,
-      ((refl, refl), refl),
+      ((refl, refl), refl, refl),
       (refl, refl, refl),
     )
     (keeps-all x _ (kept-join x.seat y z (kept here) (move-kept Sweep Idle y z m.moved m.keeps)) refl refl)

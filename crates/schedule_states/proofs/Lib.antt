@@ -1,0 +1,4 @@
+mod Fronts
+mod Words
+mod Runs
+mod Starts

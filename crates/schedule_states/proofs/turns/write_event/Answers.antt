@@ -1,0 +1,13 @@
+use Rattle.std.proofs.Common.{◌≡◌, ℕ, [], ◌∷◌, ap}
+use Rattle.play_report.proofs.Turns.{then_writes, stops_writes, same_writes, same_stops}
+use Rattle.schedule_states.proofs.Fronts.{front}
+use Rattle.schedule_states.proofs.turns.write_event.Goals as goal
+
+numbers : (line place other : ℕ) → line ≡ other → line ∷ place ∷ [] ≡ other ∷ place ∷ []
+numbers line place other e = ap (λ (n : ℕ). n ∷ place ∷ []) e
+
+pub returns-in-Ok : goal.returns-in-Ok
+returns-in-Ok g c = same_writes _ _ _ _ _ _ _ (front _ _ _ _ (numbers _ _ _ c.from.ensures)) (then_writes _ _ _ _ _ _ _ _ _ c.in-Ok.ensures.0 c.in-Ok.ensures.1 c.write_state.ensures)
+
+pub returns-in-Err : goal.returns-in-Err
+returns-in-Err g c = same_stops _ _ _ _ _ _ (front _ _ _ _ (numbers _ _ _ c.from.ensures)) (stops_writes _ _ _ _ _ _ c.in-Err.ensures)
