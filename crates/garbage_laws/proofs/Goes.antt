@@ -1,8 +1,8 @@
 -- What was garbage in Idle isn't marked in the cycle, and isn't in use once it has ended.
-use Rattle.std.proofs.Common.{ℕ, ◌≡◌, ◌<◌, List, [], ◌∷◌, arith, refl, ◌∙◌, true, cond, Option, Some, None, ⊎_elim}
+use Rattle.std.proofs.Common.{ℕ, ◌≡◌, ◌<◌, List, [], ◌∷◌, arith, refl, sym, ◌∙◌, true, false, cond, Option, Some, None, ⊎_elim, subst}
 use Rattle.std.specs.Prelude.{IsTrue, IsFalse, is_none}
 use Rattle.std.specs.List.{All}
-use Rattle.std.proofs.lemmas.Bool.{false≢true, eqb-true, false_from_ne_true}
+use Rattle.std.proofs.lemmas.Bool.{true≢false, false≢true, eqb-true, false_from_ne_true}
 use Rattle.std.proofs.lemmas.List.Elements.{All-head, All-tail}
 use Rattle.mark_core.specs.Layout.{Words, words_of}
 use Rattle.mark_core.specs.Views.{makers}
@@ -23,7 +23,10 @@ use Rattle.mark_core.proofs.Exacts.ExactsMoves.{kept-last}
 use Rattle.mark_core.proofs.References.ReferencesRoots.{Used, UsedAfter}
 use Rattle.mark_core.proofs.Used.UsedKept.{used-back}
 use Rattle.mark_core.proofs.CoreKept.{core_kept}
-use Rattle.garbage_laws.specs.Garbage.{is_marked, is_used, ends_cycle, FindOnly, IsCycle, IsGarbage, GarbageGoes}
+use Rattle.mark_core.specs.Weak.{IsAt, IsGone}
+use Rattle.mark_core.proofs.Consequences.WeakFound.{weak_is_made}
+use Rattle.mark_core.proofs.Consequences.WeakKept.{weak_stays, places-kept}
+use Rattle.garbage_laws.specs.Garbage.{identity_in, is_marked, is_used, ends_cycle, FindOnly, IsCycle, IsGarbage, GarbageGoes}
 use Rattle.garbage_laws.proofs.Shuns.{Spares, CoreShuns}
 use Rattle.garbage_laws.proofs.ShunsKept.{shuns-kept}
 use Rattle.garbage_laws.proofs.Beginning.{garbage-shunned, found-spared}
@@ -76,6 +79,24 @@ freed_by : (D : ℕ → Type 0) (c : Core) (e : Event) (x : ℕ) → Goes D c �
 freed_by D c e x g f ends =
     kept-after (λ sh w seats. in_use w.allocs (makers seats) x ≡ true → Spares D x) c e g.0 f (λ s acted t. ended_by D c e.seat s e.step x t g.1 ends)
 
+-- an object whose cell isn't in use any more is gone
+gone_from : (c : Core) (id x : ℕ) → IsAt c id x → is_used c x ≡ false → IsGone c id
+gone_from c id x a n =
+    record {
+      given = a.given;
+      seated = a.seated;
+      only = λ y h u e. true≢false (sym (subst (λ (z : ℕ). is_used c z ≡ true) (a.only y h u e) u) ∙ n);
+    }
+
+-- the object that was garbage is in its cell as long as it is anywhere
+garbage_at : (c : Core) (found : List ℕ) (es : List Event) (e : Event) (x : ℕ) → IsCycle c found es → IsGarbage c found x → IsCore (run_of es c) → failing_part (run_of es c) e ≡ None → IsAt (after_event (run_of es c) e) (identity_in c x) x
+garbage_at c found es e x k g core f =
+    places-kept (run_of es c) e (identity_in c x) x core f (weak_stays.places (identity_in c x) x c es k.core k.fit (weak_is_made.used c x k.core g.used))
+
+-- the cell isn't in use after the event that ends the cycle
+free_at : (c : Core) (found : List ℕ) (es : List Event) (e : Event) (x : ℕ) → IsCycle c found es → IsGarbage c found x → IsTrue (ends_cycle e.step) → failing_part (run_of es c) e ≡ None → is_used (after_event (run_of es c) e) x ≡ false
+free_at c found es e x k g ends f = false_from_ne_true (is_used (after_event (run_of es c) e) x) (λ u. freed_by (IsGarbage c found) (run_of es c) e x (cycle_shuns c found es k) f ends u g)
+
 -- garbage goes
 pub garbage_goes : GarbageGoes
 garbage_goes =
@@ -84,7 +105,8 @@ garbage_goes =
           λ c found es x k g.
           let end = cycle_shuns c found es k in
           false_from_ne_true (is_marked (run_of es c) x) (λ e. end.1.marks x (marked_below (run_of es c) x end.0 e) e g);
-      freed =
+      freed = free_at;
+      gone =
           λ c found es e x k g ends f.
-          false_from_ne_true (is_used (after_event (run_of es c) e) x) (λ u. freed_by (IsGarbage c found) (run_of es c) e x (cycle_shuns c found es k) f ends u g);
+          gone_from (after_event (run_of es c) e) (identity_in c x) x (garbage_at c found es e x k g (cycle_shuns c found es k).0 f) (free_at c found es e x k g ends f);
     }

@@ -6,6 +6,7 @@ use Rattle.mark_core.specs.Layout.{words_of}
 use Rattle.mark_core.specs.Seats.{is_phase}
 use Rattle.mark_core.specs.Steps.{Core, failing_part, after_event, run_of, start_core, first_refused, refused_with}
 use Rattle.mark_core.specs.Kinds.{kind_of}
+use Rattle.mark_core.specs.Weak.{IsGone}
 use Rattle.mark_core.specs.Laws.{NumbersFit, AllNumbersFit}
 use Rattle.mark_core.specs.declared.kinds.Event.{Event}
 use Rattle.mark_core.specs.declared.kinds.Shape.{Shape}
@@ -17,7 +18,7 @@ use Rattle.mark_core.proofs.CoreKept.{runs_sound}
 use Rattle.gc_table.specs.Taking.{Finds}
 use Rattle.gc_table.specs.declared.view.View.{View}
 use Rattle.gc_table.proofs.History.Past.{first-allowed, run-first}
-use Rattle.garbage_laws.specs.Garbage.{is_marked, is_used, IsCycle}
+use Rattle.garbage_laws.specs.Garbage.{identity_in, is_marked, is_used, IsCycle}
 use Rattle.garbage_laws.specs.OpenTables.{IsSinceIdle, TableGarbageGoes}
 use Rattle.garbage_laws.proofs.Goes.{garbage_goes}
 
@@ -85,4 +86,12 @@ table_garbage_goes =
           subst (λ (c : Core). IsFalse (is_used (after_event c e) x)) here
           (garbage_goes.freed (run_of before (start_core f.state.core.shape 1)) found since e x (cycle step n v f before since found s) g refl
           (subst (λ (c : Core). failing_part c e ≡ None) (sym here) f.allowed));
+      gone =
+          λ n v f before since found x s g.
+          let step : Step = StorePhase Idle in
+          let e : Event = record { seat = f.index; step = step } in
+          let then : Core = run_of before (start_core f.state.core.shape 1) in
+          let here : run_of since then ≡ f.state.core = ends_here step n v f before since found s in
+          subst (λ (c : Core). IsGone (after_event c e) (identity_in then x)) here
+          (garbage_goes.gone then found since e x (cycle step n v f before since found s) g refl (subst (λ (c : Core). failing_part c e ≡ None) (sym here) f.allowed));
     }

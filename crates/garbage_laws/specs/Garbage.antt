@@ -10,6 +10,7 @@ use Rattle.mark_core.specs.Cells.{in_use, IsRoot, IsReachableCell}
 use Rattle.mark_core.specs.Steps.MutatorSteps.{weak_reference}
 use Rattle.mark_core.specs.Steps.{Core, failing_part, after_event, run_of}
 use Rattle.mark_core.specs.Laws.{IsCore, AllNumbersFit}
+use Rattle.mark_core.specs.Weak.{IsGone}
 use Rattle.mark_core.specs.declared.kinds.Event.{Event}
 use Rattle.mark_core.specs.declared.kinds.Phase.TheVariants.{Idle}
 use Rattle.mark_core.specs.declared.kinds.Step.{Step}
@@ -75,8 +76,14 @@ pub record IsCycle (c : Core) (found : List ℕ) (es : List Event) : Type 0 wher
   pub goes_on : All (λ (e : Event). IsFalse (ends_cycle e.step)) es
   pub finds : FindOnly found es c
 
--- whatever threads do: what was garbage in Idle isn't marked until the cycle ends, and by the move that ends it isn't in use any more
+-- the identity of the object in a cell
+abbrev pub identity_in : Core → ℕ → ℕ
+identity_in c x = slice_index (words_of c.shape c.words).identities x
+
+-- whatever threads do: what was garbage in Idle isn't marked until the cycle ends; by the move that ends it the cell isn't in use any more, and its object is gone
 pub record GarbageGoes : Type 0 where
   pub white : (c : Core) (found : List ℕ) (es : List Event) (x : ℕ) → IsCycle c found es → IsGarbage c found x → IsFalse (is_marked (run_of es c) x)
   pub freed : (c : Core) (found : List ℕ) (es : List Event) (e : Event) (x : ℕ) → IsCycle c found es → IsGarbage c found x → IsTrue (ends_cycle e.step)
       → failing_part (run_of es c) e ≡ None → IsFalse (is_used (after_event (run_of es c) e) x)
+  pub gone : (c : Core) (found : List ℕ) (es : List Event) (e : Event) (x : ℕ) → IsCycle c found es → IsGarbage c found x → IsTrue (ends_cycle e.step)
+      → failing_part (run_of es c) e ≡ None → IsGone (after_event (run_of es c) e) (identity_in c x)
