@@ -1,6 +1,7 @@
 -- What all commands share: the words that ask for one, the bytes that it takes, and what is written by its status.
 use Rattle.std.specs.Prelude.{ℕ, ◌≡◌, ◌≤◌, ◌⊎◌, List, Bool, true, false, Option, Some, IfSome, Result, Ok, Err}
-use Rattle.std.specs.Io.KnownBytes.{Appends}
+use Rattle.std.specs.Io.{StartsWith}
+use Rattle.std.specs.Io.KnownBytes.{Appends, append_known}
 use Rattle.gc_script.specs.Faults.{Fault}
 use Rattle.gc_script.specs.Script.{Script, script}
 use Rattle.play_report.specs.Causes.{AppendsPrefix}
@@ -45,6 +46,10 @@ WritesFront old new P = (text : List ℕ) × P text × AppendsPrefix old new tex
 pub record Wrote (Answers : ℕ → List ℕ → Type 0) (status : ℕ) (old new : Option (List ℕ)) : Type 0 where
   pub whole : HasItsText status → WritesSome old new (Answers status)
   pub front : status ≡ 5 → WritesFront old new (λ text. (s : ℕ) × Answers s text)
+
+-- of what the sink had and some text, for which P holds, it has a prefix
+abbrev pub HasPrefix : Option (List ℕ) → Option (List ℕ) → (List ℕ → Type 0) → Type 0
+HasPrefix old new P = (text : List ℕ) × P text × IfSome (append_known old text) (λ all. IfSome new (λ handed. StartsWith all handed))
 
 -- whether the source is read
 abbrev pub reads_source : Option Command → Bool
