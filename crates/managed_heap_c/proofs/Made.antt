@@ -1,5 +1,5 @@
 -- The fields of a new object are set one after the other, and in how many steps.
-use Rattle.std.proofs.Common.{ℕ, ◌≡◌, ◌<◌, ◌+◌, ◌*◌, zero, suc, List, get_or, length, refl, sym, subst, arith, ⊎_elim}
+use Rattle.std.proofs.Common.{ℕ, ◌≡◌, ◌<◌, ◌+◌, ◌*◌, ◌^◌, zero, suc, List, get_or, length, refl, sym, subst, arith, ⊎_elim}
 use Rattle.std.proofs.lemmas.List.{length-drop}
 use Rattle.mark_core.specs.Numbers.{section_variables}
 use Rattle.gc_table.specs.Seats.{view_of}
@@ -8,10 +8,11 @@ use Rattle.mutator_ops.specs.Few.{AtMost}
 use Rattle.mutator_ops.proofs.Few.{at-most-none}
 use Rattle.plain_heap.specs.declared.operation.Op.TheVariants as ops
 use Rattle.seat_steps.specs.Filling.{make_steps}
+use Rattle.seat_steps.specs.declared.came.Came.{Came}
 use Rattle.seat_steps.specs.declared.came.Came.TheVariants as cames
 use Rattle.seat_steps.specs.Stepping.{Operates, StepperMakes}
 use Rattle.seat_steps.specs.declared.stepper.Stepper.{Stepper}
-use Rattle.managed_heap_c.specs.Making.{MakesThenSets, SetsFirst, SetsGiven, no_variable}
+use Rattle.managed_heap_c.specs.Making.{CanMakeWith, MakesThenSets, MakesWith, SetsFirst, SetsGiven, no_variable}
 
 pub sets-none : (v : ℕ) (ns : List ℕ) (x : Stepper) → SetsFirst 0 v ns x x
 unfolding SetsFirst
@@ -50,3 +51,9 @@ made-sets v value ns x z y made sets =
       sets = sets;
       few = then_more (make_steps (view_of x.seat).shape) (4 * length ns) (view_of x.seat) (view_of z.seat) (view_of y.seat) made.1.longest (sets_few (length ns) v ns z y sets);
     }
+
+-- no object was made, and nothing else was done
+pub made-none : (came : Came) (v value : ℕ) (ns : List ℕ) (x y : Stepper) → (came ≡ cames.Done → ⊥) → value < 2 ^ 32 → CanMakeWith v ns x → StepperMakes came (ops.New v value) x y → MakesWith v value ns came x y
+made-none cames.Done v value ns x y other fits can made = absurd (other refl)
+made-none cames.OutOfRange v value ns x y other fits can made = absurd (made.0 (can.0, fits))
+made-none came v value ns x y other fits can made = (can, made)
