@@ -154,7 +154,8 @@ struct seat {
     }
 };
 
-inline void leave_seat(seat *s) {
+/* Out of line: where gcc 12 sees several counts go down, it warns of a use after the delete. */
+[[gnu::noinline]] inline void leave_seat(seat *s) {
     if (--s->shares == 0) delete s;
 }
 
