@@ -12,19 +12,19 @@ use Rattle.gcplay.proofs.Handed.{five-or-other, front-handed, keeps-handed, keep
 use Rattle.gcplay.proofs.given.play_given.Goals as goal
 
 -- the words are those that were given
-same : (g : _) (c : goal.After-settle g) → map string_bytes c.as_slice.result.now ≡ words_behind c.args.given
+same : (g : _) (c : goal.After-drop-words-2 g) → map string_bytes c.as_slice.result.now ≡ words_behind c.args.given
 same g c = ap (map string_bytes) c.as_slice.ensures.value ∙ c.in-Some.ensures
 
 -- the status is that of the command, or that of a fault of the sink
-status-is : (g : _) (c : goal.After-settle g) → (c.settle.result.0 ≡ 5 → ⊥) → c.settle.result.0 ≡ c.play_words-status.result
+status-is : (g : _) (c : goal.After-drop-words-2 g) → (c.settle.result.0 ≡ 5 → ⊥) → c.settle.result.0 ≡ c.play_words-status.result
 status-is g c other = ⊎_elim (λ is. is) (λ five. absurd (other five)) c.settle.ensures.status
 
 -- what was gathered at first is what the sink has
-was : (g : _) (c : goal.After-settle g) → c.in-Ok.gathered.faults ≡ g.K.Sink.faults c.args.sink
+was : (g : _) (c : goal.After-drop-words-2 g) → c.in-Ok.gathered.faults ≡ g.K.Sink.faults c.args.sink
 was g c = ap (λ s. s.faults) c.in-Ok.ensures
 
 -- what the command wrote
-wrote : (g : _) (c : goal.After-settle g) → Wrote (IsAnswer (wanted (words_behind c.args.given)) (g.S.Source.left c.args.source.now)) c.play_words-status.result c.in-Ok.gathered.bytes c.play_words-status.new.sink.bytes
+wrote : (g : _) (c : goal.After-drop-words-2 g) → Wrote (IsAnswer (wanted (words_behind c.args.given)) (g.S.Source.left c.args.source.now)) c.play_words-status.result c.in-Ok.gathered.bytes c.play_words-status.new.sink.bytes
 wrote g c =
     let left = g.S.Source.left c.args.source.now in
     let all = c.play_words-status.ensures in
@@ -60,6 +60,12 @@ returns-clause-run g c o asked done =
 pub returns-clause-statuses : goal.returns-clause-statuses
 returns-clause-statuses g c = ⊎_elim (λ (is : c.settle.result.0 ≡ c.play_words-status.result). subst (λ (n : ℕ). Contains (0 ∷ 1 ∷ 2 ∷ 3 ∷ 4 ∷ 5 ∷ 6 ∷ 7 ∷ []) n) (sym is) c.play_words-status.ensures.statuses)
     (λ (five : c.settle.result.0 ≡ 5). (5, omega arith, sym five)) c.settle.ensures.status
+
+pub returns-in_default-clause-statuses : goal.returns-in_default-clause-statuses
+returns-in_default-clause-statuses g c = (6, omega arith, refl)
+
+pub returns-in-Err-clause-statuses : goal.returns-in-Err-clause-statuses
+returns-in-Err-clause-statuses g c = (6, omega arith, refl)
 
 pub returns-clause-prefix : goal.returns-clause-prefix
 returns-clause-prefix g c five =
