@@ -14,6 +14,7 @@ mod packets;
 mod runs;
 mod seats;
 mod sharing;
+mod weak;
 
 use runs::all_hold;
 
@@ -32,7 +33,7 @@ fn each_run_goes_as_told(rt: HostRuntime) {
         sharing::STORING,
         sharing::EXCHANGING,
         sharing::SLOTS,
-        sharing::WEAK,
+        weak::WEAK,
     ] {
         all_hold(&rt, runs);
     }
