@@ -37,7 +37,7 @@ if command -v pkg-config >/dev/null; then flags=$(pkg-config --cflags --libs man
     printf 'printf("%%u\\n", (unsigned)value);\nreturn 0;\n}\n'
 } >"$work/first.c"
 cc -std=c99 -o "$work/first" "$work/first.c" $flags && [ "$("$work/first")" = 7 ] || fail "the first program of docs/EMBEDDING_C.md"
-sed -n '/^### Weak references/,/^## Tracers/s/^    //p' "$top/docs/EMBEDDING_C.md" >"$work/weak.c"
+sed -n '/^### Weak references/,/^## From C++/s/^    //p' "$top/docs/EMBEDDING_C.md" >"$work/weak.c"
 cc -std=c99 -o "$work/weak" "$work/weak.c" $flags && [ "$("$work/weak")" = "object 0 is dead
 object 1 is alive" ] || fail "the program of docs/EMBEDDING_C.md with weak references"
 cc -std=c99 -o "$work/edges" -D_GNU_SOURCE -I "$top/examples/c" "$top/examples/c/edges.c" $flags && "$work/edges" || fail "the program at the edges"
