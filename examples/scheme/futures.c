@@ -137,7 +137,7 @@ static int keeps_text(void) {
 }
 
 /* The future that is computed has failed. What was left to do is dropped. */
-static void finish_failed(void) {
+static __attribute__((noinline)) void finish_failed(void) {
     next_pc = HALT;
     for (; KIND(word(k)) != FUTURE; pass()) get(k, k, 0);
     machine_reset();
@@ -205,16 +205,20 @@ static void go_on(void) {
     finish(DONE);
 }
 
-/* Task after task. */
-static void work(int is_first) {
-    jmp_buf failed;
-    handler = &failed;
-    while (setjmp(failed)) finish_failed();
+/* Task after task. Out of line, as finish_failed is: a compiler may keep the address of a thread's variable in a register, which doesn't hold it any more after a longjmp. */
+static __attribute__((noinline)) void go_through(int is_first) {
     for (;;) {
         if (next_pc != HALT) go_on();
         if (!next_task(is_first)) return;
         next_pc = begin();
     }
+}
+
+static void work(int is_first) {
+    jmp_buf failed;
+    handler = &failed;
+    while (setjmp(failed)) finish_failed();
+    go_through(is_first);
 }
 
 /* The expression at the top is computed, by whichever thread. T0 becomes its future. */
