@@ -5,18 +5,13 @@
 # steps. It isn't optimized, and calls take time, so the milliseconds are those of this build. KIT names the kit's folder.
 set -eu
 top=$(cd "$(dirname "$0")/.." && pwd)
-kit=${KIT:-/opt/rattle}
-. "$top/tools/wants.sh"
 . "$top/bench/unproved_kit.sh"
-. "$top/tools/kept.sh"
 
 # compile FILE
 compile() (
     work=$(mktemp -d)
     trap 'rm -rf "$work"' EXIT
-    link_crates
-    link_kit
-    hand_over gcplay
+    hand_over_crate gcplay
     "$kit/toolchain/bin/clang" -O0 -fintegrated-cc1 -x ir -S -emit-llvm "$work/module.bc" -o "$work/module.ll" 2>/dev/null
     python3 "$top/bench/steps/count.py" calls "$work/module.ll" "$work/module.ll"
     python3 "$top/bench/steps/count.py" kinds "$work/kinds.h"
