@@ -6,7 +6,7 @@ use Rattle.mark_core.specs.Places.{the_next_block}
 use Rattle.mark_core.specs.declared.kinds.Phase.TheVariants.{Drain}
 use Rattle.mark_core.specs.declared.kinds.Shape.{Shape}
 use Rattle.mark_core.specs.declared.kinds.Step.{Step}
-use Rattle.mark_core.specs.declared.kinds.Step.TheVariants.{ReadRoot, ReadCat, StoreRoot, Reset, AddStat, ReadStat, StoreNew, NextBlock, LoadSlot, ReadSlot, StoreSlot}
+use Rattle.mark_core.specs.declared.kinds.Step.TheVariants.{ReadRoot, ReadCat, StoreRoot, Reset, AddStat, ReadStat, StoreNew, NextBlock, LoadSlot, ReadSlot, StoreSlot, HoldRoot, FlushRoot}
 use Rattle.gc_table.specs.declared.view.View.{View}
 use Rattle.gc_table.specs.Log.{Only}
 use Rattle.gc_table.specs.Running.{Ran, ends_alone}
@@ -52,6 +52,8 @@ spares-root i sh s (ReadSlot k) p = absurd (false≢true p)
 spares-root i sh s (StoreSlot k q) p = absurd (false≢true p)
 spares-root i sh s (ReadCat v) p = absurd (false≢true p)
 spares-root i sh s (StoreRoot v r) p = absurd (false≢true p)
+spares-root i sh s (HoldRoot v r) p = absurd (false≢true p)
+spares-root i sh s (FlushRoot v) p = absurd (false≢true p)
 spares-root i sh s (Reset which) p = absurd (false≢true p)
 spares-root i sh s (AddStat which by down) p = absurd (false≢true p)
 spares-root i sh s (ReadStat which) p = absurd (false≢true p)

@@ -3,7 +3,7 @@ use Rattle.std.proofs.Common.{ℕ, ◌≡◌, ◌+◌, ◌==◌, ◌&&◌, ◌�
 use Rattle.std.specs.Prelude.{if◌then◌else◌}
 use Rattle.std.proofs.lemmas.Bool.{and_from, and_parts, false≢true}
 use Rattle.mark_core.specs.declared.kinds.Step.{Step}
-use Rattle.mark_core.specs.declared.kinds.Step.TheVariants.{ExchangeField, ExchangeValue, StoreField, StoreRoot, StoreValue}
+use Rattle.mark_core.specs.declared.kinds.Step.TheVariants.{ExchangeField, ExchangeValue, StoreField, StoreRoot, StoreValue, HoldRoot}
 use Rattle.gc_table.specs.Log.{all_steps, steps_of}
 use Rattle.gc_table.specs.declared.view.Entry.{Entry}
 use Rattle.seat_turns.specs.Sharing.{spares_heap}
@@ -35,6 +35,7 @@ spares_objects step = true
 -- it stores nothing in variable u
 abbrev pub spares_variable : ℕ → Step → Bool
 spares_variable u (StoreRoot v r) = not (u == v)
+spares_variable u (HoldRoot v r) = not (u == v)
 spares_variable u step = true
 
 changed_none : (words : ℕ → ℕ) (step : Step) (n : ℕ) → spares_objects step ≡ true → changed_by words step n ≡ []
@@ -56,6 +57,7 @@ by_other false r n e = refl
 
 word_spared : (words : ℕ → ℕ) (u : ℕ) (step : Step) → spares_variable u step ≡ true → words_after words step u ≡ words u
 word_spared words u (StoreRoot v r) e = by_other (u == v) r (words u) e
+word_spared words u (HoldRoot v r) e = by_other (u == v) r (words u) e
 word_spared words u step e = refl
 
 pub words-spared : (words : ℕ → ℕ) (u : ℕ) (es : List Entry) → all_steps (spares_variable u) es ≡ true → words_by words es u ≡ words u
@@ -72,6 +74,7 @@ heap-objects step e = refl
 
 pub heap-variable : (u : ℕ) (step : Step) → spares_heap step ≡ true → spares_variable u step ≡ true
 heap-variable u (StoreRoot v r) e = absurd (false≢true e)
+heap-variable u (HoldRoot v r) e = absurd (false≢true e)
 heap-variable u step e = refl
 
 -- steps of a sort, one part after the other, and those of a wider sort

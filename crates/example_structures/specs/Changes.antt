@@ -1,7 +1,7 @@
 -- What a mutator changed of the objects of its world, as its log tells.
 use Rattle.std.specs.Prelude.{ℕ, ◌≡◌, ◌+◌, ◌==◌, ◌++◌, ◌∷◌, [], List, Bool, true, if◌then◌else◌, Option, Some, None}
 use Rattle.mark_core.specs.declared.kinds.Step.{Step}
-use Rattle.mark_core.specs.declared.kinds.Step.TheVariants.{ExchangeField, ExchangeValue, StoreField, StoreRoot, StoreValue}
+use Rattle.mark_core.specs.declared.kinds.Step.TheVariants.{ExchangeField, ExchangeValue, StoreField, StoreRoot, StoreValue, HoldRoot}
 use Rattle.mark_core.specs.Steps.MutatorSteps.{seat_variable as word_in}
 use Rattle.gc_table.specs.Seats.{state_of, view_of}
 use Rattle.gc_table.specs.declared.view.Entry.{Entry}
@@ -15,6 +15,7 @@ pub record Change : Type 0 where
 -- the words of the variables after a step, by what they were before it
 abbrev pub words_after : (ℕ → ℕ) → Step → ℕ → ℕ
 words_after words (StoreRoot v r) u = if u == v then r else words u
+words_after words (HoldRoot v r) u = if u == v then r else words u
 words_after words step u = words u
 
 -- the word of this variable, or of none

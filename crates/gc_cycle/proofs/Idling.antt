@@ -74,12 +74,14 @@ pub record AtRest (sh : Shape) (s : SeatState) : Type 0 where
   pub block : s.block ≡ None
   pub owes : s.owes ≡ None
   pub register : (s.got == 0) ≡ true
+  pub lags : (s.lags == 0) ≡ true
   pub making : not (has_making s.cache) ≡ true
 
 pub rest-parts : (sh : Shape) (s : SeatState) → is_at_rest sh s ≡ true → AtRest sh s
 rest-parts sh s e =
     let p5 = and_parts _ (not (has_making s.cache)) e in
-    let p4 = and_parts _ (s.got == 0) p5.0 in
+    let p4 = and_parts _ ((s.got == 0) && (s.lags == 0)) p5.0 in
+    let held = and_parts (s.got == 0) (s.lags == 0) p4.1 in
     let p3 = and_parts _ (is_none s.block) p4.0 in
     let p2 = and_parts _ (is_none s.owes) p3.0 in
     let p1 = and_parts (empty_handed s) (not (work_in_hand sh.fields s)) p2.0 in
@@ -92,7 +94,8 @@ rest-parts sh s e =
       work = unless (work_in_hand sh.fields s) p1.1;
       block = none-block s.block p3.1;
       owes = none-owed s.owes p2.1;
-      register = p4.1;
+      register = held.0;
+      lags = held.1;
       making = p5.1;
     }
 
@@ -125,14 +128,14 @@ widened (StoreLength p) e = refl
 widened (ReadLength p) e = refl
 widened step e = absurd (false≢true e)
 
-rest-from : (sh : Shape) (s : SeatState) → holds_any s.held ≡ false → s.reserved ≡ false → s.credit ≡ false → work_in_hand sh.fields s ≡ false → s.owes ≡ None → s.block ≡ None → (s.got == 0) ≡ true → not (has_making s.cache) ≡ true → is_at_rest sh s ≡ true
-rest-from sh s a b c d o k g m =
+rest-from : (sh : Shape) (s : SeatState) → holds_any s.held ≡ false → s.reserved ≡ false → s.credit ≡ false → work_in_hand sh.fields s ≡ false → s.owes ≡ None → s.block ≡ None → (s.got == 0) ≡ true → (s.lags == 0) ≡ true → not (has_making s.cache) ≡ true → is_at_rest sh s ≡ true
+rest-from sh s a b c d o k g l m =
     and_from _ _
     (and_from _ _
     (and_from _ _
     (and_from _ _ (and_from _ _ (and_from _ _ (and_from _ _ (not_from_false _ a) (not_from_false _ b)) (not_from_false _ c)) (not_from_false _ d)) (ap (λ (x : Option ℕ). is_none x) o))
     (ap (λ (x : Option BlockState). is_none x) k))
-    g)
+    (and_from _ _ g l))
     m
 
 owes-step : (x : View) (step : Step) (n : ℕ) → traces_cells step ≡ true → IsSeen step n x → x.state.owes ≡ None → (after step n x).state.owes ≡ None
@@ -166,6 +169,7 @@ pub rest-again : {b : Bool} (v w : View) → OnlyTracedBy b v w → Traces w →
 rest-again v w l t packets work e =
     let a = rest-parts v.shape v.state e in
     rest-from w.shape w.state packets t.unreserved t.uncredited work (owes-none v w l a.owes) (ap (λ (s : SeatState). s.block) l.rest ∙ a.block) (ap (λ (s : SeatState). s.got == 0) l.rest ∙ a.register)
+    (ap (λ (s : SeatState). s.lags == 0) l.rest ∙ a.lags)
     (ap (λ (s : SeatState). not (has_making s.cache)) l.rest ∙ a.making)
 
 -- roots that were seen to stay so
@@ -173,7 +177,7 @@ pub rooted-by : {b : Bool} (v w : View) → OnlyTracedBy b v w → is_at_rest w.
 rooted-by v w l rest r =
     let before = r.rooted.ready in
     let drain = alone-kept Drain traces_cells tracing-alone v w l.ran l.only before.drains in
-    let cache = (and_parts _ (is_none v.state.cache) (and_parts _ (is_none v.state.block) (and_parts _ (v.state.got == 0) r.rest.rest).0).0).1 in
+    let cache = (and_parts _ (is_none v.state.cache) (and_parts _ (is_none v.state.block) (and_parts _ ((v.state.got == 0) && (v.state.lags == 0)) r.rest.rest).0).0).1 in
     record {
       rest = record { knows = drain.knows; alone = drain.alone; rest = rest-nothing w.shape w.state rest (ap (λ (s : SeatState). is_none s.cache) l.rest ∙ cache) };
       rooted =

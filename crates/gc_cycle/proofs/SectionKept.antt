@@ -4,7 +4,7 @@ use Rattle.std.proofs.lemmas.Bool.{false≢true}
 use Rattle.mark_core.specs.Effects.{seat_after}
 use Rattle.mark_core.specs.declared.kinds.Shape.{Shape}
 use Rattle.mark_core.specs.declared.kinds.Step.{Step}
-use Rattle.mark_core.specs.declared.kinds.Step.TheVariants.{ClaimBlock, NextSeason, RaiseStep, ReadCat, ReadOwn, StoreField, StoreNew, StorePhase, StoreRoot, StoreValue, ReadStat, ReadSlot, ReadWeak}
+use Rattle.mark_core.specs.declared.kinds.Step.TheVariants.{ClaimBlock, NextSeason, RaiseStep, ReadCat, ReadOwn, StoreField, StoreNew, StorePhase, StoreRoot, StoreValue, ReadStat, ReadSlot, ReadWeak, HoldRoot}
 use Rattle.mark_core.specs.declared.seat.SeatState.{SeatState}
 use Rattle.gc_table.specs.Taking.{after}
 use Rattle.gc_table.specs.declared.view.Entry.{Entry}
@@ -25,6 +25,7 @@ use Rattle.gc_cycle.proofs.Sequences.{none-of-steps}
 
 env-kept : (sh : Shape) (s : SeatState) (step : Step) (old : ℕ) → keeps_section step ≡ true → (seat_after sh s step old).env ≡ s.env
 env-kept sh s (StoreRoot v r) old e = absurd (false≢true e)
+env-kept sh s (HoldRoot v r) old e = absurd (false≢true e)
 env-kept sh s step old e = refl
 
 made-kept : (sh : Shape) (s : SeatState) (step : Step) (old : ℕ) → keeps_section step ≡ true → (seat_after sh s step old).made ≡ s.made
@@ -39,6 +40,7 @@ section-step v x (ReadWeak c) n e k = absurd (false≢true e)
 section-step v x (StoreField u i w) n e k = absurd (false≢true e)
 section-step v x (StoreValue u m) n e k = absurd (false≢true e)
 section-step v x (StoreRoot u r) n e k = absurd (false≢true e)
+section-step v x (HoldRoot u r) n e k = absurd (false≢true e)
 section-step v x (StoreNew c part word) n e k = absurd (false≢true e)
 section-step v x NextSeason n e k = absurd (false≢true e)
 section-step v x step n e k = record { meaning = k.meaning; places = k.places; turns = k.turns; seasons = k.seasons }

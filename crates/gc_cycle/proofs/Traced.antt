@@ -40,7 +40,7 @@ open-traces v o = known-traces v o.knows o.phase.0
 -- with nothing in hand it is at rest
 pub nothing-rest : (sh : Shape) (s : SeatState) → has_nothing sh s ≡ true → is_at_rest sh s ≡ true
 nothing-rest sh s e =
-    let p5 = and_parts _ (s.got == 0) e in
+    let p5 = and_parts _ ((s.got == 0) && (s.lags == 0)) e in
     let p4 = and_parts _ (is_none s.block) p5.0 in
     let p3 = and_parts (empty_handed s && not (work_in_hand sh.fields s) && is_none s.owes) (is_none s.cache) p4.0 in
     and_from _ _ (and_from _ _ (and_from _ _ p3.0 p4.1) p5.1) (no-making s.cache p3.1)
@@ -53,12 +53,12 @@ nothing-rest sh s e =
 pub rest-nothing : (sh : Shape) (s : SeatState) → is_at_rest sh s ≡ true → is_none s.cache ≡ true → has_nothing sh s ≡ true
 rest-nothing sh s e n =
     let p5 = and_parts _ (not (has_making s.cache)) e in
-    let p4 = and_parts _ (s.got == 0) p5.0 in
+    let p4 = and_parts _ ((s.got == 0) && (s.lags == 0)) p5.0 in
     let p3 = and_parts (empty_handed s && not (work_in_hand sh.fields s) && is_none s.owes) (is_none s.block) p4.0 in
     and_from _ _ (and_from _ _ (and_from _ _ p3.0 n) p3.1) p4.1
 
 no-cache : (sh : Shape) (s : SeatState) → has_nothing sh s ≡ true → is_none s.cache ≡ true
-no-cache sh s e = (and_parts (empty_handed s && not (work_in_hand sh.fields s) && is_none s.owes) (is_none s.cache) (and_parts _ (is_none s.block) (and_parts _ (s.got == 0) e).0).0).1
+no-cache sh s e = (and_parts (empty_handed s && not (work_in_hand sh.fields s) && is_none s.owes) (is_none s.cache) (and_parts _ (is_none s.block) (and_parts _ ((s.got == 0) && (s.lags == 0)) e).0).0).1
 
 traced-nothing : (v w : View) → has_nothing v.shape v.state ≡ true → HasTraced v w → has_nothing w.shape w.state ≡ true
 traced-nothing v w e t = rest-nothing w.shape w.state t.rest (ap (λ (s : SeatState). is_none s.cache) t.record_is ∙ no-cache v.shape v.state e)

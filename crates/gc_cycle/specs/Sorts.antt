@@ -6,7 +6,7 @@ use Rattle.mark_core.specs.Seats.{is_phase, phase_of, saw}
 use Rattle.mark_core.specs.declared.kinds.Phase.{Phase}
 use Rattle.mark_core.specs.declared.kinds.Phase.TheVariants.{Idle, Marking, Drain, Sweep, Clear, Full}
 use Rattle.mark_core.specs.declared.kinds.Step.{Step}
-use Rattle.mark_core.specs.declared.kinds.Step.TheVariants.{ReadCount, ReadAlloc, ReadRoot, ClearCard, ReadPhase, StoreField, StoreValue, StoreRoot, StoreNew, ClaimBlock, EnterStep, LeaveStep, RaiseStep, Observe, DropStep, StorePhase, NextBlock, NextOfCards, StoreNamed, AddStat, ReadStat, OpenStep, JoinHelpStep, ExchangeField, ExchangeValue, LoadSlot, StoreSlot}
+use Rattle.mark_core.specs.declared.kinds.Step.TheVariants.{ReadCount, ReadAlloc, ReadRoot, ClearCard, ReadPhase, StoreField, StoreValue, StoreRoot, StoreNew, ClaimBlock, EnterStep, LeaveStep, RaiseStep, Observe, DropStep, StorePhase, NextBlock, NextOfCards, StoreNamed, AddStat, ReadStat, OpenStep, JoinHelpStep, ExchangeField, ExchangeValue, LoadSlot, StoreSlot, HoldRoot}
 use Rattle.gc_table.specs.Taking.{moves_from}
 pub use Rattle.card_clean.specs.Cleaning.{clears}
 pub use Rattle.tracer.specs.Roots.{shows_marked}
@@ -188,6 +188,7 @@ abbrev pub mutator_stores : Step → ℕ → Bool
 mutator_stores (StoreField v i w) found = true
 mutator_stores (StoreValue v n) found = true
 mutator_stores (StoreRoot v r) found = true
+mutator_stores (HoldRoot v r) found = true
 mutator_stores (StoreSlot k r) found = true
 mutator_stores (ExchangeField v i x y) found = true
 mutator_stores (ExchangeValue v m n) found = true

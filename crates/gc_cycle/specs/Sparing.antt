@@ -4,7 +4,7 @@ use Rattle.mark_core.specs.Numbers.{done_count}
 use Rattle.mark_core.specs.Seats.{saw}
 use Rattle.mark_core.specs.declared.kinds.Phase.TheVariants.{Full}
 use Rattle.mark_core.specs.declared.kinds.Step.{Step}
-use Rattle.mark_core.specs.declared.kinds.Step.TheVariants.{StoreField, StoreValue, StoreRoot, StoreNew, StorePhase, ReadSeason, NextSeason, AddStat, ExchangeField, ExchangeValue, StoreSlot}
+use Rattle.mark_core.specs.declared.kinds.Step.TheVariants.{StoreField, StoreValue, StoreRoot, StoreNew, StorePhase, ReadSeason, NextSeason, AddStat, ExchangeField, ExchangeValue, StoreSlot, HoldRoot}
 use Rattle.gc_table.specs.Log.{Only}
 use Rattle.gc_table.specs.Rule.{KnowsFull}
 use Rattle.gc_table.specs.declared.view.View.{View}
@@ -18,6 +18,7 @@ abbrev pub fills_part : Step → Bool
 fills_part (StoreField v i w) = false
 fills_part (StoreValue v n) = false
 fills_part (StoreRoot v r) = false
+fills_part (HoldRoot v r) = false
 fills_part (StoreSlot k r) = false
 fills_part (ExchangeField v i x y) = false
 fills_part (ExchangeValue v m n) = false

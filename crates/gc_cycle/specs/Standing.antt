@@ -9,7 +9,7 @@ use Rattle.gc_table.specs.declared.view.View.{View}
 
 -- no packet, no work, no block in hand, no card owed, no cell half made, and no reference in the register
 abbrev pub is_at_rest : Shape → SeatState → Bool
-is_at_rest sh s = empty_handed s && not (work_in_hand sh.fields s) && is_none s.owes && is_none s.block && (s.got == 0) && not (has_making s.cache)
+is_at_rest sh s = empty_handed s && not (work_in_hand sh.fields s) && is_none s.owes && is_none s.block && ((s.got == 0) && (s.lags == 0)) && not (has_making s.cache)
 
 -- an active mutator between two commands
 pub record Mutates (v : View) : Type 0 where

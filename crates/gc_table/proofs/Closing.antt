@@ -6,7 +6,7 @@ use Rattle.std.proofs.lemmas.Bool.{true≢false, and_parts, and_from, or_from, n
 use Rattle.std.proofs.lemmas.List.{set-get_or}
 use mathlib.Core.Option.{some}
 use lib.ListN.{get_elem?}
-use Rattle.atomic_table.specs.Table.{Joins, Final, Seen}
+use Rattle.atomic_table.specs.Table.{Final, Seen}
 use Rattle.atomic_table.proofs.Lists.{at_set, set_else}
 use Rattle.mark_core.specs.Layout.{address}
 use Rattle.mark_core.specs.Places.{the_world}
@@ -17,6 +17,7 @@ use Rattle.mark_core.specs.Steps.WorldSteps.{has_nothing, may_be_joined, other_h
 use Rattle.mark_core.specs.Start.{spent_seat}
 use Rattle.mark_core.specs.Steps.{Core, after_of, after_event}
 use Rattle.mark_core.specs.Laws.{IsCore}
+use Rattle.mark_core.proofs.Lagging.{LagsInTurn, idle-lags}
 use Rattle.mark_core.proofs.Notes.NotesBeside.{sits, of-sits}
 use Rattle.mark_core.proofs.World.WorldReading.{at-standing}
 use Rattle.mark_core.specs.declared.kinds.Event.{Event}
@@ -32,6 +33,8 @@ use Rattle.gc_table.specs.declared.view.SectionState.{SectionState}
 use Rattle.gc_table.specs.TableState.{TableState, state_after, start_state}
 use Rattle.gc_table.specs.Rule.{records_from, table_state, IsState, HasJoined, Agrees, Holds, IsFinal, nobody, own_entry, takes_in}
 use Rattle.gc_table.proofs.Asking.{own-number}
+use Rattle.gc_table.proofs.Allowed.{St}
+use Rattle.gc_table.proofs.Tokens.{Kept}
 use Rattle.gc_table.proofs.Joining.{both-noted}
 use Rattle.gc_table.proofs.Opening.{none-in, record-at, still-sections, zero-plus}
 use Rattle.gc_table.specs.Past.{IsLogOf, IsLogged, log_of}
@@ -66,8 +69,9 @@ bare-nothing c i s core got bare =
     let out : takes_part s ≡ false = or_from _ _ (or_from _ _ active knows) admitted in
     let empty : IsEmpty c.shape s = of-sits (λ (x : SeatState). IsFalse (takes_part x) → IsEmpty c.shape x) c i s k core.sound.world.outside_empty out in
     let calm : IsCalm s = of-sits (λ (x : SeatState). IsFalse x.active → IsCalm x) c i s k core.sound.world.inactive_calm active in
+    let shows : s.lags ≡ 0 = idle-lags s active (of-sits LagsInTurn c i s k core.sound.season.lags_in_turn) in
     let hands : empty_handed s ≡ true = and_from _ _ (and_from _ _ (not_from_false _ empty.no_packet) (not_from_false _ empty.no_reservation)) (not_from_false _ empty.no_credit) in
-    and_from _ _ (and_from _ _ (and_from _ _ (and_from _ _ (and_from _ _ hands (not_from_false _ empty.no_work)) (none-there s.owes calm.no_card_owed)) (none-there s.cache empty.no_cache)) (none-there s.block empty.no_block)) (eq-eqb s.got 0 calm.register_nil)
+    and_from _ _ (and_from _ _ (and_from _ _ (and_from _ _ (and_from _ _ hands (not_from_false _ empty.no_work)) (none-there s.owes calm.no_card_owed)) (none-there s.cache empty.no_cache)) (none-there s.block empty.no_block)) (and_from _ _ (eq-eqb s.got 0 calm.register_nil) (eq-eqb s.lags 0 shows))
 
 one_in : {A : Type 0} (a b : A) → Contains (a ∷ []) b → a ≡ b
 one_in a b (zero, l, e) = e
@@ -79,7 +83,8 @@ entry_is None x y w h = absurd (none-in (w, y) h)
 entry_is (Some k) x y w h = let e : (k, x) ≡ (w, y) = one_in (k, x) (w, y) h in (ap (λ (p : ℕ × SectionState). Some p.0) e, ap (λ (p : ℕ × SectionState). p.1) e)
 
 -- a seat takes in another, while both are outside
-pub joins : (sh : Shape) (plan : List (List Op)) (id : ℕ) (v : View) (other : ℕ) (w : View) → IsFalse v.state.spent → IsTrue (is_bare v.state) → IsFalse w.state.spent → IsTrue (is_bare w.state) → w.state.number ≢ 0 → Joins (Holds sh plan) id v other w (takes_in v w) nobody
+pub joins : (sh : Shape) (plan : List (List Op)) (id : ℕ) (v : View) (other : ℕ) (w : View) → IsFalse v.state.spent → IsTrue (is_bare v.state) → IsFalse w.state.spent → IsTrue (is_bare w.state) → w.state.number ≢ 0 → (s : St) (o : Holds sh plan s) → get_elem? s.views id ≡ some v → other ≢ id → get_elem? (set s.views id (takes_in v w)) other ≡ some w
+    → Kept sh plan (record { words = s.words; homes = s.homes; views = set (set s.views id (takes_in v w)) other nobody }) (o.past ++ event id (Join other) ∷ [])
 joins sh plan id v other w live bare live' bare' second s o me apart there' =
     let x : TableState = table_state sh plan o.sections s in
     let c : Core = x.core in
@@ -126,74 +131,78 @@ joins sh plan id v other w live bare live' bare' second s o me apart there' =
     subst (λ (z : ℕ × List Entry). IsLogOf sh past left.core z.0 z.1) ((λ y. (sym number' y, w.log)) ∙ e) (theirs.log ∙ sym (silent other), ended))
     (λ (i : Contains w.logs (k, l)). still k l (theirs.logs k l i))
     (Contains-append_cases ((w.state.number, w.log) ∷ []) w.logs (k, l) i))
-    (Contains-append_cases v.logs ((w.state.number, w.log) ∷ w.logs) (k, l) i) in
-    record {
-      sections = o.sections;
-      whole = subst IsState (λ y. record { core = core y; plan = plan; sections = sections y }) (whole-kept x id v.state (Join other) g);
-      each = λ j u h l.
-          let seat = record-at sh vs j u h l in
-          ⊎_elim
-          (λ (p : (j ≡ other) × (nobody ≡ u)). absurd (true≢false (ap (λ (y : View). y.state.spent) p.1 ∙ l)))
-          (λ (p : (j ≢ other) × (get_elem? (set s.views id both) j ≡ some u)).
-          ⊎_elim
-          (λ (q : (j ≡ id) × (both ≡ u)).
-          let mine : HasJoined left both = λ k y i.
-          ⊎_elim
-          (λ (i : Contains v.joined (k, y)). joined v a.joined k y i)
-          (λ (i : Contains (own_entry w.state.section w.own ++ w.joined) (k, y)).
-          ⊎_elim
-          (λ (i : Contains (own_entry w.state.section w.own) (k, y)).
-          let e = entry_is w.state.section w.own y k i in
-          let at : k ≡ other = own-number c other k w.state o.whole.core b.seat e.0 in
-          (b.own k e.0 ∙ ap Some e.1, ap (λ xs. slice_get xs k) seats ∙ (ap (slice_get (set (set c.seats id v.state) other (spent_seat sh other))) at ∙ (found-here (set c.seats id v.state) other w.state (spent_seat sh other) (found-else c.seats id other v.state apart ∙ b.seat) ∙ ap (λ (m : ℕ). Some (spent_seat sh m)) (sym at)))))
-          (λ (i : Contains w.joined (k, y)). joined w b.joined k y i)
-          (Contains-append_cases (own_entry w.state.section w.own) w.joined (k, y) i))
-          (Contains-append_cases v.joined (own_entry w.state.section w.own ++ w.joined) (k, y) i) in
-          subst (λ (z : View). Agrees left j z) q.1 (record { shape = a.shape; seat = seat ∙ ap (λ (z : View). Some z.state) (sym q.1); noted = both-noted x.core v w a.noted b.noted; floored = a.floored; fetched = a.fetched; stopped = a.stopped; plan = a.plan; own = a.own; joined = mine }))
-          (λ (q : (j ≢ id) × (get_elem? s.views j ≡ some u)). let z = o.each j u q.1 l in record { shape = z.shape; seat = seat; noted = z.noted; floored = z.floored; fetched = z.fetched; stopped = z.stopped; plan = z.plan; own = z.own; joined = joined u z.joined })
-          (at_set s.views id j both u p.1))
-          (at_set (set s.views id both) other j nobody u h);
-      past = past;
-      led = led-on sh o.past c left.core (event id (Join other)) o.led tt (may-happen x id v.state (Join other) g) core;
-      came = leads-on o.past (event id (Join other)) (start_state sh plan 1) x left o.came o.whole (may-happen x id v.state (Join other) g) (λ y. record { core = core y; plan = plan; sections = sections y });
-      logged = λ j u h l.
-          ⊎_elim
-          (λ (p : (j ≡ other) × (nobody ≡ u)). absurd (true≢false (ap (λ (y : View). y.state.spent) p.1 ∙ l)))
-          (λ (p : (j ≢ other) × (get_elem? (set s.views id both) j ≡ some u)).
-          ⊎_elim
-          (λ (q : (j ≡ id) × (both ≡ u)). subst (λ (z : ℕ × View). IsLogged sh past left.core z.0 z.1) (λ y. (sym q.0 y, q.1 y)) (record { log = mine.log ∙ sym (silent id); logs = both_logs }))
-          (λ (q : (j ≢ id) × (get_elem? s.views j ≡ some u)). let b = o.logged j u q.1 l in record { log = b.log ∙ sym (silent j); logs = λ k m i. still k m (b.logs k m i) })
-          (at_set s.views id j both u p.1))
-          (at_set (set s.views id both) other j nobody u h);
-      opened = λ u h.
-          let long : length vs ≡ length s.views = length-set (set s.views id both) other nobody ∙ length-set s.views id both in
-          ⊎_elim
-          (λ (p : (0 ≡ other) × (nobody ≡ u)). absurd (far (sym p.0)))
-          (λ (p : (0 ≢ other) × (get_elem? (set s.views id both) 0 ≡ some u)).
-          ⊎_elim
-          (λ (q : (0 ≡ id) × (both ≡ u)). ap (λ (y : View). y.opened) (sym q.1) ∙ (o.opened v (ap (get_elem? s.views) q.0 ∙ me) ∙ sym long))
-          (λ (q : (0 ≢ id) × (get_elem? s.views 0 ≡ some u)). o.opened u q.1 ∙ sym long)
-          (at_set s.views id 0 both u p.1))
-          (at_set (set s.views id both) other 0 nobody u h);
-    }
+    (Contains-append_cases v.logs ((w.state.number, w.log) ∷ w.logs) (k, l) i) in (
+      record {
+        sections = o.sections;
+        whole = subst IsState (λ y. record { core = core y; plan = plan; sections = sections y }) (whole-kept x id v.state (Join other) g);
+        each = λ j u h l.
+            let seat = record-at sh vs j u h l in
+            ⊎_elim
+            (λ (p : (j ≡ other) × (nobody ≡ u)). absurd (true≢false (ap (λ (y : View). y.state.spent) p.1 ∙ l)))
+            (λ (p : (j ≢ other) × (get_elem? (set s.views id both) j ≡ some u)).
+            ⊎_elim
+            (λ (q : (j ≡ id) × (both ≡ u)).
+            let mine : HasJoined left both = λ k y i.
+            ⊎_elim
+            (λ (i : Contains v.joined (k, y)). joined v a.joined k y i)
+            (λ (i : Contains (own_entry w.state.section w.own ++ w.joined) (k, y)).
+            ⊎_elim
+            (λ (i : Contains (own_entry w.state.section w.own) (k, y)).
+            let e = entry_is w.state.section w.own y k i in
+            let at : k ≡ other = own-number c other k w.state o.whole.core b.seat e.0 in
+            (b.own k e.0 ∙ ap Some e.1, ap (λ xs. slice_get xs k) seats ∙ (ap (slice_get (set (set c.seats id v.state) other (spent_seat sh other))) at ∙ (found-here (set c.seats id v.state) other w.state (spent_seat sh other) (found-else c.seats id other v.state apart ∙ b.seat) ∙ ap (λ (m : ℕ). Some (spent_seat sh m)) (sym at)))))
+            (λ (i : Contains w.joined (k, y)). joined w b.joined k y i)
+            (Contains-append_cases (own_entry w.state.section w.own) w.joined (k, y) i))
+            (Contains-append_cases v.joined (own_entry w.state.section w.own ++ w.joined) (k, y) i) in
+            subst (λ (z : View). Agrees left j z) q.1 (record { shape = a.shape; seat = seat ∙ ap (λ (z : View). Some z.state) (sym q.1); noted = both-noted x.core v w a.noted b.noted; floored = a.floored; fetched = a.fetched; stopped = a.stopped; plan = a.plan; own = a.own; joined = mine }))
+            (λ (q : (j ≢ id) × (get_elem? s.views j ≡ some u)). let z = o.each j u q.1 l in record { shape = z.shape; seat = seat; noted = z.noted; floored = z.floored; fetched = z.fetched; stopped = z.stopped; plan = z.plan; own = z.own; joined = joined u z.joined })
+            (at_set s.views id j both u p.1))
+            (at_set (set s.views id both) other j nobody u h);
+        past = past;
+        led = led-on sh o.past c left.core (event id (Join other)) o.led tt (may-happen x id v.state (Join other) g) core;
+        came = leads-on o.past (event id (Join other)) (start_state sh plan 1) x left o.came o.whole (may-happen x id v.state (Join other) g) (λ y. record { core = core y; plan = plan; sections = sections y });
+        logged = λ j u h l.
+            ⊎_elim
+            (λ (p : (j ≡ other) × (nobody ≡ u)). absurd (true≢false (ap (λ (y : View). y.state.spent) p.1 ∙ l)))
+            (λ (p : (j ≢ other) × (get_elem? (set s.views id both) j ≡ some u)).
+            ⊎_elim
+            (λ (q : (j ≡ id) × (both ≡ u)). subst (λ (z : ℕ × View). IsLogged sh past left.core z.0 z.1) (λ y. (sym q.0 y, q.1 y)) (record { log = mine.log ∙ sym (silent id); logs = both_logs }))
+            (λ (q : (j ≢ id) × (get_elem? s.views j ≡ some u)). let b = o.logged j u q.1 l in record { log = b.log ∙ sym (silent j); logs = λ k m i. still k m (b.logs k m i) })
+            (at_set s.views id j both u p.1))
+            (at_set (set s.views id both) other j nobody u h);
+        opened = λ u h.
+            let long : length vs ≡ length s.views = length-set (set s.views id both) other nobody ∙ length-set s.views id both in
+            ⊎_elim
+            (λ (p : (0 ≡ other) × (nobody ≡ u)). absurd (far (sym p.0)))
+            (λ (p : (0 ≢ other) × (get_elem? (set s.views id both) 0 ≡ some u)).
+            ⊎_elim
+            (λ (q : (0 ≡ id) × (both ≡ u)). ap (λ (y : View). y.opened) (sym q.1) ∙ (o.opened v (ap (get_elem? s.views) q.0 ∙ me) ∙ sym long))
+            (λ (q : (0 ≢ id) × (get_elem? s.views 0 ≡ some u)). o.opened u q.1 ∙ sym long)
+            (at_set s.views id 0 both u p.1))
+            (at_set (set s.views id both) other 0 nobody u h);
+      },
+      refl,
+    )
 
 -- the words in the end, and what the last seat's view says of all sections
-pub closes : (sh : Shape) (plan : List (List Op)) (id : ℕ) (v : View) (ws : List ℕ) (xs : List (Unit {0})) → IsFalse v.state.spent → Final (Seen (Holds sh plan) id v) ws xs → IsFinal v ws
+pub closes : (sh : Shape) (plan : List (List Op)) (id : ℕ) (v : View) (ws : List ℕ) (xs : List (Unit {0})) → IsFalse v.state.spent → (f : Final (Seen (Holds sh plan) id v) ws xs) → (g : IsFinal v ws) × (g.past ≡ f.1.0.past)
 closes sh plan id v ws xs live f =
     let s = f.0 in
     let o = f.1.0 in
-    let agrees = o.each id v f.1.1 live in
-    record {
-      state = table_state sh plan o.sections s;
-      whole = o.whole;
-      words = f.2;
-      index = id;
-      agrees = agrees;
-      past = o.past;
-      led = o.led;
-      came = o.came;
-      logged = o.logged id v f.1.1 live;
-      opened = λ zero_is.
-          let first : id ≡ 0 = sym ((o.whole.core.formed.seats id v.state agrees.seat).number) ∙ zero_is in
-          o.opened v (ap (get_elem? s.views) (sym first) ∙ f.1.1) ∙ sym (records-length sh 0 s.views);
-    }
+    let agrees = o.each id v f.1.1 live in (
+      record {
+        state = table_state sh plan o.sections s;
+        whole = o.whole;
+        words = f.2;
+        index = id;
+        agrees = agrees;
+        past = o.past;
+        led = o.led;
+        came = o.came;
+        logged = o.logged id v f.1.1 live;
+        opened = λ zero_is.
+            let first : id ≡ 0 = sym ((o.whole.core.formed.seats id v.state agrees.seat).number) ∙ zero_is in
+            o.opened v (ap (get_elem? s.views) (sym first) ∙ f.1.1) ∙ sym (records-length sh 0 s.views);
+      },
+      refl,
+    )

@@ -1,4 +1,5 @@
 -- 50 and 51: a field or the value of an object is exchanged: the words found and expected are equal exactly if the heap has the expected there.
+use Rattle.mark_core.specs.Variables.{roots_now}
 use Rattle.std.proofs.Common.{ℕ, ◌≡◌, ◌+◌, ◌-◌, ◌*◌, ◌<◌, List, set, arith, refl, sym, ap, ◌∙◌, subst, Bool, true, false, cond, not, eqb, ◌&&◌, ◌||◌, Option, Some, None, zero, suc}
 use Rattle.std.specs.Prelude.{IsTrue, slice_index, nat_lt}
 use Rattle.std.proofs.lemmas.Bool.{and_parts, and_from, or_left, eqb-true, eq-eqb, ltb-true}
@@ -193,7 +194,7 @@ exchange-field c i s v j x o world k a =
     let word : ℕ = written c.shape s step (found c s step) in
     let f : WorldObject → WorldObject = with_exchanged j (stored world i x) (stored world i o) in
     let t : SeatState = seat_after c.shape s step (found c s step) in
-    let P : ℕ → Option Name → Type 0 = λ cell name. Agrees c.shape w.roots w.identities w.values (set w.fields (cell * c.shape.fields + j) word) (λ z. IsTrue (UsedAfter c i s step z)) (set c.seats i t) (with_object world name f) in
+    let P : ℕ → Option Name → Type 0 = λ cell name. Agrees c.shape (roots_now w.roots (set c.seats i t)) w.identities w.values (set w.fields (cell * c.shape.fields + j) word) (λ z. IsTrue (UsedAfter c i s step z)) (set c.seats i t) (with_object world name f) in
     let base : P y (Some (name_at w.identities y)) =
     moved c i s step (record w { values = w.values; fields = set w.fields (y * c.shape.fields + j) word }) t world (with_object world (Some (name_at w.identities y)) f) k a
     (object-moves c i s step v world y w.values (set w.fields (y * c.shape.fields + j) word) f t.owes k a (λ z e. e) h.there (field_exchanged c i s v j x o world k a h)) in
@@ -249,7 +250,7 @@ exchange-value c i s v m n world k a =
     let y : ℕ = word_in s v - 1 in
     let word : ℕ = written c.shape s step (found c s step) in
     let f : WorldObject → WorldObject = with_exchanged_value m n in
-    let P : ℕ → Option Name → Type 0 = λ cell name. Agrees c.shape w.roots w.identities (set w.values cell word) w.fields (λ z. IsTrue (UsedAfter c i s step z)) (set c.seats i s) (with_object world name f) in
+    let P : ℕ → Option Name → Type 0 = λ cell name. Agrees c.shape (roots_now w.roots (set c.seats i s)) w.identities (set w.values cell word) w.fields (λ z. IsTrue (UsedAfter c i s step z)) (set c.seats i s) (with_object world name f) in
     let base : P y (Some (name_at w.identities y)) =
     moved c i s step (record w { values = set w.values y word; fields = w.fields }) s world (with_object world (Some (name_at w.identities y)) f) k a
     (object-moves c i s step v world y (set w.values y word) w.fields f s.owes k a (λ z e. e) h.there (value_exchanged c i s v m n world k.core h)) in

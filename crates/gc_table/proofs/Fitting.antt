@@ -14,7 +14,7 @@ use Rattle.mark_core.proofs.Writing.Ranges.{IsPlace}
 use Rattle.mark_core.proofs.Writing.Places.{address-lt-total}
 use Rattle.mark_core.specs.declared.kinds.Shape.{Shape}
 use Rattle.mark_core.specs.declared.kinds.Step.{Step}
-use Rattle.mark_core.specs.declared.kinds.Step.TheVariants.{Push, ReadField, StoreRoot, StoreNew}
+use Rattle.mark_core.specs.declared.kinds.Step.TheVariants.{Push, ReadField, StoreRoot, StoreNew, HoldRoot, FlushRoot}
 use Rattle.mark_core.specs.declared.seat.SeatState.{SeatState}
 use Rattle.gc_table.specs.declared.view.View.{View}
 use Rattle.gc_table.specs.Rule.{IsPossible}
@@ -45,6 +45,8 @@ room-prop : (s : SeatState) (step : Step) → IsProp (HasRoom s step)
 room-prop s (Push p c) = Prim.hlevel props
 room-prop s (ReadField c i) = Prim.hlevel props
 room-prop s (StoreRoot v r) = Prim.hlevel props
+room-prop s (HoldRoot v r) = Prim.hlevel props
+room-prop s (FlushRoot v) = Prim.hlevel props
 room-prop s (StoreNew c part word) = Prim.hlevel props
 room-prop s step = Prim.hlevel props
 
@@ -72,8 +74,8 @@ step-word sh s v step at words is same shaped sized h may =
 -- so a seat of the heap may take a step at its word
 pub may-take : (h : Heap) (s : HeapSeat) (step : Step) (word : ℕ) → word ≡ address h.shape (place h.shape s.state step) → Sits h s → May step (view_of s) → IsOwn step → Asked step (view_of s) → MayTake h s.token word step
 may-take h s step word is sits may own asked =
-    let at = step-word h.shape s.state (s.token.me.0) step word h.table.shared.table_id.words is s.agrees sits.1 h.sized s.possible may in
-    record { table = sits.0; bare = s.bare; shape = sits.1; live = possible-live (s.token.me.0) s.possible; within = at.0; there = at.1; may = may; own = own; asked = asked }
+    let at = step-word h.shape s.state (s.token.me.0.view) step word h.table.shared.table_id.words is s.agrees sits.1 h.sized s.possible may in
+    record { table = sits.0; bare = s.bare; seated = s.seated; shape = sits.1; live = possible-live (s.token.me.0.view) s.possible; within = at.0; there = at.1; may = may; own = own; asked = asked }
 
 pub step-room : (s : SeatState) (v : View) (step : Step) → s ≡ v.state → ∥ IsPossible v ∥₁ → May step v → HasRoom s step
 step-room s v step same h may = subst (λ (x : SeatState). HasRoom x step) (sym same) (takes-room v step h may)

@@ -5,7 +5,7 @@ use Rattle.std.specs.Prelude.{nat_lt, slice_index}
 use Rattle.std.proofs.lemmas.Bool.{false≢true, and_parts, eqb-true, cases_eq, cases_lt, cases_Bool}
 use Rattle.plain_heap.specs.Paths.{Name}
 use Rattle.mark_core.specs.declared.kinds.Step.{Step}
-use Rattle.mark_core.specs.declared.kinds.Step.TheVariants.{ReadOwn, ReadCat, StoreField, StoreValue, StoreRoot, StoreNew, ExchangeField, ExchangeValue, StoreSlot, ReadSlot, ReadWeak}
+use Rattle.mark_core.specs.declared.kinds.Step.TheVariants.{ReadOwn, ReadCat, StoreField, StoreValue, StoreRoot, StoreNew, ExchangeField, ExchangeValue, StoreSlot, ReadSlot, ReadWeak, HoldRoot}
 use Rattle.gc_table.specs.RunWorlds.{World, WorldObject, WorldSection, variable_of, object_of, reference_of, is_same, in_section, section_of, followed, with_register, with_variable, with_reference, with_value, with_new, with_part, with_object, stored, name_at, referred, own_section, with_exchanged, with_exchanged_value}
 use Rattle.gc_table.specs.AgreementLaws.{StoresIn, HasReference, HasValue, NoneForgotten}
 use Rattle.gc_table.proofs.Reading.{object-kept, object-changed, object-other}
@@ -107,6 +107,7 @@ none_forgotten sh w s (ExchangeField v i x y) world name object e =
 none_forgotten sh w s (ExchangeValue v m n) world name object e =
     exchanged world (variable_of world (own_section s) v) (eqb object.value m) (with_exchanged_value m n) (with_value n) name object (HasValue world name m) e refl (λ b. (object, e, eqb-true object.value m b))
 none_forgotten sh w s (StoreRoot v r) world name object e = keeps world (own_section s) (own_section s) (StoreRoot v r) (with_variable v (referred w.identities r)) name object (λ h. object-kept world (own_section s) (with_variable v (referred w.identities r)) name h refl ∙ e) e
+none_forgotten sh w s (HoldRoot v r) world name object e = keeps world (own_section s) (own_section s) (HoldRoot v r) (with_variable v (referred w.identities r)) name object (λ h. object-kept world (own_section s) (with_variable v (referred w.identities r)) name h refl ∙ e) e
 none_forgotten sh w s (StoreSlot j r) world name object e =
     let f : WorldSection → WorldSection = with_variable (32 + j) (referred w.identities r) in keeps world (own_section s) (own_section s) (StoreSlot j r) f name object (λ h. object-kept world (own_section s) f name h refl ∙ e) e
 none_forgotten sh w s (ReadSlot j) world name object e =

@@ -1,8 +1,8 @@
 -- What agrees with the heap still does if words, records and the heap stay, and the agreement put together after one seat has acted.
 use Rattle.std.proofs.Common.{ℕ, ◌≡◌, ◌≢◌, ◌+◌, ◌*◌, ◌<◌, ◌≤◌, zero, suc, List, set, length, arith, refl, sym, ap, ◌∙◌, subst, true, Option, Some, None, ◌⊎◌, inl, inr, ⊎_elim, ◌%◌, Bool, false, cond}
 use Rattle.std.specs.Prelude.{IsTrue, IsFalse, IfSome, slice_get, slice_index, nat_lt, is_none, unwrap_or}
-use Rattle.std.proofs.lemmas.Bool.{cases_eq, true≢false, false≢true, or_left, ltb-true, cases_lt}
-use Rattle.std.proofs.lemmas.List.{length-set, get_or_past}
+use Rattle.std.proofs.lemmas.Bool.{cases_eq, true≢false, false≢true, or_left, ltb-true}
+use Rattle.std.proofs.lemmas.List.{length-set}
 use Rattle.mark_core.specs.Layout.{Words, words_of}
 use Rattle.mark_core.specs.Numbers.{section_span}
 use Rattle.mark_core.specs.Seats.{makes, last_made, free_in, used_in, may_mutate}
@@ -11,6 +11,8 @@ use Rattle.mark_core.specs.Steps.{Core}
 use Rattle.mark_core.proofs.Blocks.BlocksStopped.{Taken, within, mine as own-fact}
 use Rattle.mark_core.proofs.Formed.FormedLearns.{set-here, set-there}
 use Rattle.mark_core.proofs.References.ReferencesRoots.{Used, UsedAfter, own-used, seat-formed, mutator-is}
+use Rattle.mark_core.proofs.References.ReferencesNow.{the-roots, now-used}
+use Rattle.mark_core.specs.Variables.{roots_now}
 use Rattle.mark_core.proofs.Used.UsedKept.{used-back}
 use Rattle.mark_core.proofs.Used.UsedSeats.{IsMadeBy}
 use Rattle.mark_core.specs.declared.kinds.Shape.{Shape}
@@ -92,13 +94,8 @@ pub not-making : (c : Core) (i : ℕ) (s : SeatState) (step : Step) (x y part : 
 not-making c i s step x y part k u e same = true≢false (sym u ∙ ap (Used c) (sym same) ∙ free-not-used c i s step x k (making-is-free c i s step x part k e))
 
 -- a root that isn't nil names a cell in use
-pub root-used : (c : Core) (k x : ℕ) → IsCore c → slice_index (words_of c.shape c.words).roots k ≡ suc x → Used c x ≡ true
-root-used c k x core e =
-    let roots : List ℕ = (words_of c.shape c.words).roots in
-    ⊎_elim
-    (λ (h : k < length roots). names (Used c) (slice_index roots k) x e (core.sound.references.roots_in_use k 0 h))
-    (λ (h : length roots ≤ k). absurd (omega (arith, e, get_or_past roots k 0 h)))
-    (cases_lt k (length roots))
+pub root-used : (c : Core) (k x : ℕ) → IsCore c → slice_index (the-roots c) k ≡ suc x → Used c x ≡ true
+root-used c k x core e = names (Used c) (slice_index (the-roots c) k) x e (now-used c k core)
 
 -- a mutator and its section
 pub record Mutates (c : Core) (i : ℕ) (s : SeatState) : Type 0 where
@@ -174,8 +171,11 @@ pub record Moves (c : Core) (i : ℕ) (s : SeatState) (step : Step) (x : Words) 
   pub sections : length after ≡ length world
   pub variables : (w : ℕ) → w < c.shape.sections → length (section_of after w).variables ≡ length (section_of world w).variables
   pub identities_kept : (y : ℕ) → Used c y ≡ true → slice_index x.identities y ≡ slice_index (words_of c.shape c.words).identities y
-  pub roots : (w v : ℕ) → w < c.shape.sections → v < 32 → referred x.identities (slice_index x.roots (w * 32 + v)) ≡ variable_of after w v
-  pub slots : (w k : ℕ) → w < c.shape.sections → k < c.shape.slots → referred x.identities (slice_index x.roots (c.shape.sections * 32 + (w * c.shape.slots + k))) ≡ variable_of after w (32 + k)
+  -- the roots as the seats have them
+  pub now_roots : List ℕ
+  pub now : roots_now x.roots (set c.seats i t) ≡ now_roots
+  pub roots : (w v : ℕ) → w < c.shape.sections → v < 32 → referred x.identities (slice_index now_roots (w * 32 + v)) ≡ variable_of after w v
+  pub slots : (w k : ℕ) → w < c.shape.sections → k < c.shape.slots → referred x.identities (slice_index now_roots (c.shape.sections * 32 + (w * c.shape.slots + k))) ≡ variable_of after w (32 + k)
   pub cells : (y : ℕ) → y < c.shape.cells → UsedAfter c i s step y ≡ true → HoldsObject c.shape x.identities x.values x.fields after y
   pub other_register : (w : ℕ) → w ≢ i → (section_of after w).register ≡ (section_of world w).register
   pub other_made : (w : ℕ) → w ≢ i → length (section_of after w).objects ≡ length (section_of world w).objects
@@ -184,8 +184,8 @@ pub record Moves (c : Core) (i : ℕ) (s : SeatState) (step : Step) (x : Words) 
   pub own_seat : i < c.shape.sections → IsFalse t.spent → SeatAgrees c.shape x.identities x.values after i t
 
 pub moved : (c : Core) (i : ℕ) (s : SeatState) (step : Step) (x : Words) (t : SeatState) (world after : World) → Taken c i s step → AgreesWith c world → Moves c i s step x t world after
-    → Agrees c.shape x.roots x.identities x.values x.fields (λ y. IsTrue (UsedAfter c i s step y)) (set c.seats i t) after
-moved c i s step x t world after k a m = record {
+    → Agrees c.shape (roots_now x.roots (set c.seats i t)) x.identities x.values x.fields (λ y. IsTrue (UsedAfter c i s step y)) (set c.seats i t) after
+moved c i s step x t world after k a m = subst (λ (rs : List ℕ). Agrees c.shape rs x.identities x.values x.fields (λ y. IsTrue (UsedAfter c i s step y)) (set c.seats i t) after) (sym m.now) (record {
   sections = m.sections ∙ a.sections;
   variables = λ w h. m.variables w h ∙ a.variables w h;
   roots_agree = m.roots;
@@ -197,7 +197,7 @@ moved c i s step x t world after k a m = record {
       let far : w ≢ i = λ e. omega (arith, e, l, length-set c.seats i t, within c i s step k) in
       let before = a.unseated w (omega (arith, l, length-set c.seats i t)) h in
       (m.other_register w far ∙ before.0, m.other_made w far ∙ before.1);
-}
+})
   where
     ids : List ℕ
     ids = (words_of c.shape c.words).identities

@@ -1,4 +1,8 @@
 -- Each event that is allowed leads to a state that agrees with the heap after it, and so does every run.
+use Rattle.mark_core.proofs.References.ReferencesNow.{the-roots, now-stores, now-holds, now-slots}
+use Rattle.mark_core.proofs.Lagging.{now-length, now-still, Shows}
+use Rattle.mark_core.specs.Variables.{roots_now}
+use Rattle.mark_core.specs.Bits.{with_bit}
 use Rattle.mark_core.proofs.Used.UsedSeats.{IsMadeBy}
 use Rattle.mark_core.proofs.Pool.PoolPlaces.{same_place}
 use Rattle.mark_core.specs.Bits.{reference_in}
@@ -15,7 +19,7 @@ use Rattle.mark_core.proofs.Known.{found, words_left, seats_left}
 use Rattle.mark_core.proofs.HeldBlock.{roots-length}
 use Rattle.mark_core.proofs.Blocks.BlocksStopped.{Taken, in-place, kept-after}
 use Rattle.mark_core.specs.declared.kinds.Step.{Step}
-use Rattle.mark_core.specs.declared.kinds.Step.TheVariants.{StoreRoot, StoreSlot, ReadOwn, ReadCat, StoreField, StoreValue, ClaimBlock, ReleaseBlock, ReadFree, StoreNew, PublishCells, Split, Join, ExchangeField, ExchangeValue, ReadSlot, ReadWeak}
+use Rattle.mark_core.specs.declared.kinds.Step.TheVariants.{StoreRoot, StoreSlot, ReadOwn, ReadCat, StoreField, StoreValue, ClaimBlock, ReleaseBlock, ReadFree, StoreNew, PublishCells, Split, Join, ExchangeField, ExchangeValue, ReadSlot, ReadWeak, HoldRoot}
 use Rattle.mark_core.specs.declared.seat.SeatState.{SeatState}
 use Rattle.gc_table.specs.RunWorlds.{World, WorldSection, section_of, variable_of, in_section, with_variable, name_at, referred, own_section, new_section, world_by, start_world, start_section}
 use Rattle.gc_table.specs.Agreement.{SeatAgrees, AgreesIn, AgreesWith}
@@ -23,7 +27,8 @@ use Rattle.gc_table.proofs.Reading.{section-same, section-other, sections-kept, 
 use Rattle.gc_table.proofs.Frame.{holds-on, Moves, moved, had-object, Mutates, mutates}
 use Rattle.gc_table.proofs.Exchanges.{exchange-field, exchange-value}
 use Rattle.std.proofs.lemmas.List.Elements.{All-head, All-tail}
-use Rattle.mark_core.specs.Start.{start_words}
+use Rattle.mark_core.specs.Start.{start_words, start_seats}
+use Rattle.mark_core.proofs.Pool.PoolStart.{each-seat}
 use Rattle.mark_core.specs.Laws.{IsCore, NumbersFit, AllNumbersFit}
 use Rattle.mark_core.proofs.CoreKept.{core_kept, core-starts}
 use Rattle.mark_core.proofs.Formed.FormedSeats.{seat-at}
@@ -59,15 +64,17 @@ root_agrees : (ids roots : List ℕ) (world : World) (i v at r j u index : ℕ) 
 root_agrees ids roots world i v at r j u index h hv ha (inl e) before = rw (e.0, e.1, e.2) (ap (referred ids) (get_or-set_same roots at r 0 ha) ∙ sym (variable_stored world i v (referred ids r) h hv))
 root_agrees ids roots world i v at r j u index h hv ha (inr d) before = ap (referred ids) (get_or-set_other roots at index r 0 d.1) ∙ before ∙ sym (variable_other world i v (referred ids r) j u h d.0)
 
-root_moves : (c : Core) (i : ℕ) (s : SeatState) (step : Step) (v at r : ℕ) (env : List ℕ) (world : World) → Taken c i s step → AgreesWith c world → Mutates c i s → ((y : ℕ) → IsMadeBy c.shape step y → ⊥) → v < 32 + c.shape.slots → at < root_count c.shape
+root_moves : (c : Core) (i : ℕ) (s : SeatState) (step : Step) (v at r : ℕ) (words env : List ℕ) (lags : ℕ) (world : World) → roots_now words (set c.seats i (record s { env = env; lags = lags; got = 0 })) ≡ set (the-roots c) at r → Taken c i s step → AgreesWith c world → Mutates c i s → ((y : ℕ) → IsMadeBy c.shape step y → ⊥) → v < 32 + c.shape.slots → at < root_count c.shape
     → ((j u : ℕ) → j < c.shape.sections → u < 32 → Beside i v at j u (j * 32 + u)) → ((j q : ℕ) → j < c.shape.sections → q < c.shape.slots → Beside i v at j (32 + q) (c.shape.sections * 32 + (j * c.shape.slots + q)))
-    → Moves c i s step (record (words_of c.shape c.words) { roots = set (words_of c.shape c.words).roots at r }) (record s { env = env; got = 0 }) world (in_section world i (with_variable v (referred (words_of c.shape c.words).identities r)))
-root_moves c i s step v at r env world k a mu none hv here roots slots = record {
+    → Moves c i s step (record (words_of c.shape c.words) { roots = words }) (record s { env = env; lags = lags; got = 0 }) world (in_section world i (with_variable v (referred (words_of c.shape c.words).identities r)))
+root_moves c i s step v at r words env lags world kept k a mu none hv here roots slots = record {
   sections = sections-kept world i f;
   variables = λ j h. view-kept (λ (x : WorldSection). length x.variables) world i j f inside (length-set (section_of world i).variables v (referred w.identities r));
   identities_kept = λ y u. refl;
-  roots = λ j u h hu. root_agrees w.identities w.roots world i v at r j u (j * 32 + u) inside exists within (roots j u h hu) (a.roots_agree j u h hu);
-  slots = λ j q h hq. root_agrees w.identities w.roots world i v at r j (32 + q) (c.shape.sections * 32 + (j * c.shape.slots + q)) inside exists within (slots j q h hq) (a.slots_agree j q h hq);
+  now_roots = set (the-roots c) at r;
+  now = kept;
+  roots = λ j u h hu. root_agrees w.identities (the-roots c) world i v at r j u (j * 32 + u) inside exists within (roots j u h hu) (a.roots_agree j u h hu);
+  slots = λ j q h hq. root_agrees w.identities (the-roots c) world i v at r j (32 + q) (c.shape.sections * 32 + (j * c.shape.slots + q)) inside exists within (slots j q h hq) (a.slots_agree j q h hq);
   cells =
       λ y h u.
       holds-on c.shape w.identities w.identities w.values w.values w.fields w.fields world after y
@@ -105,8 +112,8 @@ root_moves c i s step v at r env world k a mu none hv here roots slots = record 
     exists : v < length (section_of world i).variables
     exists = omega (arith, hv, a.variables i mu.inside)
 
-    within : at < length w.roots
-    within = omega (arith, here, roots-length c k.core)
+    within : at < length (the-roots c)
+    within = omega (arith, here, roots-length c k.core, now-length w.roots c.seats)
 
 -- the root of a variable is stored
 root_root : (i o v j u : ℕ) → o ≡ i → v < 32 → u < 32 → Beside i v (o * 32 + v) j u (j * 32 + u)
@@ -139,13 +146,29 @@ pub store-root : (c : Core) (i : ℕ) (s : SeatState) (v r : ℕ) (world : World
 store-root c i s v r world k a =
     let step : Step = StoreRoot v r in
     let b = and_parts (nat_lt v 32) (may_mutate s) k.ok.0 in
+    let here : own_section s * 32 + v < root_count c.shape = in-place c i s step k in
     let mu : Mutates c i s = mutates c i s step k b.1 in
     let hv : v < 32 = ltb-true v 32 b.0 in
     let to : Option Name = referred (words_of c.shape c.words).identities r in
     subst (λ (j : ℕ). AgreesIn c.shape (words_left c s step) (seats_left c i s step) (in_section world j (with_variable v to))) (sym mu.own)
     (moved c i s step (words_left c s step) (seat_after c.shape s step (found c s step)) world (in_section world i (with_variable v to)) k a
-    (root_moves c i s step v (own_section s * 32 + v) r (set s.env v (reference_in r)) world k a mu (λ y e. e) (omega (arith, hv)) (in-place c i s step k) (λ j u h hu. root_root i (own_section s) v j u mu.own hv hu)
-    (λ j q h hq. root_slot i (own_section s) v j q c.shape.sections c.shape.slots mu.own mu.inside hv)))
+    (root_moves c i s step v (i * 32 + v) r (words_left c s step).roots (set s.env v (reference_in r)) s.lags world (now-stores c i s v r k) k a mu (λ y e. e) (omega (arith, hv)) (omega (arith, here, mu.own))
+    (λ j u h hu. root_root i i v j u refl hv hu) (λ j q h hq. root_slot i i v j q c.shape.sections c.shape.slots refl mu.inside hv)))
+
+-- 54: a variable is held
+pub hold-root : (c : Core) (i : ℕ) (s : SeatState) (v r : ℕ) (world : World) → Taken c i s (HoldRoot v r) → AgreesWith c world
+    → AgreesIn c.shape (words_left c s (HoldRoot v r)) (seats_left c i s (HoldRoot v r)) (in_section world (own_section s) (with_variable v (referred (words_of c.shape c.words).identities r)))
+hold-root c i s v r world k a =
+    let step : Step = HoldRoot v r in
+    let b = and_parts (nat_lt v 32) (may_mutate s) k.ok.0 in
+    let here : own_section s * 32 + v < root_count c.shape = in-place c i s step k in
+    let mu : Mutates c i s = mutates c i s step k b.1 in
+    let hv : v < 32 = ltb-true v 32 b.0 in
+    let to : Option Name = referred (words_of c.shape c.words).identities r in
+    subst (λ (j : ℕ). AgreesIn c.shape (words_left c s step) (seats_left c i s step) (in_section world j (with_variable v to))) (sym mu.own)
+    (moved c i s step (words_left c s step) (seat_after c.shape s step (found c s step)) world (in_section world i (with_variable v to)) k a
+    (root_moves c i s step v (i * 32 + v) r (words_left c s step).roots (set s.env v (reference_in r)) (with_bit s.lags v) world (now-holds c i s v r k) k a mu (λ y e. e) (omega (arith, hv)) (omega (arith, here, mu.own))
+    (λ j u h hu. root_root i i v j u refl hv hu) (λ j q h hq. root_slot i i v j q c.shape.sections c.shape.slots refl mu.inside hv)))
 
 pub store-slot : (c : Core) (i : ℕ) (s : SeatState) (p r : ℕ) (world : World) → Taken c i s (StoreSlot p r) → AgreesWith c world
     → AgreesIn c.shape (words_left c s (StoreSlot p r)) (seats_left c i s (StoreSlot p r)) (in_section world (own_section s) (with_variable (32 + p) (referred (words_of c.shape c.words).identities r)))
@@ -157,7 +180,7 @@ store-slot c i s p r world k a =
     let to : Option Name = referred (words_of c.shape c.words).identities r in
     subst (λ (j : ℕ). AgreesIn c.shape (words_left c s step) (seats_left c i s step) (in_section world j (with_variable (32 + p) to))) (sym mu.own)
     (moved c i s step (words_left c s step) (seat_after c.shape s step (found c s step)) world (in_section world i (with_variable (32 + p) to)) k a
-    (root_moves c i s step (32 + p) (c.shape.sections * 32 + (own_section s * c.shape.slots + p)) r s.env world k a mu (λ y e. e) (omega (arith, hp)) (in-place c i s step k)
+    (root_moves c i s step (32 + p) (c.shape.sections * 32 + (own_section s * c.shape.slots + p)) r (words_left c s step).roots s.env s.lags world (now-slots c i s p r k) k a mu (λ y e. e) (omega (arith, hp)) (in-place c i s step k)
     (λ j u h hu. slot_root i (own_section s) p j u c.shape.sections c.shape.slots h hu) (λ j q h hq. slot_slot i (own_section s) p j q c.shape.sections c.shape.slots mu.own hp hq)))
 
 agrees_at : (c : Core) (i : ℕ) (s : SeatState) (step : Step) (world : World) → Taken c i s step → AgreesWith c world → AgreesIn c.shape (words_left c s step) (seats_left c i s step) (world_by c.shape (words_of c.shape c.words) s step world)
@@ -168,6 +191,7 @@ agrees_at c i s (StoreValue v n) world k a = store-value c i s v n world k a
 agrees_at c i s (ExchangeField v j x o) world k a = exchange-field c i s v j x o world k a
 agrees_at c i s (ExchangeValue v m n) world k a = exchange-value c i s v m n world k a
 agrees_at c i s (StoreRoot v r) world k a = store-root c i s v r world k a
+agrees_at c i s (HoldRoot v r) world k a = hold-root c i s v r world k a
 agrees_at c i s (StoreSlot j r) world k a = store-slot c i s j r world k a
 agrees_at c i s (ReadSlot j) world k a = read-slot c i s j world k a
 agrees_at c i s (ReadWeak x) world k a = read-weak c i s x world k a
@@ -195,15 +219,16 @@ none_name = None
 pub agrees-starts : StartAgrees
 agrees-starts sh n z =
     let w : Words = words_of sh (start_words sh) in
+    let same : roots_now w.roots (start_seats sh n) ≡ w.roots = now-still w.roots (start_seats sh n) (each-seat Shows sh n (λ k. refl)) in
     record {
       sections = length-replicate sh.sections (start_section sh);
       variables = λ j h. ap (λ (x : WorldSection). length x.variables) (start-section sh j h) ∙ length-replicate (32 + sh.slots) (none_name);
       roots_agree =
           λ j v h hv.
-          ap (referred w.identities) (no-root sh (j * 32 + v)) ∙ sym (ap (λ (x : WorldSection). slice_index_or x.variables v None) (start-section sh j h) ∙ get_or-replicate (32 + sh.slots) v None None (omega (arith, hv)));
+          ap (referred w.identities) (ap (λ (rs : List ℕ). slice_index rs (j * 32 + v)) same ∙ no-root sh (j * 32 + v)) ∙ sym (ap (λ (x : WorldSection). slice_index_or x.variables v None) (start-section sh j h) ∙ get_or-replicate (32 + sh.slots) v None None (omega (arith, hv)));
       slots_agree =
           λ j q h hq.
-          ap (referred w.identities) (no-root sh (sh.sections * 32 + (j * sh.slots + q))) ∙ sym (ap (λ (x : WorldSection). slice_index_or x.variables (32 + q) None) (start-section sh j h) ∙ get_or-replicate (32 + sh.slots) (32 + q) None None (omega (arith, hq)));
+          ap (referred w.identities) (ap (λ (rs : List ℕ). slice_index rs (sh.sections * 32 + (j * sh.slots + q))) same ∙ no-root sh (sh.sections * 32 + (j * sh.slots + q))) ∙ sym (ap (λ (x : WorldSection). slice_index_or x.variables (32 + q) None) (start-section sh j h) ∙ get_or-replicate (32 + sh.slots) (32 + q) None None (omega (arith, hq)));
       cells_agree = λ y h u. absurd (true≢false (sym u ∙ none-used sh n z y h));
       seats_agree =
           λ j s f h live.

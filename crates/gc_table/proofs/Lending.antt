@@ -11,7 +11,7 @@ use Rattle.mark_core.specs.Steps.{Core, after_event, failing_part, start_core, r
 use Rattle.mark_core.specs.declared.kinds.Event.{Event}
 use Rattle.mark_core.specs.declared.kinds.Shape.{Shape}
 use Rattle.mark_core.specs.declared.kinds.Step.{Step}
-use Rattle.mark_core.specs.declared.kinds.Step.TheVariants.{ExchangeField, ExchangeValue, Join, ReadCat, ReadOwn, ReadSlot, Split, StoreField, StoreNew, StoreRoot, StoreSlot, StoreValue, ReadWeak}
+use Rattle.mark_core.specs.declared.kinds.Step.TheVariants.{ExchangeField, ExchangeValue, Join, ReadCat, ReadOwn, ReadSlot, Split, StoreField, StoreNew, StoreRoot, StoreSlot, StoreValue, ReadWeak, HoldRoot}
 use Rattle.mark_core.specs.declared.seat.SeatState.{SeatState}
 use Rattle.mark_core.proofs.Known.{Acted, acts}
 use Rattle.mark_core.proofs.Blocks.BlocksStopped.{Taken}
@@ -117,6 +117,12 @@ step_keeps c i s (ExchangeField u j x y) world v k leaves below = object_kept wo
 step_keeps c i s (ExchangeValue u m n) world v k leaves below = object_kept world (variable_of world (own_section s) u) _ 0 v
 step_keeps c i s (StoreRoot u r) world v k leaves below =
     let mu : Mutates c i s = mutates c i s (StoreRoot u r) k (and_parts (nat_lt u 32) (may_mutate s) k.ok.0).1 in
+    ⊎_elim
+    (λ (e : i ≡ 0). other_kept world (own_section s) 0 u v _ (λ same. absurd (false≢true (sym (ap not (eq-eqb u v (sym same))) ∙ leaves e))))
+    (λ (d : i ≢ 0). ap (λ (x : WorldSection). slice_index_or x.variables v None) (section-other world (own_section s) 0 (with_variable u _) (λ e. d (sym mu.own ∙ sym e))))
+    (cases_eq i 0)
+step_keeps c i s (HoldRoot u r) world v k leaves below =
+    let mu : Mutates c i s = mutates c i s (HoldRoot u r) k (and_parts (nat_lt u 32) (may_mutate s) k.ok.0).1 in
     ⊎_elim
     (λ (e : i ≡ 0). other_kept world (own_section s) 0 u v _ (λ same. absurd (false≢true (sym (ap not (eq-eqb u v (sym same))) ∙ leaves e))))
     (λ (d : i ≢ 0). ap (λ (x : WorldSection). slice_index_or x.variables v None) (section-other world (own_section s) 0 (with_variable u _) (λ e. d (sym mu.own ∙ sym e))))

@@ -1,9 +1,13 @@
 pub mod Allowed
+pub mod Tokens
+pub mod TokensOpened
+pub mod TokensClosed
 pub mod Fitting
 pub mod Leaving
 pub mod Asking
 pub mod State
 pub mod Closing
+pub mod Shown
 pub mod Joining
 pub mod Fetching
 pub mod Unmoved
@@ -30,6 +34,8 @@ pub mod Winning
 pub mod Freeing
 pub mod Finding
 pub mod Lending
+pub mod Stamped
+pub mod Ordered
 pub mod SeasonMoves
 pub mod Rooted
 pub mod Single
@@ -38,3 +44,4 @@ pub mod Counted
 pub mod Locked
 pub mod Reached
 pub mod Losing
+pub mod Remembering

@@ -1,4 +1,7 @@
 -- 23: a part of a new cell is stored; with the last one there is one more object.
+use Rattle.mark_core.proofs.References.ReferencesNow.{the-roots}
+use Rattle.mark_core.proofs.Lagging.{now-seat}
+use Rattle.mark_core.specs.Variables.{roots_now}
 use Rattle.std.proofs.Common.{ℕ, ◌≡◌, ◌≢◌, ◌+◌, ◌*◌, ◌<◌, List, [], ◌∷◌, ◌++◌, set, length, replicate, arith, refl, sym, ap, ◌∙◌, subst, Bool, true, false, ◌&&◌, eqb, cond, Option, Some, None, ◌⊎◌, inl, inr, ⊎_elim}
 use Rattle.std.specs.Prelude.{IsTrue, slice_get, slice_index, slice_index_or, nat_lt, nat_le, is_some, unwrap_or}
 use Rattle.std.proofs.lemmas.Bool.{true≢false, false≢true, and_parts, eqb-true, ltb-true, ltb-false, le-leb, lt-leb, ne_eqb, eq-eqb, false_from_ne_true, cases_eq, cases_Bool}
@@ -69,14 +72,16 @@ made_moves c i s x part word world p last identity = record {
   sections = sections-kept world i f;
   variables = λ j h. view-kept (λ (z : WorldSection). length z.variables) world i j f inside refl;
   identities_kept = kept;
+  now_roots = the-roots c;
+  now = now-seat w.roots c.seats i s (record s { cache = with_made s.cache x; made = s.made + 1 }) k.got refl refl;
   roots =
       λ j v h hv.
-      referred-on w.identities ids (slice_index w.roots (j * 32 + v)) (λ y e. kept y (root-used c (j * 32 + v) y k.core e)) ∙ a.roots_agree j v h hv
+      referred-on w.identities ids (slice_index (the-roots c) (j * 32 + v)) (λ y e. kept y (root-used c (j * 32 + v) y k.core e)) ∙ a.roots_agree j v h hv
       ∙ sym (view-kept (λ (z : WorldSection). slice_index_or z.variables v None) world i j f inside refl);
   slots =
       λ j q h hq.
       let at : ℕ = c.shape.sections * 32 + (j * c.shape.slots + q) in
-      referred-on w.identities ids (slice_index w.roots at) (λ y e. kept y (root-used c at y k.core e)) ∙ a.slots_agree j q h hq
+      referred-on w.identities ids (slice_index (the-roots c) at) (λ y e. kept y (root-used c at y k.core e)) ∙ a.slots_agree j q h hq
       ∙ sym (view-kept (λ (z : WorldSection). slice_index_or z.variables (32 + q) None) world i j f inside refl);
   cells = λ y h u. cell y h (used-back c i s step y k u);
   other_register = λ j d. ap (λ (z : WorldSection). z.register) (section-other world i j f d);
@@ -169,8 +174,9 @@ made_moves c i s x part word world p last identity = record {
 abbrev NewAgrees : Core → ℕ → SeatState → ℕ → ℕ → ℕ → World → Bool → Bool → Bool → Type 0
 NewAgrees c i s x part word world field_part early value_part =
     let w : Words = put_word (cond field_part (11, x * c.shape.fields + part) (cond value_part (10, x) (9, x))) word (words_of c.shape c.words) in
-    Agrees c.shape w.roots w.identities w.values w.fields (λ y. IsTrue (UsedAfter c i s (StoreNew x part word) y))
-    (set c.seats i (record s { cache = cond early (with_making s.cache x (part + 1)) (with_made s.cache x); made = cond early s.made (s.made + 1) }))
+    let seats : List SeatState = set c.seats i (record s { cache = cond early (with_making s.cache x (part + 1)) (with_made s.cache x); made = cond early s.made (s.made + 1) }) in
+    Agrees c.shape (roots_now w.roots seats) w.identities w.values w.fields (λ y. IsTrue (UsedAfter c i s (StoreNew x part word) y))
+    seats
     (in_section world i (λ (z : WorldSection). cond field_part z (cond value_part (record z { coming = word }) (with_new c.shape.fields z))))
 
 field_part : (c : Core) (i : ℕ) (s : SeatState) (x part word : ℕ) (world : World) → MakesPart c i s x part word world → part < c.shape.fields → NewAgrees c i s x part word world true true false

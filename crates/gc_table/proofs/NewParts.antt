@@ -1,4 +1,6 @@
 -- 23: a part of a new cell is stored that isn't the last: the cell isn't in use yet, and what was agrees as before.
+use Rattle.mark_core.proofs.References.ReferencesNow.{the-roots}
+use Rattle.mark_core.proofs.Lagging.{now-seat}
 use Rattle.std.proofs.Common.{ℕ, ◌≡◌, ◌≢◌, ◌+◌, ◌<◌, ◌≤◌, List, length, arith, refl, sym, ap, ◌∙◌, subst, true, eqb, Option, Some, None}
 use Rattle.std.specs.Prelude.{slice_index, slice_index_or}
 use Rattle.std.proofs.lemmas.Bool.{true≢false, false≢true, and_parts, eqb-true}
@@ -55,6 +57,8 @@ part_moves c i s x part word world values fields f p few r keeps value = record 
   sections = sections-kept world i f;
   variables = λ j h. view-kept (λ (z : WorldSection). length z.variables) world i j f inside (ap (λ (vs : List (Option Name)). length vs) keeps.variables);
   identities_kept = λ y u. refl;
+  now_roots = the-roots c;
+  now = now-seat w.roots c.seats i s (record s { cache = with_making s.cache x (part + 1) }) k.got refl refl;
   roots = λ j v h hv. a.roots_agree j v h hv ∙ sym (view-kept (λ (z : WorldSection). slice_index_or z.variables v None) world i j f inside (ap (λ (vs : List (Option Name)). slice_index_or vs v None) keeps.variables));
   slots = λ j q h hq. a.slots_agree j q h hq ∙ sym (view-kept (λ (z : WorldSection). slice_index_or z.variables (32 + q) None) world i j f inside (ap (λ (vs : List (Option Name)). slice_index_or vs (32 + q) None) keeps.variables));
   cells =

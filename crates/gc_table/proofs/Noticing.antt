@@ -8,7 +8,7 @@ use Rattle.mark_core.specs.Seats.{phase_number}
 use Rattle.mark_core.specs.declared.kinds.Phase.{Phase}
 use Rattle.mark_core.specs.declared.kinds.Shape.{Shape}
 use Rattle.mark_core.specs.declared.kinds.Step.{Step}
-use Rattle.mark_core.specs.declared.kinds.Step.TheVariants.{Pop, Look, ReadCount, ReadLength, ReadAlloc, ReadField, ReadRoot, ReadMarks, ReadCard, ReadPhase, ReadOwn, ReadValue, ReadIdent, ReadCat, ReadFree, StoreNew, Observe, DropStep, StorePhase, ReadBlockMarks, Reset, AddStat, ReadStat, OpenStep, SeeHelp, ReadSeason, LoadSlot, ReadSlot, ReadWeak, CheckCard}
+use Rattle.mark_core.specs.declared.kinds.Step.TheVariants.{Pop, Look, ReadCount, ReadLength, ReadAlloc, ReadField, ReadRoot, ReadMarks, ReadCard, ReadPhase, ReadOwn, ReadValue, ReadIdent, ReadCat, ReadFree, StoreNew, Observe, DropStep, StorePhase, ReadBlockMarks, Reset, AddStat, ReadStat, OpenStep, SeeHelp, ReadSeason, LoadSlot, ReadSlot, ReadWeak, CheckCard, HoldRoot}
 use Rattle.mark_core.specs.declared.seat.SeatState.{SeatState}
 use Rattle.mark_core.proofs.Writing.Writes.{at_part, at_counter}
 use Rattle.gc_table.specs.declared.view.View.{View}
@@ -70,6 +70,7 @@ is_load (ReadIdent c) = true
 is_load (ReadCat v) = true
 is_load (ReadSlot k) = true
 is_load (ReadWeak c) = true
+is_load (HoldRoot v r) = true
 is_load (LoadSlot section k) = true
 is_load ReadFree = true
 is_load Observe = true
@@ -97,6 +98,7 @@ load-leaves sh s (ReadIdent c) n e = refl
 load-leaves sh s (ReadCat v) n e = refl
 load-leaves sh s (ReadSlot k) n e = refl
 load-leaves sh s (ReadWeak c) n e = refl
+load-leaves sh s (HoldRoot v r) n e = refl
 load-leaves sh s (LoadSlot section k) n e = refl
 load-leaves sh s ReadFree n e = refl
 load-leaves sh s Observe n e = refl
@@ -124,6 +126,7 @@ load-found (ReadIdent c) e = refl
 load-found (ReadCat v) e = refl
 load-found (ReadSlot k) e = refl
 load-found (ReadWeak c) e = refl
+load-found (HoldRoot v r) e = refl
 load-found (LoadSlot section k) e = refl
 load-found ReadFree e = refl
 load-found Observe e = refl

@@ -7,7 +7,7 @@ use Rattle.std.proofs.lemmas.List.{set-get_or}
 use Rattle.std.proofs.lemmas.Option.{slice_get-get_or}
 use mathlib.Core.Option.{some, none, some-injective, some-ne-none}
 use lib.ListN.{get_elem?}
-use Rattle.atomic_table.specs.Table.{Splits, opening}
+use Rattle.atomic_table.specs.Table.{opening}
 use Rattle.atomic_table.proofs.Lists.{at_set}
 use Rattle.mark_core.specs.Layout.{address}
 use Rattle.mark_core.specs.Shapes.{IsShape}
@@ -32,6 +32,7 @@ use Rattle.gc_table.specs.Sections.{start_section, start_sections}
 use Rattle.gc_table.specs.TableState.{TableState, no_section, section_at, with_section, state_after, start_state}
 use Rattle.gc_table.specs.Rule.{record_of, records_from, table_state, IsState, HasJoined, Agrees, Holds, IsPossible, newcomer, opens, opened_by}
 use Rattle.gc_table.proofs.Allowed.{St}
+use Rattle.gc_table.proofs.Tokens.{Kept}
 use Rattle.gc_table.proofs.Records.{record-live, records-get, records-set, records-snoc, records-length, got-longer}
 use Rattle.gc_table.specs.Past.{log_of, IsLogged}
 use Rattle.gc_table.proofs.History.Moments.{leads-on}
@@ -179,7 +180,7 @@ longer xs s t u w first h = got-longer (set xs 0 s) t u w (ap (λ l. slice_get l
     back (y ∷ ys) e = let same : y ≡ s = cc in ap (λ z. z ∷ ys) (sym same)
 
 -- the first seat may make another, while it has nothing but its number
-pub splits : (sh : Shape) (plan : List (List Op)) (id : ℕ) (v : View) → v.shape ≡ sh → v.plan ≡ plan → v.state ≡ start_seat sh 0 → v.opened < 41 → Splits (Holds sh plan) id v (opens v) (opened_by v)
+pub splits : (sh : Shape) (plan : List (List Op)) (id : ℕ) (v : View) → v.shape ≡ sh → v.plan ≡ plan → v.state ≡ start_seat sh 0 → v.opened < 41 → (s : St) (o : Holds sh plan s) → get_elem? s.views id ≡ some v → Kept sh plan (record { words = s.words; homes = s.homes; views = set s.views id (opens v) ++ opened_by v ∷ [] }) (o.past ++ event 0 Split ∷ [])
 splits sh plan id v shaped planned first opened s o me =
     let x : TableState = table_state sh plan o.sections s in
     let live : IsFalse v.state.spent = ap (λ (t : SeatState). t.spent) first in
@@ -206,63 +207,65 @@ splits sh plan id v shaped planned first opened s o me =
       logs = λ w l i. let q = b.logs w l i in (q.0 ∙ sym (silent w), ap (λ xs. slice_get xs w) seats ∙ longer (records_from sh 0 s.views) v.state (start_seat sh n) (spent_seat sh w) w (record-at sh s.views 0 v here live) q.1);
     } in
     let joined : (u : View) → HasJoined x u → HasJoined (table_state sh plan o.sections (record { words = s.words; homes = s.homes; views = vs ++ new ∷ [] })) u = λ u h w y i.
-    let q = h w y i in (q.0, ap (λ xs. slice_get xs w) seats ∙ longer (records_from sh 0 s.views) v.state (start_seat sh n) (spent_seat sh w) w (record-at sh s.views 0 v here live) q.1) in
-    record {
-      sections = o.sections;
-      whole = subst IsState (λ y. record { core = record { shape = sh; words = s.words; seats = sym seats y }; plan = plan; sections = o.sections }) (split_left sh plan s v o here first few);
-      past = past;
-      led = led-on sh o.past x.core left (event 0 Split) o.led tt (may-happen x 0 v.state Split (split_goes sh plan s v o here first few)) (split_leaves sh plan s v o here first few ∙ is);
-      came = leads-on o.past (event 0 Split) (start_state sh plan 1) x (record { core = left; plan = plan; sections = o.sections }) o.came o.whole (may-happen x 0 v.state Split (split_goes sh plan s v o here first few))
-          (λ y. record { core = (split_leaves sh plan s v o here first few ∙ is) y; plan = plan; sections = split_still sh plan s v o here first few y });
-      logged = λ j u h l.
-          ⊎_elim
-          (λ (g : get_elem? vs j ≡ some u).
-          ⊎_elim
-          (λ (p : (j ≡ id) × (opens v ≡ u)).
-          let b = o.logged id v me live in
-          subst (λ (z : ℕ × View). IsLogged sh past left z.0 z.1) (λ y. (sym p.0 y, p.1 y)) (still (opens v) id (record { log = b.log; logs = b.logs })))
-          (λ (p : (j ≢ id) × (get_elem? s.views j ≡ some u)). still u j (o.logged j u p.1 l))
-          (at_set s.views id j (opens v) u g))
-          (λ (p : (j ≡ length vs) × (new ≡ u)). subst (λ (z : View). IsLogged sh past left j z) p.1 (record {
-            log = sym (silent j ∙ log-none sh o.past x.core j o.led (omega (arith, p.0, long, records-length sh 0 s.views)));
-            logs = λ k m i. absurd (none-in (k, m) i);
-          }))
-          (at-end vs new u j h);
-      each = λ j u h l.
-          let seat = record-at sh (vs ++ new ∷ []) j u h l in
-          ⊎_elim
-          (λ (g : get_elem? vs j ≡ some u).
-          ⊎_elim
-          (λ (p : (j ≡ id) × (opens v ≡ u)).
-          let b : Agrees x id u = subst (λ (z : View). Agrees x id z) p.1 (record { shape = a.shape; seat = a.seat; noted = a.noted; floored = a.floored; fetched = a.fetched; stopped = a.stopped; plan = a.plan; own = a.own; joined = a.joined }) in
-          record { shape = b.shape; seat = seat; noted = b.noted; floored = b.floored; fetched = b.fetched; stopped = b.stopped; plan = b.plan; own = b.own; joined = joined u b.joined })
-          (λ (p : (j ≢ id) × (get_elem? s.views j ≡ some u)). let b = o.each j u p.1 l in record { shape = b.shape; seat = seat; noted = b.noted; floored = b.floored; fetched = b.fetched; stopped = b.stopped; plan = b.plan; own = b.own; joined = joined u b.joined })
-          (at_set s.views id j (opens v) u g))
-          (λ (p : (j ≡ length vs) × (new ≡ u)). record {
-            shape = ap (λ (y : View). y.shape) (sym p.1) ∙ shaped;
-            seat = seat;
-            noted = λ at m e. absurd (none_some m (ap (λ (y : View). look at y.known) p.1 ∙ e));
-            floored = λ at m e. absurd (none_some m (ap (λ (y : View). look at y.floors) p.1 ∙ e));
-            fetched = λ r q there h m e. absurd (none_some q (ap (λ (y : View). last_pool r y.log) p.1 ∙ e));
-            stopped = λ h. absurd (false≢true (ap (λ (y : View). y.state.knows) p.1 ∙ h));
-            plan = ap (λ (y : View). y.plan) (sym p.1) ∙ planned;
-            own = λ w e.
-                let mine : (start_seat sh n).section ≡ Some w = (λ y. (start_seat (sym shaped y) (sym all y)).section) ∙ (ap (λ (z : View). z.state.section) p.1 ∙ e) in
-                let q = section_there sh n w mine in
-                let inside : w < length o.sections = omega (arith, q.0, q.1, o.whole.sections) in
-                let got : slice_get o.sections w ≡ Some (section_at o.sections w) = slice_get-get_or o.sections w no_section inside in
-                let still : section_at o.sections w ≡ start_section sh w = o.whole.told.unseated w (section_at o.sections w) got (omega (arith, q.0, records-length sh 0 s.views)) in
-                got ∙ (ap Some still ∙ ((λ y. Some (start_section (sym shaped y) ((q.0 ∙ sym all) y))) ∙ ap (λ (z : View). Some z.own) p.1));
-            joined = λ w y h. absurd (none-in (w, y) (subst (λ (z : View). Contains z.joined (w, y)) (sym p.1) h));
-          })
-          (at-end vs new u j h);
-      opened = λ u h.
-          ⊎_elim
-          (λ (g : get_elem? vs 0 ≡ some u).
-          ⊎_elim
-          (λ (p : (0 ≡ id) × (opens v ≡ u)). ap (λ (y : View). y.opened) (sym p.1) ∙ (let z : v.opened + 1 ≡ length (vs ++ new ∷ []) = omega (arith, all, long, length-append vs (new ∷ [])) in z))
-          (λ (p : (0 ≢ id) × (get_elem? s.views 0 ≡ some u)). absurd (p.0 (sym nil)))
-          (at_set s.views id 0 (opens v) u g))
-          (λ (p : (0 ≡ length vs) × (new ≡ u)). absurd (some-ne-none v (sym here ∙ none_there s.views (p.0 ∙ long))))
-          (at-end vs new u 0 h);
-    }
+    let q = h w y i in (q.0, ap (λ xs. slice_get xs w) seats ∙ longer (records_from sh 0 s.views) v.state (start_seat sh n) (spent_seat sh w) w (record-at sh s.views 0 v here live) q.1) in (
+      record {
+        sections = o.sections;
+        whole = subst IsState (λ y. record { core = record { shape = sh; words = s.words; seats = sym seats y }; plan = plan; sections = o.sections }) (split_left sh plan s v o here first few);
+        past = past;
+        led = led-on sh o.past x.core left (event 0 Split) o.led tt (may-happen x 0 v.state Split (split_goes sh plan s v o here first few)) (split_leaves sh plan s v o here first few ∙ is);
+        came = leads-on o.past (event 0 Split) (start_state sh plan 1) x (record { core = left; plan = plan; sections = o.sections }) o.came o.whole (may-happen x 0 v.state Split (split_goes sh plan s v o here first few))
+            (λ y. record { core = (split_leaves sh plan s v o here first few ∙ is) y; plan = plan; sections = split_still sh plan s v o here first few y });
+        logged = λ j u h l.
+            ⊎_elim
+            (λ (g : get_elem? vs j ≡ some u).
+            ⊎_elim
+            (λ (p : (j ≡ id) × (opens v ≡ u)).
+            let b = o.logged id v me live in
+            subst (λ (z : ℕ × View). IsLogged sh past left z.0 z.1) (λ y. (sym p.0 y, p.1 y)) (still (opens v) id (record { log = b.log; logs = b.logs })))
+            (λ (p : (j ≢ id) × (get_elem? s.views j ≡ some u)). still u j (o.logged j u p.1 l))
+            (at_set s.views id j (opens v) u g))
+            (λ (p : (j ≡ length vs) × (new ≡ u)). subst (λ (z : View). IsLogged sh past left j z) p.1 (record {
+              log = sym (silent j ∙ log-none sh o.past x.core j o.led (omega (arith, p.0, long, records-length sh 0 s.views)));
+              logs = λ k m i. absurd (none-in (k, m) i);
+            }))
+            (at-end vs new u j h);
+        each = λ j u h l.
+            let seat = record-at sh (vs ++ new ∷ []) j u h l in
+            ⊎_elim
+            (λ (g : get_elem? vs j ≡ some u).
+            ⊎_elim
+            (λ (p : (j ≡ id) × (opens v ≡ u)).
+            let b : Agrees x id u = subst (λ (z : View). Agrees x id z) p.1 (record { shape = a.shape; seat = a.seat; noted = a.noted; floored = a.floored; fetched = a.fetched; stopped = a.stopped; plan = a.plan; own = a.own; joined = a.joined }) in
+            record { shape = b.shape; seat = seat; noted = b.noted; floored = b.floored; fetched = b.fetched; stopped = b.stopped; plan = b.plan; own = b.own; joined = joined u b.joined })
+            (λ (p : (j ≢ id) × (get_elem? s.views j ≡ some u)). let b = o.each j u p.1 l in record { shape = b.shape; seat = seat; noted = b.noted; floored = b.floored; fetched = b.fetched; stopped = b.stopped; plan = b.plan; own = b.own; joined = joined u b.joined })
+            (at_set s.views id j (opens v) u g))
+            (λ (p : (j ≡ length vs) × (new ≡ u)). record {
+              shape = ap (λ (y : View). y.shape) (sym p.1) ∙ shaped;
+              seat = seat;
+              noted = λ at m e. absurd (none_some m (ap (λ (y : View). look at y.known) p.1 ∙ e));
+              floored = λ at m e. absurd (none_some m (ap (λ (y : View). look at y.floors) p.1 ∙ e));
+              fetched = λ r q there h m e. absurd (none_some q (ap (λ (y : View). last_pool r y.log) p.1 ∙ e));
+              stopped = λ h. absurd (false≢true (ap (λ (y : View). y.state.knows) p.1 ∙ h));
+              plan = ap (λ (y : View). y.plan) (sym p.1) ∙ planned;
+              own = λ w e.
+                  let mine : (start_seat sh n).section ≡ Some w = (λ y. (start_seat (sym shaped y) (sym all y)).section) ∙ (ap (λ (z : View). z.state.section) p.1 ∙ e) in
+                  let q = section_there sh n w mine in
+                  let inside : w < length o.sections = omega (arith, q.0, q.1, o.whole.sections) in
+                  let got : slice_get o.sections w ≡ Some (section_at o.sections w) = slice_get-get_or o.sections w no_section inside in
+                  let still : section_at o.sections w ≡ start_section sh w = o.whole.told.unseated w (section_at o.sections w) got (omega (arith, q.0, records-length sh 0 s.views)) in
+                  got ∙ (ap Some still ∙ ((λ y. Some (start_section (sym shaped y) ((q.0 ∙ sym all) y))) ∙ ap (λ (z : View). Some z.own) p.1));
+              joined = λ w y h. absurd (none-in (w, y) (subst (λ (z : View). Contains z.joined (w, y)) (sym p.1) h));
+            })
+            (at-end vs new u j h);
+        opened = λ u h.
+            ⊎_elim
+            (λ (g : get_elem? vs 0 ≡ some u).
+            ⊎_elim
+            (λ (p : (0 ≡ id) × (opens v ≡ u)). ap (λ (y : View). y.opened) (sym p.1) ∙ (let z : v.opened + 1 ≡ length (vs ++ new ∷ []) = omega (arith, all, long, length-append vs (new ∷ [])) in z))
+            (λ (p : (0 ≢ id) × (get_elem? s.views 0 ≡ some u)). absurd (p.0 (sym nil)))
+            (at_set s.views id 0 (opens v) u g))
+            (λ (p : (0 ≡ length vs) × (new ≡ u)). absurd (some-ne-none v (sym here ∙ none_there s.views (p.0 ∙ long))))
+            (at-end vs new u 0 h);
+      },
+      refl,
+    )

@@ -1,4 +1,6 @@
 -- Each object to which a path leads has a reachable cell with its words.
+use Rattle.mark_core.proofs.References.ReferencesNow.{the-roots}
+use Rattle.mark_core.proofs.Lagging.{now-length}
 use Rattle.mark_core.proofs.Writing.Ranges.{in-row}
 use Rattle.std.proofs.Common.{ℕ, ◌≡◌, ◌+◌, ◌*◌, ◌<◌, zero, suc, List, [], ◌∷◌, length, arith, refl, sym, ap, ◌∙◌, true, Some, ⊎_elim, ◌-◌, ◌≤◌}
 use Rattle.std.specs.Prelude.{slice_index}
@@ -30,12 +32,12 @@ cell_for : (c : Core) (world : World) (name : Name) (x : ℕ) → IsCore c → A
 cell_for c world name x k a reach e = let u : Used c x ≡ true = reachable-used c x k reach in (u, reach, e, a.cells_agree x (used-exists c k x u) u)
 
 -- a root that refers to an object names a cell that is reachable
-from_root : (c : Core) (world : World) (name : Name) (at : ℕ) → IsCore c → AgreesWith c world → at < root_count c.shape → referred (words_of c.shape c.words).identities (slice_index (words_of c.shape c.words).roots at) ≡ Some name → (x : ℕ) × IsCellFor c world name x
+from_root : (c : Core) (world : World) (name : Name) (at : ℕ) → IsCore c → AgreesWith c world → at < root_count c.shape → referred (words_of c.shape c.words).identities (slice_index (the-roots c) at) ≡ Some name → (x : ℕ) × IsCellFor c world name x
 from_root c world name at k a h e =
     let w : Words = words_of c.shape c.words in
-    let r = word_names w.identities (slice_index w.roots at) name e in
-    let there : at < length w.roots = omega (arith, h, roots-length c k) in
-    (r.0, cell_for c world name r.0 k a (reach-root c.shape w.roots w.fields at r.0 there (omega (arith, r.1))) r.2)
+    let r = word_names w.identities (slice_index (the-roots c) at) name e in
+    let there : at < length (the-roots c) = omega (arith, h, roots-length c k, now-length w.roots c.seats) in
+    (r.0, cell_for c world name r.0 k a (reach-root c.shape (the-roots c) w.fields at r.0 there (omega (arith, r.1))) r.2)
 
 -- along a path each object has a cell
 pub along : (c : Core) (world : World) (name : Name) (path : List Name) → IsCore c → AgreesWith c world → IsWorldPath world name path → (x : ℕ) × IsCellFor c world name x
@@ -57,4 +59,4 @@ along c world name (before ∷ path) k a (leads, p) =
     let i : ℕ = leads.2.0 in
     let low : i < c.shape.fields = omega (arith, leads.2.1, ap (λ (o : WorldObject). length o.refs) same, h.room) in
     let r = word_names w.identities (field c.shape w.fields d.0 i) name (h.each_field i low ∙ (ap (λ (o : WorldObject). reference_of o i) same ∙ leads.2.2)) in
-    (r.0, cell_for c world name r.0 k a (reach-field c.shape w.roots w.fields d.0 i r.0 d.1.1 low (omega (arith, r.1))) r.2)
+    (r.0, cell_for c world name r.0 k a (reach-field c.shape (the-roots c) w.fields d.0 i r.0 d.1.1 low (omega (arith, r.1))) r.2)

@@ -1,12 +1,15 @@
 -- What a mutator reads into its register refers to what the heap has there.
 use Rattle.mark_core.specs.Steps.MutatorSteps.{weak_reference}
 use Rattle.std.proofs.Common.{ℕ, ◌≡◌, ◌+◌, ◌*◌, ◌/◌, ◌<◌, List, set, length, arith, refl, sym, ap, ◌∙◌, subst, true, ◌&&◌, Option, Some, None, ◌≢◌, ◌≤◌, zero, suc, [], ◌∷◌, ◌++◌, get_or, ⊎_elim}
+use Rattle.mark_core.proofs.References.ReferencesNow.{the-roots, cat-now, slot-now}
+use Rattle.mark_core.proofs.Lagging.{now-seat}
+use Rattle.mark_core.specs.Variables.{roots_now}
 use Rattle.std.specs.Prelude.{IsTrue, slice_index, slice_index_or, nat_lt, slice_get}
-use Rattle.std.proofs.lemmas.Bool.{and_parts, ltb-true, cases_eq, cases_lt}
+use Rattle.std.proofs.lemmas.Bool.{not-true, and_parts, ltb-true, cases_eq, cases_lt}
 use Rattle.plain_heap.specs.Paths.{Name}
 use Rattle.mark_core.specs.Layout.{Words, words_of, region_sizes, root_count}
 use Rattle.mark_core.specs.Bits.{nil_or, reference_in}
-use Rattle.mark_core.specs.Seats.{may_mutate}
+use Rattle.mark_core.specs.Seats.{may_mutate, is_the}
 use Rattle.mark_core.specs.Cells.{field}
 use Rattle.mark_core.specs.Steps.{Core}
 use Rattle.mark_core.proofs.Known.{found, words_left, seats_left}
@@ -117,6 +120,8 @@ got_moves c i s step world word to k a mu none is =
       sections = sections-kept world i f;
       variables = λ j h. view-kept (λ (x : WorldSection). length x.variables) world i j f inside refl;
       identities_kept = λ y u. refl;
+      now_roots = the-roots c;
+      now = now-seat w.roots c.seats i s (record s { got = word }) k.got refl refl;
       roots = λ j v h hv. a.roots_agree j v h hv ∙ sym (view-kept (λ (x : WorldSection). slice_index_or x.variables v None) world i j f inside refl);
       slots = λ j q h hq. a.slots_agree j q h hq ∙ sym (view-kept (λ (x : WorldSection). slice_index_or x.variables (32 + q) None) world i j f inside refl);
       cells =
@@ -143,7 +148,7 @@ got_read : (c : Core) (i : ℕ) (s : SeatState) (step : Step) (world : World) (w
     → seats_left c i s step ≡ set c.seats i (record s { got = word }) → referred (words_of c.shape c.words).identities word ≡ to → AgreesIn c.shape (words_left c s step) (seats_left c i s step) (in_section world (own_section s) (with_register to))
 got_read c i s step world word to k a mu none reads is got =
     let w : Words = words_of c.shape c.words in
-    let P : Words → List SeatState → Type 0 = λ x seats. Agrees c.shape x.roots x.identities x.values x.fields (λ y. IsTrue (UsedAfter c i s step y)) seats (in_section world i (with_register to)) in
+    let P : Words → List SeatState → Type 0 = λ x seats. Agrees c.shape (roots_now x.roots seats) x.identities x.values x.fields (λ y. IsTrue (UsedAfter c i s step y)) seats (in_section world i (with_register to)) in
     let base : P w (set c.seats i (record s { got = word })) = moved c i s step w (record s { got = word }) world (in_section world i (with_register to)) k a (got_moves c i s step world word to k a mu none got) in
     subst (λ (j : ℕ). AgreesIn c.shape (words_left c s step) (seats_left c i s step) (in_section world j (with_register to))) (sym mu.own)
     (subst (λ (x : Words). P x (seats_left c i s step)) (sym (words-read c i s step k reads)) (subst (P w) (sym is) base))
@@ -188,7 +193,7 @@ cat-found c i s v world k a =
     let h : 0 * 32 + v < root_count c.shape = in-place c i s step k in
     let old : found c s step ≡ slice_index w.roots (0 * 32 + v) = words-get (region_sizes c.shape) 2 c.words (0 * 32 + v) 0 h in
     let goes : nil_or (Used c) (found c s step) ≡ true = subst (λ (r : ℕ). nil_or (Used c) r ≡ true) (sym old) (k.core.sound.references.roots_in_use (0 * 32 + v) 0 (subst (λ (n : ℕ). 0 * 32 + v < n) (sym (roots-length c k.core)) h)) in
-    (read-whole c i s step (found c s step) k goes, ap (referred w.identities) old ∙ a.roots_agree 0 v (omega (arith, mu.inside)) hv)
+    (read-whole c i s step (found c s step) k goes, ap (referred w.identities) (old ∙ sym (cat-now c i s step v k b.1 (not-true (is_the s.section 0) k.ok.1.0) hv)) ∙ a.roots_agree 0 v (omega (arith, mu.inside)) hv)
 
 -- 17: a variable of the catalogue
 pub read-cat : (c : Core) (i : ℕ) (s : SeatState) (v : ℕ) (world : World) → Taken c i s (ReadCat v) → AgreesWith c world
@@ -211,7 +216,7 @@ slot-found c i s j world k a =
     let h : at < root_count c.shape = in-place c i s step k in
     let old : found c s step ≡ slice_index w.roots at = words-get (region_sizes c.shape) 2 c.words at 0 h in
     let goes : nil_or (Used c) (found c s step) ≡ true = subst (λ (r : ℕ). nil_or (Used c) r ≡ true) (sym old) (k.core.sound.references.roots_in_use at 0 (subst (λ (n : ℕ). at < n) (sym (roots-length c k.core)) h)) in
-    (read-whole c i s step (found c s step) k goes, ap (referred w.identities) old ∙ a.slots_agree (own_section s) j (omega (arith, mu.own, mu.inside)) (ltb-true j c.shape.slots b.0))
+    (read-whole c i s step (found c s step) k goes, ap (referred w.identities) (old ∙ sym (slot-now c at k.core (omega arith) (omega (arith, h, roots-length c k.core)))) ∙ a.slots_agree (own_section s) j (omega (arith, mu.own, mu.inside)) (ltb-true j c.shape.slots b.0))
 
 -- 53: a slot of the section
 pub read-slot : (c : Core) (i : ℕ) (s : SeatState) (j : ℕ) (world : World) → Taken c i s (ReadSlot j) → AgreesWith c world

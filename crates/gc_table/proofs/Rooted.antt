@@ -15,12 +15,10 @@ use Rattle.mark_core.specs.Steps.{Core, after_event, failing_part, run_of, start
 use Rattle.mark_core.specs.declared.kinds.Event.{Event}
 use Rattle.mark_core.specs.declared.kinds.Shape.{Shape}
 use Rattle.mark_core.specs.declared.kinds.Step.{Step}
-use Rattle.mark_core.specs.declared.kinds.Step.TheVariants.{ReadCat, StoreRoot}
+use Rattle.mark_core.specs.declared.kinds.Step.TheVariants.{ReadCat, StoreRoot, HoldRoot}
 use Rattle.mark_core.specs.declared.seat.SeatState.{SeatState}
 use Rattle.mark_core.proofs.Known.{Acted, found, acts}
 use Rattle.mark_core.proofs.Blocks.BlocksStopped.{Taken}
-use Rattle.mark_core.proofs.CoreKept.{core-starts}
-use Rattle.gc_table.specs.Ends.{AreWords, IsEnd}
 use Rattle.gc_table.specs.Entries.{event, is_logged}
 use Rattle.gc_table.specs.Laws.{IsRunOf}
 use Rattle.gc_table.specs.Log.{all_steps}
@@ -28,11 +26,9 @@ use Rattle.gc_table.specs.Past.{adds, log_from, word_told}
 use Rattle.gc_table.specs.Sections.{start_section}
 use Rattle.gc_table.specs.Seats.{view_of}
 use Rattle.gc_table.specs.TableState.{no_section, section_at}
-use Rattle.gc_table.specs.declared.seat.HeapSeat.{HeapSeat}
 use Rattle.gc_table.specs.declared.view.Entry.{Entry}
 use Rattle.gc_table.specs.declared.view.SectionState.{SectionState}
-use Rattle.gc_table.specs.declared.words.Words.{Words}
-use Rattle.gc_table.proofs.History.Past.{run-first, run-sound}
+use Rattle.gc_table.proofs.History.Past.{run-first, ended}
 use Rattle.gc_table.proofs.State.StateStart.{told-starts}
 use Rattle.gc_table.proofs.Told.SeasonsKept.{in-turn, season_in}
 use Rattle.gc_table.specs.Agreement.{AgreesWith}
@@ -63,6 +59,20 @@ filled c s (StoreRoot u r) world v k a below e =
     let p = and_parts (u == v) (not (r == 0)) e in
     let ids : List ℕ = (words_of c.shape c.words).identities in
     let mu : Mutates c 0 s = mutates c 0 s (StoreRoot u r) k (and_parts (nat_lt u 32) (may_mutate s) k.ok.0).1 in
+    let f : WorldSection → WorldSection = with_variable u (referred ids r) in
+    let inside : 0 < length world = omega (arith, mu.inside, a.sections) in
+    let same : u ≡ v = eqb-true u v p.0 in
+    let room : u < length (section_of world 0).variables = omega (arith, below, same, a.variables 0 mu.inside) in
+    let is = named ids r p.1 in (
+      is.0,
+      ap (λ (w : ℕ). variable_of (in_section world w f) 0 v) mu.own
+          ∙ (ap (λ (x : WorldSection). slice_index_or x.variables v None) (section-same world 0 f inside)
+          ∙ (ap (λ (j : ℕ). slice_index_or (f (section_of world 0)).variables j None) (sym same) ∙ (get_or-set_same (section_of world 0).variables u (referred ids r) None room ∙ is.1))),
+    )
+filled c s (HoldRoot u r) world v k a below e =
+    let p = and_parts (u == v) (not (r == 0)) e in
+    let ids : List ℕ = (words_of c.shape c.words).identities in
+    let mu : Mutates c 0 s = mutates c 0 s (HoldRoot u r) k (and_parts (nat_lt u 32) (may_mutate s) k.ok.0).1 in
     let f : WorldSection → WorldSection = with_variable u (referred ids r) in
     let inside : 0 < length world = omega (arith, mu.inside, a.sections) in
     let same : u ≡ v = eqb-true u v p.0 in
@@ -189,18 +199,6 @@ finds_on (e ∷ es) c world v name sound ok a lent i =
     finds_join v (adds i c e) (log_from i d es)
     (adds-cases (FindsSome v) i c e r.0 r.1.seat tt (λ at logged. (entry_some c e.seat r.0 e.step v world name (record { core = sound 0; got = r.1.seat; live = r.1.live; ok = r.1.ok }) a (lent 0), tt)))
     (finds_on es d (world_after c e world) v name (later-sound c e es ok.0 sound) ok.1 (agrees-kept c e world (sound 0) a ok.0) (lent_rest e es c world v name ok.0 lent) i)
-
--- the events that led to the end are a run
-pub ended : (sh : Shape) (seats : List HeapSeat) (w : Words) (e : IsEnd sh seats w) → IsRunOf sh seats w e.past
-ended sh seats w e =
-    let shaped : IsShape sh = subst IsShape e.shape e.whole.core.formed.shaped in
-    record {
-      allowed = e.led.allowed;
-      parts = e.logs;
-      no_others = e.theirs;
-      sound = λ n. run-sound n e.past (start_core sh 1) (core-starts sh 1 shaped (omega arith) (omega arith)) e.led.fit;
-      ends = subst (λ (c : Core). AreWords sh c.words w) (sym e.led.leads) e.words;
-    }
 
 -- no season has gone by at the start
 seasons_at : (sh : Shape) (n : ℕ) → (section_at (map (start_section sh) (range_with_len 0 n)) 0).seasons ≡ 0

@@ -4,7 +4,7 @@ use Rattle.std.proofs.lemmas.Bool.{and_parts}
 use Rattle.mark_core.specs.Effects.{seat_after, written}
 use Rattle.mark_core.specs.declared.kinds.Shape.{Shape}
 use Rattle.mark_core.specs.declared.kinds.Step.{Step}
-use Rattle.mark_core.specs.declared.kinds.Step.TheVariants.{ReadOwn, ReadCat, StoreField, StoreValue, StoreRoot, StoreNew, StorePosition, StorePhase, NextSeason, ExchangeField, ExchangeValue, StoreSlot, ReadSlot}
+use Rattle.mark_core.specs.declared.kinds.Step.TheVariants.{ReadOwn, ReadCat, StoreField, StoreValue, StoreRoot, StoreNew, StorePosition, StorePhase, NextSeason, ExchangeField, ExchangeValue, StoreSlot, ReadSlot, HoldRoot}
 use Rattle.mark_core.specs.declared.seat.SeatState.{SeatState}
 use Rattle.mark_core.proofs.Writing.Frames.{identity_of, identity-kept}
 use Rattle.plain_heap.specs.declared.operation.Op.{Op}
@@ -132,6 +132,7 @@ section-kept sh plan s (ExchangeField v i y z) x e = absurd (true≢false e)
 section-kept sh plan s (ExchangeValue v m n) x e = absurd (true≢false e)
 section-kept sh plan s (StoreValue v n) x e = absurd (true≢false e)
 section-kept sh plan s (StoreRoot v r) x e = absurd (true≢false e)
+section-kept sh plan s (HoldRoot v r) x e = absurd (true≢false e)
 section-kept sh plan s (StoreNew c part word) x e = absurd (true≢false e)
 section-kept sh plan s (StorePosition done) x e = absurd (true≢false e)
 section-kept sh plan s (StorePhase to) x e = absurd (true≢false e)

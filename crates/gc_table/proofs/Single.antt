@@ -9,7 +9,7 @@ use Rattle.mark_core.specs.Layout.{words_of}
 use Rattle.mark_core.specs.Seats.{may_mutate}
 use Rattle.mark_core.specs.Steps.{Core}
 use Rattle.mark_core.specs.declared.kinds.Step.{Step}
-use Rattle.mark_core.specs.declared.kinds.Step.TheVariants.{ExchangeField, ExchangeValue, ReadCat, ReadOwn, ReadSlot, StoreField, StoreNew, StoreRoot, StoreSlot, StoreValue, ReadWeak}
+use Rattle.mark_core.specs.declared.kinds.Step.TheVariants.{ExchangeField, ExchangeValue, ReadCat, ReadOwn, ReadSlot, StoreField, StoreNew, StoreRoot, StoreSlot, StoreValue, ReadWeak, HoldRoot}
 use Rattle.mark_core.specs.declared.seat.SeatState.{SeatState}
 use Rattle.mark_core.proofs.Known.{found}
 use Rattle.mark_core.proofs.Blocks.BlocksStopped.{Taken}
@@ -209,6 +209,7 @@ step_single c i s (ExchangeField u j x y) world n h k a single leaves once =
 step_single c i s (StoreValue u m) world n h k a single leaves once = absurd (false≢true leaves)
 step_single c i s (ExchangeValue u m x) world n h k a single leaves once = none_new (exchanged_one c i s u m x world n h k a single).1
 step_single c i s (StoreRoot u r) world n h k a single leaves once = none_new (single_kept world (own_section s) n h (with_variable u _) (λ x. refl) (λ x. refl) single)
+step_single c i s (HoldRoot u r) world n h k a single leaves once = none_new (single_kept world (own_section s) n h (with_variable u _) (λ x. refl) (λ x. refl) single)
 step_single c i s (StoreSlot j r) world n h k a single leaves once = none_new (single_kept world (own_section s) n h (with_variable (32 + j) _) (λ x. refl) (λ x. refl) single)
 step_single c i s (ReadSlot j) world n h k a single leaves once = none_new (single_kept world (own_section s) n h (with_register _) (λ x. refl) (λ x. refl) single)
 step_single c i s (ReadWeak y) world n h k a single leaves once = none_new (single_kept world (own_section s) n h (with_register _) (λ x. refl) (λ x. refl) single)

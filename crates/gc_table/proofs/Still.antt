@@ -16,7 +16,8 @@ use Rattle.std.proofs.lemmas.List.{length-set, length-append}
 use Rattle.mark_core.specs.Seats.{last_made, makes}
 use Rattle.mark_core.specs.Start.{start_seat, spent_seat}
 use Rattle.mark_core.proofs.Formed.FormedLearns.{set-cases, push-cases}
-use Rattle.mark_core.proofs.References.ReferencesRoots.{Used, UsedAfter, stores_root, roots-same}
+use Rattle.mark_core.proofs.References.ReferencesRoots.{Used, UsedAfter}
+use Rattle.mark_core.proofs.References.ReferencesNow.{assigns_root, now-left, the-roots}
 use Rattle.mark_core.proofs.Used.UsedSeats.{IsMadeBy}
 use Rattle.mark_core.proofs.Used.UsedKept.{used-back}
 use Rattle.gc_table.specs.RunWorlds.{World, referred}
@@ -98,19 +99,19 @@ abbrev pub EachAgrees : Core → List SeatState → World → Type 0
 EachAgrees c seats world = (w : ℕ) (s : SeatState) → slice_get seats w ≡ Some s → w < c.shape.sections → IsFalse s.spent → HasNow c world w s
 
 -- no cell comes into use, and the words stay
-pub still : (c : Core) (i : ℕ) (s : SeatState) (step : Step) (world : World) → Taken c i s step → AgreesWith c world → stores_root step ≡ false → stores_cell step ≡ false → ((x : ℕ) → IsMadeBy c.shape step x → ⊥) → length c.seats ≤ length (seats_left c i s step)
+pub still : (c : Core) (i : ℕ) (s : SeatState) (step : Step) (world : World) → Taken c i s step → AgreesWith c world → assigns_root step ≡ false → stores_cell step ≡ false → ((x : ℕ) → IsMadeBy c.shape step x → ⊥) → length c.seats ≤ length (seats_left c i s step)
     → EachAgrees c (seats_left c i s step) world → AgreesIn c.shape (words_left c s step) (seats_left c i s step) world
 still c i s step world k a r f none longer each =
     let w : Words = words_of c.shape c.words in
     let used : ℕ → Type 0 = λ x. IsTrue (Used c x) in
     let after : ℕ → Type 0 = λ x. IsTrue (UsedAfter c i s step x) in
     let seats : List SeatState = seats_left c i s step in
-    let same : Agrees c.shape w.roots w.identities w.values w.fields after seats world =
-    agrees-same c.shape w.roots w.identities w.values w.fields used after c.seats seats world (λ x h u. ⊎_elim (λ (e : Used c x ≡ true). e) (λ (e : IsMadeBy c.shape step x). absurd (none x e)) (used-back c i s step x k u)) each longer a in
-    subst (λ (rs : List ℕ). Agrees c.shape rs (words_left c s step).identities (words_left c s step).values (words_left c s step).fields after seats world) (sym (roots-same c i s step k r))
-    (subst (λ (ids : List ℕ). Agrees c.shape w.roots ids (words_left c s step).values (words_left c s step).fields after seats world) (sym (identities-same c i s step k f))
-    (subst (λ (vs : List ℕ). Agrees c.shape w.roots w.identities vs (words_left c s step).fields after seats world) (sym (values-same c i s step k f))
-    (subst (λ (fs : List ℕ). Agrees c.shape w.roots w.identities w.values fs after seats world) (sym (fields-same c i s step k f)) same)))
+    let same : Agrees c.shape (the-roots c) w.identities w.values w.fields after seats world =
+    agrees-same c.shape (the-roots c) w.identities w.values w.fields used after c.seats seats world (λ x h u. ⊎_elim (λ (e : Used c x ≡ true). e) (λ (e : IsMadeBy c.shape step x). absurd (none x e)) (used-back c i s step x k u)) each longer a in
+    subst (λ (rs : List ℕ). Agrees c.shape rs (words_left c s step).identities (words_left c s step).values (words_left c s step).fields after seats world) (sym (now-left c i s step k r))
+    (subst (λ (ids : List ℕ). Agrees c.shape (the-roots c) ids (words_left c s step).values (words_left c s step).fields after seats world) (sym (identities-same c i s step k f))
+    (subst (λ (vs : List ℕ). Agrees c.shape (the-roots c) w.identities vs (words_left c s step).fields after seats world) (sym (values-same c i s step k f))
+    (subst (λ (fs : List ℕ). Agrees c.shape (the-roots c) w.identities w.values fs after seats world) (sym (fields-same c i s step k f)) same)))
 
 -- each seat when one record changed
 pub each-but : (c : Core) (i : ℕ) (t : SeatState) (seats : List SeatState) (world : World) → (i < c.shape.sections → IsFalse t.spent → HasNow c world i t) → EachAgrees c seats world → EachAgrees c (set seats i t) world
@@ -126,7 +127,7 @@ last_less ids w made o o' (inl e) h = subst (IsLast ids w made) (sym e) h
 last_less ids w made o o' (inr e) h = subst (IsLast ids w made) (sym e) tt
 
 -- a step of a seat that gets nothing and makes nothing further
-pub still-seat : (c : Core) (i : ℕ) (s : SeatState) (step : Step) (world : World) → Taken c i s step → AgreesWith c world → stores_root step ≡ false → stores_cell step ≡ false → ((x : ℕ) → IsMadeBy c.shape step x → ⊥)
+pub still-seat : (c : Core) (i : ℕ) (s : SeatState) (step : Step) (world : World) → Taken c i s step → AgreesWith c world → assigns_root step ≡ false → stores_cell step ≡ false → ((x : ℕ) → IsMadeBy c.shape step x → ⊥)
     → seats_left c i s step ≡ set c.seats i (seat_after c.shape s step (found c s step)) → (seat_after c.shape s step (found c s step)).got ≡ s.got → (seat_after c.shape s step (found c s step)).made ≡ s.made
     → MakesNoMore s.cache (seat_after c.shape s step (found c s step)).cache → AgreesIn c.shape (words_left c s step) (seats_left c i s step) world
 still-seat c i s step world k a r f none is got made less =

@@ -1,7 +1,10 @@
 -- 18: a field or the value of an object is stored, whichever section made it.
+use Rattle.mark_core.proofs.References.ReferencesNow.{the-roots, own-now}
+use Rattle.mark_core.proofs.Lagging.{now-seat}
+use Rattle.mark_core.specs.Variables.{roots_now}
 use Rattle.mark_core.proofs.Writing.Ranges.{in-row}
 use Rattle.std.proofs.Common.{ℕ, ◌≡◌, ◌≢◌, ◌+◌, ◌-◌, ◌*◌, ◌<◌, suc, List, set, get_or, length, arith, refl, sym, ap, ◌∙◌, subst, true, not, eqb, ◌&&◌, Option, Some, None, ◌⊎◌, inl, inr, ⊎_elim}
-use Rattle.std.specs.Prelude.{IsTrue, IfSome, slice_index, slice_index_or, nat_lt}
+use Rattle.std.specs.Prelude.{IsTrue, slice_index, slice_index_or, nat_lt}
 use Rattle.std.proofs.lemmas.Bool.{and_parts, not-true, eqb-false, ltb-true, cases_eq}
 use Rattle.std.proofs.lemmas.List.{get_or-set_same, get_or-set_other, length-set}
 use Rattle.plain_heap.specs.Paths.{Name}
@@ -10,7 +13,7 @@ use Rattle.mark_core.specs.Bits.{cell_of}
 use Rattle.mark_core.specs.Seats.{may_mutate}
 use Rattle.mark_core.specs.Views.{makers}
 use Rattle.mark_core.specs.Cells.{field}
-use Rattle.mark_core.specs.Rules.HeapRules.{NamesInUse, EnvIsRoots}
+use Rattle.mark_core.specs.Rules.HeapRules.{NamesInUse}
 use Rattle.mark_core.specs.Steps.MutatorSteps.{in_variables, variable_or_nil, may_change, seat_variable as word_in}
 use Rattle.mark_core.specs.Effects.{seat_after}
 use Rattle.mark_core.specs.Steps.{Core}
@@ -32,10 +35,7 @@ use Rattle.gc_table.proofs.Frame.{holds-on, Moves, moved, had-object, Mutates, m
 -- each variable of a mutator refers to what the heap has there
 pub env-agrees : (c : Core) (i : ℕ) (s : SeatState) (step : Step) (world : World) (v : ℕ) → Taken c i s step → AgreesWith c world → Mutates c i s → v < 32 → referred (words_of c.shape c.words).identities (slice_index s.env v) ≡ variable_of world i v
 env-agrees c i s step world v k a mu h =
-    let roots : List ℕ = (words_of c.shape c.words).roots in
-    let env : EnvIsRoots roots s = own-fact c i s step (EnvIsRoots roots) k k.core.sound.references.env_is_roots in
-    let same : slice_index s.env v ≡ slice_index roots (i * 32 + v) = subst (λ (o : Option ℕ). IfSome o (λ w. (u : ℕ) → u < 32 → slice_index s.env u ≡ slice_index roots (w * 32 + u))) mu.section (env k.live) v h in
-    ap (referred (words_of c.shape c.words).identities) same ∙ a.roots_agree i v mu.inside h
+    ap (referred (words_of c.shape c.words).identities) (sym (own-now c i s step v k mu.section mu.inside h)) ∙ a.roots_agree i v mu.inside h
 
 -- what is stored in a field
 pub stored-agrees : (c : Core) (i : ℕ) (s : SeatState) (step : Step) (world : World) (o : Option ℕ) → Taken c i s step → AgreesWith c world → Mutates c i s → in_variables o ≡ true → referred (words_of c.shape c.words).identities (variable_or_nil s o) ≡ stored world i o
@@ -99,6 +99,8 @@ object-moves c i s step v world y values fields f owed k a none b r = record {
   sections = sections-kept world at g;
   variables = λ j h. view-kept (λ (x : WorldSection). length x.variables) world at j g inside refl;
   identities_kept = λ z u. refl;
+  now_roots = the-roots c;
+  now = now-seat w.roots c.seats i s (record s { owes = owed }) k.got refl refl;
   roots = λ j u h hu. a.roots_agree j u h hu ∙ sym (view-kept (λ (x : WorldSection). slice_index_or x.variables u None) world at j g inside refl);
   slots = λ j q h hq. a.slots_agree j q h hq ∙ sym (view-kept (λ (x : WorldSection). slice_index_or x.variables (32 + q) None) world at j g inside refl);
   cells = λ z h u. let before = had-object c i s step world z k a (none z) h u in cell z h before.0 before.1 (cases_eq z y);
@@ -206,7 +208,7 @@ store-field c i s v j o world k a =
     let hj : j < c.shape.fields = ltb-true j c.shape.fields e.1 in
     let to : Option Name = stored world i o in
     let t : SeatState = seat_after c.shape s step (found c s step) in
-    let P : ℕ → Option Name → Type 0 = λ cell name. Agrees c.shape w.roots w.identities w.values (set w.fields (cell * c.shape.fields + j) (variable_or_nil s o)) (λ z. IsTrue (UsedAfter c i s step z)) (set c.seats i t) (with_object world name (with_reference j to)) in
+    let P : ℕ → Option Name → Type 0 = λ cell name. Agrees c.shape (roots_now w.roots (set c.seats i t)) w.identities w.values (set w.fields (cell * c.shape.fields + j) (variable_or_nil s o)) (λ z. IsTrue (UsedAfter c i s step z)) (set c.seats i t) (with_object world name (with_reference j to)) in
     let base : P y (Some (name_at w.identities y)) =
     moved c i s step (record w { values = w.values; fields = set w.fields (y * c.shape.fields + j) (variable_or_nil s o) }) t world (with_object world (Some (name_at w.identities y)) (with_reference j to)) k a
     (object-moves c i s step v world y w.values (set w.fields (y * c.shape.fields + j) (variable_or_nil s o)) (with_reference j to) t.owes k a (λ z f. f) there (field-rewrites c i s v j y (variable_or_nil s o) to world (field-inside c i s v j y world k.core hj there) hj there (stored-agrees c i s step world o k a mu d.1))) in
@@ -234,7 +236,7 @@ store-value c i s v n world k a =
     let mu : Mutates c i s = mutates c i s step k b.1 in
     let y : ℕ = word_in s v - 1 in
     let there : Refers c i s v world y = refers c i s step v world k a mu (ltb-true v 32 b.0) k.ok.1.0 in
-    let P : ℕ → Option Name → Type 0 = λ cell name. Agrees c.shape w.roots w.identities (set w.values cell n) w.fields (λ z. IsTrue (UsedAfter c i s step z)) (set c.seats i s) (with_object world name (with_value n)) in
+    let P : ℕ → Option Name → Type 0 = λ cell name. Agrees c.shape (roots_now w.roots (set c.seats i s)) w.identities (set w.values cell n) w.fields (λ z. IsTrue (UsedAfter c i s step z)) (set c.seats i s) (with_object world name (with_value n)) in
     let base : P y (Some (name_at w.identities y)) =
     moved c i s step (record w { values = set w.values y n; fields = w.fields }) s world (with_object world (Some (name_at w.identities y)) (with_value n)) k a
     (object-moves c i s step v world y (set w.values y n) w.fields (with_value n) s.owes k a (λ z f. f) there (value-rewrites c i s v n y world k.core there)) in

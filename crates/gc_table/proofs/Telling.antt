@@ -19,7 +19,7 @@ use Rattle.mark_core.proofs.Writing.Places.{words-get}
 use Rattle.mark_core.proofs.References.ReferencesRoots.{known-used, seat-formed}
 use Rattle.mark_core.specs.declared.kinds.Event.{Event}
 use Rattle.mark_core.specs.declared.kinds.Step.{Step}
-use Rattle.mark_core.specs.declared.kinds.Step.TheVariants.{ReadOwn, ReadValue, ReadIdent, ReadCat, StoreRoot, ExchangeField, ExchangeValue, StoreSlot, ReadSlot, ReadWeak}
+use Rattle.mark_core.specs.declared.kinds.Step.TheVariants.{ReadOwn, ReadValue, ReadIdent, ReadCat, StoreRoot, ExchangeField, ExchangeValue, StoreSlot, ReadSlot, ReadWeak, HoldRoot}
 use Rattle.mark_core.specs.declared.seat.SeatState.{SeatState}
 use Rattle.gc_table.specs.RunWorlds.{World, WorldObject, section_of, variable_of, object_of, followed, name_in, name_at, referred, own_section, start_world}
 use Rattle.gc_table.specs.Agreement.{HoldsObject, SeatAgrees, AgreesWith}
@@ -125,6 +125,9 @@ tells_at c i s (ReadCat v) world k a = (cat-found c i s v world k a).1
 tells_at c i s (StoreRoot v r) world k a =
     let mu : Mutates c i s = mutates c i s (StoreRoot v r) k (and_parts (nat_lt v 32) (may_mutate s) k.ok.0).1 in
     subst (λ (o : ℕ). MayHold world o (referred (words_of c.shape c.words).identities r)) (sym mu.own) (held c i s (StoreRoot v r) world r k a mu k.ok.1.0)
+tells_at c i s (HoldRoot v r) world k a =
+    let mu : Mutates c i s = mutates c i s (HoldRoot v r) k (and_parts (nat_lt v 32) (may_mutate s) k.ok.0).1 in
+    subst (λ (o : ℕ). MayHold world o (referred (words_of c.shape c.words).identities r)) (sym mu.own) (held c i s (HoldRoot v r) world r k a mu k.ok.1.0)
 tells_at c i s (StoreSlot j r) world k a =
     let mu : Mutates c i s = mutates c i s (StoreSlot j r) k (and_parts (nat_lt j c.shape.slots) (may_mutate s) k.ok.0).1 in
     subst (λ (o : ℕ). MayHold world o (referred (words_of c.shape c.words).identities r)) (sym mu.own) (held c i s (StoreSlot j r) world r k a mu k.ok.1.0)

@@ -86,7 +86,7 @@ finds-value c i s v m n world k a =
     }
 
 -- one step that doesn't store in the object
-step_stays : (c : Core) (o : Option SeatState) (step : Step) (world : World) (name : Name) (object : WorldObject) → object_of world name ≡ Some object → (StoresOf world o step name → ⊥) → object_of (world_of c o step world) name ≡ Some object
+pub step_stays : (c : Core) (o : Option SeatState) (step : Step) (world : World) (name : Name) (object : WorldObject) → object_of world name ≡ Some object → (StoresOf world o step name → ⊥) → object_of (world_of c o step world) name ≡ Some object
 step_stays c None step world name object e none = e
 step_stays c (Some s) step world name object e none =
     let r = none_forgotten c.shape (words_of c.shape c.words) s step world name object e in

@@ -6,6 +6,7 @@ use Rattle.mark_core.specs.Numbers.{section_variables, section_span}
 use Rattle.mark_core.specs.Seats.{makes, last_made}
 use Rattle.mark_core.specs.Views.{makers}
 use Rattle.mark_core.specs.Cells.{in_use, field}
+use Rattle.mark_core.specs.Variables.{roots_now}
 use Rattle.mark_core.specs.Steps.{Core}
 use Rattle.mark_core.specs.declared.kinds.Shape.{Shape}
 use Rattle.mark_core.specs.declared.seat.SeatState.{SeatState}
@@ -41,7 +42,7 @@ pub record Agrees (sh : Shape) (roots identities values fields : List ℕ) (used
 
 -- these words and seats agree with the heap
 abbrev pub AgreesIn : Shape → Words → List SeatState → World → Type 0
-AgreesIn sh w seats world = Agrees sh w.roots w.identities w.values w.fields (λ c. IsTrue (in_use w.allocs (makers seats) c)) seats world
+AgreesIn sh w seats world = Agrees sh (roots_now w.roots seats) w.identities w.values w.fields (λ c. IsTrue (in_use w.allocs (makers seats) c)) seats world
 
 -- the words and seats of this state agree with the heap
 abbrev pub AgreesWith : Core → World → Type 0

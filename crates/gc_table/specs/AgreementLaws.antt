@@ -19,7 +19,7 @@ use Rattle.mark_core.specs.Laws.{IsCore, NumbersFit, AllNumbersFit}
 use Rattle.mark_core.specs.declared.kinds.Event.{Event}
 use Rattle.mark_core.specs.declared.kinds.Shape.{Shape}
 use Rattle.mark_core.specs.declared.kinds.Step.{Step}
-use Rattle.mark_core.specs.declared.kinds.Step.TheVariants.{ReadOwn, ReadValue, ReadIdent, ReadCat, StoreField, StoreValue, StoreRoot, ExchangeField, ExchangeValue, StoreSlot, ReadSlot, ReadWeak}
+use Rattle.mark_core.specs.declared.kinds.Step.TheVariants.{ReadOwn, ReadValue, ReadIdent, ReadCat, StoreField, StoreValue, StoreRoot, ExchangeField, ExchangeValue, StoreSlot, ReadSlot, ReadWeak, HoldRoot}
 use Rattle.mark_core.specs.declared.seat.SeatState.{SeatState}
 use Rattle.gc_table.specs.RunWorlds.{World, WorldObject, section_of, variable_of, object_of, reference_of, name_in, name_at, referred, own_section, world_by, start_world, stored, is_same, with_reference, with_value}
 use Rattle.gc_table.specs.Agreement.{HoldsObject, AgreesWith}
@@ -171,6 +171,7 @@ TellsIn c world s (ReadOwn x i) word =
 TellsIn c world s (ReadIdent x) word = (object : WorldObject) × KnownObject world (own_section s) (name_in word) object
 TellsIn c world s (ReadCat v) word = referred (words_of c.shape c.words).identities word ≡ variable_of world 0 v
 TellsIn c world s (StoreRoot v r) word = MayHold world (own_section s) (referred (words_of c.shape c.words).identities r)
+TellsIn c world s (HoldRoot v r) word = MayHold world (own_section s) (referred (words_of c.shape c.words).identities r)
 TellsIn c world s (StoreSlot k r) word = MayHold world (own_section s) (referred (words_of c.shape c.words).identities r)
 TellsIn c world s (ReadWeak x) word = FindsCell c world s x (weak_reference s x word)
 TellsIn c world s (ReadSlot k) word = referred (words_of c.shape c.words).identities word ≡ variable_of world (own_section s) (section_variables + k)

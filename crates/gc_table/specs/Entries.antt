@@ -6,7 +6,7 @@ use Rattle.mark_core.specs.Seats.{is_phase}
 use Rattle.mark_core.specs.declared.kinds.Phase.{Phase}
 use Rattle.mark_core.specs.declared.kinds.Phase.TheVariants.{Idle, Marking}
 use Rattle.mark_core.specs.declared.kinds.Step.{Step}
-use Rattle.mark_core.specs.declared.kinds.Step.TheVariants.{Take, SetMark, ClearCard, ReadCard, ClaimBlock, EnterStep, RaiseStep, StorePhase, JoinHelpStep, Split, Join, Push, DirtyCard, StoreField, StoreValue, StoreRoot, ReleaseBlock, StoreNew, StoreAlloc, ClearMarks, WipeCard, StorePosition, StoreNamed, Reset, StoreLength, ExchangeValue, StoreSlot, CheckCard}
+use Rattle.mark_core.specs.declared.kinds.Step.TheVariants.{Take, SetMark, ClearCard, ReadCard, ClaimBlock, EnterStep, RaiseStep, StorePhase, JoinHelpStep, Split, Join, Push, DirtyCard, StoreField, StoreValue, StoreRoot, ReleaseBlock, StoreNew, StoreAlloc, ClearMarks, WipeCard, StorePosition, StoreNamed, Reset, StoreLength, ExchangeValue, StoreSlot, CheckCard, FlushRoot}
 use Rattle.gc_table.specs.declared.view.Entry.{Entry}
 use Rattle.mark_core.specs.Numbers.{word_bits}
 
@@ -41,6 +41,7 @@ is_store (DirtyCard card) = true
 is_store (StoreField v i w) = true
 is_store (StoreValue v n) = true
 is_store (StoreRoot v r) = true
+is_store (FlushRoot v) = true
 is_store (StoreSlot k r) = true
 is_store ReleaseBlock = true
 is_store (StoreNew c part word) = true

@@ -1,5 +1,5 @@
 -- What is claimed of the plain heaps for which the words stand, as statements for proofs to meet.
-use Rattle.std.specs.Prelude.{ℕ, ◌≤◌, ◌≡◌, List, [], None, Some, IsTrue, IsFalse, length, slice_get, slice_set, take}
+use Rattle.std.specs.Prelude.{ℕ, ◌<◌, ◌≤◌, ◌≡◌, List, [], None, Some, IsTrue, IsFalse, length, slice_get, slice_set, take}
 use Rattle.mark_core.specs.Shapes.{IsShape}
 use Rattle.mark_core.specs.Steps.{Core, failing_part, after_event, first_refused, run_of, start_core}
 use Rattle.mark_core.specs.Layout.{words_of}
@@ -19,9 +19,10 @@ use Rattle.plain_heap.specs.Paths.{Name, IsReachable}
 use Rattle.gc_table.specs.StandsFor.{StandsFor, HoldsObject, IsForNextObject, heaps_of, name_at, object_count, start_meanings}
 use Rattle.gc_table.specs.declared.view.Meaning.{Meaning}
 use Rattle.plain_heap.specs.PlainStep.{IsInRange}
-use Rattle.gc_table.specs.Ends.{AreWords, IsEnd}
+use Rattle.gc_table.specs.Ends.{AreWords, IsEnd, IsResting}
 use Rattle.gc_table.specs.Past.{log_of}
-use Rattle.gc_table.specs.Seats.{view_of}
+use Rattle.gc_table.specs.Seen.{Begins}
+use Rattle.gc_table.specs.Seats.{seen_of, view_of}
 use Rattle.gc_table.specs.declared.seat.HeapSeat.{HeapSeat}
 use Rattle.gc_table.specs.declared.words.Words.{Words}
 use Rattle.gc_table.specs.PlainSteps.{meaning_after, meanings_after, catalogue_seen, AsksIn, changes_heap}
@@ -88,8 +89,12 @@ pub record IsRunOf (sh : Shape) (seats : List HeapSeat) (w : Words) (es : List E
   pub parts : (i : ℕ) (s : HeapSeat) → slice_get seats i ≡ Some s → (view_of s).log ≡ log_of sh es i
   -- if all seats of the heap are among these, nobody else has a part
   pub no_others : (s : HeapSeat) → slice_get seats 0 ≡ Some s → (view_of s).opened ≡ length seats → (i : ℕ) → length seats ≤ i → log_of sh es i ≡ []
+  -- it goes on from what each seat had seen while the heap was open
+  pub since : (i : ℕ) (s : HeapSeat) → slice_get seats i ≡ Some s → Begins (seen_of s) es
   pub sound : (n : ℕ) → IsCore (run_of (take n es) (start_core sh 1))
   pub ends : AreWords sh (run_of es (start_core sh 1)).words w
+  -- in the end no seat with a section is at work, of those that were handed in
+  pub resting : (j : ℕ) (r : SeatState) (k : ℕ) → j < length seats → slice_get (run_of es (start_core sh 1)).seats j ≡ Some r → r.section ≡ Some k → IsResting seats r
 
 -- whatever threads did with the seats of a heap that was closed, there is such a run
 abbrev pub ClosedHeapsRan : Type 0

@@ -5,7 +5,7 @@ use Rattle.mark_core.specs.Numbers.{section_variables}
 use Rattle.mark_core.specs.declared.kinds.Event.{Event}
 use Rattle.mark_core.specs.declared.kinds.Shape.{Shape}
 use Rattle.mark_core.specs.declared.kinds.Step.{Step}
-use Rattle.mark_core.specs.declared.kinds.Step.TheVariants.{StoreRoot}
+use Rattle.mark_core.specs.declared.kinds.Step.TheVariants.{StoreRoot, HoldRoot}
 use Rattle.gc_table.specs.Laws.{IsRunOf}
 use Rattle.gc_table.specs.Log.{all_steps}
 use Rattle.gc_table.specs.Seats.{view_of}
@@ -18,6 +18,7 @@ use Rattle.gc_table.specs.Sharing.{heap_after_events}
 -- the step leaves variable v of its seat's section
 abbrev pub leaves_variable : ℕ → Step → Bool
 leaves_variable v (StoreRoot u r) = not (u == v)
+leaves_variable v (HoldRoot u r) = not (u == v)
 leaves_variable v step = true
 
 -- at most one of these events stores in variable v

@@ -5,6 +5,7 @@ pub mod Entries
 pub mod Past
 pub mod Rule
 pub mod Taking
+pub mod Seen
 pub mod Operations
 pub mod SeatRecords
 pub mod Seats
@@ -24,8 +25,12 @@ pub mod AgreementLaws
 pub mod Runs
 pub mod Threads
 pub mod Sharing
+pub mod OpenRuns
+pub mod Stamps
+pub mod OneOrder
 pub mod Finding
 pub mod Lending
 pub mod Rooted
 pub mod Single
 pub mod Counting
+pub mod Weak

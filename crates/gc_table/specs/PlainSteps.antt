@@ -6,7 +6,7 @@ use Rattle.mark_core.specs.declared.kinds.Shape.{Shape}
 use Rattle.mark_core.specs.declared.kinds.Phase.{Phase}
 use Rattle.mark_core.specs.declared.kinds.Phase.TheVariants.{Full}
 use Rattle.mark_core.specs.declared.kinds.Step.{Step}
-use Rattle.mark_core.specs.declared.kinds.Step.TheVariants.{ReadOwn, ReadCat, StoreField, StoreValue, StoreRoot, StoreNew, StoreSlot, ReadSlot, ReadWeak}
+use Rattle.mark_core.specs.declared.kinds.Step.TheVariants.{ReadOwn, ReadCat, StoreField, StoreValue, StoreRoot, StoreNew, StoreSlot, ReadSlot, ReadWeak, HoldRoot}
 use Rattle.mark_core.specs.declared.seat.SeatState.{SeatState}
 use Rattle.plain_heap.specs.declared.object.Ref.{Ref}
 use Rattle.plain_heap.specs.declared.object.Ref.TheVariants as refs
@@ -69,6 +69,7 @@ abbrev pub meaning_after : Shape → SeatState → Option Heap → Step → Op �
 meaning_after sh s catalogue (StoreField v i w) op m = stepped catalogue op m
 meaning_after sh s catalogue (StoreValue v n) op m = stepped catalogue op m
 meaning_after sh s catalogue (StoreRoot v r) op m = with_got refs.Nil (stepped catalogue op m)
+meaning_after sh s catalogue (HoldRoot v r) op m = with_got refs.Nil (stepped catalogue op m)
 meaning_after sh s catalogue (ReadOwn c i) op m = with_got (followed m.heap catalogue (known_as s m c) i) m
 meaning_after sh s catalogue (ReadCat v) op m = with_got (lent_variable catalogue v) m
 meaning_after sh s catalogue (ReadSlot k) op m = with_got refs.Nil m
@@ -84,6 +85,7 @@ abbrev pub meanings_after : Shape → SeatState → Step → Op → List Meaning
 meanings_after sh s (StoreField v i w) op ms = changed_by sh s (StoreField v i w) op ms
 meanings_after sh s (StoreValue v n) op ms = changed_by sh s (StoreValue v n) op ms
 meanings_after sh s (StoreRoot v r) op ms = changed_by sh s (StoreRoot v r) op ms
+meanings_after sh s (HoldRoot v r) op ms = changed_by sh s (HoldRoot v r) op ms
 meanings_after sh s (ReadOwn c i) op ms = changed_by sh s (ReadOwn c i) op ms
 meanings_after sh s (ReadCat v) op ms = changed_by sh s (ReadCat v) op ms
 meanings_after sh s (ReadSlot k) op ms = changed_by sh s (ReadSlot k) op ms
@@ -99,7 +101,7 @@ abbrev pub IsSet : Heap → ℕ → ℕ → Option ℕ → Op → Type 0
 IsSet heap v i None op = (u : ℕ) × (u < section_variables) × (variable heap u ≡ refs.Nil) × (op ≡ ops.Set v i u)
 IsSet heap v i (Some w) op = op ≡ ops.Set v i w
 
--- what becomes of variable v when a root is stored: the object for which a cell was made, nil, another variable, or what the register has by a field or from
+-- what becomes of variable v when its root is stored, or it is held: the object for which a cell was made, nil, another variable, or what the register has by a field or from
 -- the catalogue
 abbrev pub IsAssignment : SeatState → Meaning → Option Heap → ℕ → ℕ → Op → Type 0
 IsAssignment s m catalogue v r (ops.New u n) = (u ≡ v) × (n ≡ m.value) × IsTrue (names_last s.cache r) × (length m.heap.objects + 1 ≡ s.made)
@@ -114,6 +116,7 @@ abbrev pub Asks : SeatState → Meaning → Option Heap → Step → Op → Type
 Asks s m catalogue (StoreField v i w) op = HasSeenPhase s × IsSet m.heap v i w op
 Asks s m catalogue (StoreValue v n) op = HasSeenPhase s × (op ≡ ops.Put v n) × (n < flag)
 Asks s m catalogue (StoreRoot v r) op = HasSeenPhase s × IsAssignment s m catalogue v r op
+Asks s m catalogue (HoldRoot v r) op = HasSeenPhase s × IsAssignment s m catalogue v r op
 -- a plain heap has no slots
 Asks s m catalogue (StoreSlot k r) op = ⊥
 -- and nothing leads back to what it doesn't reach
@@ -130,4 +133,5 @@ abbrev pub changes_heap : Step → Bool
 changes_heap (StoreField v i w) = true
 changes_heap (StoreValue v n) = true
 changes_heap (StoreRoot v r) = true
+changes_heap (HoldRoot v r) = true
 changes_heap step = false

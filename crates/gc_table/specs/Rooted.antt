@@ -7,7 +7,7 @@ use Rattle.mark_core.specs.Numbers.{section_variables}
 use Rattle.mark_core.specs.declared.kinds.Event.{Event}
 use Rattle.mark_core.specs.declared.kinds.Shape.{Shape}
 use Rattle.mark_core.specs.declared.kinds.Step.{Step}
-use Rattle.mark_core.specs.declared.kinds.Step.TheVariants.{NextSeason, ReadCat, StoreRoot}
+use Rattle.mark_core.specs.declared.kinds.Step.TheVariants.{NextSeason, ReadCat, StoreRoot, HoldRoot}
 use Rattle.gc_table.specs.Ends.{IsEnd}
 use Rattle.gc_table.specs.Laws.{IsRunOf}
 use Rattle.gc_table.specs.Seats.{state_of, view_of}
@@ -34,6 +34,7 @@ season_count (e ∷ es) = (if moves_season e.step then 1 else 0) + season_count 
 -- the step stores in variable v, and not nil
 abbrev pub fills_variable : ℕ → Step → Bool
 fills_variable v (StoreRoot u r) = (u == v) && not (r == 0)
+fills_variable v (HoldRoot u r) = (u == v) && not (r == 0)
 fills_variable v step = false
 
 -- the first of these events that stores in variable v stores an object there, and none before it moves the season on

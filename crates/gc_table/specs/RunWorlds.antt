@@ -8,7 +8,7 @@ use Rattle.mark_core.specs.Layout.{Words}
 use Rattle.mark_core.specs.Numbers.{section_variables, section_span}
 use Rattle.mark_core.specs.declared.kinds.Shape.{Shape}
 use Rattle.mark_core.specs.declared.kinds.Step.{Step}
-use Rattle.mark_core.specs.declared.kinds.Step.TheVariants.{ReadOwn, ReadCat, StoreField, StoreValue, StoreRoot, StoreNew, ExchangeField, ExchangeValue, StoreSlot, ReadSlot, ReadWeak}
+use Rattle.mark_core.specs.declared.kinds.Step.TheVariants.{ReadOwn, ReadCat, StoreField, StoreValue, StoreRoot, StoreNew, ExchangeField, ExchangeValue, StoreSlot, ReadSlot, ReadWeak, HoldRoot}
 use Rattle.mark_core.specs.declared.seat.SeatState.{SeatState}
 
 -- an object: its value, and what each of its fields refers to, if it isn't nil
@@ -150,6 +150,7 @@ world_by sh w s (ExchangeField v i x y) world =
     with_object world (variable_of world (own_section s) v) (with_exchanged i (stored world (own_section s) x) (stored world (own_section s) y))
 world_by sh w s (ExchangeValue v m n) world = with_object world (variable_of world (own_section s) v) (with_exchanged_value m n)
 world_by sh w s (StoreRoot v r) world = in_section world (own_section s) (with_variable v (referred w.identities r))
+world_by sh w s (HoldRoot v r) world = in_section world (own_section s) (with_variable v (referred w.identities r))
 world_by sh w s (StoreSlot k r) world = in_section world (own_section s) (with_variable (section_variables + k) (referred w.identities r))
 world_by sh w s (ReadSlot k) world = in_section world (own_section s) (with_register (variable_of world (own_section s) (section_variables + k)))
 world_by sh w s (ReadWeak c) world = in_section world (own_section s) (with_register (referred w.identities (weak_reference s c (slice_index w.allocs (c / block_cells)))))

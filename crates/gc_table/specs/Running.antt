@@ -6,7 +6,7 @@ use Rattle.mark_core.specs.Places.{the_phase}
 use Rattle.mark_core.specs.Seats.{phase_number}
 use Rattle.mark_core.specs.declared.kinds.Phase.{Phase}
 use Rattle.mark_core.specs.declared.kinds.Step.{Step}
-use Rattle.mark_core.specs.declared.kinds.Step.TheVariants.{StoreField, StoreValue, StoreRoot, StoreNew, StorePosition, OpenStep, DropStep, StorePhase, ReadOwn, ReadCat, NextSeason, ExchangeField, ExchangeValue, StoreSlot, ReadSlot}
+use Rattle.mark_core.specs.declared.kinds.Step.TheVariants.{StoreField, StoreValue, StoreRoot, StoreNew, StorePosition, OpenStep, DropStep, StorePhase, ReadOwn, ReadCat, NextSeason, ExchangeField, ExchangeValue, StoreSlot, ReadSlot, HoldRoot}
 use Rattle.gc_table.specs.declared.view.Entry.{Entry}
 use Rattle.gc_table.specs.declared.view.View.{View}
 pub use Rattle.gc_table.specs.Entries.{is_store}
@@ -66,6 +66,7 @@ changes_section (ReadSlot k) = true
 changes_section (StoreField v i w) = true
 changes_section (StoreValue v n) = true
 changes_section (StoreRoot v r) = true
+changes_section (HoldRoot v r) = true
 changes_section (StoreSlot k r) = true
 changes_section (ExchangeField v i x y) = true
 changes_section (ExchangeValue v m n) = true

@@ -8,6 +8,7 @@ use Rattle.mark_core.specs.Seats.{is_bare}
 use Rattle.mark_core.specs.Start.{start_seat}
 use Rattle.mark_core.specs.declared.kinds.Shape.{Shape}
 use Rattle.mark_core.specs.Effects.{written}
+use Rattle.mark_core.specs.declared.kinds.Event.{Event}
 use Rattle.mark_core.specs.declared.kinds.Step.{Step}
 use Rattle.mark_core.specs.declared.seat.SeatState.{SeatState}
 use Rattle.gc_table.specs.Log.{events}
@@ -19,7 +20,11 @@ use Rattle.gc_table.specs.declared.seat.HeapSeat.{HeapSeat}
 
 -- what the seat knows
 abbrev pub view_of : HeapSeat → View
-view_of s = s.token.me.0
+view_of s = s.token.me.0.view
+
+-- what the seat has seen of what happened
+abbrev pub seen_of : HeapSeat → List Event
+seen_of s = s.token.me.0.seen
 
 -- the seat's record
 abbrev pub state_of : HeapSeat → SeatState
@@ -35,7 +40,7 @@ did s t = events (view_of s) (view_of t)
 
 -- the seat is one of the heap's
 abbrev pub Sits : Heap → HeapSeat → Type 0
-Sits h s = (s.token.table_id ≡ h.table.shared.table_id) × (s.token.me.0.shape ≡ h.shape)
+Sits h s = (s.token.table_id ≡ h.table.shared.table_id) × (s.token.me.0.view.shape ≡ h.shape)
 
 -- one step was taken, which found this word
 abbrev pub Found : Step → ℕ → View → View → Type 0

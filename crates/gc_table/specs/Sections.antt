@@ -7,7 +7,7 @@ use Rattle.mark_core.specs.Seats.{is_the, saw}
 use Rattle.mark_core.specs.declared.kinds.Shape.{Shape}
 use Rattle.mark_core.specs.declared.kinds.Phase.TheVariants.{Idle, Full}
 use Rattle.mark_core.specs.declared.kinds.Step.{Step}
-use Rattle.mark_core.specs.declared.kinds.Step.TheVariants.{ReadOwn, ReadCat, StoreField, StoreValue, StoreRoot, StoreNew, StorePosition, StorePhase, NextSeason, ExchangeField, ExchangeValue, StoreSlot, ReadSlot, ReadWeak}
+use Rattle.mark_core.specs.declared.kinds.Step.TheVariants.{ReadOwn, ReadCat, StoreField, StoreValue, StoreRoot, StoreNew, StorePosition, StorePhase, NextSeason, ExchangeField, ExchangeValue, StoreSlot, ReadSlot, ReadWeak, HoldRoot}
 use Rattle.mark_core.specs.declared.seat.SeatState.{SeatState}
 use Rattle.plain_heap.specs.declared.object.Ref.{Ref}
 use Rattle.plain_heap.specs.declared.object.Ref.TheVariants as refs
@@ -57,6 +57,7 @@ abbrev pub meaning_by : Shape → SeatState → Option Heap → Step → Meaning
 meaning_by sh s catalogue (StoreField v i w) m = record m { heap = stored_at m.heap (variable m.heap v) (λ object. with_field object i (stored_ref m.heap w)) }
 meaning_by sh s catalogue (StoreValue v n) m = record m { heap = stored_at m.heap (variable m.heap v) (λ object. with_value object n) }
 meaning_by sh s catalogue (StoreRoot v r) m = with_got refs.Nil (record m { heap = rooted s m v r })
+meaning_by sh s catalogue (HoldRoot v r) m = with_got refs.Nil (record m { heap = rooted s m v r })
 meaning_by sh s catalogue (ReadOwn c i) m = with_got (followed m.heap catalogue (known_as s m c) i) m
 meaning_by sh s catalogue (ReadCat v) m = with_got (lent_variable catalogue v) m
 -- if objects aren't shared, slots are nil, and otherwise nothing is told of the register
@@ -78,6 +79,7 @@ abbrev pub noted : Shape → SeatState → Step → SectionState → SectionStat
 noted sh s (StoreField v i w) x = with_plain_step s x
 noted sh s (StoreValue v n) x = with_plain_step s x
 noted sh s (StoreRoot v r) x = with_plain_step s x
+noted sh s (HoldRoot v r) x = with_plain_step s x
 noted sh s (ExchangeField v i y z) x = record x { settled = false }
 noted sh s (ExchangeValue v m n) x = record x { settled = false }
 noted sh s (StoreSlot k r) x = record x { settled = false }
@@ -97,6 +99,7 @@ abbrev pub AskedOf : Shape → List (List Op) → SeatState → SectionState →
 AskedOf sh plan s x named (StoreField v i w) = HasSeenPhase s × (IsFalse sh.sharing → (op : Op) × Asks s x.meaning (seen_by sh plan s) (StoreField v i w) op)
 AskedOf sh plan s x named (StoreValue v n) = HasSeenPhase s × (IsFalse sh.sharing → (op : Op) × Asks s x.meaning (seen_by sh plan s) (StoreValue v n) op)
 AskedOf sh plan s x named (StoreRoot v r) = HasSeenPhase s × (IsFalse sh.sharing → (op : Op) × Asks s x.meaning (seen_by sh plan s) (StoreRoot v r) op)
+AskedOf sh plan s x named (HoldRoot v r) = HasSeenPhase s × (IsFalse sh.sharing → (op : Op) × Asks s x.meaning (seen_by sh plan s) (HoldRoot v r) op)
 AskedOf sh plan s x named (ExchangeField v i y z) = HasSeenPhase s
 AskedOf sh plan s x named (ExchangeValue v m n) = HasSeenPhase s
 -- slots are for heaps whose objects are shared

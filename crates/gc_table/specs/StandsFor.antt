@@ -6,6 +6,7 @@ use Rattle.mark_core.specs.Layout.{Words, words_of}
 use Rattle.mark_core.specs.Seats.{has_making, makes, last_made}
 use Rattle.mark_core.specs.Views.{makers}
 use Rattle.mark_core.specs.Cells.{in_use, field}
+use Rattle.mark_core.specs.Variables.{roots_now}
 use Rattle.mark_core.specs.Rules.HeapRules.{section_of_cell, number_of_cell}
 use Rattle.mark_core.specs.Steps.{Core}
 use Rattle.mark_core.specs.declared.kinds.Shape.{Shape}
@@ -80,7 +81,7 @@ IsSection sh w m = (m.heap.section ≡ w) × (length m.heap.variables ≡ sectio
 pub record Stands (sh : Shape) (roots identities values fields : List ℕ) (used : ℕ → Type 0) (seats : List SeatState) (ms : List Meaning) : Type 0 where
   pub sections : length ms ≡ sh.sections
   pub numbered : (w : ℕ) (m : Meaning) → slice_get ms w ≡ Some m → IsSection sh w m
-  -- each root agrees with its variable
+  -- each root, as the seats have it, agrees with its variable
   pub roots_agree : (w : ℕ) (m : Meaning) → slice_get ms w ≡ Some m → (v : ℕ) → v < section_variables → WordAgrees identities (object_count ms) w (slice_index roots (w * section_variables + v)) (variable m.heap v)
   -- a plain heap has no slots: those of its words stay nil
   pub slots_nil : (k : ℕ) → slice_index roots (sh.sections * section_variables + k) ≡ 0
@@ -92,7 +93,7 @@ pub record Stands (sh : Shape) (roots identities values fields : List ℕ) (used
 
 -- these words and seats agree with what they mean
 abbrev pub StandsIn : Shape → Words → List SeatState → List Meaning → Type 0
-StandsIn sh w seats ms = Stands sh w.roots w.identities w.values w.fields (λ c. IsTrue (in_use w.allocs (makers seats) c)) seats ms
+StandsIn sh w seats ms = Stands sh (roots_now w.roots seats) w.identities w.values w.fields (λ c. IsTrue (in_use w.allocs (makers seats) c)) seats ms
 
 -- the words and seats of this state agree with what they mean
 abbrev pub StandsFor : Core → List Meaning → Type 0

@@ -7,6 +7,7 @@ use Rattle.mark_core.specs.Bits.{cell_bit}
 use Rattle.mark_core.specs.Seats.{has_turn}
 use Rattle.mark_core.specs.Views.{makers}
 use Rattle.mark_core.specs.Cells.{in_use, IsReachableCell}
+use Rattle.mark_core.specs.Variables.{roots_now}
 use Rattle.mark_core.specs.Rules.HeapRules.{section_of_cell, number_of_cell}
 use Rattle.mark_core.specs.declared.kinds.Shape.{Shape}
 use Rattle.mark_core.specs.declared.kinds.Phase.TheVariants.{Full}
@@ -82,13 +83,13 @@ pub record Fullness (sh : Shape) (w : Words) (seats : List SeatState) (xs : List
   pub found_by : EachSection xs (λ k x. IsTrue x.full → (w.phase ≡ 5) × (w.named ≡ k))
   pub found : w.phase ≡ 5 → (k : ℕ) × (x : SectionState) × (slice_get xs k ≡ Some x) × IsTrue x.full
   pub published : w.phase ≡ 5 → EachCell sh (λ c. IsTrue (cell_bit w.allocs c))
-  pub reached : w.phase ≡ 5 → EachCell sh (IsReachableCell sh w.roots w.fields)
+  pub reached : w.phase ≡ 5 → EachCell sh (IsReachableCell sh (roots_now w.roots seats) w.fields)
   -- no seat stores any more: each that is active has read Full, or no phase
   pub seen : w.phase ≡ 5 → All (λ (s : SeatState). IsTrue s.active → IfSome s.phase_seen (λ p. p ≡ Full)) seats
 
 -- after an exact cycle in the catalogue's turn each cell in use is reachable, until the catalogue's seat stores again
 abbrev pub IsSettled : Shape → Words → List SeatState → SectionState → Type 0
-IsSettled sh w seats x = IsTrue x.settled → (x.seasons % 2 ≡ 0) × EachCell sh (λ c. IsTrue (in_use w.allocs (makers seats) c) → IsReachableCell sh w.roots w.fields c)
+IsSettled sh w seats x = IsTrue x.settled → (x.seasons % 2 ≡ 0) × EachCell sh (λ c. IsTrue (in_use w.allocs (makers seats) c) → IsReachableCell sh (roots_now w.roots seats) w.fields c)
 
 -- all of these
 pub record Tells (sh : Shape) (w : Words) (seats : List SeatState) (plan : List (List Op)) (xs : List SectionState) : Type 0 where

@@ -1,17 +1,18 @@
 //! A heap is made with all its seats, and closed with all of them.
-ghost use Rattle.std.specs.Prelude.{◌≡◌, ◌≢◌, ℕ, ◌<◌, ◌≤◌, slice_get, Some, IfOk, vec_len};
+ghost use Rattle.std.specs.Prelude.{◌≡◌, ◌≢◌, ◌∷◌, ℕ, ◌<◌, ◌≤◌, slice_get, Some, IfOk, vec_len};
 ghost use Rattle.mark_core.specs.Shapes.{IsShape};
 ghost use Rattle.mark_core.specs.Start.{start_seat as start_seat_of};
-ghost use Rattle.gc_table.specs.Ends.{IsEnd, IsLeft};
-ghost use Rattle.gc_table.specs.Rule.{newcomer, opens, opened_by, takes_in, nobody, HasLog, HasSection, KnowsFull};
-ghost use Rattle.gc_table.specs.Seats.{IsFresh, IsOutside, Sits, state_of, view_of};
+ghost use Rattle.gc_table.specs.Ends.{HasRoom, IsEnd, IsLeft};
+ghost use Rattle.gc_table.specs.Rule.{newcomer, opens, takes_in, HasLog, HasSection, KnowsFull};
+ghost use Rattle.gc_table.specs.Seen.{HasSeen, newcomer_token, opened_in, opens_in, nobody_token, takes_in_token};
+ghost use Rattle.gc_table.specs.Seats.{IsFresh, IsOutside, seen_of, Sits, state_of, view_of};
 ghost use Rattle.mark_core.specs.Numbers.{most_seats};
 
 use crate::plan::{PlanTag, tag_of};
 use crate::rule::{Key, Rule};
 use crate::seat::{Heap, HeapSeat};
-use crate::view::View;
-use crate::words::{Words, words_of};
+use crate::view::TokenState;
+use crate::words::{Room, Words, room_of, words_of};
 use atomic_table::{Join, Seat, Split, Table};
 use mark_core::{Bases, SeatState, Shape, start_seat, start_words};
 use plain_heap::{OutOfMemory, Plan};
@@ -19,18 +20,18 @@ use std::alloc::{AllocError, Global};
 
 pub struct Opens;
 
-impl Split<View> for Opens {
-    ghost left = { opens };
+impl Split<TokenState> for Opens {
+    ghost left = { opens_in };
 
-    ghost right = { opened_by };
+    ghost right = { opened_in };
 }
 
 pub struct TakesIn;
 
-impl Join<View> for TakesIn {
-    ghost both = { takes_in };
+impl Join<TokenState> for TakesIn {
+    ghost both = { takes_in_token };
 
-    ghost spent = { nobody };
+    ghost spent = { nobody_token };
 }
 
 impl Heap {
@@ -40,7 +41,7 @@ impl Heap {
     {
         let words = start_words(alloc, &shape)?;
         let key = Key { shape, plan };
-        let (table, token) = Table::<(), View, Key, Rule, Global>::of_words(
+        let (table, token) = Table::<(), TokenState, Key, Rule, Global>::of_words(
             alloc,
             words.as_slice(),
             &key,
@@ -111,11 +112,12 @@ impl Heap {
         }
     }
 
-    fn absorb(&self, first: &mut Seat<(), View>, other: HeapSeat)
+    fn absorb(&self, first: &mut Seat<(), TokenState>, other: HeapSeat)
         requires first { IsLeft self.now first.old }
         requires other { Sits self.now other × IsOutside (view_of other) × ((state_of other).number ≢ 0) }
         ensures left { IsLeft self.now first.new }
-        ensures both { first.new.me.0 ≡ takes_in first.old.me.0 (view_of other) }
+        ensures both { first.new.me.0.view ≡ takes_in first.old.me.0.view (view_of other) }
+        ensures told { (first.new.me.0.seen ≡ first.old.me.0.seen) × (first.new.me.0.heard ≡ seen_of other ∷ first.old.me.0.heard) }
     {
         let HeapSeat {
             state: _,
@@ -125,14 +127,15 @@ impl Heap {
         self.table.shared.join_seat::<TakesIn>(first, token);
     }
 
-    fn join_all(&self, mut seats: Vec<HeapSeat>) -> Seat<(), View>
+    fn join_all(&self, mut seats: Vec<HeapSeat>) -> Seat<(), TokenState>
         requires some { 0 < vec_len seats }
         requires seats { (i : ℕ) (s : HeapSeat) → slice_get seats.items i ≡ Some s → Sits self.now s × ((state_of s).number ≡ i) × IsOutside (view_of s) }
         ensures left { IsLeft self.now result }
-        ensures first { (s : HeapSeat) → slice_get seats.items 0 ≡ Some s → (result.me.0.state ≡ state_of s) × (result.me.0.plan ≡ (view_of s).plan) × (result.me.0.opened ≡ (view_of s).opened) }
-        ensures sections { (i : ℕ) (s : HeapSeat) (w : ℕ) → slice_get seats.items i ≡ Some s → (state_of s).section ≡ Some w → HasSection result.me.0 w (view_of s).own }
-        ensures logs { (i : ℕ) (s : HeapSeat) → slice_get seats.items i ≡ Some s → HasLog result.me.0 i (view_of s).log }
-        ensures full { (i : ℕ) (s : HeapSeat) → slice_get seats.items i ≡ Some s → KnowsFull (view_of s) → KnowsFull result.me.0 }
+        ensures first { (s : HeapSeat) → slice_get seats.items 0 ≡ Some s → (result.me.0.view.state ≡ state_of s) × (result.me.0.view.plan ≡ (view_of s).plan) × (result.me.0.view.opened ≡ (view_of s).opened) }
+        ensures sections { (i : ℕ) (s : HeapSeat) (w : ℕ) → slice_get seats.items i ≡ Some s → (state_of s).section ≡ Some w → HasSection result.me.0.view w (view_of s).own }
+        ensures logs { (i : ℕ) (s : HeapSeat) → slice_get seats.items i ≡ Some s → HasLog result.me.0.view i (view_of s).log }
+        ensures seen { (i : ℕ) (s : HeapSeat) → slice_get seats.items i ≡ Some s → HasSeen result.me.0 (seen_of s) }
+        ensures full { (i : ℕ) (s : HeapSeat) → slice_get seats.items i ≡ Some s → KnowsFull (view_of s) → KnowsFull result.me.0.view }
     {
         let HeapSeat {
             state: _,
@@ -145,10 +148,23 @@ impl Heap {
         first
     }
 
-    fn close_all(self, alloc: Global, seats: Vec<HeapSeat>) -> Result<Words, AllocError>
+    /// Room for the words of the heap, for [`Heap::close_into`].
+    pub fn room(&self, alloc: Global) -> Result<Room, OutOfMemory>
+        ensures { IfOk result (HasRoom self.now.shape) }
+    {
+        match room_of(alloc, &self.bases) {
+            Ok(room) => Ok(room),
+            Err(_) => Err(OutOfMemory),
+        }
+    }
+
+    /// Joins all seats, and gives the words that say what lies where. The seats are all the heap's, in order, each
+    /// outside the world, its stop and its help.
+    pub fn close_into(self, room: Room, seats: Vec<HeapSeat>) -> Words
+        requires room { HasRoom self.shape room }
         requires some { 0 < vec_len seats }
         requires seats { (i : ℕ) (s : HeapSeat) → slice_get seats.items i ≡ Some s → Sits self s × ((state_of s).number ≡ i) × IsOutside (view_of s) }
-        ensures { IfOk result (λ w. IsEnd self.shape seats.items w) }
+        ensures { IsEnd self.shape seats.items result }
     {
         let first = self.join_all(seats);
         let Heap {
@@ -157,22 +173,19 @@ impl Heap {
             bases,
         } = self;
         let closed = table.close_with(first);
-        let words = words_of(alloc, &bases, &closed);
+        let words = words_of(room, &bases, &closed);
         closed.free();
         words
     }
 
-    /// Joins all seats, and gives the words that say what lies where. The seats are all the heap's, in order, each
-    /// outside the world, its stop and its help. If memory runs out the heap and the seats are gone.
+    /// [`Heap::close_into`] with room of its own. If memory runs out the heap and the seats are gone.
     pub fn close(self, alloc: Global, seats: Vec<HeapSeat>) -> Result<Words, OutOfMemory>
         requires some { 0 < vec_len seats }
         requires seats { (i : ℕ) (s : HeapSeat) → slice_get seats.items i ≡ Some s → Sits self s × ((state_of s).number ≡ i) × IsOutside (view_of s) }
         ensures { IfOk result (λ w. IsEnd self.shape seats.items w) }
     {
-        match self.close_all(alloc, seats) {
-            Ok(words) => Ok(words),
-            Err(_) => Err(OutOfMemory),
-        }
+        let room = self.room(alloc)?;
+        Ok(self.close_into(room, seats))
     }
 
     /// The sizes of the heap.

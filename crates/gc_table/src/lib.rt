@@ -22,6 +22,8 @@
 //! - The events of all seats, in one order, lead from the start to these words and records, and the log of each seat is
 //!   its part of them (`specs/Past.antt`). So no word changes but by a step in a log, and no log has a word that wasn't
 //!   there. The start is a single seat; it makes the others (`Split`), and takes them in at the end (`Join`).
+//! - What a seat or a stamp has seen is the beginning of these events (`specs/Seen.antt`). So all logs are parts of one
+//!   run while the heap is open too (`seats_share_run`), and a seat that learns a stamp goes on from it (`order_kept`).
 //!
 //! # Steps
 //!
@@ -45,6 +47,7 @@ pub mod resting;
 mod rule;
 mod run_laws;
 pub mod seat;
+pub mod stamps;
 mod stepping;
 pub mod sweep;
 pub mod tracing;
@@ -58,10 +61,12 @@ pub use laws::{
     stands_is_kept, stands_starts,
 };
 pub use run_laws::{
-    counter_told, death_told, events_agree, field_won_once, lock_held, lost_for_good,
-    none_forgotten, none_freed, objects_stay, one_object_lent, raises_counted, reached_have_cells,
-    reads_tell, root_found, runs_agree, same_words, start_agrees, steps_find, threads_free_none,
-    threads_share_one_heap, unshared_stores, wins_told, won_once,
+    counter_told, death_told, events_agree, field_won_once, histories_keep_weak, lock_held,
+    lost_for_good, none_forgotten, none_freed, objects_stay, one_object_lent, one_order,
+    order_kept, raises_counted, reached_have_cells, reads_tell, root_found, runs_agree, same_words,
+    seats_see_runs, seats_share_run, stamps_share_runs, start_agrees, steps_find, steps_follow,
+    threads_free_none, threads_share_one_heap, unshared_stores, weak_remembered, wins_told,
+    won_once,
 };
-pub use seat::{Heap, HeapSeat};
-pub use words::Words;
+pub use seat::{Heap, HeapSeat, Stamp};
+pub use words::{Room, Words};

@@ -134,6 +134,29 @@ impl Heap {
         self.store_step(seat, Step::StoreRoot { v, r });
     }
 
+    /// Puts a reference into variable v, as `store_root` does, but not into its root, which lags until `flush_root`.
+    /// Answers what the root has.
+    pub fn hold_root(&self, seat: &mut HeapSeat, v: u8, r: u64) -> u64
+        requires seat { Sits self.now seat.old }
+        requires may { May (Step.HoldRoot v r) (view_of seat.old) }
+        requires asked { Asked (Step.HoldRoot v r) (view_of seat.old) }
+        ensures seat { Sits self.now seat.new }
+        ensures view { Across (Found (Step.HoldRoot v r) result) seat.old seat.new }
+        ensures plain { Across (IsPlainStep (Step.HoldRoot v r)) seat.old seat.new }
+    {
+        self.take_step(seat, Operation::Load, Step::HoldRoot { v, r })
+    }
+
+    /// Stores variable v in its root. A seat leaves the world once no root lags.
+    pub fn flush_root(&self, seat: &mut HeapSeat, v: u8)
+        requires seat { Sits self.now seat.old }
+        requires may { May (Step.FlushRoot v) (view_of seat.old) }
+        ensures seat { Sits self.now seat.new }
+        ensures view { Across (Stored (Step.FlushRoot v)) seat.old seat.new }
+    {
+        self.store_step(seat, Step::FlushRoot { v });
+    }
+
     /// Stores a reference in slot k of the seat's section, as in a variable. Objects must be shared.
     pub fn store_slot(&self, seat: &mut HeapSeat, k: u16, r: u64)
         requires seat { Sits self.now seat.old }

@@ -6,11 +6,12 @@
 ghost use Rattle.std.specs.Prelude.{◌≡◌, IsFalse, IsTrue};
 ghost use Rattle.gc_table.specs.Entries.{is_store};
 ghost use Rattle.gc_table.specs.Operations.{HasTaken, left_by, MayTake, Writes};
+ghost use Rattle.gc_table.specs.Seen.{Saw, StepsOn};
 ghost use Rattle.gc_table.specs.Taking.{Finds, IsBlind};
 
 use crate::rule::{AtFound, AtStored, PicksStep};
 use crate::seat::Heap;
-use crate::view::View;
+use crate::view::TokenState;
 use atomic_table::Seat;
 use mark_core::Step;
 
@@ -33,17 +34,18 @@ impl Heap {
     #[inline(always)]
     pub(crate) fn take_told<T: PicksStep>(
         &self,
-        token: &mut Seat<(), View>,
+        token: &mut Seat<(), TokenState>,
         word: usize,
         operation: Operation,
         _step: Step,
     ) -> u64
         requires step { _step ≡ T.step }
         requires take { MayTake self.now token.old word T.step }
-        requires kind { Writes T.step (left_by operation) token.old.me.0 }
+        requires kind { Writes T.step (left_by operation) token.old.me.0.view }
         requires told { IsFalse (is_store T.step) }
         ensures taken { HasTaken T.step result token.old token.new }
-        ensures finds { Finds T.step result token.old.me.0 }
+        ensures finds { Finds T.step result token.old.me.0.view }
+        ensures saw { Saw T.step result token.old.me.0 token.new.me.0 }
     {
         let table = &self.table.shared;
         match operation {
@@ -62,17 +64,18 @@ impl Heap {
     /// A store isn't told what it overwrites, so the step has to be blind to that.
     pub(crate) fn store_told<T: PicksStep>(
         &self,
-        token: &mut Seat<(), View>,
+        token: &mut Seat<(), TokenState>,
         word: usize,
         new: u64,
         _step: Step,
     )
         requires step { _step ≡ T.step }
         requires take { MayTake self.now token.old word T.step }
-        requires kind { Writes T.step (λ _. new) token.old.me.0 }
-        requires blind { IsBlind T.step token.old.me.0 }
+        requires kind { Writes T.step (λ _. new) token.old.me.0.view }
+        requires blind { IsBlind T.step token.old.me.0.view }
         requires told { IsTrue (is_store T.step) }
         ensures taken { HasTaken T.step new token.old token.new }
+        ensures goes { StepsOn T.step token.old.me.0 token.new.me.0 }
     {
         self.table.shared.store::<AtStored<T>>(token, word, new)
     }

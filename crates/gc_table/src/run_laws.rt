@@ -2,11 +2,15 @@ ghost use Rattle.gc_table.specs.Counting.{RaisesCounted, WinsTold};
 ghost use Rattle.gc_table.specs.Finding.{StepsFind};
 ghost use Rattle.gc_table.specs.AgreementLaws.{DeathTold, StartAgrees, EventsAgree, RunsAgree, NoneForgotten, ReadsTell, ReachedHaveCells, SameWords, UnsharedStores, ObjectsStay, WonOnce, FieldWonOnce, LostForGood};
 ghost use Rattle.gc_table.specs.Lending.{OneObjectLent};
+ghost use Rattle.gc_table.specs.OneOrder.{OneOrder};
+ghost use Rattle.gc_table.specs.OpenRuns.{SeatsSeeRuns, SeatsShareRun, StepsFollow};
 ghost use Rattle.gc_table.specs.Rooted.{RootFound};
 ghost use Rattle.gc_table.specs.Runs.{NoneFreed};
 ghost use Rattle.gc_table.specs.Sharing.{ThreadsShareOneHeap};
 ghost use Rattle.gc_table.specs.Single.{CounterTold, LockHeld};
+ghost use Rattle.gc_table.specs.Stamps.{OrderKept, StampsShareRuns};
 ghost use Rattle.gc_table.specs.Threads.{ThreadsFreeNone};
+ghost use Rattle.gc_table.specs.Weak.{HistoriesKeepWeak, WeakRemembered};
 
 /// No event of a run of the core frees a cell that is reachable just before it.
 #[tactic(auto, using(crate::proofs::Freeing::none_freed))]
@@ -30,6 +34,42 @@ pub fn threads_share_one_heap()
 /// A step in an open heap found what one plain heap had, after a run with the seat's log as a part.
 pub fn steps_find()
     ensures { StepsFind }
+{}
+
+/// A later step of a seat finds its word after a history that goes on from that of an earlier one.
+#[tactic(auto, using(crate::proofs::Stamped::steps_follow))]
+pub fn steps_follow()
+    ensures { StepsFollow }
+{}
+
+/// What a seat of an open heap has seen is one run of the core, with the seat's whole log as a part. After each step the
+/// words agree with one plain heap, and each step found what this heap had just before.
+#[tactic(auto, using(crate::proofs::Stamped::seats_see_runs))]
+pub fn seats_see_runs()
+    ensures { SeatsSeeRuns }
+{}
+
+/// At every moment what all seats have done so far is one run of the core, each seat's log being its part of it. After
+/// each step the words agree with one plain heap, and each step found what this heap had just before.
+pub fn seats_share_run()
+    ensures { SeatsShareRun }
+{}
+
+/// Threads agree on the order in which others store, in an open heap too: if two values change only from 0, and one thread
+/// finds 1 in the first and then 0 in the second, no other finds 1 in the second and then 0 in the first.
+pub fn one_order()
+    ensures { OneOrder }
+{}
+
+/// If a seat goes on from a stamp of another, what that one had done is a part of the same run.
+pub fn stamps_share_runs()
+    ensures { StampsShareRuns }
+{}
+
+/// What a seat does after it was told a stamp stands behind all that the stamp's seat had done, in each run that goes on
+/// from what it has seen.
+pub fn order_kept()
+    ensures { OrderKept }
 {}
 
 /// If section 0's seat stores at most once in a variable, all who read it find the same object, or nil before.
@@ -103,6 +143,16 @@ pub fn lost_for_good()
 /// for the cell later, and finds nothing or another object there, knows that this one is lost.
 pub fn death_told()
     ensures { DeathTold }
+{}
+
+/// Once a seat's log has a weak reference, its object is in that cell and published, or gone, whatever happens.
+pub fn histories_keep_weak()
+    ensures { HistoriesKeepWeak }
+{}
+
+/// So it is at each later step of this seat.
+pub fn weak_remembered()
+    ensures { WeakRemembered }
 {}
 
 /// No step forgets an object, and only a store in it, or an exchange that finds what it expects, changes one.

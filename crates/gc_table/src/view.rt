@@ -1,7 +1,7 @@
 //! What a seat knows. Only contracts see it.
 ghost use Rattle.std.specs.Prelude.{◌≡◌};
 
-use mark_core::{SeatState, Shape, Step};
+use mark_core::{Event, SeatState, Shape, Step};
 use plain_heap::{Op, PlainHeap, Ref};
 use std::collections::LinkedList;
 
@@ -84,4 +84,16 @@ pub struct View {
     pub joined: LinkedList<(u32, SectionState)>,
     /// Their logs, likewise.
     pub logs: LinkedList<(u32, LinkedList<Entry>)>,
+}
+
+/// What a token of the table has: that of a seat, or of a stamp of what a seat had seen.
+pub struct TokenState {
+    /// What the seat knows, or knew.
+    pub view: View,
+    /// Events of all seats in the order in which they happened, up to the seat's last step or later.
+    pub seen: LinkedList<Event>,
+    /// Histories that the seat was told.
+    pub heard: LinkedList<LinkedList<Event>>,
+    /// Whether it is a stamp, and no seat.
+    pub stamp: bool,
 }

@@ -2,7 +2,7 @@
 ghost use Rattle.std.specs.Prelude.{◌≡◌, ◌-◌, ◌≤◌, IfOk, take, drop};
 ghost use Rattle.std.specs.Slots.{slots_items, slots_len, IsFull};
 ghost use Rattle.mark_core.specs.Layout.{region_sizes, total_words};
-ghost use Rattle.gc_table.specs.Ends.{AreWords};
+ghost use Rattle.gc_table.specs.Ends.{AreWords, HasRoom, IsRoomFor};
 
 use atomic_table::Closed;
 use mark_core::{Bases, NAMED, PHASE, Phase, phase_of, reference_in};
@@ -29,41 +29,73 @@ pub struct Words {
     pub roots: Vec<u64>,
 }
 
+/// Room for the words of a heap when it is closed.
+#[derive(Drop)]
+pub struct Room {
+    idents: Vec<u64>,
+    values: Vec<u64>,
+    fields: Vec<u64>,
+    alloc: Vec<u64>,
+    positions: Vec<u64>,
+    roots: Vec<u64>,
+}
+
+fn room_between(alloc: Global, from: usize, to: usize) -> Result<Vec<u64>, AllocError>
+    requires { from ≤ to }
+    ensures { IfOk result (IsRoomFor (to - from)) }
+{
+    Vec::with_capacity(alloc, to - from)
+}
+
+pub(crate) fn room_of(alloc: Global, bases: &Bases) -> Result<Room, AllocError>
+    ensures { IfOk result (HasRoom bases.now.shape) }
+{
+    Ok(Room {
+        idents: room_between(alloc, bases.identity_at(0), bases.value_at(0))?,
+        values: room_between(alloc, bases.value_at(0), bases.field_at(0, 0))?,
+        fields: room_between(alloc, bases.field_at(0, 0), bases.pool_at(0, 0))?,
+        alloc: room_between(alloc, bases.alloc_at(0), bases.mark_at(0))?,
+        positions: room_between(alloc, bases.position_at(0), bases.root_at(0, 0))?,
+        roots: room_between(alloc, bases.root_at(0, 0), bases.owner_at(0))?,
+    })
+}
+
 #[tactic(auto, using(crate::proofs::Records::word_reads))]
-fn region(
-    alloc: Global,
-    closed: &Closed<(), Global>,
-    from: usize,
-    to: usize,
-) -> Result<Vec<u64>, AllocError>
+fn region(room: Vec<u64>, closed: &Closed<(), Global>, from: usize, to: usize) -> Vec<u64>
+    requires room { IsRoomFor (to - from) room }
     requires full { IsFull closed.now.words }
     requires within { (from ≤ to) × (to ≤ slots_len closed.now.words) }
-    ensures { IfOk result (λ v. v.items ≡ take (to - from) (drop from (slots_items closed.now.words))) }
+    ensures { result.items ≡ take (to - from) (drop from (slots_items closed.now.words)) }
 {
-    let mut words = Vec::with_capacity(alloc, to - from)?;
+    let mut words = room;
     for i in from..to {
         words.push_reserved(closed.word(i));
     }
-    Ok(words)
+    words
 }
 
-pub(crate) fn words_of(
-    alloc: Global,
-    bases: &Bases,
-    closed: &Closed<(), Global>,
-) -> Result<Words, AllocError>
+pub(crate) fn words_of(room: Room, bases: &Bases, closed: &Closed<(), Global>) -> Words
+    requires room { HasRoom bases.now.shape room }
     requires full { IsFull closed.now.words }
     requires whole { slots_len closed.now.words ≡ total_words (region_sizes bases.now.shape) }
-    ensures { IfOk result (AreWords bases.now.shape (slots_items closed.now.words)) }
+    ensures { AreWords bases.now.shape (slots_items closed.now.words) result }
 {
-    Ok(Words {
-        idents: region(alloc, closed, bases.identity_at(0), bases.value_at(0))?,
-        values: region(alloc, closed, bases.value_at(0), bases.field_at(0, 0))?,
-        fields: region(alloc, closed, bases.field_at(0, 0), bases.pool_at(0, 0))?,
-        alloc: region(alloc, closed, bases.alloc_at(0), bases.mark_at(0))?,
-        positions: region(alloc, closed, bases.position_at(0), bases.root_at(0, 0))?,
+    let Room {
+        idents,
+        values,
+        fields,
+        alloc,
+        positions,
+        roots,
+    } = room;
+    Words {
+        idents: region(idents, closed, bases.identity_at(0), bases.value_at(0)),
+        values: region(values, closed, bases.value_at(0), bases.field_at(0, 0)),
+        fields: region(fields, closed, bases.field_at(0, 0), bases.pool_at(0, 0)),
+        alloc: region(alloc, closed, bases.alloc_at(0), bases.mark_at(0)),
+        positions: region(positions, closed, bases.position_at(0), bases.root_at(0, 0)),
         phase: phase_of(closed.word(PHASE)),
         named: reference_in(closed.word(NAMED)),
-        roots: region(alloc, closed, bases.root_at(0, 0), bases.owner_at(0))?,
-    })
+        roots: region(roots, closed, bases.root_at(0, 0), bases.owner_at(0)),
+    }
 }

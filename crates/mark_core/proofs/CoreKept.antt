@@ -1,14 +1,17 @@
 -- The rule of the core, part by part: each event that is allowed keeps it, and the state in which nothing has happened meets it.
-use Rattle.std.proofs.Common.{ℕ, ◌≡◌, ◌<◌, List, set, get_or, length, arith, refl, sym, ap, ◌∙◌, subst, false, Some, None, [], ◌∷◌, Option}
-use Rattle.std.specs.Prelude.{IfSome, IsTrue, IsFalse, slice_get, is_none, if◌then◌else◌}
+use Rattle.std.proofs.Common.{ℕ, ◌≡◌, ◌<◌, List, set, get_or, length, arith, refl, sym, ap, ◌∙◌, subst, Bool, true, false, ◌&&◌, eqb, Some, None, [], ◌∷◌, Option}
+use Rattle.std.specs.Prelude.{IfSome, IsTrue, IsFalse, slice_get, is_none, nat_lt, if◌then◌else◌}
 use Rattle.std.specs.List.{All}
-use Rattle.std.proofs.lemmas.Bool.{true≢false, false≢true}
+use Rattle.std.proofs.lemmas.Bool.{true≢false, false≢true, and_parts, eqb-true}
 use Rattle.std.proofs.lemmas.List.Elements.{All-get_or, All-set, All-head, All-tail}
 use Rattle.std.proofs.lemmas.List.{get_or-map, length-map}
 use Rattle.std.proofs.lemmas.Option.{slice_get_within, get_or_from_slice_get}
 use Rattle.mark_core.specs.Layout.{Words, words_of, put_word, region_sizes}
 use Rattle.mark_core.specs.Views.{Standing, standings, standing_of}
 use Rattle.mark_core.specs.Parts.{parts}
+use Rattle.mark_core.specs.Seats.{may_mutate, has_turn}
+use Rattle.mark_core.proofs.Lagging.{LagsInTurn, idle-lags, not-counted, not-active}
+use Rattle.mark_core.proofs.World.WorldReading.{at-standing}
 use Rattle.mark_core.specs.Effects.{place, written, seat_after}
 use Rattle.mark_core.specs.Steps.{Core, AllTrue, failing_part, after_event, others_after, start_core, run_of}
 use Rattle.mark_core.specs.Rules.WorldRules.{Season, NoneActive}
@@ -20,7 +23,7 @@ use Rattle.mark_core.proofs.Doing.{local-kept}
 use Rattle.mark_core.specs.declared.kinds.Shape.{Shape}
 use Rattle.mark_core.specs.declared.kinds.Event.{Event}
 use Rattle.mark_core.specs.declared.kinds.Step.{Step}
-use Rattle.mark_core.specs.declared.kinds.Step.TheVariants.{EnterStep, LeaveStep, DropStep, ReadSeason, NextSeason}
+use Rattle.mark_core.specs.declared.kinds.Step.TheVariants.{EnterStep, LeaveStep, DropStep, ReadSeason, NextSeason, StoreRoot, HoldRoot, FlushRoot}
 use Rattle.mark_core.specs.declared.seat.SeatState.{SeatState}
 use Rattle.mark_core.specs.Start.{start_words, start_seats}
 use Rattle.mark_core.specs.Strong.{IsStrongSeat}
@@ -72,15 +75,49 @@ all_inactive c i s k g h j d l =
     let yours : get_or ss j (standing_of d) ≡ standing_of (get_or c.seats j d) = get_or-map standing_of c.seats j d (standing_of d) l in
     subst (λ (t : Standing). IsFalse t.active) yours (none j (standing_of d) (rw length-map l))
 
+mutates_now : (s : SeatState) (P : Type 0) (b : Bool) → (b && may_mutate s) ≡ true → IsFalse (may_mutate s) → P
+mutates_now s P b e f = absurd (true≢false (sym (and_parts b (may_mutate s) e).1 ∙ f))
+
+-- Variables lag only while their seat mutates.
+-- a step that leaves the season keeps this
+lags_after : (sh : Shape) (w : Words) (seats : List SeatState) (s : SeatState) (step : Step) (old : ℕ) → touches_season step ≡ false → (IsTrue s.active → IsTrue s.counted) → (IsTrue s.knows → IsFalse s.active) → AllTrue (parts sh w seats s step)
+    → LagsInTurn s → LagsInTurn (seat_after sh s step old)
+lags_after sh w seats s ReadSeason old t counted knows ok h = absurd (true≢false t)
+lags_after sh w seats s NextSeason old t counted knows ok h = absurd (true≢false t)
+lags_after sh w seats s (StoreRoot v r) old t counted knows ok h = mutates_now s _ (nat_lt v 32) ok.0
+lags_after sh w seats s (HoldRoot v r) old t counted knows ok h = mutates_now s _ (nat_lt v 32) ok.0
+lags_after sh w seats s (FlushRoot v) old t counted knows ok h = mutates_now s _ (nat_lt v 32) ok.0
+lags_after sh w seats s EnterStep old t counted knows ok h = λ e. idle-lags s (not-active s counted (not-counted s ok.0)) h
+lags_after sh w seats s LeaveStep old t counted knows ok h = λ e. eqb-true s.lags 0 (and_parts (is_none s.owes && is_none s.cache && eqb s.got 0) (eqb s.lags 0) ok.1.1.1.0).1
+lags_after sh w seats s DropStep old t counted knows ok h = λ e. idle-lags s (knows ok.0) h
+lags_after sh w seats s step old t counted knows ok h = h
+
+-- a seat that reads the season anew finds what it knows
+turn_again : (section seen : Option ℕ) (old : ℕ) → IfSome seen (λ y. old ≡ y) → has_turn section (Some old) ≡ false → has_turn section seen ≡ false
+turn_again None None old k e = refl
+turn_again None (Some y) old k e = refl
+turn_again (Some w) None old k e = refl
+turn_again (Some w) (Some y) old k e = subst (λ (z : ℕ). has_turn (Some w) (Some z) ≡ false) k e
+
+lags_read : (s : SeatState) (old : ℕ) → s.active ≡ true → IfSome s.season_seen (λ y. old ≡ y) → LagsInTurn s → LagsInTurn (record s { season_seen = Some old })
+lags_read s old a k h = λ e. h (rw a (turn_again s.section s.season_seen old k (sym (ap (λ (b : Bool). b && has_turn s.section (Some old)) a) ∙ e)))
+
 -- a step that doesn't touch the season
-other_season : (c : Core) (i : ℕ) (s : SeatState) (step : Step) → IsCore c → slice_get c.seats i ≡ Some s → touches_season step ≡ false
+other_season : (c : Core) (i : ℕ) (s : SeatState) (step : Step) → IsCore c → slice_get c.seats i ≡ Some s → AllTrue (parts c.shape (words_of c.shape c.words) c.seats s step) → touches_season step ≡ false
     → Season (put_word (place c.shape s step) (written c.shape s step (found c s step)) (words_of c.shape c.words)).season (others_after c.shape step (set c.seats i (seat_after c.shape s step (found c s step))))
-other_season c i s step k g t =
+other_season c i s step k g ok t =
     let w : Words = words_of c.shape c.words in
     let P : SeatState → Type 0 = KnowsSeason w.season in
     let mine : P s = subst P (get_or_from_slice_get c.seats i s s g) (All-get_or P c.seats i s (slice_get_within c.seats i s g) k.sound.season.season_known) in
     let after : All P (others_after c.shape step (set c.seats i (seat_after c.shape s step (found c s step)))) = local-kept P c.shape step c.seats i _ (λ j. λ e. absurd (true≢false (sym e))) (λ j. λ e. absurd (true≢false (sym e))) k.sound.season.season_known (known_after c.shape s step (found c s step) w.season t mine) in
-    rw (season-kept c.shape s step (written c.shape s step (found c s step)) w t) (record { season_known = after })
+    let h : i < length c.seats = slice_get_within c.seats i s g in
+    let is : get_or c.seats i s ≡ s = get_or_from_slice_get c.seats i s s g in
+    let counted : IsTrue s.active → IsTrue s.counted = subst (λ (x : SeatState). IsTrue x.active → IsTrue x.counted) is (at-standing (λ (x : Standing). IsTrue x.active → IsTrue x.counted) c.seats i s h k.sound.world.active_counted) in
+    let knows : IsTrue s.knows → IsFalse s.active = λ e. subst (λ (x : SeatState). IsFalse x.active) is (all_inactive c i s k g e i s h) in
+    let own : LagsInTurn s = subst LagsInTurn is (All-get_or LagsInTurn c.seats i s h k.sound.season.lags_in_turn) in
+    let lags : All LagsInTurn (others_after c.shape step (set c.seats i (seat_after c.shape s step (found c s step)))) =
+    local-kept LagsInTurn c.shape step c.seats i _ (λ j e. refl) (λ j e. refl) k.sound.season.lags_in_turn (lags_after c.shape w c.seats s step (found c s step) t counted knows ok own) in
+    rw (season-kept c.shape s step (written c.shape s step (found c s step)) w t) (record { season_known = after; lags_in_turn = lags })
 
 season_at : (c : Core) (i : ℕ) (s : SeatState) (step : Step) → IsCore c → slice_get c.seats i ≡ Some s → AllTrue (parts c.shape (words_of c.shape c.words) c.seats s step)
     → Season (put_word (place c.shape s step) (written c.shape s step (found c s step)) (words_of c.shape c.words)).season (others_after c.shape step (set c.seats i (seat_after c.shape s step (found c s step))))
@@ -89,14 +126,24 @@ season_at c i s NextSeason k g ok =
     let P : SeatState → Type 0 = KnowsSeason (written c.shape s NextSeason (found c s NextSeason)) in
     let none = all_inactive c i s k g ok.0 in
     let mine : IsFalse s.active = subst (λ (t : SeatState). IsFalse t.active) (get_or_from_slice_get c.seats i s s g) (none i s (slice_get_within c.seats i s g)) in
-    record { season_known = All-set P c.seats i s (none_knows _ s mine) (λ j d l. none_knows _ (get_or c.seats j d) (none j d l)) }
+    let own : LagsInTurn s = subst LagsInTurn (get_or_from_slice_get c.seats i s s g) (All-get_or LagsInTurn c.seats i s (slice_get_within c.seats i s g) k.sound.season.lags_in_turn) in
+    record {
+      season_known = All-set P c.seats i s (none_knows _ s mine) (λ j d l. none_knows _ (get_or c.seats j d) (none j d l));
+      lags_in_turn = All-set LagsInTurn c.seats i s own k.sound.season.lags_in_turn;
+    }
 season_at c i s ReadSeason k g ok =
     let w : Words = words_of c.shape c.words in
     let same : w.season ≡ found c s ReadSeason = sym (words-get (region_sizes c.shape) 13 c.words 1 0 (omega arith)) in
     let P : SeatState → Type 0 = KnowsSeason (found c s ReadSeason) in
     let before : All P c.seats = subst (λ (z : ℕ). All (KnowsSeason z) c.seats) same k.sound.season.season_known in
-    record { season_known = All-set P c.seats i (seat_after c.shape s ReadSeason (found c s ReadSeason)) (λ e. refl) before }
-season_at c i s step k g ok = other_season c i s step k g refl
+    let is : get_or c.seats i s ≡ s = get_or_from_slice_get c.seats i s s g in
+    let known : P s = subst P is (All-get_or P c.seats i s (slice_get_within c.seats i s g) before) in
+    let own : LagsInTurn s = subst LagsInTurn is (All-get_or LagsInTurn c.seats i s (slice_get_within c.seats i s g) k.sound.season.lags_in_turn) in
+    record {
+      season_known = All-set P c.seats i (seat_after c.shape s ReadSeason (found c s ReadSeason)) (λ e. refl) before;
+      lags_in_turn = All-set LagsInTurn c.seats i (seat_after c.shape s ReadSeason (found c s ReadSeason)) (lags_read s (found c s ReadSeason) ok.0 (known ok.0) own) k.sound.season.lags_in_turn;
+    }
+season_at c i s step k g ok = other_season c i s step k g ok refl
 
 -- each event that is allowed keeps the rule of the season
 pub season-kept_by : (c : Core) (e : Event) → IsCore c → failing_part c e ≡ None → Season (words_of c.shape (after_event c e).words).season (after_event c e).seats
@@ -194,7 +241,7 @@ core-starts sh n z some few =
             references = references-starts sh n z;
             sweeping = sweeping-starts sh n z;
             exact = exact-starts sh n z;
-            season = record { season_known = each-seat (KnowsSeason w.season) sh n (λ k e. absurd (false≢true e)) };
+            season = record { season_known = each-seat (KnowsSeason w.season) sh n (λ k e. absurd (false≢true e)); lags_in_turn = each-seat LagsInTurn sh n (λ k e. refl) };
           };
       strong =
           record {

@@ -23,7 +23,7 @@ use Rattle.mark_core.proofs.Writing.SeatBoundsKept.{length-fits, fits-made, vari
 use Rattle.mark_core.specs.declared.kinds.Shape.{Shape}
 use Rattle.mark_core.specs.declared.kinds.Event.{Event}
 use Rattle.mark_core.specs.declared.kinds.Step.{Step}
-use Rattle.mark_core.specs.declared.kinds.Step.TheVariants.{Push, ReadField, StoreValue, StorePosition, StoreRoot, StoreNew, Split, Join, ReadRoot, ReadOwn, ReadCat, StoreField, Reset, AddStat, ReadStat, StoreLength, ReadLength, ExchangeField, LoadSlot, StoreSlot, ReadSlot}
+use Rattle.mark_core.specs.declared.kinds.Step.TheVariants.{Push, ReadField, StoreValue, StorePosition, StoreRoot, StoreNew, Split, Join, ReadRoot, ReadOwn, ReadCat, StoreField, Reset, AddStat, ReadStat, StoreLength, ReadLength, ExchangeField, LoadSlot, StoreSlot, ReadSlot, HoldRoot, FlushRoot}
 use Rattle.mark_core.specs.declared.seat.SeatState.{SeatState}
 use Rattle.mark_core.specs.declared.seat.CacheState.{CacheState}
 use Rattle.std.specs.List.{All}
@@ -69,6 +69,7 @@ counter_kept sh w which v k = at_counter (λ at. WordBounds sh (put_word at v w)
 write_kept : (sh : Shape) (w : Words) (seats : List SeatState) (s : SeatState) (step : Step) (old : ℕ) → Finds sh step old → WordBounds sh w → SeatBounds sh s → AllTrue (parts sh w seats s step) → only_reads step ≡ false → WordBounds sh (put_word (place sh s step) (written sh s step old) w)
 write_kept sh w seats s (StoreLength p) old g k b ok e = record { heads = All-set (λ n. n ≤ sh.entries) w.heads p (length_in_hand s.held p) (length-fits sh.entries s.held p b.held) k.heads; roots = k.roots; fields = k.fields }
 write_kept sh w seats s (StoreRoot v r) old g k b ok e = record { heads = k.heads; roots = All-set (IsReference sh) w.roots _ r (root-fits sh s r b ok.1.0) k.roots; fields = k.fields }
+write_kept sh w seats s (FlushRoot v) old g k b ok e = record { heads = k.heads; roots = All-set (IsReference sh) w.roots _ (seat_variable s v) (variable-fits sh s v b.env) k.roots; fields = k.fields }
 write_kept sh w seats s (StoreSlot j r) old g k b ok e = record { heads = k.heads; roots = All-set (IsReference sh) w.roots _ r (root-fits sh s r b ok.1.0) k.roots; fields = k.fields }
 write_kept sh w seats s (StoreField v i x) old g k b ok e = field_kept sh w _ (variable_or_nil s x) k (or-nil-fits sh s x b.env)
 write_kept sh w seats s (ExchangeField v i x y) old g k b ok e = field_kept sh w _ _ k (choose (IsReference sh) (eqb old (variable_or_nil s x)) (variable_or_nil s y) old (or-nil-fits sh s y b.env) g)
@@ -83,6 +84,7 @@ write_kept sh w seats s (ReadRoot section v) old g k b ok e = absurd (true≢fal
 write_kept sh w seats s (ReadCat v) old g k b ok e = absurd (true≢false e)
 write_kept sh w seats s (LoadSlot section j) old g k b ok e = absurd (true≢false e)
 write_kept sh w seats s (ReadSlot j) old g k b ok e = absurd (true≢false e)
+write_kept sh w seats s (HoldRoot v r) old g k b ok e = absurd (true≢false e)
 write_kept sh w seats s step old g k b ok e = record { heads = k.heads; roots = k.roots; fields = k.fields }
 
 -- the words after a step
@@ -114,6 +116,8 @@ pub has-room : (sh : Shape) (w : Words) (seats : List SeatState) (s : SeatState)
 has-room sh w seats s (Push p c) k ok = let a : length_in_hand s.held p < sh.entries = ltb-true (length_in_hand s.held p) sh.entries (and_parts (has_length s.held p) (nat_lt (length_in_hand s.held p) sh.entries) ok.1.0).1 in omega (arith, a, k.entries)
 has-room sh w seats s (ReadField c i) k ok = let a : i < sh.fields = ltb-true i sh.fields (and_parts (nat_lt c sh.cells) (nat_lt i sh.fields) (and_parts (nat_lt c sh.cells && nat_lt i sh.fields) (may_read_field sh s c i) ok.0).0).1 in omega (arith, a, k.fields)
 has-room sh w seats s (StoreRoot v r) k ok = ltb-true v 32 (and_parts _ _ ok.0).0
+has-room sh w seats s (HoldRoot v r) k ok = ltb-true v 32 (and_parts _ _ ok.0).0
+has-room sh w seats s (FlushRoot v) k ok = ltb-true v 32 (and_parts _ _ ok.0).0
 has-room sh w seats s (StoreNew c part word) k ok = let a : part ≤ sh.fields + 1 = leb-true part (sh.fields + 1) (and_parts (nat_lt c sh.cells) (nat_le part (sh.fields + 1)) (and_parts (nat_lt c sh.cells && nat_le part (sh.fields + 1)) (may_mutate s) ok.0).0).1 in omega (arith, a, k.fields)
 has-room sh w seats s step k ok = tt
 

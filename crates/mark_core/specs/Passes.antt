@@ -2,7 +2,7 @@
 use Rattle.mark_core.specs.declared.passes.Pass.{Pass}
 use Rattle.mark_core.specs.declared.passes.Pass.TheVariants.{Packets, Colour, Mutator, Making, World, Sweep, Counters, Help}
 use Rattle.mark_core.specs.declared.kinds.Step.{Step}
-use Rattle.mark_core.specs.declared.kinds.Step.TheVariants.{Reserve, Take, Give, Credit, Push, Pop, Look, ReadCount, ReadAlloc, ReadField, ReadRoot, SetMark, DirtyCard, ClearCard, ReadMarks, ReadCard, ReadPhase, ReadOwn, ReadValue, ReadIdent, ReadCat, StoreField, StoreValue, StoreRoot, ClaimBlock, ReleaseBlock, ReadFree, StoreNew, PublishCells, EnterStep, LeaveStep, RaiseStep, Observe, DropStep, StorePhase, Split, Join, NextBlock, NextOfCards, ReadBlockMarks, StoreAlloc, ClearMarks, WipeCard, StorePosition, StoreNamed, Reset, AddStat, ReadStat, StoreLength, ReadLength, OpenStep, JoinHelpStep, LeaveHelpStep, CloseStep, SeeHelp, ReadSeason, NextSeason, ExchangeField, ExchangeValue, LoadSlot, StoreSlot, ReadSlot, ReadWeak, CheckCard}
+use Rattle.mark_core.specs.declared.kinds.Step.TheVariants.{Reserve, Take, Give, Credit, Push, Pop, Look, ReadCount, ReadAlloc, ReadField, ReadRoot, SetMark, DirtyCard, ClearCard, ReadMarks, ReadCard, ReadPhase, ReadOwn, ReadValue, ReadIdent, ReadCat, StoreField, StoreValue, StoreRoot, ClaimBlock, ReleaseBlock, ReadFree, StoreNew, PublishCells, EnterStep, LeaveStep, RaiseStep, Observe, DropStep, StorePhase, Split, Join, NextBlock, NextOfCards, ReadBlockMarks, StoreAlloc, ClearMarks, WipeCard, StorePosition, StoreNamed, Reset, AddStat, ReadStat, StoreLength, ReadLength, OpenStep, JoinHelpStep, LeaveHelpStep, CloseStep, SeeHelp, ReadSeason, NextSeason, ExchangeField, ExchangeValue, LoadSlot, StoreSlot, ReadSlot, ReadWeak, CheckCard, HoldRoot, FlushRoot}
 
 -- the pass of each step
 abbrev pub pass_of : Step → Pass
@@ -39,6 +39,8 @@ pass_of (ExchangeValue v m n) = Mutator
 pass_of (StoreSlot k r) = Mutator
 pass_of (ReadSlot k) = Mutator
 pass_of (ReadWeak c) = Mutator
+pass_of (HoldRoot v r) = Mutator
+pass_of (FlushRoot v) = Mutator
 pass_of (ClaimBlock b) = Making
 pass_of ReleaseBlock = Making
 pass_of ReadFree = Making

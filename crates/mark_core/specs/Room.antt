@@ -3,7 +3,7 @@ use Rattle.std.specs.Prelude.{◌<◌}
 use Rattle.mark_core.specs.Held.{length_in_hand}
 use Rattle.mark_core.specs.declared.kinds.Shape.{Shape}
 use Rattle.mark_core.specs.declared.kinds.Step.{Step}
-use Rattle.mark_core.specs.declared.kinds.Step.TheVariants.{Push, ReadField, StoreRoot, StoreNew, StoreValue}
+use Rattle.mark_core.specs.declared.kinds.Step.TheVariants.{Push, ReadField, StoreRoot, StoreNew, StoreValue, HoldRoot, FlushRoot}
 use Rattle.mark_core.specs.declared.seat.SeatState.{SeatState}
 use Rattle.mark_core.specs.Numbers.{section_variables, value_bound}
 
@@ -12,6 +12,8 @@ abbrev pub HasRoom : SeatState → Step → Type 0
 HasRoom s (Push p c) = length_in_hand s.held p < 4294967295
 HasRoom s (ReadField c i) = i < 255
 HasRoom s (StoreRoot v r) = v < section_variables
+HasRoom s (HoldRoot v r) = v < section_variables
+HasRoom s (FlushRoot v) = v < section_variables
 HasRoom s (StoreNew c part word) = part < 255
 HasRoom s step = Unit {0}
 

@@ -108,7 +108,8 @@ fn of_mutator(bases: &Bases, s: &SeatState, step: &Step) -> usize
         Step::ReadCat { v } => bases.root_at(0, v),
         Step::StoreField { v, i, w: _ } => bases.field_at(own_cell(s, v), i),
         Step::StoreValue { v, n: _ } => bases.value_at(own_cell(s, v)),
-        Step::StoreRoot { v, r: _ } => bases.root_at(s.section.unwrap_or(0), v),
+        Step::StoreRoot { v, r: _ } | Step::HoldRoot { v, r: _ } | Step::FlushRoot { v } =>
+            bases.root_at(s.section.unwrap_or(0), v),
         Step::StoreSlot { k, r: _ } | Step::ReadSlot { k } => bases.slot_at(
             s.section.unwrap_or(0),
             k,

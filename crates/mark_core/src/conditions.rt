@@ -103,6 +103,8 @@ fn of_mutator(shape: &Shape, words: &[u64], s: &SeatState, step: &Step) -> Optio
         Step::StoreSlot { k, r } => mutator::check_store_slot(shape, s, k, r),
         Step::ReadSlot { k } => mutator::check_read_slot(shape, s, k),
         Step::ReadWeak { c } => mutator::check_read_weak(shape, s, c),
+        Step::HoldRoot { v, r } => mutator::check_store_root(s, v, r),
+        Step::FlushRoot { v } => mutator::check_flush_root(s, v),
         Step::ExchangeField {
             v,
             i,

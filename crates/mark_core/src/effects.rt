@@ -103,6 +103,8 @@ fn of_mutator(s: &mut SeatState, step: &Step, old: u64) -> u64
         Step::StoreValue { v: _, n } => u64::from(n),
         Step::StoreRoot { v, r } => mutator::store_root(s, v, r),
         Step::StoreSlot { k: _, r } => mutator::store_slot(s, r),
+        Step::HoldRoot { v, r } => mutator::hold_root(s, v, r, old),
+        Step::FlushRoot { v } => mutator::flush_root(s, v),
         Step::ExchangeField {
             v,
             i: _,

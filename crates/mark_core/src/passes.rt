@@ -53,6 +53,8 @@ pub fn pass_of(step: &Step) -> Pass
         | Step::StoreSlot { k: _, r: _ }
         | Step::ReadSlot { k: _ }
         | Step::ReadWeak { c: _ }
+        | Step::HoldRoot { v: _, r: _ }
+        | Step::FlushRoot { v: _ }
         | Step::ExchangeField {
             v: _,
             i: _,
@@ -185,6 +187,8 @@ fn of_mutator(step: &Step) -> u8
         Step::StoreSlot { k: _, r: _ } => 52,
         Step::ReadSlot { k: _ } => 53,
         Step::ReadWeak { c: _ } => 54,
+        Step::HoldRoot { v: _, r: _ } => 56,
+        Step::FlushRoot { v: _ } => 57,
         _ => unreachable!(),
     }
 }

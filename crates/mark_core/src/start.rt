@@ -42,6 +42,7 @@ pub fn start_seat(shape: &Shape, number: u32) -> SeatState
         owes: None,
         cleaning: None,
         env: [0; 32],
+        lags: 0,
         got: 0,
         cache: None,
         block: None,

@@ -1,7 +1,7 @@
 -- What a command does.
 use Rattle.std.specs.Prelude.{ℕ, ◌≡◌, ◌≤◌, ◌+◌, not, if◌then◌else◌, List, [], ◌∷◌, Bool, true, false, Option}
 use Rattle.mark_core.specs.declared.kinds.Step.{Step}
-use Rattle.mark_core.specs.declared.kinds.Step.TheVariants.{ReadOwn, ReadValue, ReadIdent, ReadCat, StoreField, StoreValue, StoreRoot, StoreNew, DirtyCard, CheckCard}
+use Rattle.mark_core.specs.declared.kinds.Step.TheVariants.{ReadOwn, ReadValue, ReadIdent, ReadCat, StoreField, StoreValue, StoreRoot, StoreNew, DirtyCard, CheckCard, HoldRoot}
 use Rattle.plain_heap.specs.declared.operation.Op.{Op}
 use Rattle.plain_heap.specs.declared.operation.Op.TheVariants as ops
 use Rattle.plain_heap.specs.PlainHeap.{Heap}
@@ -47,6 +47,7 @@ abbrev pub stores_plainly : Step → Bool
 stores_plainly (StoreField u i o) = true
 stores_plainly (StoreValue u n) = true
 stores_plainly (StoreRoot u r) = true
+stores_plainly (HoldRoot u r) = true
 stores_plainly step = false
 
 -- the step is no store that the plain heap sees

@@ -11,7 +11,7 @@ use Rattle.mark_core.specs.Steps.{failing_part}
 use Rattle.mark_core.specs.Steps.MutatorSteps.{names_last}
 use Rattle.mark_core.specs.declared.kinds.Event.{Event}
 use Rattle.mark_core.specs.declared.kinds.Step.{Step}
-use Rattle.mark_core.specs.declared.kinds.Step.TheVariants.{StoreField, StoreValue, StoreRoot, NextSeason}
+use Rattle.mark_core.specs.declared.kinds.Step.TheVariants.{StoreField, StoreValue, StoreRoot, NextSeason, HoldRoot}
 use Rattle.mark_core.specs.declared.seat.SeatState.{SeatState}
 use Rattle.mark_core.proofs.Blocks.BlocksStopped.{Taken}
 use Rattle.mark_core.proofs.Known.{acts}
@@ -170,6 +170,9 @@ module _ (x : TableState) (i : ℕ) (s : SeatState) (whole : IsState x) (alone :
   by-step (StoreRoot v r) t =
       inr (stores (StoreRoot v r) t refl (λ y. refl) (λ y. refl)
       (λ a more. rooted-makes (StoreRoot v r) t a v r (names_last s.cache r && eqb (length m.heap.objects + 1) s.made) refl more))
+  by-step (HoldRoot v r) t =
+      inr (stores (HoldRoot v r) t refl (λ y. refl) (λ y. refl)
+      (λ a more. rooted-makes (HoldRoot v r) t a v r (names_last s.cache r && eqb (length m.heap.objects + 1) s.made) refl more))
   by-step NextSeason t =
       let f : SectionState → SectionState = section_after x.core.shape x.plan s NextSeason in
       inl (record {

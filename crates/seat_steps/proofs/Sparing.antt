@@ -4,7 +4,7 @@ use Rattle.std.proofs.lemmas.Bool.{false≢true}
 use Rattle.std.specs.Bool.{OnFalse, OnTrue}
 use Rattle.mark_core.specs.declared.kinds.Phase.{Phase}
 use Rattle.mark_core.specs.declared.kinds.Step.{Step}
-use Rattle.mark_core.specs.declared.kinds.Step.TheVariants.{AddStat, ExchangeField, ExchangeValue, NextSeason, ReadSeason, StoreField, StoreNew, StoreRoot, StoreSlot, StoreValue}
+use Rattle.mark_core.specs.declared.kinds.Step.TheVariants.{AddStat, ExchangeField, ExchangeValue, NextSeason, ReadSeason, StoreField, StoreNew, StoreRoot, StoreSlot, StoreValue, HoldRoot}
 use Rattle.gc_table.specs.Log.{Only, all_steps}
 use Rattle.gc_table.specs.Running.{Ran}
 use Rattle.gc_table.specs.declared.view.View.{View}
@@ -30,6 +30,7 @@ goes_fills : (step : Step) → goes_on step ≡ true → fills_part step ≡ tru
 goes_fills (StoreField v i w) e = absurd (false≢true e)
 goes_fills (StoreValue v n) e = absurd (false≢true e)
 goes_fills (StoreRoot v r) e = absurd (false≢true e)
+goes_fills (HoldRoot v r) e = absurd (false≢true e)
 goes_fills (StoreSlot k r) e = absurd (false≢true e)
 goes_fills (ExchangeField v i x y) e = absurd (false≢true e)
 goes_fills (ExchangeValue v m n) e = absurd (false≢true e)
@@ -43,6 +44,7 @@ stays_fills : (p : Phase) (step : Step) → stays_in p step ≡ true → fills_p
 stays_fills p (StoreField v i w) e = absurd (false≢true e)
 stays_fills p (StoreValue v n) e = absurd (false≢true e)
 stays_fills p (StoreRoot v r) e = absurd (false≢true e)
+stays_fills p (HoldRoot v r) e = absurd (false≢true e)
 stays_fills p (StoreSlot k r) e = absurd (false≢true e)
 stays_fills p (ExchangeField v i x y) e = absurd (false≢true e)
 stays_fills p (ExchangeValue v m n) e = absurd (false≢true e)

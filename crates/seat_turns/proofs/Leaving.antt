@@ -2,7 +2,7 @@
 use Rattle.std.proofs.Common.{ℕ, ◌≡◌, ◌∙◌, ap, refl, subst, sym, true, None, ⊎_elim, ◌+◌, length}
 use Rattle.std.proofs.lemmas.Bool.{false≢true}
 use Rattle.mark_core.specs.declared.kinds.Step.{Step}
-use Rattle.mark_core.specs.declared.kinds.Step.TheVariants.{AddStat, ExchangeField, ExchangeValue, ReadSeason, StoreField, StoreNew, StoreRoot, StoreSlot, StoreValue}
+use Rattle.mark_core.specs.declared.kinds.Step.TheVariants.{AddStat, ExchangeField, ExchangeValue, ReadSeason, StoreField, StoreNew, StoreRoot, StoreSlot, StoreValue, HoldRoot}
 use Rattle.mark_core.specs.declared.seat.SeatState.{SeatState}
 use Rattle.gc_table.specs.Log.{Only, events}
 use Rattle.gc_table.specs.Running.{Ran}
@@ -21,6 +21,7 @@ fills_spares : (step : Step) → fills_part step ≡ true → spares_heap step �
 fills_spares (StoreField v i w) e = absurd (false≢true e)
 fills_spares (StoreValue v n) e = absurd (false≢true e)
 fills_spares (StoreRoot v r) e = absurd (false≢true e)
+fills_spares (HoldRoot v r) e = absurd (false≢true e)
 fills_spares (StoreSlot k r) e = absurd (false≢true e)
 fills_spares (ExchangeField v i x y) e = absurd (false≢true e)
 fills_spares (ExchangeValue v m n) e = absurd (false≢true e)
@@ -31,6 +32,7 @@ pub spared : (step : Step) → spares_part step ≡ true → spares_heap step �
 spared (StoreField v i w) e = absurd (false≢true e)
 spared (StoreValue v n) e = absurd (false≢true e)
 spared (StoreRoot v r) e = absurd (false≢true e)
+spared (HoldRoot v r) e = absurd (false≢true e)
 spared (StoreSlot k r) e = absurd (false≢true e)
 spared (ExchangeField v i x y) e = absurd (false≢true e)
 spared (ExchangeValue v m n) e = absurd (false≢true e)
@@ -41,6 +43,7 @@ pub retired : (step : Step) → retires step ≡ true → spares_heap step ≡ t
 retired (StoreField v i w) e = absurd (false≢true e)
 retired (StoreValue v n) e = absurd (false≢true e)
 retired (StoreRoot v r) e = absurd (false≢true e)
+retired (HoldRoot v r) e = absurd (false≢true e)
 retired (StoreSlot k r) e = absurd (false≢true e)
 retired (ExchangeField v i x y) e = absurd (false≢true e)
 retired (ExchangeValue v m n) e = absurd (false≢true e)

@@ -65,15 +65,15 @@ record AtRest (sh : Shape) (s : SeatState) : Type 0 where
 
 at_rest : (sh : Shape) (s : SeatState) → is_at_rest sh s ≡ true → AtRest sh s
 at_rest sh s e =
-    let p5 = and_parts (empty_handed s && not (work_in_hand sh.fields s) && is_none s.owes && is_none s.block && (s.got == 0)) (not (has_making s.cache)) e in
-    let p4 = and_parts (empty_handed s && not (work_in_hand sh.fields s) && is_none s.owes && is_none s.block) (s.got == 0) p5.0 in
+    let p5 = and_parts (empty_handed s && not (work_in_hand sh.fields s) && is_none s.owes && is_none s.block && ((s.got == 0) && (s.lags == 0))) (not (has_making s.cache)) e in
+    let p4 = and_parts (empty_handed s && not (work_in_hand sh.fields s) && is_none s.owes && is_none s.block) ((s.got == 0) && (s.lags == 0)) p5.0 in
     let p3 = and_parts (empty_handed s && not (work_in_hand sh.fields s) && is_none s.owes) (is_none s.block) p4.0 in
     let p2 = and_parts (empty_handed s && not (work_in_hand sh.fields s)) (is_none s.owes) p3.0 in
     let p1 = and_parts (empty_handed s) (not (work_in_hand sh.fields s)) p2.0 in
     record {
       idle = not-true (work_in_hand sh.fields s) p1.1;
       owes = none_of s.owes p2.1;
-      register = eqb-true s.got 0 p4.1;
+      register = eqb-true s.got 0 (and_parts (s.got == 0) (s.lags == 0) p4.1).0;
       whole = not-true (has_making s.cache) p5.1;
     }
   where
@@ -239,7 +239,7 @@ plays-on h x y p sits operates ran state =
 
 -- nothing in hand, but for whether a cell is half made
 abbrev pub rests : Shape → SeatState → Bool → Bool
-rests sh s making = empty_handed s && not (work_in_hand sh.fields s) && is_none s.owes && is_none s.block && (s.got == 0) && not making
+rests sh s making = empty_handed s && not (work_in_hand sh.fields s) && is_none s.owes && is_none s.block && ((s.got == 0) && (s.lags == 0)) && not making
 
 -- so does the making of an object
 pub plays-made : (h : Heap) (cell : ℕ) (x y : HeapSeat) → Plays h x → Sits h y → MayOperate (view_of y) → Ran (view_of x) (view_of y) → (view_of y).state ≡ record (with_cell (view_of x).state cell) { env = (view_of y).state.env } → Plays h y

@@ -33,10 +33,12 @@ pub record Empty (sh : Shape) (s : SeatState) : Type 0 where
   pub cache : is_none s.cache ≡ true
   pub block : is_none s.block ≡ true
   pub got : (s.got == 0) ≡ true
+  pub lags : (s.lags == 0) ≡ true
 
 pub empty-of : (sh : Shape) (s : SeatState) → has_nothing sh s ≡ true → Empty sh s
 empty-of sh s e =
-    let p = and_parts (empty_handed s && not (work_in_hand sh.fields s) && is_none s.owes && is_none s.cache && is_none s.block) (s.got == 0) e in
+    let p = and_parts (empty_handed s && not (work_in_hand sh.fields s) && is_none s.owes && is_none s.cache && is_none s.block) ((s.got == 0) && (s.lags == 0)) e in
+    let l = and_parts (s.got == 0) (s.lags == 0) p.1 in
     let q = and_parts (empty_handed s && not (work_in_hand sh.fields s) && is_none s.owes && is_none s.cache) (is_none s.block) p.0 in
     let r = and_parts (empty_handed s && not (work_in_hand sh.fields s) && is_none s.owes) (is_none s.cache) q.0 in
     let t = and_parts (empty_handed s && not (work_in_hand sh.fields s)) (is_none s.owes) r.0 in
@@ -52,12 +54,13 @@ empty-of sh s e =
       owes = t.1;
       cache = r.1;
       block = q.1;
-      got = p.1;
+      got = l.0;
+      lags = l.1;
     }
 
-nothing_of : (sh : Shape) (s : SeatState) → empty_handed s ≡ true → work_in_hand sh.fields s ≡ false → is_none s.owes ≡ true → is_none s.cache ≡ true → is_none s.block ≡ true → (s.got == 0) ≡ true → has_nothing sh s ≡ true
-nothing_of sh s handed work owes cache block got =
-    and_from _ _ (and_from _ _ (and_from _ _ (and_from _ _ (and_from _ _ handed (not_from_false _ work)) owes) cache) block) got
+nothing_of : (sh : Shape) (s : SeatState) → empty_handed s ≡ true → work_in_hand sh.fields s ≡ false → is_none s.owes ≡ true → is_none s.cache ≡ true → is_none s.block ≡ true → (s.got == 0) ≡ true → (s.lags == 0) ≡ true → has_nothing sh s ≡ true
+nothing_of sh s handed work owes cache block got lags =
+    and_from _ _ (and_from _ _ (and_from _ _ (and_from _ _ (and_from _ _ handed (not_from_false _ work)) owes) cache) block) (and_from _ _ got lags)
 
 handed_of : (s : SeatState) → holds_any s.held ≡ false → s.reserved ≡ false → s.credit ≡ false → empty_handed s ≡ true
 handed_of s held reserved credit = and_from _ _ (and_from _ _ (not_from_false _ held) (not_from_false _ reserved)) (not_from_false _ credit)
@@ -107,7 +110,8 @@ marks-on h x y m same sits t held work owes =
             unhelping = ap (λ (s : SeatState). s.helping) same ∙ m.goes.unhelping;
             idle =
                 nothing_of h.shape w.state (handed_of w.state held t.unreserved t.uncredited) work owes (ap (λ (s : SeatState). is_none s.cache) same ∙ e.cache) (ap (λ (s : SeatState). is_none s.block) same ∙ e.block)
-                (ap (λ (s : SeatState). s.got == 0) same ∙ e.got);
+                (ap (λ (s : SeatState). s.got == 0) same ∙ e.got)
+                (ap (λ (s : SeatState). s.lags == 0) same ∙ e.lags);
           };
       marking = ap (λ (s : SeatState). saw s.phase_seen Marking) same ∙ m.marking;
     }

@@ -3,7 +3,7 @@ use Rattle.std.specs.Prelude.{ℕ, ◌≡◌, ◌==◌, ◌⊎◌, ◌<◌, not,
 use Rattle.mark_core.specs.Numbers.{done_count}
 use Rattle.mark_core.specs.Steps.MutatorSteps.{seat_variable as word_in}
 use Rattle.mark_core.specs.declared.kinds.Step.{Step}
-use Rattle.mark_core.specs.declared.kinds.Step.TheVariants.{AddStat, ExchangeField, ExchangeValue, StoreField, StoreNew, StoreRoot, StoreSlot, StoreValue}
+use Rattle.mark_core.specs.declared.kinds.Step.TheVariants.{AddStat, ExchangeField, ExchangeValue, StoreField, StoreNew, StoreRoot, StoreSlot, StoreValue, HoldRoot}
 use Rattle.gc_table.specs.declared.view.View.{View}
 use Rattle.gc_table.specs.Log.{Only}
 use Rattle.gc_table.specs.Running.{Ran}
@@ -24,6 +24,7 @@ abbrev pub spares_heap : Step → Bool
 spares_heap (StoreField v i w) = false
 spares_heap (StoreValue v n) = false
 spares_heap (StoreRoot v r) = false
+spares_heap (HoldRoot v r) = false
 spares_heap (StoreSlot k r) = false
 spares_heap (ExchangeField v i x y) = false
 spares_heap (ExchangeValue v m n) = false

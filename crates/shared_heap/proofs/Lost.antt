@@ -39,7 +39,7 @@ ident-is x n v f =
     sym (words-get (region_sizes c.shape) 9 c.words x 0 here) ∙ word-found c.shape c.words (place c.shape v.state (ReadIdent x)) here ∙ f.word
 
 -- where another object is, the one that was there is lost
-another-lost : (x id other : ℕ) (v : View) (q : FindsHeap (ReadIdent x) other v) → other ≢ id → IsAt q.finds.state.core id x → IsLost q.finds.state.core (heap_found (ReadIdent x) other v q.finds) id
+pub another-lost : (x id other : ℕ) (v : View) (q : FindsHeap (ReadIdent x) other v) → other ≢ id → IsAt q.finds.state.core id x → IsLost q.finds.state.core (heap_found (ReadIdent x) other v q.finds) id
 another-lost x id other v q differs at =
     let c : Core = q.finds.state.core in
     let w : Words = words_of c.shape c.words in
@@ -51,12 +51,12 @@ another-lost x id other v q differs at =
       only = λ y low used is. let p : y ≡ x = at.only y low used is in differs (sym there ∙ subst (λ (j : ℕ). slice_index w.identities j ≡ id) p is);
     })
 
-found-two :
+pub found-two :
     (u c id word : ℕ) (x y : SharedMutator) (e : FindsIdentity u c id word (view_of x.seat) (view_of y.seat))
     → AllFindHeap (event (ReadWeak c) e.bits ∷ event (ReadIdent c) id ∷ event (StoreRoot u word) word ∷ []) (view_of x.seat)
 found-two u c id word x y e = subst (λ (es : List Entry). AllFindHeap es (view_of x.seat)) e.events_are (calls-find x y e.ran)
 
-found-one : (u c : ℕ) (x y : SharedMutator) (e : FindsNothing u c (view_of x.seat) (view_of y.seat)) → AllFindHeap (event (ReadWeak c) e.bits ∷ event (StoreRoot u 0) 0 ∷ []) (view_of x.seat)
+pub found-one : (u c : ℕ) (x y : SharedMutator) (e : FindsNothing u c (view_of x.seat) (view_of y.seat)) → AllFindHeap (event (ReadWeak c) e.bits ∷ event (StoreRoot u 0) 0 ∷ []) (view_of x.seat)
 found-one u c x y e = subst (λ (es : List Entry). AllFindHeap es (view_of x.seat)) e.events_are (calls-find x y e.ran)
 
 pub upgrade-found : UpgradeFound

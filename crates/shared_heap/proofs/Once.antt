@@ -4,7 +4,7 @@ use Rattle.std.specs.Prelude.{if◌then◌else◌}
 use Rattle.std.specs.List.{range_with_len}
 use Rattle.std.proofs.lemmas.Bool.{and_from, and_parts, false≢true}
 use Rattle.mark_core.specs.declared.kinds.Step.{Step}
-use Rattle.mark_core.specs.declared.kinds.Step.TheVariants.{StoreNew, StoreRoot}
+use Rattle.mark_core.specs.declared.kinds.Step.TheVariants.{StoreNew, StoreRoot, HoldRoot}
 use Rattle.alloc_cache.specs.Making.{making_steps, nil_fields}
 use Rattle.gc_table.specs.Log.{all_steps, events, steps_of}
 use Rattle.gc_table.specs.declared.view.Entry.{Entry}
@@ -17,10 +17,12 @@ use Rattle.shared_heap.proofs.Rooted.{all-more}
 
 pub spared : (step : Step) → spares_heap step ≡ true → leaves_variable 0 step ≡ true
 spared (StoreRoot v r) e = absurd (false≢true e)
+spared (HoldRoot v r) e = absurd (false≢true e)
 spared step e = refl
 
 pub season-spared : (step : Step) → spares_season step ≡ true → leaves_variable 0 step ≡ true
 season-spared (StoreRoot v r) e = absurd (false≢true e)
+season-spared (HoldRoot v r) e = absurd (false≢true e)
 season-spared step e = refl
 
 -- a list of steps none of which stores in variable 0

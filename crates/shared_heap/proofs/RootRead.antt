@@ -1,6 +1,6 @@
 -- The value that the words of a closed world have of its root is the one that the plain heap has.
 use Rattle.std.proofs.Common.{[], ℕ, zero, suc, ◌≡◌, ◌⊎◌, ⊎_elim, inl, inr, ◌<◌, ◌+◌, ◌∙◌, List, ◌∷◌, ap, arith, length, refl, subst, sym, Bool, true, false, None, Some, ◌≤◌, ◌==◌, Option, eqb-true}
-use Rattle.std.specs.Prelude.{if◌then◌else◌, is_none, slice_get, slice_index, take, ◌-◌}
+use Rattle.std.specs.Prelude.{IfSome, if◌then◌else◌, is_none, slice_get, slice_index, take, ◌-◌}
 use Rattle.std.specs.Arc.{arc_value}
 use Rattle.std.proofs.lemmas.Bool.{ne_eqb, and_from, and_parts, true≢false}
 use Rattle.std.proofs.lemmas.List.{take_all}
@@ -14,6 +14,7 @@ use Rattle.mark_core.specs.Views.{makers}
 use Rattle.mark_core.specs.declared.kinds.Event.{Event}
 use Rattle.mark_core.specs.declared.kinds.Shape.{Shape}
 use Rattle.mark_core.proofs.Consequences.Closing.{goes-to}
+use Rattle.mark_core.proofs.Lagging.{Shows}
 use Rattle.mark_core.proofs.Pool.PoolsKept.{shape-kept}
 use Rattle.gc_table.specs.Ends.{AreWords}
 use Rattle.gc_table.specs.declared.words.Words.{Words}
@@ -26,7 +27,7 @@ use Rattle.shared_heap.specs.Counting.{CounterRead, root_value_of, value_at}
 use Rattle.shared_heap.proofs.Counting.{counter-closed}
 use Rattle.mark_core.specs.Seats.{may_mutate}
 use Rattle.mark_core.specs.declared.kinds.Step.{Step}
-use Rattle.mark_core.specs.declared.kinds.Step.TheVariants.{ExchangeField, ExchangeValue, StoreField, StoreNew, StoreRoot, StoreSlot, StoreValue}
+use Rattle.mark_core.specs.declared.kinds.Step.TheVariants.{ExchangeField, ExchangeValue, StoreField, StoreNew, StoreRoot, StoreSlot, StoreValue, HoldRoot}
 use Rattle.mark_core.specs.declared.seat.SeatState.{SeatState}
 use Rattle.mark_core.proofs.Known.{Acted, acts}
 use Rattle.mark_core.proofs.Blocks.BlocksStopped.{Taken}
@@ -41,6 +42,7 @@ use Rattle.gc_table.proofs.Freeing.{allowed, stays}
 use Rattle.seat_turns.specs.Sharing.{spares_heap}
 use Rattle.shared_heap.proofs.Rooted.{all-join}
 use Rattle.gc_table.proofs.Rooted.{root-found}
+use Rattle.gc_table.proofs.Shown.{root-shown, run-shows}
 use Rattle.shared_heap.specs.Closing.{all_seats}
 use Rattle.shared_heap.specs.Threads.{ThreadsRun}
 
@@ -50,6 +52,7 @@ seen_mutates : (c : Core) (i : ℕ) (s : SeatState) (step : Step) → Taken c i 
 seen_mutates c i s (StoreField v j w) k e = (and_parts _ (may_mutate s) k.ok.0).1
 seen_mutates c i s (StoreValue v n) k e = (and_parts _ (may_mutate s) k.ok.0).1
 seen_mutates c i s (StoreRoot v r) k e = (and_parts _ (may_mutate s) k.ok.0).1
+seen_mutates c i s (HoldRoot v r) k e = (and_parts _ (may_mutate s) k.ok.0).1
 seen_mutates c i s (StoreSlot j r) k e = (and_parts _ (may_mutate s) k.ok.0).1
 seen_mutates c i s (ExchangeField v j x y) k e = (and_parts _ (may_mutate s) k.ok.0).1
 seen_mutates c i s (ExchangeValue v m n) k e = (and_parts _ (may_mutate s) k.ok.0).1
@@ -136,17 +139,17 @@ some_word (x ∷ xs) c e = omega arith
 none_some : (x : Name) → Some x ≡ None → ⊥
 none_some x e = cc
 
--- if variable 0 of section 0 refers to the object of this name, or to nothing, the value that the words have there is this object's
-held : (d : Core) (world : World) (w : Words) (root : Name) (n : ℕ) → IsCore d → AgreesWith d world → AreWords d.shape d.words w → (variable_of world 0 0 ≡ None) ⊎ (variable_of world 0 0 ≡ Some root) → root_value_of w ≡ Some n
+-- if variable 0 of section 0 doesn't lag, and refers to the object of this name, or to nothing, the value that the words have there is this object's
+held : (d : Core) (world : World) (w : Words) (root : Name) (n : ℕ) → IsCore d → IfSome (slice_get d.seats 0) Shows → AgreesWith d world → AreWords d.shape d.words w → (variable_of world 0 0 ≡ None) ⊎ (variable_of world 0 0 ≡ Some root) → root_value_of w ≡ Some n
     → (object : WorldObject) × (object_of world root ≡ Some object) × (object.value ≡ n)
-held d world w root n core agrees words kept e =
+held d world w root n core shows agrees words kept e =
     let ids : List ℕ = (words_of d.shape d.words).identities in
     let roots : List ℕ = (words_of d.shape d.words).roots in
     let values : List ℕ = (words_of d.shape d.words).values in
     let some = value_some w.values.items (slice_index w.roots.items 0) n e in
     let c : ℕ = some.0 in
     let word : slice_index roots 0 ≡ suc c = ap (λ (l : List ℕ). slice_index l 0) (sym words.roots) ∙ some.1 in
-    let refers : Some (name_at ids c) ≡ variable_of world 0 0 = ap (referred ids) (sym word) ∙ agrees.roots_agree 0 0 (omega (arith, core.formed.shaped.sections)) (omega arith) in
+    let refers : Some (name_at ids c) ≡ variable_of world 0 0 = ap (referred ids) (sym word) ∙ ap (referred ids) (sym (root-shown d 0 0 shows (omega arith) (some_word roots c word))) ∙ agrees.roots_agree 0 0 (omega (arith, core.formed.shaped.sections)) (omega arith) in
     let there : slice_get values c ≡ Some n = ap (λ (l : List ℕ). slice_get l c) (sym words.values) ∙ some.2 in
     let within : c < d.shape.cells = subst (λ (k : ℕ). c < k) (values-length d core) (slice_get_within values c n there) in
     let named : slice_index roots 0 ≡ c + 1 = omega (arith, word) in
@@ -169,8 +172,11 @@ counter-read world mutators tracers w end all raised n e =
     let shape : d.shape ≡ sh = run_shape (take k es) (start_core sh 1) in
     let ends : AreWords sh d.words w = subst (λ (l : List Event). AreWords sh (run_of l (start_core sh 1)).words w) (sym whole) r.1.run.ends in
     let words : AreWords d.shape d.words w = subst (λ (s : Shape). AreWords s d.words w) (sym shape) ends in
+    let core : IsCore (run_of es (start_core sh 1)) = subst (λ (l : List Event). IsCore (run_of l (start_core sh 1))) whole (r.1.run.sound k) in
+    let shows : IfSome (slice_get d.seats 0) Shows =
+    subst (λ (l : List Event). IfSome (slice_get (run_of l (start_core sh 1)).seats 0) Shows) (sym whole) (run-shows sh (all_seats world end.rest tracers) w es r.1.run core 0 (omega arith) (omega (arith, core.formed.shaped.sections))) in
     let kept = ⊎_elim (λ z. inl z.0) (λ z. inr z) (r.1.kept k) in
-    let root = held d (heap_after_events sh es k) w r.1.root n (r.1.run.sound k) (r.1.agrees k) words kept e in
+    let root = held d (heap_after_events sh es k) w r.1.root n (r.1.run.sound k) shows (r.1.agrees k) words kept e in
     sym root.2 ∙ counter-closed world mutators tracers w end es r.1 all raised root.0 root.1
 
 pub ruleset reading = (threads-run)

@@ -2,7 +2,7 @@
 use Rattle.std.proofs.Common.{ℕ, ◌≡◌, ◌<◌, ◌∙◌, List, [], ◌∷◌, ◌++◌, ap, refl, subst, sym, Bool, true, ⊎_elim}
 use Rattle.std.proofs.lemmas.Bool.{and_from, and_parts, false≢true}
 use Rattle.mark_core.specs.declared.kinds.Step.{Step}
-use Rattle.mark_core.specs.declared.kinds.Step.TheVariants.{NextSeason, ReadSeason, StoreField, StoreValue, StoreRoot, StoreSlot, ExchangeField, ExchangeValue, StoreNew, StorePhase}
+use Rattle.mark_core.specs.declared.kinds.Step.TheVariants.{NextSeason, ReadSeason, StoreField, StoreValue, StoreRoot, StoreSlot, ExchangeField, ExchangeValue, StoreNew, StorePhase, HoldRoot}
 use Rattle.alloc_cache.specs.Claiming.{Claims, claimed_by, seeks_block}
 use Rattle.alloc_cache.specs.Retiring.{retiring_steps}
 use Rattle.alloc_cache.specs.declared.cache.Cache.{Cache}
@@ -26,6 +26,7 @@ entered (StorePhase to) e = refl
 entered (StoreField v i w) e = absurd (false≢true e)
 entered (StoreValue v n) e = absurd (false≢true e)
 entered (StoreRoot v r) e = absurd (false≢true e)
+entered (HoldRoot v r) e = absurd (false≢true e)
 entered (StoreSlot k r) e = absurd (false≢true e)
 entered (ExchangeField v i x y) e = absurd (false≢true e)
 entered (ExchangeValue v m n) e = absurd (false≢true e)
@@ -37,6 +38,7 @@ sought : (step : Step) → seeks_block step ≡ true → spares_season step ≡ 
 sought (StoreField v i w) e = absurd (false≢true e)
 sought (StoreValue v n) e = absurd (false≢true e)
 sought (StoreRoot v r) e = absurd (false≢true e)
+sought (HoldRoot v r) e = absurd (false≢true e)
 sought (StoreSlot k r) e = absurd (false≢true e)
 sought (ExchangeField v i x y) e = absurd (false≢true e)
 sought (ExchangeValue v m n) e = absurd (false≢true e)
@@ -48,6 +50,7 @@ retired : (step : Step) → retires step ≡ true → spares_heap step ≡ true
 retired (StoreField v i w) e = absurd (false≢true e)
 retired (StoreValue v n) e = absurd (false≢true e)
 retired (StoreRoot v r) e = absurd (false≢true e)
+retired (HoldRoot v r) e = absurd (false≢true e)
 retired (StoreSlot k r) e = absurd (false≢true e)
 retired (ExchangeField v i x y) e = absurd (false≢true e)
 retired (ExchangeValue v m n) e = absurd (false≢true e)

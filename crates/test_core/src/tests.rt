@@ -9,6 +9,7 @@ mod events;
 mod filled;
 mod first;
 mod heaps;
+mod lagging;
 mod marking;
 mod packets;
 mod runs;
@@ -28,6 +29,7 @@ fn each_run_goes_as_told(rt: HostRuntime) {
         marking::OVERFLOW,
         marking::PRECISE,
         marking::HELPED,
+        lagging::LAGGING,
         first::STRETCHES,
         sharing::SHARED,
         sharing::STORING,

@@ -122,6 +122,7 @@ pub fn is_free(heap: &Heap, seat: &HeapSeat) -> bool
         && s.owes.is_none()
         && s.cache.is_none()
         && s.got == 0
+        && s.lags == 0
 }
 
 /// Whether the seat may store in its section's turn, in a heap whose objects aren't shared.

@@ -52,7 +52,7 @@ use Rattle.warehouse.proofs.TurnChanges.{is_of_command, of-command}
 -- What `new` leaves to the mutator.
 -- nothing in hand, but for whether a cell is half made
 abbrev rests : Shape → SeatState → Bool → Bool
-rests sh s making = empty_handed s && not (work_in_hand sh.fields s) && is_none s.owes && is_none s.block && (s.got == 0) && not making
+rests sh s making = empty_handed s && not (work_in_hand sh.fields s) && is_none s.owes && is_none s.block && ((s.got == 0) && (s.lags == 0)) && not making
 
 pub mutates-new : (u n cell : ℕ) (v w : View) → Creates u n cell v w → IsReady v → IsReady w → Mutates v → Mutates w
 mutates-new u n cell v w k before ready m =

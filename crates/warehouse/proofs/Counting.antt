@@ -2,7 +2,7 @@
 use Rattle.std.proofs.Common.{ℕ, ◌≡◌, ◌==◌, List, refl, Bool, true, false, not, ◌+◌, ◌≤◌, ◌&&◌, ◌||◌, [], ◌∷◌, ◌++◌, ap, ◌∙◌, if◌then◌else◌, arith, sym, Some, Option, eq-eqb}
 use Rattle.std.proofs.lemmas.Bool.{and_left, false≢true, not-true, and_parts, or_left, or_right, and_from}
 use Rattle.mark_core.specs.declared.kinds.Step.{Step}
-use Rattle.mark_core.specs.declared.kinds.Step.TheVariants.{AddStat, NextSeason, StoreField, StoreValue, StoreRoot, StoreNew, StorePhase, ExchangeField, ExchangeValue, StoreSlot}
+use Rattle.mark_core.specs.declared.kinds.Step.TheVariants.{AddStat, NextSeason, StoreField, StoreValue, StoreRoot, StoreNew, StorePhase, ExchangeField, ExchangeValue, StoreSlot, HoldRoot}
 use Rattle.gc_table.specs.Log.{Only, all_steps, events}
 use Rattle.gc_table.specs.Running.{Ran, after_all}
 use Rattle.gc_table.specs.Taking.{after}
@@ -27,6 +27,7 @@ abbrev pub stores_none : Step → Bool
 stores_none (StoreField v i w) = false
 stores_none (StoreValue v n) = false
 stores_none (StoreRoot v r) = false
+stores_none (HoldRoot v r) = false
 stores_none (ExchangeField v i x y) = false
 stores_none (ExchangeValue v m n) = false
 stores_none (StoreSlot k r) = false
@@ -37,6 +38,7 @@ pub writes-none : (step : Step) (n : ℕ) → stores_none step ≡ true → writ
 writes-none (StoreField v i w) n b = absurd (false≢true b)
 writes-none (StoreValue v m) n b = absurd (false≢true b)
 writes-none (StoreRoot v r) n b = absurd (false≢true b)
+writes-none (HoldRoot v r) n b = absurd (false≢true b)
 writes-none (ExchangeField v i x y) n b = absurd (false≢true b)
 writes-none (ExchangeValue v m k) n b = absurd (false≢true b)
 writes-none (StoreSlot k r) n b = absurd (false≢true b)
@@ -110,6 +112,7 @@ pub fills-stores : (step : Step) → fills_part step ≡ true → stores_none st
 fills-stores (StoreField v i w) b = absurd (false≢true b)
 fills-stores (StoreValue v n) b = absurd (false≢true b)
 fills-stores (StoreRoot v r) b = absurd (false≢true b)
+fills-stores (HoldRoot v r) b = absurd (false≢true b)
 fills-stores (ExchangeField v i x y) b = absurd (false≢true b)
 fills-stores (ExchangeValue v m n) b = absurd (false≢true b)
 fills-stores (StoreSlot k r) b = absurd (false≢true b)

@@ -1,5 +1,5 @@
 -- The commands of a part, one after another.
-use Rattle.std.proofs.Common.{ℕ, ◌≡◌, ◌+◌, ◌<◌, ◌++◌, List, [], ◌∷◌, length, length-append, append_assoc, take, drop, sym, ap, ◌∙◌, subst, All, Option, None, arith, eq-eqb, zero, suc, ◌-◌, ◌≤◌, refl, Bool, true, false, get_or, ⊎_elim, if◌then◌else◌}
+use Rattle.std.proofs.Common.{ℕ, ◌≡◌, ◌+◌, ◌<◌, ◌++◌, List, [], ◌∷◌, length, length-append, append_assoc, append-nil, take, drop, sym, ap, ◌∙◌, subst, All, Option, None, arith, eq-eqb, zero, suc, ◌-◌, ◌≤◌, refl, Bool, true, false, get_or, ⊎_elim, if◌then◌else◌}
 use Rattle.std.proofs.lemmas.Bool.{true≢false, false≢true, or_cases, or_left, or_right}
 use Rattle.plain_heap.specs.PlainStep.{IsInRange}
 use Rattle.plain_heap.specs.Sections.{Execution, Parts, joined, lends, made_by, makes_object}
@@ -10,7 +10,7 @@ use Rattle.alloc_cache.specs.declared.cache.Cache.{Cache}
 use Rattle.play_end.specs.Done.{turn_word}
 use Rattle.play_end.specs.Parts.{HasLeft}
 use Rattle.play_end.proofs.Within.{left-all}
-use Rattle.warehouse.specs.Commands.{HasPlayedSoFar, IsNextOf, MayPlayPart, PlaysOne, StopsBefore, StopsWithin}
+use Rattle.warehouse.specs.Commands.{HasPlayedSoFar, IsNextOf, MayPlayPart, PlaysAll, PlaysOne, StopsBefore, StopsWithin}
 use Rattle.warehouse.specs.Playing.{Acts, DoesEach, HasRoomForCommands, IsPlaying, PollsAndDoes, collects_by, commands_of_part, player_of, is_collect}
 use Rattle.warehouse.specs.declared.mutator.Mutator.{Mutator}
 use Rattle.warehouse.proofs.Leavings.{acts-join}
@@ -111,6 +111,19 @@ so-far-none h p z turn rest m playing word is =
   where
     plus_zero : (n : ℕ) → n ≡ n + 0
     plus_zero n = omega arith
+
+-- all were done
+pub so-far-all : (h : Heap) (p : Parts) (z turn : ℕ) (kept : Option Cache) (rest : List Execution) (x y : Mutator) → rest ≡ [] → HasPlayedSoFar h p z turn kept rest x y → PlaysAll h p z kept (commands_of_part p z) x y
+so-far-all h p z turn kept rest x y none k =
+    let whole : k.front ≡ commands_of_part p z = sym (k.part ∙ (ap (λ es. k.front ++ es) none ∙ append-nil k.front)) in
+    record {
+      playing = k.playing;
+      left = subst (λ es. HasLeft p z es (player_of x) (player_of y)) none k.left;
+      count = k.count ∙ ap (λ es. x.count + length es) whole;
+      room = λ later r. subst (λ es. HasRoomForCommands (es ++ later) y) none (k.room later r);
+      each = subst (λ es. DoesEach x.count es (view_of x.seat) (view_of y.seat)) whole k.each;
+      acts = subst (λ es. Acts (turn_word p.number z) (length es) (collects_by es) (view_of x.seat) (view_of y.seat)) whole k.acts;
+    }
 
 module _ (h : Heap) (p : Parts) (z turn : ℕ) (kept : Option Cache) (e : Execution) (all rest : List Execution) (x y : Mutator) (is : all ≡ e ∷ rest) (k : HasPlayedSoFar h p z turn kept all x y) where
   part_is : commands_of_part p z ≡ k.front ++ e ∷ rest

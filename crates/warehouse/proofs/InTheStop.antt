@@ -9,7 +9,7 @@ use Rattle.mark_core.specs.declared.kinds.Phase.{Phase}
 use Rattle.mark_core.specs.declared.kinds.Phase.TheVariants.{Idle, Marking, Drain, Sweep, Clear, Full}
 use Rattle.mark_core.specs.declared.kinds.Shape.{Shape}
 use Rattle.mark_core.specs.declared.kinds.Step.{Step}
-use Rattle.mark_core.specs.declared.kinds.Step.TheVariants.{JoinHelpStep, LeaveHelpStep, ReadPhase, NextSeason, StoreNew, StorePhase, StoreField, StoreValue, StoreRoot, ExchangeField, ExchangeValue, StoreSlot, AddStat, PublishCells, RaiseStep, ReleaseBlock}
+use Rattle.mark_core.specs.declared.kinds.Step.TheVariants.{JoinHelpStep, LeaveHelpStep, ReadPhase, NextSeason, StoreNew, StorePhase, StoreField, StoreValue, StoreRoot, ExchangeField, ExchangeValue, StoreSlot, AddStat, PublishCells, RaiseStep, ReleaseBlock, HoldRoot}
 use Rattle.mark_core.specs.declared.seat.SeatState.{SeatState}
 use Rattle.gc_table.specs.Running.{Alone, Ran, ends_alone}
 use Rattle.gc_table.specs.Seats.{Found}
@@ -52,6 +52,7 @@ pub spares-leaves : (fields : ℕ) (step : Step) → spares_part step ≡ true �
 spares-leaves fields (StoreField v i w) b = absurd (false≢true b)
 spares-leaves fields (StoreValue v n) b = absurd (false≢true b)
 spares-leaves fields (StoreRoot v r) b = absurd (false≢true b)
+spares-leaves fields (HoldRoot v r) b = absurd (false≢true b)
 spares-leaves fields (ExchangeField v i x y) b = absurd (false≢true b)
 spares-leaves fields (ExchangeValue v m n) b = absurd (false≢true b)
 spares-leaves fields (StoreSlot k r) b = absurd (false≢true b)

@@ -6,7 +6,7 @@ use Rattle.mark_core.specs.Steps.MutatorSteps.{used_bits}
 use Rattle.mark_core.specs.Seats.{last_made}
 use Rattle.mark_core.specs.declared.kinds.Shape.{Shape}
 use Rattle.mark_core.specs.declared.kinds.Step.{Step}
-use Rattle.mark_core.specs.declared.kinds.Step.TheVariants.{ReadOwn, ReadValue, ReadIdent, ReadCat, StoreField, StoreValue, StoreRoot, StoreNew, DirtyCard, CheckCard}
+use Rattle.mark_core.specs.declared.kinds.Step.TheVariants.{ReadOwn, ReadValue, ReadIdent, ReadCat, StoreField, StoreValue, StoreRoot, StoreNew, DirtyCard, CheckCard, HoldRoot}
 use Rattle.mark_core.specs.declared.seat.CacheState.{CacheState}
 use Rattle.mark_core.specs.declared.seat.SeatState.{SeatState}
 use Rattle.plain_heap.specs.PlainHeap.{Heap}
@@ -59,6 +59,7 @@ raises_none (DirtyCard card) n b = refl
 raises_none (StoreField u j o) n b = refl
 raises_none (StoreValue u m) n b = refl
 raises_none (StoreRoot u r) n b = refl
+raises_none (HoldRoot u r) n b = refl
 raises_none step n b = absurd (false≢true b)
 
 pub stops-none : (sh : Shape) (since : List Entry) (es : List Entry) → all_steps is_of_command es ≡ true → stops_without_cause sh since es ≡ 0

@@ -6,7 +6,7 @@ use Rattle.mark_core.specs.Effects.{seat_after}
 use Rattle.mark_core.specs.Seats.{is_phase, is_the, saw}
 use Rattle.mark_core.specs.declared.kinds.Phase.TheVariants.{Full, Idle, Sweep}
 use Rattle.mark_core.specs.declared.kinds.Step.{Step}
-use Rattle.mark_core.specs.declared.kinds.Step.TheVariants.{ExchangeField, ExchangeValue, NextSeason, StoreField, StoreNew, StorePhase, StoreRoot, StoreValue, StoreSlot}
+use Rattle.mark_core.specs.declared.kinds.Step.TheVariants.{ExchangeField, ExchangeValue, NextSeason, StoreField, StoreNew, StorePhase, StoreRoot, StoreValue, StoreSlot, HoldRoot}
 use Rattle.mark_core.specs.declared.seat.SeatState.{SeatState}
 use Rattle.mark_core.proofs.Writing.Frames.{identity-kept}
 use Rattle.gc_table.specs.Log.{Only, all_steps, events}
@@ -31,6 +31,7 @@ settled_step : (x : View) (step : Step) (n : ℕ) → spares_part step ≡ true 
 settled_step x (StoreField v i w) n b q = absurd (false≢true b)
 settled_step x (StoreValue v k) n b q = absurd (false≢true b)
 settled_step x (StoreRoot v r) n b q = absurd (false≢true b)
+settled_step x (HoldRoot v r) n b q = absurd (false≢true b)
 settled_step x (ExchangeField v i y z) n b q = absurd (false≢true b)
 settled_step x (ExchangeValue v m k) n b q = absurd (false≢true b)
 settled_step x (StoreSlot k r) n b q = absurd (false≢true b)

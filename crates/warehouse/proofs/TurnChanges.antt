@@ -5,7 +5,7 @@ use Rattle.std.specs.List.{All}
 use Rattle.std.proofs.lemmas.Bool.{and_parts, false≢true}
 use Rattle.std.proofs.lemmas.List.Elements.{All-nil, All-cons, All-append}
 use Rattle.mark_core.specs.declared.kinds.Step.{Step}
-use Rattle.mark_core.specs.declared.kinds.Step.TheVariants.{ReadOwn, ReadValue, ReadIdent, ReadCat, StoreField, StoreValue, StoreRoot, StoreNew, DirtyCard, CheckCard}
+use Rattle.mark_core.specs.declared.kinds.Step.TheVariants.{ReadOwn, ReadValue, ReadIdent, ReadCat, StoreField, StoreValue, StoreRoot, StoreNew, DirtyCard, CheckCard, HoldRoot}
 use Rattle.plain_heap.specs.PlainHeap.{Heap}
 use Rattle.plain_heap.specs.declared.operation.Op.{Op}
 use Rattle.plain_heap.specs.declared.operation.Op.TheVariants as ops
@@ -63,6 +63,7 @@ is_of_command (ReadCat u) = true
 is_of_command (StoreField u j o) = true
 is_of_command (StoreValue u m) = true
 is_of_command (StoreRoot u r) = true
+is_of_command (HoldRoot u r) = true
 is_of_command (StoreNew c part word) = true
 is_of_command (CheckCard card) = true
 is_of_command (DirtyCard card) = true
@@ -90,6 +91,7 @@ turns_step v (DirtyCard card) n b = turns-none _ _ _ refl refl
 turns_step v (StoreField u j o) n b = one_turn v.own (after (StoreField u j o) n v).own (season_of v.state) refl
 turns_step v (StoreValue u m) n b = one_turn v.own (after (StoreValue u m) n v).own (season_of v.state) refl
 turns_step v (StoreRoot u r) n b = one_turn v.own (after (StoreRoot u r) n v).own (season_of v.state) refl
+turns_step v (HoldRoot u r) n b = one_turn v.own (after (HoldRoot u r) n v).own (season_of v.state) refl
 turns_step v step n b = absurd (false≢true b)
 
 pub season-step : (v : View) (step : Step) (n : ℕ) → is_of_command step ≡ true → (after step n v).state.season_seen ≡ v.state.season_seen
@@ -103,6 +105,7 @@ season-step v (DirtyCard card) n b = refl
 season-step v (StoreField u j o) n b = refl
 season-step v (StoreValue u m) n b = refl
 season-step v (StoreRoot u r) n b = refl
+season-step v (HoldRoot u r) n b = refl
 season-step v step n b = absurd (false≢true b)
 
 turns_all : (season : ℕ) (es : List Entry) (v : View) → season_of v.state ≡ season → all_steps is_of_command es ≡ true → Turns season (plain_steps (steps_of es)) v.own (after_all es v).own
@@ -126,6 +129,7 @@ of-command op (DirtyCard card) b = refl
 of-command op (StoreField u j o) b = refl
 of-command op (StoreValue u m) b = refl
 of-command op (StoreRoot u r) b = refl
+of-command op (HoldRoot u r) b = refl
 of-command (ops.New v n) step b = absurd (false≢true b)
 of-command (ops.Let v w) step b = absurd (false≢true b)
 of-command (ops.Nil v) step b = absurd (false≢true b)

@@ -16,7 +16,7 @@ fn is_at_rest(heap: &Heap, seat: &HeapSeat) -> bool
         && !work_in_hand(heap.shape().fields, seat)
         && s.owes.is_none()
         && s.block.is_none()
-        && s.got == 0
+        && (s.got == 0 && s.lags == 0)
         && !has_making(seat)
 }
 

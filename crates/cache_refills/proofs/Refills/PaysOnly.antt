@@ -4,7 +4,7 @@ use Rattle.std.specs.Prelude.{◌==◌, if◌then◌else◌}
 use Rattle.std.proofs.lemmas.Bool.{and_parts, false≢true}
 use Rattle.mark_core.specs.declared.kinds.Phase.TheVariants.{Full}
 use Rattle.mark_core.specs.declared.kinds.Step.{Step}
-use Rattle.mark_core.specs.declared.kinds.Step.TheVariants.{AddStat, ClaimBlock, DropStep, NextSeason, RaiseStep, ReadCat, ReadOwn, ReadPhase, ReadSeason, ReadStat, StoreField, StoreNew, StorePhase, StoreRoot, StoreValue, ExchangeField, ExchangeValue, ReadSlot, StoreSlot, ReadWeak}
+use Rattle.mark_core.specs.declared.kinds.Step.TheVariants.{AddStat, ClaimBlock, DropStep, NextSeason, RaiseStep, ReadCat, ReadOwn, ReadPhase, ReadSeason, ReadStat, StoreField, StoreNew, StorePhase, StoreRoot, StoreValue, ExchangeField, ExchangeValue, ReadSlot, StoreSlot, ReadWeak, HoldRoot}
 use Rattle.gc_table.specs.Log.{all_steps}
 use Rattle.gc_table.specs.declared.view.Entry.{Entry}
 use Rattle.mark_core.specs.Numbers.{done_count, free_count, traced_count}
@@ -29,6 +29,7 @@ pays-calm (StoreValue v n) e = absurd (false≢true e)
 pays-calm (ExchangeField v i x y) e = absurd (false≢true e)
 pays-calm (ExchangeValue v m n) e = absurd (false≢true e)
 pays-calm (StoreRoot v r) e = absurd (false≢true e)
+pays-calm (HoldRoot v r) e = absurd (false≢true e)
 pays-calm (StoreNew c part word) e = absurd (false≢true e)
 pays-calm ReadSeason e = absurd (false≢true e)
 pays-calm NextSeason e = absurd (false≢true e)

@@ -7,6 +7,7 @@ use Rattle.std.proofs.lemmas.List.Folds.{list_any_at}
 use Rattle.std.proofs.lemmas.Option.{slice_get_within, get_or_from_slice_get}
 use Rattle.mark_core.specs.Effects.{seat_after}
 use Rattle.mark_core.specs.Layout.{words_of}
+use Rattle.mark_core.specs.Cells.{IsReachableCell}
 use Rattle.mark_core.specs.Numbers.{card_counter}
 use Rattle.mark_core.specs.Seats.{is_phase}
 use Rattle.mark_core.specs.declared.kinds.Phase.TheVariants.{Idle, Marking, Drain, Sweep, Clear, Full}
@@ -16,6 +17,8 @@ use Rattle.mark_core.specs.declared.kinds.Step.TheVariants.{Reset, StorePhase}
 use Rattle.mark_core.specs.declared.seat.SeatState.{SeatState}
 use Rattle.gc_table.specs.declared.view.Entry.{Entry}
 use Rattle.gc_table.specs.declared.view.View.{View}
+use Rattle.mark_core.proofs.Blocks.BlocksStopped.{knower, still-known}
+use Rattle.mark_core.proofs.Consequences.Closing.{roots-still}
 use Rattle.gc_table.proofs.Stands.StandsStores.{reachable-used}
 use Rattle.packet_pools.specs.Counts.{count_of}
 use Rattle.packet_pools.specs.Seeking.{some_event}
@@ -202,8 +205,11 @@ exact-end v a e x i k g c low =
     let phase : (words_of x.core.shape x.core.words).phase ≡ 0 = phase-is x i v 0 g a.alone.phase in
     let there : i < length x.core.seats = slice_get_within x.core.seats i v.state g.seat in
     let is : get_or x.core.seats i v.state ≡ v.state = get_or_from_slice_get x.core.seats i v.state v.state g.seat in
-    let exact : list_any (λ (t : SeatState). t.exact) x.core.seats ≡ true = list_any_at (λ (t : SeatState). t.exact) x.core.seats i v.state there (ap (λ (t : SeatState). t.exact) is ∙ e) in (
-      λ u. k.core.sound.exact.idle_in_use exact (ap (λ n. is_phase n Idle) phase) c low u,
+    let exact : list_any (λ (t : SeatState). t.exact) x.core.seats ≡ true = list_any_at (λ (t : SeatState). t.exact) x.core.seats i v.state there (ap (λ (t : SeatState). t.exact) is ∙ e) in
+    let still = still-known x.core k.core (knower x.core.seats i v.state there (ap (λ (t : SeatState). t.knows) is ∙ a.rest.knows)) in (
+      λ u.
+          subst (λ (rs : List ℕ). IsReachableCell x.core.shape rs (words_of x.core.shape x.core.words).fields c) (sym (roots-still x.core k.core.sound still))
+          (k.core.sound.exact.idle_in_use exact (ap (λ n. is_phase n Idle) phase) c low u),
       λ r. reachable-used x.core c k.core r,
     )
 

@@ -1,5 +1,5 @@
 -- The moves of the phase of a seat that is alone in the stop.
-use Rattle.std.proofs.Common.{ℕ, ◌≡◌, ◌≤◌, arith, refl, sym, ap, ◌∙◌, subst, true, not, ◌||◌, Some, None, Option, ◌⊎◌, ⊎_elim}
+use Rattle.std.proofs.Common.{ℕ, ◌≡◌, ◌≤◌, arith, refl, sym, ap, ◌∙◌, subst, true, not, ◌||◌, ◌&&◌, Some, None, Option, ◌⊎◌, ⊎_elim}
 use Rattle.std.specs.Prelude.{◌==◌, nat_le, is_none, unwrap_or}
 use Rattle.std.proofs.lemmas.Bool.{and_from, and_parts, le-leb, or_right, true≢false}
 use Rattle.mark_core.specs.Layout.{words_of, block_count}
@@ -35,7 +35,7 @@ none-of (Some x) e = absurd (true≢false (sym e))
 
 -- no block is in hand
 pub no-block : (v : View) → IsAlone v → v.state.block ≡ None
-no-block v a = none-of v.state.block (and_parts _ (is_none v.state.block) (and_parts _ (v.state.got == 0) a.rest).0).1
+no-block v a = none-of v.state.block (and_parts _ (is_none v.state.block) (and_parts _ ((v.state.got == 0) && (v.state.lags == 0)) a.rest).0).1
 
 -- no work is in hand
 pub no-work : (v : View) → IsAlone v → not (work_in_hand v.shape.fields v.state) ≡ true

@@ -55,12 +55,12 @@ idle-read fields sh s b n e =
 -- it leaves nothing in hand
 read-nothing : (sh : Shape) (s : SeatState) (b n : ℕ) → s.block ≡ None → has_nothing sh s ≡ true → has_nothing sh (seat_after sh s (ReadAlloc b) n) ≡ true
 read-nothing sh s b n none e =
-    let p5 = and_parts _ (s.got == 0) e in
+    let p5 = and_parts _ ((s.got == 0) && (s.lags == 0)) e in
     let p4 = and_parts (empty_handed s && not (work_in_hand sh.fields s) && is_none s.owes && is_none s.cache) (is_none s.block) p5.0 in
     let p3 = and_parts (empty_handed s && not (work_in_hand sh.fields s) && is_none s.owes) (is_none s.cache) p4.0 in
     let p2 = and_parts (empty_handed s && not (work_in_hand sh.fields s)) (is_none s.owes) p3.0 in
     let p1 = and_parts (empty_handed s) (not (work_in_hand sh.fields s)) p2.0 in
-    and_from _ (s.got == 0)
+    and_from _ ((s.got == 0) && (s.lags == 0))
     (and_from _ (is_none (with_alloc_word s.block b n))
     (and_from _ (is_none s.cache) (and_from _ (is_none s.owes) (and_from (empty_handed s) _ p1.0 (ap not (idle-read sh.fields sh s b n (not-true _ p1.1)))) p2.1) p3.1)
     (ap (λ (o : Option BlockState). is_none (with_alloc_word o b n)) none))

@@ -45,7 +45,7 @@ pub owes-none : (v : View) → Mutates v → v.state.owes ≡ None
 owes-none v m =
     let s = v.state in
     let p5 = and_parts _ (not (has_making s.cache)) m.rest in
-    let p4 = and_parts _ (s.got == 0) p5.0 in
+    let p4 = and_parts _ ((s.got == 0) && (s.lags == 0)) p5.0 in
     let p3 = and_parts (empty_handed s && not (work_in_hand v.shape.fields s) && is_none s.owes) (is_none s.block) p4.0 in
     none-of s.owes (and_parts (empty_handed s && not (work_in_hand v.shape.fields s)) (is_none s.owes) p3.0).1
 

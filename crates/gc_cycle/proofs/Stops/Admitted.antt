@@ -7,7 +7,7 @@ use Rattle.mark_core.specs.Held.{Slot, Slots}
 use Rattle.mark_core.specs.Seats.{work_in_hand}
 use Rattle.mark_core.specs.declared.kinds.Shape.{Shape}
 use Rattle.mark_core.specs.declared.kinds.Step.{Step}
-use Rattle.mark_core.specs.declared.kinds.Step.TheVariants.{ClearCard, Give, NextOfCards, NextSeason, Push, ReadCat, ReadOwn, StoreField, StoreNew, StorePhase, StorePosition, StoreRoot, StoreValue, ReadSlot, StoreSlot, ExchangeField, ExchangeValue, ReadWeak}
+use Rattle.mark_core.specs.declared.kinds.Step.TheVariants.{ClearCard, Give, NextOfCards, NextSeason, Push, ReadCat, ReadOwn, StoreField, StoreNew, StorePhase, StorePosition, StoreRoot, StoreValue, ReadSlot, StoreSlot, ExchangeField, ExchangeValue, ReadWeak, HoldRoot}
 use Rattle.mark_core.specs.declared.seat.SeatState.{SeatState}
 use Rattle.gc_table.specs.Taking.{after}
 use Rattle.gc_table.specs.declared.view.Entry.{Entry}
@@ -159,6 +159,7 @@ traces-kept (ExchangeValue v m n) e = absurd (false≢true e)
 traces-kept (StoreField v i w) e = absurd (false≢true e)
 traces-kept (StoreValue v n) e = absurd (false≢true e)
 traces-kept (StoreRoot v r) e = absurd (false≢true e)
+traces-kept (HoldRoot v r) e = absurd (false≢true e)
 traces-kept (StoreNew c part word) e = absurd (false≢true e)
 traces-kept (StorePosition done) e = absurd (false≢true e)
 traces-kept (StorePhase to) e = absurd (false≢true e)

@@ -4,7 +4,7 @@ use Rattle.std.specs.Prelude.{◌==◌}
 use Rattle.std.proofs.lemmas.Bool.{false≢true}
 use Rattle.mark_core.specs.Numbers.{block_counter, card_counter, done_count}
 use Rattle.mark_core.specs.declared.kinds.Step.{Step}
-use Rattle.mark_core.specs.declared.kinds.Step.TheVariants.{AddStat, ClaimBlock, ClearMarks, JoinHelpStep, LeaveStep, NextBlock, NextSeason, RaiseStep, ReadAlloc, ReadBlockMarks, ReadCat, ReadOwn, ReadSeason, ReadStat, StoreAlloc, StoreField, StoreNew, StorePhase, StoreRoot, StoreValue, ReadSlot, StoreSlot, ExchangeField, ExchangeValue, ReadWeak}
+use Rattle.mark_core.specs.declared.kinds.Step.TheVariants.{AddStat, ClaimBlock, ClearMarks, JoinHelpStep, LeaveStep, NextBlock, NextSeason, RaiseStep, ReadAlloc, ReadBlockMarks, ReadCat, ReadOwn, ReadSeason, ReadStat, StoreAlloc, StoreField, StoreNew, StorePhase, StoreRoot, StoreValue, ReadSlot, StoreSlot, ExchangeField, ExchangeValue, ReadWeak, HoldRoot}
 use Rattle.gc_table.specs.Log.{Only, events}
 use Rattle.gc_table.specs.Running.{changes_section, Ran}
 use Rattle.gc_table.specs.declared.view.View.{View}
@@ -60,6 +60,7 @@ traces-calm (ExchangeValue v m n) e = absurd (false≢true e)
 traces-calm (StoreField v i w) e = absurd (false≢true e)
 traces-calm (StoreValue v n) e = absurd (false≢true e)
 traces-calm (StoreRoot v r) e = absurd (false≢true e)
+traces-calm (HoldRoot v r) e = absurd (false≢true e)
 traces-calm (StoreNew c part word) e = absurd (false≢true e)
 traces-calm ReadSeason e = absurd (false≢true e)
 traces-calm NextSeason e = absurd (false≢true e)

@@ -37,14 +37,15 @@ use Rattle.gc_cycle.proofs.SectionKept.{goes-out}
 
 -- the parts of being at rest
 
-nothing-work : (sh : Shape) (s : SeatState) → has_nothing sh s ≡ true → (empty_handed s ≡ true) × (work_in_hand sh.fields s ≡ false) × (is_none s.owes ≡ true) × (is_none s.cache ≡ true) × (is_none s.block ≡ true) × ((s.got == 0) ≡ true)
+nothing-work : (sh : Shape) (s : SeatState) → has_nothing sh s ≡ true → (empty_handed s ≡ true) × (work_in_hand sh.fields s ≡ false) × (is_none s.owes ≡ true) × (is_none s.cache ≡ true) × (is_none s.block ≡ true) × ((s.got == 0) ≡ true) × ((s.lags == 0) ≡ true)
 nothing-work sh s e =
-    let p5 = and_parts _ (s.got == 0) e in
+    let p5 = and_parts _ ((s.got == 0) && (s.lags == 0)) e in
     let p4 = and_parts (empty_handed s && not (work_in_hand sh.fields s) && is_none s.owes && is_none s.cache) (is_none s.block) p5.0 in
     let p3 = and_parts (empty_handed s && not (work_in_hand sh.fields s) && is_none s.owes) (is_none s.cache) p4.0 in
     let p2 = and_parts (empty_handed s && not (work_in_hand sh.fields s)) (is_none s.owes) p3.0 in
     let p1 = and_parts (empty_handed s) (not (work_in_hand sh.fields s)) p2.0 in
-    (p1.0, not-true _ p1.1, p2.1, p3.1, p4.1, p5.1)
+    let p6 = and_parts (s.got == 0) (s.lags == 0) p5.1 in
+    (p1.0, not-true _ p1.1, p2.1, p3.1, p4.1, p6.0, p6.1)
 
 pub none-of : {X : Type 0} (o : Option X) → is_none o ≡ true → o ≡ None
 none-of None e = refl
@@ -62,7 +63,7 @@ mutator-nothing v m n = rest-nothing v.shape v.state m.rest (ap (λ o. is_none o
 pub free-to-leave : (v : View) → has_nothing v.shape v.state ≡ true → IsFreeToLeave v
 free-to-leave v e =
     let p = nothing-work v.shape v.state e in
-    record { handed = p.0; idle = p.1; owes = none-of v.state.owes p.2; cache = none-of v.state.cache p.3; got = eqb-true v.state.got 0 p.5 }
+    record { handed = p.0; idle = p.1; owes = none-of v.state.owes p.2; cache = none-of v.state.cache p.3; got = eqb-true v.state.got 0 p.5; lags = eqb-true v.state.lags 0 p.6 }
 
 -- leaving
 

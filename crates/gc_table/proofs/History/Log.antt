@@ -18,7 +18,7 @@ drop-own (x ∷ xs) ys = drop-own xs ys
 pub events-of : (v w : View) (more : List Entry) → w.log ≡ v.log ++ more → events v w ≡ more
 events-of v w more e = ap (drop (length v.log)) e ∙ drop-own v.log more
 
-append-none : {X : Type 0} (xs : List X) → xs ≡ xs ++ []
+pub append-none : {X : Type 0} (xs : List X) → xs ≡ xs ++ []
 append-none [] = refl
 append-none (x ∷ xs) = ap (λ l. x ∷ l) (append-none xs)
 

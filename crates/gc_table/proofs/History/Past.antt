@@ -23,8 +23,10 @@ use Rattle.gc_table.specs.Entries.{event, is_logged}
 use Rattle.gc_table.specs.Past.{word_told, entries_of, adds, log_from, log_of, LeadTo}
 use Rattle.gc_table.specs.Taking.{IsOwn}
 use Rattle.mark_core.specs.Shapes.{IsShape}
-use Rattle.gc_table.specs.Ends.{AreWords}
-use Rattle.gc_table.specs.Laws.{ClosedHeapsRan}
+use Rattle.gc_table.specs.Ends.{AreWords, IsEnd, IsResting}
+use Rattle.gc_table.specs.Laws.{ClosedHeapsRan, IsRunOf}
+use Rattle.gc_table.specs.declared.seat.HeapSeat.{HeapSeat}
+use Rattle.gc_table.specs.declared.words.Words.{Words}
 
 pub own-logged : (step : Step) → IsOwn step → is_logged step ≡ true
 own-logged Split h = absurd h
@@ -155,15 +157,19 @@ run-sound (suc n) [] c core fit = core
 run-sound (suc n) (e ∷ es) c core fit = either_way c (run_of (take n es) (after_event c e)) (failing_part c e) core (λ ok. run-sound n es (after_event c e) (core_kept c e core (fit 0 e (omega arith)) ok) (All-rest Fits e es (e ∷ es) refl fit))
 
 -- What the seats of a closed heap did is a run of the core.
+-- the events that led to the end are one
+pub ended : (sh : Shape) (seats : List HeapSeat) (w : Words) (e : IsEnd sh seats w) → IsRunOf sh seats w e.past
+ended sh seats w e =
+    let shaped : IsShape sh = subst IsShape e.shape e.whole.core.formed.shaped in
+    record {
+      allowed = e.led.allowed;
+      parts = e.logs;
+      since = e.since;
+      no_others = e.theirs;
+      sound = λ n. run-sound n e.past (start_core sh 1) (core-starts sh 1 shaped (omega arith) (omega arith)) e.led.fit;
+      ends = subst (λ (c : Core). AreWords sh c.words w) (sym e.led.leads) e.words;
+      resting = subst (λ (c : Core). (j : ℕ) (r : SeatState) (k : ℕ) → j < length seats → slice_get c.seats j ≡ Some r → r.section ≡ Some k → IsResting seats r) (sym e.led.leads) e.resting;
+    }
+
 pub closed_ran : ClosedHeapsRan
-closed_ran sh seats w e =
-    let shaped : IsShape sh = subst IsShape e.shape e.whole.core.formed.shaped in (
-      e.past,
-      record {
-        allowed = e.led.allowed;
-        parts = e.logs;
-        no_others = e.theirs;
-        sound = λ n. run-sound n e.past (start_core sh 1) (core-starts sh 1 shaped (omega arith) (omega arith)) e.led.fit;
-        ends = subst (λ (c : Core). AreWords sh c.words w) (sym e.led.leads) e.words;
-      },
-    )
+closed_ran sh seats w e = (e.past, ended sh seats w e)

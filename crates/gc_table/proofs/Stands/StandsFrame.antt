@@ -1,4 +1,6 @@
 -- The rule of what words stand for, put together after one seat has acted.
+use Rattle.mark_core.proofs.References.ReferencesNow.{the-roots}
+use Rattle.mark_core.specs.Variables.{roots_now}
 use Rattle.std.proofs.Common.{ℕ, ◌≡◌, ◌≢◌, ◌+◌, ◌-◌, ◌*◌, ◌<◌, ◌≤◌, zero, suc, List, [], ◌∷◌, set, length, arith, refl, sym, ap, ◌∙◌, subst, true, Some, ◌⊎◌, inl, inr, ⊎_elim}
 use Rattle.std.specs.Prelude.{slice_get, slice_index, IsFalse, slice_index_or, IsTrue}
 use Rattle.std.proofs.lemmas.Bool.{cases_eq}
@@ -201,21 +203,24 @@ pub record Moves (c : Core) (i : ℕ) (s : SeatState) (step : Step) (x : Words) 
   pub numbered : IsSection c.shape i n
   pub more : length (meaning_of ms i).heap.objects ≤ length n.heap.objects
   pub identities_kept : (y : ℕ) → Used c y ≡ true → slice_index x.identities y ≡ slice_index (words_of c.shape c.words).identities y
-  pub other_roots : (w v : ℕ) → w ≢ i → v < 32 → slice_index x.roots (w * 32 + v) ≡ slice_index (words_of c.shape c.words).roots (w * 32 + v)
-  pub slots_nil : (j : ℕ) → slice_index x.roots (c.shape.sections * 32 + j) ≡ 0
-  pub own_roots : (v : ℕ) → v < 32 → WordAgrees x.identities (object_count (set ms i n)) i (slice_index x.roots (i * 32 + v)) (variable n.heap v)
+  -- the roots as the seats have them
+  pub now_roots : List ℕ
+  pub now : roots_now x.roots (set c.seats i t) ≡ now_roots
+  pub other_roots : (w v : ℕ) → w ≢ i → v < 32 → slice_index now_roots (w * 32 + v) ≡ slice_index (the-roots c) (w * 32 + v)
+  pub slots_nil : (j : ℕ) → slice_index now_roots (c.shape.sections * 32 + j) ≡ 0
+  pub own_roots : (v : ℕ) → v < 32 → WordAgrees x.identities (object_count (set ms i n)) i (slice_index now_roots (i * 32 + v)) (variable n.heap v)
   pub cells : (y : ℕ) → y < c.shape.cells → UsedAfter c i s step y ≡ true → HasMeaning c.shape x.identities x.values x.fields (set ms i n) y
   pub other_making : (w : ℕ) (o : SeatState) → w ≢ i → slice_get c.seats w ≡ Some o → IsFalse o.spent → (y part : ℕ) → makes o.cache y part ≡ true → slice_index x.values y ≡ slice_index (words_of c.shape c.words).values y
   pub own_seat : IsFalse t.spent → SeatStands c.shape x.identities x.values (object_count (set ms i n)) i t n
 
 -- so the words stand for what they stood for, with the new meaning
 pub moved : (c : Core) (i : ℕ) (s : SeatState) (step : Step) (x : Words) (t : SeatState) (n : Meaning) (ms : List Meaning) → Taken c i s step → StandsFor c ms → Mutates c i s ms → Moves c i s step x t n ms
-    → Stands c.shape x.roots x.identities x.values x.fields (λ y. IsTrue (UsedAfter c i s step y)) (set c.seats i t) (set ms i n)
+    → Stands c.shape (roots_now x.roots (set c.seats i t)) x.identities x.values x.fields (λ y. IsTrue (UsedAfter c i s step y)) (set c.seats i t) (set ms i n)
 moved c i s step x t n ms k st a move =
     let w : Words = words_of c.shape c.words in
     let used : ℕ → Type 0 = λ y. IsTrue (Used c y) in
     let after : ℕ → Type 0 = λ y. IsTrue (UsedAfter c i s step y) in
-    let changes : Changes c.shape w.roots x.roots w.identities x.identities w.values x.values x.fields used after c.seats ms i t (meaning_of ms i) n =
+    let changes : Changes c.shape (the-roots c) move.now_roots w.identities x.identities w.values x.values x.fields used after c.seats ms i t (meaning_of ms i) n =
     record {
       meaning = a.there;
       numbered = move.numbered;
@@ -232,7 +237,8 @@ moved c i s step x t n ms k st a move =
       own_seat = move.own_seat;
       within = within c i s step k;
     } in
-    stands-changed c.shape w.roots x.roots w.identities x.identities w.values x.values w.fields x.fields used after c.seats ms i t (meaning_of ms i) n changes st
+    subst (λ (rs : List ℕ). Stands c.shape rs x.identities x.values x.fields after (set c.seats i t) (set ms i n)) (sym move.now)
+    (stands-changed c.shape (the-roots c) move.now_roots w.identities x.identities w.values x.values w.fields x.fields used after c.seats ms i t (meaning_of ms i) n changes st)
 
 -- a cell in use after a step that makes none was in use before, and had its meaning
 pub had-meaning : (c : Core) (i : ℕ) (s : SeatState) (step : Step) (ms : List Meaning) (y : ℕ) → Taken c i s step → StandsFor c ms → (IsMadeBy c.shape step y → ⊥) → y < c.shape.cells → UsedAfter c i s step y ≡ true

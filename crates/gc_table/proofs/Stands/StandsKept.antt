@@ -1,4 +1,5 @@
 -- Each event that is allowed, and meets what is asked besides, leads to a state that stands for the plain heaps after it.
+use Rattle.mark_core.specs.Variables.{roots_now}
 use Rattle.std.proofs.Common.{ℕ, ◌≡◌, ◌+◌, ◌*◌, ◌<◌, List, length, refl, sym, subst, Bool, true, false, cond, Option, Some, None, ◌⊎◌, inl, inr, ◌≤◌, [], ◌∷◌, ◌++◌, set, arith, ⊎_elim, ◌∙◌, eqb, ap}
 use Rattle.std.specs.Prelude.{IsFalse, IfSome, slice_index, IsTrue, slice_get}
 use Rattle.std.proofs.lemmas.Bool.{false≢true, true≢false, and_parts}
@@ -18,11 +19,12 @@ use Rattle.mark_core.specs.Steps.{Core}
 use Rattle.mark_core.proofs.Known.{found, words_left, seats_left}
 use Rattle.mark_core.proofs.Blocks.BlocksStopped.{Taken, kept-after, words-read}
 use Rattle.mark_core.proofs.Formed.FormedLearns.{set-cases, push-cases}
-use Rattle.mark_core.proofs.References.ReferencesRoots.{Used, UsedAfter, stores_root, roots-same}
+use Rattle.mark_core.proofs.References.ReferencesRoots.{Used, UsedAfter}
+use Rattle.mark_core.proofs.References.ReferencesNow.{assigns_root, now-left, the-roots}
 use Rattle.mark_core.proofs.Used.UsedSeats.{IsMadeBy}
 use Rattle.mark_core.proofs.Used.UsedKept.{used-back}
 use Rattle.mark_core.specs.declared.kinds.Step.{Step}
-use Rattle.mark_core.specs.declared.kinds.Step.TheVariants.{Split, Join, ReadOwn, ReadCat, StoreField, StoreValue, StoreRoot, ClaimBlock, ReleaseBlock, ReadFree, StoreNew, PublishCells, ExchangeField, ExchangeValue, StoreSlot, ReadSlot, ReadField, ReadValue, ReadIdent, Reset, AddStat, ReadStat, ReadWeak}
+use Rattle.mark_core.specs.declared.kinds.Step.TheVariants.{Split, Join, ReadOwn, ReadCat, StoreField, StoreValue, StoreRoot, ClaimBlock, ReleaseBlock, ReadFree, StoreNew, PublishCells, ExchangeField, ExchangeValue, StoreSlot, ReadSlot, ReadField, ReadValue, ReadIdent, Reset, AddStat, ReadStat, ReadWeak, HoldRoot}
 use Rattle.gc_table.proofs.Stands.StandsFrame.{stands-same}
 use Rattle.std.proofs.lemmas.Option.{same_Some}
 use Rattle.plain_heap.specs.declared.operation.Op.{Op}
@@ -30,7 +32,7 @@ use Rattle.gc_table.specs.PlainSteps.{meanings_after, AsksIn}
 use Rattle.gc_table.specs.Laws.{EventsKeepStands}
 use Rattle.gc_table.proofs.Stands.StandsNew.{store-new}
 use Rattle.gc_table.proofs.Stands.StandsReads.{read-own, read-cat, read-slot}
-use Rattle.gc_table.proofs.Stands.StandsRoots.{store-root}
+use Rattle.gc_table.proofs.Stands.StandsRoots.{store-root, hold-root}
 use Rattle.gc_table.proofs.Stands.StandsStores.{store-field, store-value}
 use Rattle.mark_core.proofs.Writing.RegionWrites.{identities-kept, fields-kept}
 use Rattle.mark_core.proofs.Writing.Writes.{at_counter}
@@ -131,19 +133,19 @@ EachStands c seats ms =
     (w : ℕ) (s : SeatState) (m : Meaning) → slice_get seats w ≡ Some s → slice_get ms w ≡ Some m → IsFalse s.spent → SeatStands c.shape (words_of c.shape c.words).identities (words_of c.shape c.words).values (object_count ms) w s m
 
 -- no cell comes into use, and the words stay
-pub still : (c : Core) (i : ℕ) (s : SeatState) (step : Step) (ms : List Meaning) → Taken c i s step → StandsFor c ms → stores_root step ≡ false → stores_cell step ≡ false → ((x : ℕ) → IsMadeBy c.shape step x → ⊥) → length c.seats ≤ length (seats_left c i s step)
+pub still : (c : Core) (i : ℕ) (s : SeatState) (step : Step) (ms : List Meaning) → Taken c i s step → StandsFor c ms → assigns_root step ≡ false → stores_cell step ≡ false → ((x : ℕ) → IsMadeBy c.shape step x → ⊥) → length c.seats ≤ length (seats_left c i s step)
     → EachStands c (seats_left c i s step) ms → StandsIn c.shape (words_left c s step) (seats_left c i s step) ms
 still c i s step ms k st r f none longer each =
     let w : Words = words_of c.shape c.words in
     let used : ℕ → Type 0 = λ x. IsTrue (Used c x) in
     let after : ℕ → Type 0 = λ x. IsTrue (UsedAfter c i s step x) in
     let seats : List SeatState = seats_left c i s step in
-    let same : Stands c.shape w.roots w.identities w.values w.fields after seats ms =
-    stands-same c.shape w.roots w.identities w.values w.fields used after c.seats seats ms (λ x h u. ⊎_elim (λ (a : Used c x ≡ true). a) (λ (a : IsMadeBy c.shape step x). absurd (none x a)) (used-back c i s step x k u)) each longer st in
-    subst (λ (rs : List ℕ). Stands c.shape rs (words_left c s step).identities (words_left c s step).values (words_left c s step).fields after seats ms) (sym (roots-same c i s step k r))
-    (subst (λ (ids : List ℕ). Stands c.shape w.roots ids (words_left c s step).values (words_left c s step).fields after seats ms) (sym (identities-same c i s step k f))
-    (subst (λ (vs : List ℕ). Stands c.shape w.roots w.identities vs (words_left c s step).fields after seats ms) (sym (values-same c i s step k f))
-    (subst (λ (fs : List ℕ). Stands c.shape w.roots w.identities w.values fs after seats ms) (sym (fields-same c i s step k f)) same)))
+    let same : Stands c.shape (the-roots c) w.identities w.values w.fields after seats ms =
+    stands-same c.shape (the-roots c) w.identities w.values w.fields used after c.seats seats ms (λ x h u. ⊎_elim (λ (a : Used c x ≡ true). a) (λ (a : IsMadeBy c.shape step x). absurd (none x a)) (used-back c i s step x k u)) each longer st in
+    subst (λ (rs : List ℕ). Stands c.shape rs (words_left c s step).identities (words_left c s step).values (words_left c s step).fields after seats ms) (sym (now-left c i s step k r))
+    (subst (λ (ids : List ℕ). Stands c.shape (the-roots c) ids (words_left c s step).values (words_left c s step).fields after seats ms) (sym (identities-same c i s step k f))
+    (subst (λ (vs : List ℕ). Stands c.shape (the-roots c) w.identities vs (words_left c s step).fields after seats ms) (sym (values-same c i s step k f))
+    (subst (λ (fs : List ℕ). Stands c.shape (the-roots c) w.identities w.values fs after seats ms) (sym (fields-same c i s step k f)) same)))
 
 -- each seat when one record changed
 pub each-but : (c : Core) (i : ℕ) (t : SeatState) (seats : List SeatState) (ms : List Meaning) → ((m : Meaning) → slice_get ms i ≡ Some m → IsFalse t.spent → SeatStands c.shape (words_of c.shape c.words).identities (words_of c.shape c.words).values (object_count ms) i t m)
@@ -158,7 +160,7 @@ each-but c i t seats ms own each w s m f g live = of (set-cases seats i w t s f)
     of (inr e) = each w s m e g live
 
 -- a step of a seat that gets nothing and makes nothing further
-pub still-seat : (c : Core) (i : ℕ) (s : SeatState) (step : Step) (ms : List Meaning) → Taken c i s step → StandsFor c ms → stores_root step ≡ false → stores_cell step ≡ false → ((x : ℕ) → IsMadeBy c.shape step x → ⊥)
+pub still-seat : (c : Core) (i : ℕ) (s : SeatState) (step : Step) (ms : List Meaning) → Taken c i s step → StandsFor c ms → assigns_root step ≡ false → stores_cell step ≡ false → ((x : ℕ) → IsMadeBy c.shape step x → ⊥)
     → seats_left c i s step ≡ set c.seats i (seat_after c.shape s step (found c s step)) → (seat_after c.shape s step (found c s step)).got ≡ s.got → (seat_after c.shape s step (found c s step)).made ≡ s.made
     → MakesNoMore s.cache (seat_after c.shape s step (found c s step)).cache → StandsIn c.shape (words_left c s step) (seats_left c i s step) ms
 still-seat c i s step ms k st r f none is got made less =
@@ -215,6 +217,7 @@ stands_at c i s (StoreValue v n) op ms alone k st asks = store-value c i s v n o
 stands_at c i s (ExchangeField v j y o) op ms alone k st asks = absurd (true≢false (sym (and_parts _ c.shape.sharing k.ok.1.0).1 ∙ alone))
 stands_at c i s (ExchangeValue v m n) op ms alone k st asks = absurd (true≢false (sym (and_parts _ c.shape.sharing k.ok.1.0).1 ∙ alone))
 stands_at c i s (StoreRoot v r) op ms alone k st asks = store-root c i s v r op ms k st asks
+stands_at c i s (HoldRoot v r) op ms alone k st asks = hold-root c i s v r op ms k st asks
 stands_at c i s (StoreNew x part word) op ms alone k st asks = store-new c i s x part word op ms k st asks
 stands_at c i s Split op ms alone k st asks = still-split c i s ms k st
 stands_at c i s (Join other) op ms alone k st asks = still-join c i s other ms k st
@@ -233,12 +236,12 @@ stands_kept c e s op ms alone k st g asks f =
 
 -- A step that stores no reference leaves the paths: what was reachable is.
 -- cell y is reachable by the words that the step leaves
-abbrev pub ReachedAfter : Core → SeatState → Step → ℕ → Type 0
-ReachedAfter c s step y = IsReachableCell c.shape (words_left c s step).roots (words_left c s step).fields y
+abbrev pub ReachedAfter : Core → ℕ → SeatState → Step → ℕ → Type 0
+ReachedAfter c i s step y = IsReachableCell c.shape (roots_now (words_left c s step).roots (seats_left c i s step)) (words_left c s step).fields y
 
-pub reach-still : (c : Core) (i : ℕ) (s : SeatState) (step : Step) (y : ℕ) → Taken c i s step → stores_root step ≡ false → stores_cell step ≡ false → IsReachableIn c y → ReachedAfter c s step y
+pub reach-still : (c : Core) (i : ℕ) (s : SeatState) (step : Step) (y : ℕ) → Taken c i s step → assigns_root step ≡ false → stores_cell step ≡ false → IsReachableIn c y → ReachedAfter c i s step y
 reach-still c i s step y k r f a =
     let w : Words = words_of c.shape c.words in
     let P : List ℕ → Type 0 = λ roots. IsReachableCell c.shape roots w.fields y in
-    let Q : List ℕ → Type 0 = λ fields. IsReachableCell c.shape (words_left c s step).roots fields y in
-    subst Q (sym (fields-same c i s step k f)) (subst P (sym (roots-same c i s step k r)) a)
+    let Q : List ℕ → Type 0 = λ fields. IsReachableCell c.shape (roots_now (words_left c s step).roots (seats_left c i s step)) fields y in
+    subst Q (sym (fields-same c i s step k f)) (subst P (sym (now-left c i s step k r)) a)

@@ -1,4 +1,6 @@
 -- 23: a field or the value of a new cell is stored.
+use Rattle.mark_core.proofs.References.ReferencesNow.{the-roots}
+use Rattle.mark_core.proofs.Lagging.{now-seat}
 use Rattle.std.proofs.Common.{ℕ, ◌≡◌, ◌≢◌, ◌+◌, ◌*◌, ◌<◌, ◌≤◌, List, set, length, arith, refl, sym, ap, ◌∙◌, subst, true, Option, Some, None, inl, ⊎_elim}
 use Rattle.std.specs.Prelude.{IsFalse, IfSome, slice_index}
 use Rattle.std.proofs.lemmas.Bool.{true≢false, false≢true, eq-eqb}
@@ -67,6 +69,8 @@ part-moves c i s x part word ms values fields value k st a free room few r = rec
   numbered = let before = st.numbered i m a.there in (before.0, before.1, before.2, r.fits, before.4);
   more = omega arith;
   identities_kept = λ y u. refl;
+  now_roots = the-roots c;
+  now = now-seat w.roots c.seats i s (record s { cache = with_making s.cache x (part + 1) }) k.got refl refl;
   other_roots = λ j u d h. refl;
   slots_nil = st.slots_nil;
   own_roots = λ u h. agrees-on w.identities w.identities (object_count ms) q i _ _ (λ some. refl) more (st.roots_agree i m a.there u h);

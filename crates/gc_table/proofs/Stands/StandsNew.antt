@@ -1,4 +1,7 @@
 -- 23: each part of a new cell, by its number.
+use Rattle.mark_core.proofs.References.ReferencesNow.{the-roots}
+use Rattle.mark_core.proofs.Lagging.{now-seat}
+use Rattle.mark_core.specs.Variables.{roots_now}
 use Rattle.std.proofs.Common.{ℕ, ◌≡◌, ◌≢◌, ◌+◌, ◌-◌, ◌*◌, ◌<◌, ◌≤◌, List, set, length, arith, refl, sym, ap, ◌∙◌, subst, true, false, Option, Some, None, ◌⊎◌, inl, inr, Bool, ◌&&◌, eqb, cond}
 use Rattle.std.specs.Prelude.{IfSome, slice_get, slice_index, IsTrue, nat_lt, nat_le, is_some, unwrap_or}
 use Rattle.std.proofs.lemmas.Bool.{true≢false, false≢true, and_parts, eqb-true, ltb-true, ltb-false, le-leb, lt-leb, ne_eqb, eq-eqb, false_from_ne_true, cases_eq, cases_Bool}
@@ -51,9 +54,11 @@ made-moves c i s x part word ms k st a free next room here last identity = recor
   numbered = st.numbered i m a.there;
   more = omega arith;
   identities_kept = kept;
+  now_roots = the-roots c;
+  now = now-seat w.roots c.seats i s (record s { cache = with_made s.cache x; made = s.made + 1 }) k.got refl refl;
   other_roots = λ j u d h. refl;
   slots_nil = st.slots_nil;
-  own_roots = λ u h. agrees-on w.identities ids (object_count ms) q i _ _ (λ some. kept (slice_index w.roots (i * 32 + u) - 1) (root-used c (i * 32 + u) k.core some)) more (st.roots_agree i m a.there u h);
+  own_roots = λ u h. agrees-on w.identities ids (object_count ms) q i _ _ (λ some. kept (slice_index (the-roots c) (i * 32 + u) - 1) (root-used c (i * 32 + u) k.core some)) more (st.roots_agree i m a.there u h);
   cells = λ y h u. cell y h (used-back c i s step y k u);
   other_making = λ j o d g live y part' e. refl;
   own_seat =
@@ -124,8 +129,9 @@ made-moves c i s x part word ms k st a free next room here last identity = recor
 abbrev NewStands : Core → ℕ → SeatState → ℕ → ℕ → ℕ → List Meaning → Bool → Bool → Bool → Type 0
 NewStands c i s x part word ms field_part early value_part =
     let w : Words = put_word (cond field_part (11, x * c.shape.fields + part) (cond value_part (10, x) (9, x))) word (words_of c.shape c.words) in
-    Stands c.shape w.roots w.identities w.values w.fields (λ y. IsTrue (UsedAfter c i s (StoreNew x part word) y))
-    (set c.seats i (record s { cache = cond early (with_making s.cache x (part + 1)) (with_made s.cache x); made = cond early s.made (s.made + 1) }))
+    let seats : List SeatState = set c.seats i (record s { cache = cond early (with_making s.cache x (part + 1)) (with_made s.cache x); made = cond early s.made (s.made + 1) }) in
+    Stands c.shape (roots_now w.roots seats) w.identities w.values w.fields (λ y. IsTrue (UsedAfter c i s (StoreNew x part word) y))
+    seats
     (set ms i (record (meaning_of ms i) { value = cond value_part word (meaning_of ms i).value }))
 
 -- what is known if a part of a new cell may be stored

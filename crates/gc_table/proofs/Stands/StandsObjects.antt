@@ -1,4 +1,6 @@
 -- An object changes in its cell and in its plain heap.
+use Rattle.mark_core.proofs.References.ReferencesNow.{the-roots}
+use Rattle.mark_core.proofs.Lagging.{now-seat}
 use Rattle.std.proofs.Common.{Bool, ℕ, ◌≡◌, ◌≢◌, ◌+◌, ◌-◌, ◌<◌, ◌≤◌, zero, suc, List, set, length, arith, refl, sym, ap, ◌∙◌, subst, true, false, not, eqb, Option, Some, ◌⊎◌, inl, inr, ⊎_elim}
 use Rattle.std.specs.Prelude.{IsFalse, ◌&&◌, ◌||◌, slice_get, slice_index, slice_index_or}
 use Rattle.std.proofs.lemmas.Bool.{true≢false, and_parts, not-true, eqb-true, eqb-false, cases_eq}
@@ -125,6 +127,8 @@ object-moves c i s step v ms y values fields object owed k st a none b r = recor
   numbered = let before = st.numbered i m a.there in (before.0, before.1, before.2, before.3, λ j o e. ⊎_elim (λ x. subst (λ (z : Object). z.value < value_bound) x.1 r.fits) (λ x. before.4 j o x) (set-cases m.heap.objects number j object o e));
   more = omega (arith, long);
   identities_kept = λ z u. refl;
+  now_roots = the-roots c;
+  now = now-seat w.roots c.seats i s (record s { owes = owed }) k.got refl refl;
   other_roots = λ j u d h. refl;
   slots_nil = st.slots_nil;
   own_roots = λ u h. agrees-on w.identities w.identities (object_count ms) q i _ _ (λ some. refl) more (st.roots_agree i m a.there u h);

@@ -1,4 +1,6 @@
 -- The reachable objects and the reachable cells: each has the other.
+use Rattle.mark_core.proofs.References.ReferencesNow.{the-roots}
+use Rattle.mark_core.proofs.Lagging.{now-length}
 use Rattle.std.proofs.Common.{ℕ, ◌≡◌, ◌+◌, ◌*◌, ◌/◌, ◌%◌, ◌<◌, ◌≤◌, List, [], ◌∷◌, length, arith, refl, sym, ap, ◌∙◌, subst, Some, ◌⊎◌, inl, inr, ◌-◌, ⊎_elim, zero, suc, get_or}
 use Rattle.std.specs.Prelude.{slice_get, slice_index, slice_index_or, Contains}
 use Rattle.std.proofs.lemmas.Bool.{cases_lt}
@@ -98,7 +100,7 @@ abbrev HasObjectIn : Core → List Meaning → ℕ → Type 0
 HasObjectIn c ms x = IsGiven c ms x × IsReachable (heaps_of ms) (name_at (words_of c.shape c.words).identities x)
 
 -- of a cell that a root names
-rooted : (c : Core) (ms : List Meaning) (x k : ℕ) → IsCore c → StandsFor c ms → k < length (words_of c.shape c.words).roots → slice_index (words_of c.shape c.words).roots k ≡ x + 1 → HasObjectIn c ms x
+rooted : (c : Core) (ms : List Meaning) (x k : ℕ) → IsCore c → StandsFor c ms → k < length (the-roots c) → slice_index (the-roots c) k ≡ x + 1 → HasObjectIn c ms x
 rooted c ms x k core st h e = (named.1, (object, [], held))
   where
     ids : List ℕ
@@ -113,7 +115,7 @@ rooted c ms x k core st h e = (named.1, (object, [], held))
         (λ (l : k < c.shape.sections * 32). l)
         (λ (l : c.shape.sections * 32 ≤ k).
         let same : c.shape.sections * 32 + (k - c.shape.sections * 32) ≡ k = omega (arith, l) in
-        absurd (omega (arith, e, sym (ap (slice_index (words_of c.shape c.words).roots) same) ∙ st.slots_nil (k - c.shape.sections * 32))))
+        absurd (omega (arith, e, sym (ap (slice_index (the-roots c)) same) ∙ st.slots_nil (k - c.shape.sections * 32))))
         (cases_lt k (c.shape.sections * 32))
 
     inside : section < length ms
@@ -132,11 +134,11 @@ rooted c ms x k core st h e = (named.1, (object, [], held))
     low = omega arith
 
     named : Names section (variable m.heap (k % 32)) (name_at ids x) × IsGiven c ms x
-    named = ref-of ids (object_count ms) section (slice_index (words_of c.shape c.words).roots k) x (variable m.heap (k % 32)) e
-        (subst (λ j. WordAgrees ids (object_count ms) section (slice_index (words_of c.shape c.words).roots j) (variable m.heap (k % 32))) place (st.roots_agree section m there (k % 32) low))
+    named = ref-of ids (object_count ms) section (slice_index (the-roots c) k) x (variable m.heap (k % 32)) e
+        (subst (λ j. WordAgrees ids (object_count ms) section (slice_index (the-roots c) j) (variable m.heap (k % 32))) place (st.roots_agree section m there (k % 32) low))
 
     holds : IsCellOfObject c ms (name_at ids x) x
-    holds = cell_holds c ms x core st (reach-root c.shape (words_of c.shape c.words).roots (words_of c.shape c.words).fields k x h e) named.1
+    holds = cell_holds c ms x core st (reach-root c.shape (the-roots c) (words_of c.shape c.words).fields k x h e) named.1
 
     object : IsObject (heaps_of ms) (name_at ids x)
     object = (holds.2.2.object, has-object c ms x holds.2.0 st holds.2.1 holds.2.2)
@@ -173,7 +175,7 @@ fielded c ms x d i core st reach from h e = (named.1, reach_on (heaps_of ms) (na
     named = ref-of ids (object_count ms) (section_of_cell ids d) (field c.shape w.fields d i) x ref e (source.2.2.each_field i h)
 
     holds : IsCellOfObject c ms (name_at ids x) x
-    holds = cell_holds c ms x core st (reach-field c.shape w.roots w.fields d i x reach h e) named.1
+    holds = cell_holds c ms x core st (reach-field c.shape (the-roots c) w.fields d i x reach h e) named.1
 
     object : IsObject (heaps_of ms) (name_at ids x)
     object = (holds.2.2.object, has-object c ms x holds.2.0 st holds.2.1 holds.2.2)
@@ -181,7 +183,7 @@ fielded c ms x d i core st reach from h e = (named.1, reach_on (heaps_of ms) (na
     refers : RefersTo (heaps_of ms) (name_at ids d) (name_at ids x)
     refers = (o, has-object c ms d source.2.0 st source.2.1 source.2.2, ref, Contains-get_or o.refs i refs.Nil (omega (arith, h, source.2.2.room, core.formed.shaped.fields)), named.0)
 
-along : (c : Core) (ms : List Meaning) (x : ℕ) (ds : List ℕ) → IsCore c → StandsFor c ms → IsCellPath c.shape (words_of c.shape c.words).roots (words_of c.shape c.words).fields (x ∷ ds) → HasObjectIn c ms x
+along : (c : Core) (ms : List Meaning) (x : ℕ) (ds : List ℕ) → IsCore c → StandsFor c ms → IsCellPath c.shape (the-roots c) (words_of c.shape c.words).fields (x ∷ ds) → HasObjectIn c ms x
 along c ms x [] core st p = rooted c ms x p.0 core st p.1 p.2
 along c ms x (d ∷ ds) core st p = fielded c ms x d p.0.0 core st (ds, p.1) (along c ms d ds core st p.1) p.0.1 p.0.2
 
@@ -205,10 +207,10 @@ held_cell c ms name core st (heap, there, ref, (v, below, is), names) =
     let low : v < 32 = omega (arith, below, (st.numbered heap.section m.0 m.1).1, ap (λ (h : Heap). length h.variables) m.2) in
     let section : heap.section < length ms = slice_get_within ms heap.section m.0 m.1 in
     let ref_is : variable m.0.heap v ≡ ref = ap (λ (h : Heap). variable h v) m.2 ∙ (get_or_default heap.variables v refs.Nil ref below ∙ is) in
-    let agrees : WordAgrees w.identities (object_count ms) heap.section (slice_index w.roots (heap.section * 32 + v)) ref = subst (λ (r : Ref). WordAgrees w.identities (object_count ms) heap.section (slice_index w.roots (heap.section * 32 + v)) r) ref_is (st.roots_agree heap.section m.0 m.1 v low) in
-    let x = word-of w.identities (object_count ms) heap.section (slice_index w.roots (heap.section * 32 + v)) ref name agrees names in
-    let inside : heap.section * 32 + v < length w.roots = omega (arith, low, section, roots-length c core, st.sections) in
-    found_cell c ms name x.0 core st (reach-root c.shape w.roots w.fields (heap.section * 32 + v) x.0 inside x.1) x.2 x.3
+    let agrees : WordAgrees w.identities (object_count ms) heap.section (slice_index (the-roots c) (heap.section * 32 + v)) ref = subst (λ (r : Ref). WordAgrees w.identities (object_count ms) heap.section (slice_index (the-roots c) (heap.section * 32 + v)) r) ref_is (st.roots_agree heap.section m.0 m.1 v low) in
+    let x = word-of w.identities (object_count ms) heap.section (slice_index (the-roots c) (heap.section * 32 + v)) ref name agrees names in
+    let inside : heap.section * 32 + v < length (the-roots c) = omega (arith, low, section, roots-length c core, now-length (words_of c.shape c.words).roots c.seats, st.sections) in
+    found_cell c ms name x.0 core st (reach-root c.shape (the-roots c) w.fields (heap.section * 32 + v) x.0 inside x.1) x.2 x.3
 
 -- an object that an object with a cell refers to has a cell
 referred_cell : (c : Core) (ms : List Meaning) (from to : Name) → IsCore c → StandsFor c ms → HasCell c ms from → RefersTo (heaps_of ms) from to → HasCell c ms to
@@ -233,7 +235,7 @@ referred_cell c ms from to core st (x, cell, reach) (object, has, ref, (j, below
         subst (λ s. WordAgrees w.identities (object_count ms) s (field c.shape w.fields x j) ref) section
         (subst (λ (r : Ref). WordAgrees w.identities (object_count ms) (section_of_cell w.identities x) (field c.shape w.fields x j) r) ref_is (h.each_field j l)) in
         let z = word-of w.identities (object_count ms) from.section (field c.shape w.fields x j) ref to agrees names in
-        found_cell c ms to z.0 core st (reach-field c.shape w.roots w.fields x j z.0 reach l z.1) z.2 z.3
+        found_cell c ms to z.0 core st (reach-field c.shape (the-roots c) w.fields x j z.0 reach l z.1) z.2 z.3
     of (inr l) = absurd (subst (λ (r : Ref). Names from.section r to) (sym ref_is ∙ h.rest j l) names)
 
 -- each reachable object has a cell, which is reachable

@@ -1,4 +1,7 @@
 -- What a mutator reads into its register agrees with what the plain heap has there.
+use Rattle.mark_core.proofs.References.ReferencesNow.{the-roots, cat-now, slot-now}
+use Rattle.mark_core.proofs.Lagging.{now-seat}
+use Rattle.mark_core.specs.Variables.{roots_now}
 use Rattle.plain_heap.specs.declared.object.Ref.TheVariants as refs
 use Rattle.std.proofs.Common.{ℕ, ◌≡◌, ◌+◌, ◌*◌, ◌<◌, ◌≤◌, zero, suc, List, set, arith, refl, sym, ap, subst, true, false, ◌&&◌, Option, Some, inr, inl, ◌∙◌}
 use Rattle.std.specs.Prelude.{IsTrue, slice_get, slice_index, nat_lt, unwrap_or}
@@ -42,6 +45,8 @@ got_moves c i s step ms word ref k st a none got =
       numbered = st.numbered i m a.there;
       more = omega arith;
       identities_kept = λ y u. refl;
+      now_roots = the-roots c;
+      now = now-seat w.roots c.seats i s (record s { got = word }) k.got refl refl;
       other_roots = λ v u d h. refl;
       slots_nil = st.slots_nil;
       own_roots = λ v h. agrees-on w.identities w.identities (object_count ms) (object_count (set ms i n)) i _ _ (λ some. refl) more (st.roots_agree i m a.there v h);
@@ -64,7 +69,7 @@ pub got-read : (c : Core) (i : ℕ) (s : SeatState) (step : Step) (ms : List Mea
 got-read c i s step ms word ref k st a none reads is got =
     let w : Words = words_of c.shape c.words in
     let n : Meaning = with_got ref (meaning_of ms i) in
-    let P : Words → List SeatState → Type 0 = λ x seats. Stands c.shape x.roots x.identities x.values x.fields (λ y. IsTrue (UsedAfter c i s step y)) seats (set ms i n) in
+    let P : Words → List SeatState → Type 0 = λ x seats. Stands c.shape (roots_now x.roots seats) x.identities x.values x.fields (λ y. IsTrue (UsedAfter c i s step y)) seats (set ms i n) in
     let base : P w (set c.seats i (record s { got = word })) = moved c i s step w (record s { got = word }) n ms k st a (got_moves c i s step ms word ref k st a none got) in
     subst (λ (x : Words). P x (seats_left c i s step)) (sym (words-read c i s step k reads)) (subst (P w) (sym is) base)
 
@@ -117,8 +122,8 @@ cat-found c i s v ms k st a =
     let old : found c s step ≡ slice_index w.roots (0 * 32 + v) = words-get (region_sizes c.shape) 2 c.words (0 * 32 + v) 0 h in
     let goes : nil_or (Used c) (found c s step) ≡ true = subst (λ (r : ℕ). nil_or (Used c) r ≡ true) (sym old) (k.core.sound.references.roots_in_use (0 * 32 + v) 0 (subst (λ (n : ℕ). 0 * 32 + v < n) (sym (roots-length c k.core)) h)) in
     let other : is_the (Some i) 0 ≡ false = subst (λ (o : Option ℕ). is_the o 0 ≡ false) a.section (not-true (is_the s.section 0) k.ok.1.0) in
-    let agrees : WordAgrees w.identities (object_count ms) i (slice_index w.roots (0 * 32 + v)) (lent_variable (catalogue_seen ms i) v) = cat_agrees w.identities ms i v _ other (st.roots_agree 0 (meaning_of ms 0) first v hv) first in
-    (read-whole c i s step (found c s step) k goes, subst (λ (word : ℕ). WordAgrees w.identities (object_count ms) i word (lent_variable (catalogue_seen ms i) v)) (sym old) agrees)
+    let agrees : WordAgrees w.identities (object_count ms) i (slice_index (the-roots c) (0 * 32 + v)) (lent_variable (catalogue_seen ms i) v) = cat_agrees w.identities ms i v _ other (st.roots_agree 0 (meaning_of ms 0) first v hv) first in
+    (read-whole c i s step (found c s step) k goes, subst (λ (word : ℕ). WordAgrees w.identities (object_count ms) i word (lent_variable (catalogue_seen ms i) v)) (sym (old ∙ sym (cat-now c i s step v k (and_parts (nat_lt v 32) (may_mutate s) k.ok.0).1 (not-true (is_the s.section 0) k.ok.1.0) hv))) agrees)
 
 -- 17: a variable of the catalogue
 pub read-cat : (c : Core) (i : ℕ) (s : SeatState) (v : ℕ) (ms : List Meaning) → Taken c i s (ReadCat v) → StandsFor c ms
@@ -138,6 +143,7 @@ read-slot c i s j ms k st =
     let step : Step = ReadSlot j in
     let a : Mutates c i s ms = mutates c i s step ms k st (and_parts (nat_lt j c.shape.slots) (may_mutate s) k.ok.0).1 in
     let at : ℕ = unwrap_or s.section 0 * c.shape.slots + j in
-    let nil : found c s step ≡ 0 = words-get (region_sizes c.shape) 2 c.words (c.shape.sections * 32 + at) 0 (in-place c i s step k) ∙ st.slots_nil at in
+    let here : c.shape.sections * 32 + at < root_count c.shape = in-place c i s step k in
+    let nil : found c s step ≡ 0 = words-get (region_sizes c.shape) 2 c.words (c.shape.sections * 32 + at) 0 (in-place c i s step k) ∙ sym (slot-now c (c.shape.sections * 32 + at) k.core (omega arith) (omega (arith, here, roots-length c k.core))) ∙ st.slots_nil at in
     subst (λ (o : ℕ). StandsIn c.shape (words_left c s step) (seats_left c i s step) (changed ms o (with_got refs.Nil))) (sym a.own)
     (got-read c i s step ms (reference_in (found c s step)) refs.Nil k st a (λ y e. e) refl refl (inl (ap reference_in nil, refl)))

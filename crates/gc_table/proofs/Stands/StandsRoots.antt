@@ -1,4 +1,9 @@
 -- A root is stored: a variable of the plain heap gets the reference that agrees with the word, or that of a new object.
+use Rattle.mark_core.proofs.References.ReferencesNow.{the-roots, now-stores, now-holds}
+use Rattle.mark_core.proofs.Lagging.{now-length}
+use Rattle.mark_core.specs.Variables.{roots_now}
+use Rattle.mark_core.specs.Bits.{with_bit, reference_in}
+use Rattle.mark_core.proofs.Used.UsedSeats.{IsMadeBy}
 use Rattle.std.proofs.Common.{ℕ, ◌≡◌, ◌≢◌, ◌+◌, ◌-◌, ◌*◌, ◌<◌, ◌≤◌, zero, suc, List, [], ◌∷◌, ◌++◌, set, get_or, replicate, length, arith, refl, sym, ap, ◌∙◌, subst, true, not, eqb, Option, Some, None, ◌⊎◌, inl, inr, ⊎_elim}
 use Rattle.std.specs.Prelude.{IsFalse, IfSome, slice_get, slice_index, slice_index_or, nat_lt}
 use Rattle.std.proofs.lemmas.Bool.{true≢false, and_parts, not-true, eqb-true, eqb-false, ltb-true, cases_eq}
@@ -15,7 +20,7 @@ use Rattle.mark_core.proofs.HeldBlock.{roots-length}
 use Rattle.mark_core.proofs.Blocks.BlocksStopped.{Taken}
 use Rattle.mark_core.proofs.References.ReferencesRoots.{seat-formed}
 use Rattle.mark_core.specs.declared.kinds.Step.{Step}
-use Rattle.mark_core.specs.declared.kinds.Step.TheVariants.{StoreRoot}
+use Rattle.mark_core.specs.declared.kinds.Step.TheVariants.{StoreRoot, HoldRoot}
 use Rattle.mark_core.specs.declared.seat.SeatState.{SeatState}
 use Rattle.plain_heap.specs.declared.object.Object.{Object}
 use Rattle.plain_heap.specs.declared.object.Ref.{Ref}
@@ -56,9 +61,14 @@ pub record Assigns (c : Core) (i : ℕ) (s : SeatState) (v r : ℕ) (m n : Meani
   pub next : (y : ℕ) → IsForNextObject c.shape (words_of c.shape c.words).identities (words_of c.shape c.words).values (words_of c.shape c.words).fields m y
       → IsCellOf c.shape (words_of c.shape c.words).identities (words_of c.shape c.words).values (words_of c.shape c.words).fields (object_count (set ms i n)) n y
 
-root_moves : (c : Core) (i : ℕ) (s : SeatState) (v r : ℕ) (ms : List Meaning) (n : Meaning) (ref : Ref) → Taken c i s (StoreRoot v r) → StandsFor c ms → (a : Mutates c i s ms) → v < 32 → Assigns c i s v r (meaning_of ms i) n ms ref
-    → Moves c i s (StoreRoot v r) (words_left c s (StoreRoot v r)) (seat_after c.shape s (StoreRoot v r) (found c s (StoreRoot v r))) n ms
-root_moves c i s v r ms n ref k st a hv x = record {
+-- the record of the seat after it
+abbrev assigned_seat : SeatState → ℕ → ℕ → ℕ → SeatState
+assigned_seat s v r lags = record s { env = set s.env v (reference_in r); lags = lags; got = 0 }
+
+root_moves : (c : Core) (i : ℕ) (s : SeatState) (step : Step) (v r : ℕ) (words : List ℕ) (lags : ℕ) (ms : List Meaning) (n : Meaning) (ref : Ref) → roots_now words (set c.seats i (assigned_seat s v r lags)) ≡ set (the-roots c) (i * 32 + v) r
+    → ((y : ℕ) → IsMadeBy c.shape step y → ⊥) → Taken c i s step → StandsFor c ms → (a : Mutates c i s ms) → v < 32 → Assigns c i s v r (meaning_of ms i) n ms ref
+    → Moves c i s step (record (words_of c.shape c.words) { roots = words }) (assigned_seat s v r lags) n ms
+root_moves c i s step v r words lags ms n ref kept none k st a hv x = record {
   numbered = (
     x.section ∙ (st.numbered i m a.there).0,
     ap (λ vs. length vs) x.variables ∙ length-set m.heap.variables v ref ∙ (st.numbered i m a.there).1,
@@ -68,17 +78,18 @@ root_moves c i s v r ms n ref k st a hv x = record {
   );
   more = x.more;
   identities_kept = λ y u. refl;
-  other_roots = λ j u d hu. ap (λ (rs : List ℕ). slice_index rs (j * 32 + u)) roots_are ∙ get_or-set_other w.roots (i * 32 + v) (j * 32 + u) r 0 (λ e. d (omega (arith, e, hu, hv)));
-  slots_nil = λ j. ap (λ (rs : List ℕ). slice_index rs (c.shape.sections * 32 + j)) roots_are ∙ get_or-set_other w.roots (i * 32 + v) (c.shape.sections * 32 + j) r 0 (λ e. omega (arith, e, hv, a.inside, st.sections)) ∙ st.slots_nil j;
+  now_roots = set (the-roots c) (i * 32 + v) r;
+  now = kept;
+  other_roots = λ j u d hu. get_or-set_other (the-roots c) (i * 32 + v) (j * 32 + u) r 0 (λ e. d (omega (arith, e, hu, hv)));
+  slots_nil = λ j. get_or-set_other (the-roots c) (i * 32 + v) (c.shape.sections * 32 + j) r 0 (λ e. omega (arith, e, hv, a.inside, st.sections)) ∙ st.slots_nil j;
   own_roots =
       λ u hu.
-      subst (λ (rs : List ℕ). WordAgrees w.identities q i (slice_index rs (i * 32 + u)) (variable n.heap u)) (sym roots_are)
-      (subst (λ (vs : List Ref). WordAgrees w.identities q i (slice_index (set w.roots (i * 32 + v) r) (i * 32 + u)) (slice_index_or vs u refs.Nil)) (sym x.variables)
-      (own_root w.identities q i v r w.roots m.heap.variables ref (st.numbered i m a.there).1 inside hv x.agrees
-      (λ y h. agrees-on w.identities w.identities (object_count ms) q i _ _ (λ some. refl) more (st.roots_agree i m a.there y h)) u hu));
+      subst (λ (vs : List Ref). WordAgrees w.identities q i (slice_index (set (the-roots c) (i * 32 + v) r) (i * 32 + u)) (slice_index_or vs u refs.Nil)) (sym x.variables)
+      (own_root w.identities q i v r (the-roots c) m.heap.variables ref (st.numbered i m a.there).1 inside hv x.agrees
+      (λ y h. agrees-on w.identities w.identities (object_count ms) q i _ _ (λ some. refl) more (st.roots_agree i m a.there y h)) u hu);
   cells =
       λ y h u.
-      let before = had-meaning c i s (StoreRoot v r) ms y k st (λ e. e) h u in
+      let before = had-meaning c i s step ms y k st (none y) h u in
       let stays : Stays c.shape w.identities w.identities w.values w.values w.fields w.fields (object_count ms) q y = record { identity = refl; value = refl; each_field = λ j l. refl; targets = λ j l some. refl; more = more } in
       cell-on c.shape w.identities w.identities w.values w.values w.fields w.fields ms i m n y a.there stays (λ e o. x.held (number_of_cell w.identities y) (slice_get_within m.heap.objects (number_of_cell w.identities y) o.object o.there)) (λ e o. x.next y o) before.1;
   other_making = λ j o d g live y part e. refl;
@@ -107,16 +118,13 @@ root_moves c i s v r ms n ref k st a hv x = record {
     mine : SeatStands c.shape w.identities w.values (object_count ms) i s m
     mine = st.seats_agree i s m k.got a.there k.live
 
-    roots_are : (words_left c s (StoreRoot v r)).roots ≡ set w.roots (i * 32 + v) r
-    roots_are = ap (λ (o : ℕ). set w.roots (o * 32 + v) r) a.own
-
-    inside : i * 32 + v < length w.roots
-    inside = omega (arith, roots-length c k.core, a.inside, hv)
+    inside : i * 32 + v < length (the-roots c)
+    inside = omega (arith, roots-length c k.core, now-length w.roots c.seats, a.inside, hv)
 
 -- the variable gets a reference that agrees already
-assigns_known : (c : Core) (i : ℕ) (s : SeatState) (v r : ℕ) (ms : List Meaning) (ref : Ref) → Taken c i s (StoreRoot v r) → StandsFor c ms → (a : Mutates c i s ms) → WordAgrees (words_of c.shape c.words).identities (object_count ms) i r ref
+assigns_known : (c : Core) (i : ℕ) (s : SeatState) (step : Step) (v r : ℕ) (ms : List Meaning) (ref : Ref) → Taken c i s step → StandsFor c ms → (a : Mutates c i s ms) → WordAgrees (words_of c.shape c.words).identities (object_count ms) i r ref
     → Assigns c i s v r (meaning_of ms i) (with_got refs.Nil (record (meaning_of ms i) { heap = assigned (meaning_of ms i).heap v ref })) ms ref
-assigns_known c i s v r ms ref k st a agrees =
+assigns_known c i s step v r ms ref k st a agrees =
     let w : Words = words_of c.shape c.words in
     let m : Meaning = meaning_of ms i in
     let n : Meaning = with_got refs.Nil (record m { heap = assigned m.heap v ref }) in
@@ -164,9 +172,9 @@ nils (suc n) zero = refl
 nils (suc n) (suc j) = nils n j
 
 -- the variable gets the object for which the cell was made
-assigns_new : (c : Core) (i : ℕ) (s : SeatState) (v r : ℕ) (ms : List Meaning) → Taken c i s (StoreRoot v r) → StandsFor c ms → (a : Mutates c i s ms) → names_last s.cache r ≡ true → length (meaning_of ms i).heap.objects + 1 ≡ s.made
+assigns_new : (c : Core) (i : ℕ) (s : SeatState) (step : Step) (v r : ℕ) (ms : List Meaning) → Taken c i s step → StandsFor c ms → (a : Mutates c i s ms) → names_last s.cache r ≡ true → length (meaning_of ms i).heap.objects + 1 ≡ s.made
     → Assigns c i s v r (meaning_of ms i) (with_got refs.Nil (record (meaning_of ms i) { heap = with_new (meaning_of ms i).heap v (meaning_of ms i).value })) ms (refs.Own (length (meaning_of ms i).heap.objects))
-assigns_new c i s v r ms k st a last room = record {
+assigns_new c i s step v r ms k st a last room = record {
   variables = refl;
   section = refl;
   fields = refl;
@@ -218,7 +226,7 @@ assigns_new c i s v r ms k st a last room = record {
     identity = subst (λ (o : Option ℕ). IfSome o (λ x. (slice_index w.identities x + 1 ≡ i * section_span + s.made) × (0 < s.made))) (last-is (last_made s.cache) (r - 1) parts.1) mine.last
 
     few : s.made < section_span
-    few = omega (arith, (seat-formed c i s (StoreRoot v r) k).made, k.core.formed.shaped.objects)
+    few = omega (arith, (seat-formed c i s step k).made, k.core.formed.shaped.objects)
 
     section : section_of_cell w.identities (r - 1) ≡ i
     section = omega (arith, identity.0, identity.1, few)
@@ -234,32 +242,32 @@ abbrev AssignsSome : Core → ℕ → SeatState → ℕ → ℕ → List Meaning
 AssignsSome c i s v r ms heap = (ref : Ref) × Assigns c i s v r (meaning_of ms i) (with_got refs.Nil (record (meaning_of ms i) { heap = heap })) ms ref
 
 -- the register has the reference
-from_register : (c : Core) (i : ℕ) (s : SeatState) (v r : ℕ) (ms : List Meaning) (u : ℕ) (ref : Ref) → Taken c i s (StoreRoot v r) → StandsFor c ms → (a : Mutates c i s ms) → u ≡ v → r ≡ s.got → (meaning_of ms i).got ≡ ref
+from_register : (c : Core) (i : ℕ) (s : SeatState) (step : Step) (v r : ℕ) (ms : List Meaning) (u : ℕ) (ref : Ref) → Taken c i s step → StandsFor c ms → (a : Mutates c i s ms) → u ≡ v → r ≡ s.got → (meaning_of ms i).got ≡ ref
     → AssignsSome c i s v r ms (assigned (meaning_of ms i).heap u ref)
-from_register c i s v r ms u ref k st a e word is =
+from_register c i s step v r ms u ref k st a e word is =
     let w : Words = words_of c.shape c.words in
     let mine : SeatStands c.shape w.identities w.values (object_count ms) i s (meaning_of ms i) = st.seats_agree i s (meaning_of ms i) k.got a.there k.live in
     let agrees : WordAgrees w.identities (object_count ms) i r ref = subst (λ (y : ℕ). WordAgrees w.identities (object_count ms) i y ref) (sym word) (subst (λ (z : Ref). WordAgrees w.identities (object_count ms) i s.got z) is mine.got) in
-    subst (λ (z : ℕ). AssignsSome c i s v r ms (assigned (meaning_of ms i).heap z ref)) (sym e) (ref, assigns_known c i s v r ms ref k st a agrees)
+    subst (λ (z : ℕ). AssignsSome c i s v r ms (assigned (meaning_of ms i).heap z ref)) (sym e) (ref, assigns_known c i s step v r ms ref k st a agrees)
 
-assigns : (c : Core) (i : ℕ) (s : SeatState) (v r : ℕ) (op : Op) (ms : List Meaning) → Taken c i s (StoreRoot v r) → StandsFor c ms → (a : Mutates c i s ms) → IsAssignment s (meaning_of ms i) (catalogue_seen ms i) v r op
+assigns : (c : Core) (i : ℕ) (s : SeatState) (step : Step) (v r : ℕ) (op : Op) (ms : List Meaning) → Taken c i s step → StandsFor c ms → (a : Mutates c i s ms) → IsAssignment s (meaning_of ms i) (catalogue_seen ms i) v r op
     → AssignsSome c i s v r ms (heap_after (meaning_of ms i).heap (catalogue_seen ms i) op)
-assigns c i s v r (ops.New u n) ms k st a (e, value, last, room) =
+assigns c i s step v r (ops.New u n) ms k st a (e, value, last, room) =
     subst (λ (z : ℕ). AssignsSome c i s v r ms (with_new (meaning_of ms i).heap z n)) (sym e)
-    (subst (λ (z : ℕ). AssignsSome c i s v r ms (with_new (meaning_of ms i).heap v z)) (sym value) (refs.Own (length (meaning_of ms i).heap.objects), assigns_new c i s v r ms k st a last room))
-assigns c i s v r (ops.Nil u) ms k st a (e, nil) =
-    subst (λ (z : ℕ). AssignsSome c i s v r ms (assigned (meaning_of ms i).heap z refs.Nil)) (sym e) (refs.Nil, assigns_known c i s v r ms refs.Nil k st a (inl (nil, refl)))
-assigns c i s v r (ops.Let u x) ms k st a (e, h, word) =
+    (subst (λ (z : ℕ). AssignsSome c i s v r ms (with_new (meaning_of ms i).heap v z)) (sym value) (refs.Own (length (meaning_of ms i).heap.objects), assigns_new c i s step v r ms k st a last room))
+assigns c i s step v r (ops.Nil u) ms k st a (e, nil) =
+    subst (λ (z : ℕ). AssignsSome c i s v r ms (assigned (meaning_of ms i).heap z refs.Nil)) (sym e) (refs.Nil, assigns_known c i s step v r ms refs.Nil k st a (inl (nil, refl)))
+assigns c i s step v r (ops.Let u x) ms k st a (e, h, word) =
     let ref : Ref = variable (meaning_of ms i).heap x in
     subst (λ (z : ℕ). AssignsSome c i s v r ms (assigned (meaning_of ms i).heap z ref)) (sym e)
-    (ref, assigns_known c i s v r ms ref k st a (subst (λ (y : ℕ). WordAgrees (words_of c.shape c.words).identities (object_count ms) i y ref) (sym word) (env-agrees c i s (StoreRoot v r) ms x k st a h)))
-assigns c i s v r (ops.Get u x j) ms k st a (e, word, is, x_below, j_below) = from_register c i s v r ms u (followed (meaning_of ms i).heap (catalogue_seen ms i) (variable (meaning_of ms i).heap x) j) k st a e word is
-assigns c i s v r (ops.Cat u x) ms k st a (e, word, is, x_below) = from_register c i s v r ms u (lent_variable (catalogue_seen ms i) x) k st a e word is
-assigns c i s v r (ops.Set u x y) ms k st a z = absurd z
-assigns c i s v r (ops.Put u x) ms k st a y = absurd y
-assigns c i s v r (ops.Say u) ms k st a z = absurd z
-assigns c i s v r (ops.Sum u x y) ms k st a z = absurd z
-assigns c i s v r ops.Collect ms k st a z = absurd z
+    (ref, assigns_known c i s step v r ms ref k st a (subst (λ (y : ℕ). WordAgrees (words_of c.shape c.words).identities (object_count ms) i y ref) (sym word) (env-agrees c i s step ms x k st a h)))
+assigns c i s step v r (ops.Get u x j) ms k st a (e, word, is, x_below, j_below) = from_register c i s step v r ms u (followed (meaning_of ms i).heap (catalogue_seen ms i) (variable (meaning_of ms i).heap x) j) k st a e word is
+assigns c i s step v r (ops.Cat u x) ms k st a (e, word, is, x_below) = from_register c i s step v r ms u (lent_variable (catalogue_seen ms i) x) k st a e word is
+assigns c i s step v r (ops.Set u x y) ms k st a z = absurd z
+assigns c i s step v r (ops.Put u x) ms k st a y = absurd y
+assigns c i s step v r (ops.Say u) ms k st a z = absurd z
+assigns c i s step v r (ops.Sum u x y) ms k st a z = absurd z
+assigns c i s step v r ops.Collect ms k st a z = absurd z
 
 -- 19: a root is stored
 pub store-root : (c : Core) (i : ℕ) (s : SeatState) (v r : ℕ) (op : Op) (ms : List Meaning) → Taken c i s (StoreRoot v r) → StandsFor c ms → AsksIn s ms (StoreRoot v r) op
@@ -269,7 +277,22 @@ store-root c i s v r op ms k st asks =
     let b = and_parts (nat_lt v 32) (may_mutate s) k.ok.0 in
     let a : Mutates c i s ms = mutates c i s step ms k st b.1 in
     let mine : IsAssignment s (meaning_of ms i) (catalogue_seen ms i) v r op = subst (λ (o : ℕ). IsAssignment s (meaning_of ms o) (catalogue_seen ms o) v r op) a.own asks.1 in
-    let x = assigns c i s v r op ms k st a mine in
+    let x = assigns c i s step v r op ms k st a mine in
     let n : Meaning = with_got refs.Nil (stepped (catalogue_seen ms i) op (meaning_of ms i)) in
     subst (λ (o : ℕ). StandsIn c.shape (words_left c s step) (seats_left c i s step) (changed ms o (λ m. with_got refs.Nil (stepped (catalogue_seen ms o) op m)))) (sym a.own)
-    (moved c i s step (words_left c s step) (seat_after c.shape s step (found c s step)) n ms k st a (root_moves c i s v r ms n x.0 k st a (ltb-true v 32 b.0) x.1))
+    (moved c i s step (words_left c s step) (seat_after c.shape s step (found c s step)) n ms k st a
+    (root_moves c i s step v r (words_left c s step).roots s.lags ms n x.0 (now-stores c i s v r k) (λ y e. e) k st a (ltb-true v 32 b.0) x.1))
+
+-- 54: a variable is held
+pub hold-root : (c : Core) (i : ℕ) (s : SeatState) (v r : ℕ) (op : Op) (ms : List Meaning) → Taken c i s (HoldRoot v r) → StandsFor c ms → AsksIn s ms (HoldRoot v r) op
+    → StandsIn c.shape (words_left c s (HoldRoot v r)) (seats_left c i s (HoldRoot v r)) (changed ms (own_section s) (λ m. with_got refs.Nil (stepped (catalogue_seen ms (own_section s)) op m)))
+hold-root c i s v r op ms k st asks =
+    let step : Step = HoldRoot v r in
+    let b = and_parts (nat_lt v 32) (may_mutate s) k.ok.0 in
+    let a : Mutates c i s ms = mutates c i s step ms k st b.1 in
+    let mine : IsAssignment s (meaning_of ms i) (catalogue_seen ms i) v r op = subst (λ (o : ℕ). IsAssignment s (meaning_of ms o) (catalogue_seen ms o) v r op) a.own asks.1 in
+    let x = assigns c i s step v r op ms k st a mine in
+    let n : Meaning = with_got refs.Nil (stepped (catalogue_seen ms i) op (meaning_of ms i)) in
+    subst (λ (o : ℕ). StandsIn c.shape (words_left c s step) (seats_left c i s step) (changed ms o (λ m. with_got refs.Nil (stepped (catalogue_seen ms o) op m)))) (sym a.own)
+    (moved c i s step (words_left c s step) (seat_after c.shape s step (found c s step)) n ms k st a
+    (root_moves c i s step v r (words_left c s step).roots (with_bit s.lags v) ms n x.0 (now-holds c i s v r k) (λ y e. e) k st a (ltb-true v 32 b.0) x.1))

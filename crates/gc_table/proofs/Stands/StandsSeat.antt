@@ -1,15 +1,15 @@
 -- What is known of the cells that a seat names and makes, and of a mutator's section.
-use Rattle.std.proofs.Common.{ℕ, ◌≡◌, ◌+◌, ◌-◌, ◌*◌, ◌%◌, ◌<◌, ◌≤◌, suc, List, [], ◌∷◌, get_or, length, arith, refl, sym, ap, ◌∙◌, subst, Bool, true, false, ◌||◌, eqb, Option, Some, None, ◌⊎◌, inl, inr, ⊎_elim, ◌&&◌}
+use Rattle.mark_core.proofs.References.ReferencesNow.{the-roots, now-used, own-now}
+use Rattle.std.proofs.Common.{ℕ, ◌≡◌, ◌+◌, ◌-◌, ◌%◌, ◌<◌, suc, List, [], ◌∷◌, get_or, length, arith, refl, sym, ap, ◌∙◌, subst, Bool, true, false, ◌||◌, eqb, Option, Some, None, ◌⊎◌, ⊎_elim, ◌&&◌}
 use Rattle.std.specs.Prelude.{IsFalse, IfSome, slice_get, slice_index, nat_lt, unwrap_or, if◌then◌else◌}
 use Rattle.std.specs.List.{list_any}
 use Rattle.std.proofs.lemmas.Bool.{false≢true, or_cases, or_left, eqb-true, ltb-true, cases_Bool, and_parts}
-use Rattle.std.proofs.lemmas.List.{get_or_past}
 use Rattle.std.proofs.lemmas.Option.{slice_get-get_or, same_Some}
 use Rattle.mark_core.specs.Layout.{words_of}
 use Rattle.mark_core.specs.Bits.{nil_or}
 use Rattle.mark_core.specs.Seats.{free_in, used_in, makes, last_made, may_mutate}
 use Rattle.mark_core.specs.Views.{makers, maker_of}
-use Rattle.mark_core.specs.Rules.HeapRules.{NamesInUse, EnvIsRoots}
+use Rattle.mark_core.specs.Rules.HeapRules.{NamesInUse}
 use Rattle.mark_core.specs.Steps.MutatorSteps.{knows_cell, in_variables}
 use Rattle.mark_core.specs.WellFormed.{IsCache}
 use Rattle.mark_core.specs.Steps.{Core}
@@ -22,7 +22,7 @@ use Rattle.mark_core.proofs.References.ReferencesEnv.{section-is}
 use Rattle.mark_core.proofs.References.ReferencesRoots.{Used, own-used, seat-formed, mutator-is}
 use Rattle.mark_core.specs.declared.kinds.Shape.{Shape}
 use Rattle.mark_core.specs.declared.kinds.Step.{Step}
-use Rattle.mark_core.specs.declared.kinds.Step.TheVariants.{ReadCount, StoreField, StoreValue, StoreRoot}
+use Rattle.mark_core.specs.declared.kinds.Step.TheVariants.{ReadCount, StoreField, StoreValue, StoreRoot, HoldRoot}
 use Rattle.mark_core.specs.declared.seat.SeatState.{SeatState}
 use Rattle.mark_core.specs.declared.seat.CacheState.{CacheState}
 use Rattle.plain_heap.specs.PlainHeap.{variable, Heap}
@@ -83,18 +83,8 @@ free-apart c i j s t a b x k l e f =
     (or_left (free_in t.cache x) (used_in t.cache x) f)
 
 -- a root that isn't nil names a cell in use
-pub root-used : (c : Core) (k : ℕ) → IsCore c → 0 < slice_index (words_of c.shape c.words).roots k → Used c (slice_index (words_of c.shape c.words).roots k - 1) ≡ true
-root-used c k core some = of (cases_lt_root k)
-  where
-    roots : List ℕ
-    roots = (words_of c.shape c.words).roots
-
-    cases_lt_root : (k : ℕ) → (k < length roots) ⊎ (length roots ≤ k)
-    cases_lt_root k = grind arith
-
-    of : (k < length roots) ⊎ (length roots ≤ k) → Used c (slice_index roots k - 1) ≡ true
-    of (inl h) = names-used (Used c) (slice_index roots k) some (core.sound.references.roots_in_use k 0 h)
-    of (inr h) = absurd (omega (arith, some, get_or_past roots k 0 h))
+pub root-used : (c : Core) (k : ℕ) → IsCore c → 0 < slice_index (the-roots c) k → Used c (slice_index (the-roots c) k - 1) ≡ true
+root-used c k core some = names-used (Used c) (slice_index (the-roots c) k) some (now-used c k core)
 
 -- a mutator and its section
 pub record Mutates (c : Core) (i : ℕ) (s : SeatState) (ms : List Meaning) : Type 0 where
@@ -125,10 +115,7 @@ mutates c i s step ms k st e = mutates-in c i s step ms k st.sections e
 pub env-agrees : (c : Core) (i : ℕ) (s : SeatState) (step : Step) (ms : List Meaning) (v : ℕ) → Taken c i s step → StandsFor c ms → Mutates c i s ms → v < 32
     → WordAgrees (words_of c.shape c.words).identities (object_count ms) i (slice_index s.env v) (variable (meaning_of ms i).heap v)
 env-agrees c i s step ms v k st a h =
-    let roots : List ℕ = (words_of c.shape c.words).roots in
-    let env : EnvIsRoots roots s = own-fact c i s step (EnvIsRoots roots) k k.core.sound.references.env_is_roots in
-    let same : slice_index s.env v ≡ slice_index roots (i * 32 + v) = subst (λ (o : Option ℕ). IfSome o (λ w. (u : ℕ) → u < 32 → slice_index s.env u ≡ slice_index roots (w * 32 + u))) a.section (env k.live) v h in
-    subst (λ word. WordAgrees (words_of c.shape c.words).identities (object_count ms) i word (variable (meaning_of ms i).heap v)) (sym same) (st.roots_agree i (meaning_of ms i) a.there v h)
+    subst (λ word. WordAgrees (words_of c.shape c.words).identities (object_count ms) i word (variable (meaning_of ms i).heap v)) (own-now c i s step v k a.section a.inside h) (st.roots_agree i (meaning_of ms i) a.there v h)
 
 -- a word among others has a place
 pub word-found : (xs : List ℕ) (word k : ℕ) → list_any (λ (x : ℕ). eqb x word) xs ≡ true → (p : ℕ) × (place_of xs word k ≡ k + p) × (p < length xs) × (get_or xs p 0 ≡ word)
@@ -194,6 +181,12 @@ range_at c i s (StoreValue v n) op ms k st asks e = let a = and_parts (nat_lt v 
 range_at c i s (StoreRoot v r) op ms k st asks e =
     let a = and_parts (nat_lt v 32) (may_mutate s) k.ok.0 in
     let own : Mutates c i s ms = mutates c i s (StoreRoot v r) ms k st a.1 in
+    let asked : IsAssignment s (meaning_of ms i) (catalogue_seen ms i) v r op = subst (λ (o : ℕ). IsAssignment s (meaning_of ms o) (catalogue_seen ms o) v r op) own.own asks.1 in
+    let formed : IsSection c.shape i (meaning_of ms i) = st.numbered i (meaning_of ms i) own.there in
+    assignment_range c.shape.fields v r s (meaning_of ms i) (catalogue_seen ms i) op (ltb-true v 32 a.0) formed.2 formed.3 asked
+range_at c i s (HoldRoot v r) op ms k st asks e =
+    let a = and_parts (nat_lt v 32) (may_mutate s) k.ok.0 in
+    let own : Mutates c i s ms = mutates c i s (HoldRoot v r) ms k st a.1 in
     let asked : IsAssignment s (meaning_of ms i) (catalogue_seen ms i) v r op = subst (λ (o : ℕ). IsAssignment s (meaning_of ms o) (catalogue_seen ms o) v r op) own.own asks.1 in
     let formed : IsSection c.shape i (meaning_of ms i) = st.numbered i (meaning_of ms i) own.there in
     assignment_range c.shape.fields v r s (meaning_of ms i) (catalogue_seen ms i) op (ltb-true v 32 a.0) formed.2 formed.3 asked

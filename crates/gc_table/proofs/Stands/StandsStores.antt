@@ -1,7 +1,13 @@
 -- 18: a field or the value of an object is stored.
+use Rattle.mark_core.proofs.References.ReferencesNow.{the-roots, now-used}
+use Rattle.mark_core.proofs.Consequences.Closing.{roots-still}
+use Rattle.mark_core.proofs.Blocks.BlocksStopped.{still-stopped}
+use Rattle.mark_core.specs.Rules.WorldRules.{is_stopped_phase}
+use Rattle.mark_core.specs.Cells.{IsReachableCell}
+use Rattle.mark_core.specs.Variables.{roots_now}
 use Rattle.std.proofs.Common.{ℕ, ◌≡◌, ◌≢◌, ◌+◌, ◌-◌, ◌*◌, ◌<◌, List, set, get_or, length, arith, refl, sym, ap, ◌∙◌, subst, true, ◌&&◌, Option, Some, None, inl, ⊎_elim, [], ◌∷◌, false}
 use Rattle.std.specs.Prelude.{IsFalse, IsTrue, slice_index_or, nat_lt, slice_get, unwrap_or, slice_index}
-use Rattle.std.proofs.lemmas.Bool.{and_parts, ltb-true, cases_eq, cases_Bool}
+use Rattle.std.proofs.lemmas.Bool.{eqb-true, and_parts, ltb-true, cases_eq, cases_Bool}
 use Rattle.std.proofs.lemmas.List.{get_or-set_same, get_or-set_other, length-set, set-get_or}
 use Rattle.mark_core.specs.Layout.{Words, words_of, region_sizes}
 use Rattle.mark_core.specs.Bits.{cell_of}
@@ -20,7 +26,7 @@ use Rattle.mark_core.proofs.Pool.PoolPlaces.{same_place}
 use Rattle.mark_core.proofs.References.ReferencesRoots.{Used, UsedAfter}
 use Rattle.mark_core.specs.Views.{makers}
 use Rattle.mark_core.specs.declared.kinds.Step.{Step}
-use Rattle.mark_core.specs.declared.kinds.Step.TheVariants.{StoreField, StoreValue, ReadOwn, ReadCat, StoreRoot, StoreNew, ReadSlot}
+use Rattle.mark_core.specs.declared.kinds.Step.TheVariants.{StoreField, StoreValue, ReadOwn, ReadCat, StoreRoot, StoreNew, ReadSlot, HoldRoot}
 use Rattle.mark_core.specs.declared.seat.SeatState.{SeatState}
 use Rattle.plain_heap.specs.declared.object.Ref.{Ref}
 use Rattle.plain_heap.specs.declared.object.Ref.TheVariants as refs
@@ -116,7 +122,7 @@ store-field c i s v j o op ms alone k st asks =
     let heap_is : heap_after m.heap (catalogue_seen ms i) op ≡ replaced m.heap (number_of_cell w.identities y) object =
     ap (λ (z : Op). heap_after m.heap (catalogue_seen ms i) z) x.1 ∙ stored-object c i s v ms y (λ z. with_field z j ref) own in
     let t : SeatState = seat_after c.shape s step (found c s step) in
-    let P : ℕ → Heap → Type 0 = λ cell heap. Stands c.shape w.roots w.identities w.values (set w.fields (cell * c.shape.fields + j) (variable_or_nil s o)) (λ z. IsTrue (UsedAfter c i s step z)) (set c.seats i t) (set ms i (record m { heap = heap })) in
+    let P : ℕ → Heap → Type 0 = λ cell heap. Stands c.shape (roots_now w.roots (set c.seats i t)) w.identities w.values (set w.fields (cell * c.shape.fields + j) (variable_or_nil s o)) (λ z. IsTrue (UsedAfter c i s step z)) (set c.seats i t) (set ms i (record m { heap = heap })) in
     let base : P y (replaced m.heap (number_of_cell w.identities y) object) =
     moved c i s step (record w { values = w.values; fields = set w.fields (y * c.shape.fields + j) (variable_or_nil s o) }) t (with_object c i ms y object) ms k st a
     (object-moves c i s step v ms y w.values (set w.fields (y * c.shape.fields + j) (variable_or_nil s o)) object t.owes k st a (λ z f. f) own (field_rewrites c i s v j y o ref ms k (ltb-true j c.shape.fields e.1) own ((st.numbered i m a.there).4 (number_of_cell w.identities y) own.holds.object own.holds.there) x.2)) in
@@ -151,7 +157,7 @@ store-value c i s v n op ms alone k st asks =
     let small : n < value_bound = asks.2 in
     let heap_is : heap_after m.heap (catalogue_seen ms i) op ≡ replaced m.heap (number_of_cell w.identities y) object =
     ap (λ (z : Op). heap_after m.heap (catalogue_seen ms i) z) asks.1 ∙ stored-object c i s v ms y (λ z. with_value z n) own in
-    let P : ℕ → Heap → Type 0 = λ cell heap. Stands c.shape w.roots w.identities (set w.values cell n) w.fields (λ z. IsTrue (UsedAfter c i s step z)) (set c.seats i s) (set ms i (record m { heap = heap })) in
+    let P : ℕ → Heap → Type 0 = λ cell heap. Stands c.shape (roots_now w.roots (set c.seats i s)) w.identities (set w.values cell n) w.fields (λ z. IsTrue (UsedAfter c i s step z)) (set c.seats i s) (set ms i (record m { heap = heap })) in
     let base : P y (replaced m.heap (number_of_cell w.identities y) object) =
     moved c i s step (record w { values = set w.values y n; fields = w.fields }) s (with_object c i ms y object) ms k st a
     (object-moves c i s step v ms y (set w.values y n) w.fields object s.owes k st a (λ z f. f) own (value_rewrites c i s v n y ms k.core small own)) in
@@ -170,6 +176,7 @@ pub one_changes : OneMeaningChanges
 one_changes sh s (StoreField v i o) op ms w m e g = own_changes sh s (StoreField v i o) op ms w m e g
 one_changes sh s (StoreValue v n) op ms w m e g = own_changes sh s (StoreValue v n) op ms w m e g
 one_changes sh s (StoreRoot v r) op ms w m e g = own_changes sh s (StoreRoot v r) op ms w m e g
+one_changes sh s (HoldRoot v r) op ms w m e g = own_changes sh s (HoldRoot v r) op ms w m e g
 one_changes sh s (ReadOwn x i) op ms w m e g = own_changes sh s (ReadOwn x i) op ms w m e g
 one_changes sh s (ReadCat v) op ms w m e g = own_changes sh s (ReadCat v) op ms w m e g
 one_changes sh s (ReadSlot k) op ms w m e g = own_changes sh s (ReadSlot k) op ms w m e g
@@ -180,8 +187,8 @@ pub one_next : OneCellIsNext
 one_next c m x y k u v e a b = k.sound.caches.distinct x (used-exists c k x u) y (used-exists c k y v) u v (omega (arith, e, a.number, b.number))
 
 -- Every reachable cell is in use, and what it names is in use.
-path_used : (c : Core) → IsCore c → is_phase (words_of c.shape c.words).phase Sweep ≡ false → (x : ℕ) (ds : List ℕ) → IsCellPath c.shape (words_of c.shape c.words).roots (words_of c.shape c.words).fields (x ∷ ds) → Used c x ≡ true
-path_used c k e x [] p = goes-to (Used c) (slice_index (words_of c.shape c.words).roots p.0) x p.2 (k.sound.references.roots_in_use p.0 0 p.1)
+path_used : (c : Core) → IsCore c → is_phase (words_of c.shape c.words).phase Sweep ≡ false → (x : ℕ) (ds : List ℕ) → IsCellPath c.shape (the-roots c) (words_of c.shape c.words).fields (x ∷ ds) → Used c x ≡ true
+path_used c k e x [] p = goes-to (Used c) (slice_index (the-roots c) p.0) x p.2 (now-used c p.0 k)
 path_used c k e x (d ∷ ds) p =
     let u : Used c d ≡ true = path_used c k e d ds p.1 in
     goes-to (Used c) (field c.shape (words_of c.shape c.words).fields d p.0.0) x p.0.2 (k.sound.references.fields_in_use e d (used-exists c k d u) u p.0.0 p.0.1)
@@ -189,6 +196,10 @@ path_used c k e x (d ∷ ds) p =
 pub reachable-used : (c : Core) (x : ℕ) → IsCore c → IsReachableIn c x → Used c x ≡ true
 reachable-used c x k r =
     ⊎_elim
-    (λ (e : is_phase (words_of c.shape c.words).phase Sweep ≡ true). kept_used c x k (path-kept c k e x r.0 r.1))
+    (λ (e : is_phase (words_of c.shape c.words).phase Sweep ≡ true).
+    let still = still-stopped c k (ap is_stopped_phase (eqb-true (words_of c.shape c.words).phase 3 e)) in
+    let q : IsReachableCell c.shape (words_of c.shape c.words).roots (words_of c.shape c.words).fields x =
+    subst (λ (rs : List ℕ). IsReachableCell c.shape rs (words_of c.shape c.words).fields x) (roots-still c k.sound still) r in
+    kept_used c x k (path-kept c k e x q.0 q.1))
     (λ (e : is_phase (words_of c.shape c.words).phase Sweep ≡ false). path_used c k e x r.0 r.1)
     (cases_Bool (is_phase (words_of c.shape c.words).phase Sweep))

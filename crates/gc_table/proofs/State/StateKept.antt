@@ -5,7 +5,7 @@ use Rattle.std.proofs.lemmas.Bool.{and_parts, true≢false, false≢true, ltb-fa
 use Rattle.std.proofs.lemmas.List.{set-get_or, get_or-set_same, get_or-set_other}
 use Rattle.mark_core.specs.Seats.{may_mutate, takes_part}
 use Rattle.mark_core.specs.declared.kinds.Step.{Step}
-use Rattle.mark_core.specs.declared.kinds.Step.TheVariants.{ReadOwn, ReadCat, StoreField, StoreValue, StoreRoot, StoreNew, StoreSlot, ReadSlot, Split, Join, StorePosition, Reset, AddStat, ReadStat, ReadWeak}
+use Rattle.mark_core.specs.declared.kinds.Step.TheVariants.{ReadOwn, ReadCat, StoreField, StoreValue, StoreRoot, StoreNew, StoreSlot, ReadSlot, Split, Join, StorePosition, Reset, AddStat, ReadStat, ReadWeak, HoldRoot}
 use Rattle.mark_core.specs.declared.seat.SeatState.{SeatState}
 use Rattle.plain_heap.specs.declared.operation.Op.{Op}
 use Rattle.plain_heap.specs.PlainHeap.{Heap}
@@ -185,6 +185,7 @@ means-left x i s (ReadWeak y) alone g = absurd (true≢false (sym g.asks ∙ alo
 means-left x i s (StoreField v j o) alone g = mutating x i s (StoreField v j o) (g.asks.1 alone).0 alone g (and_parts _ (may_mutate s) g.ok.0).1 (g.asks.1 alone).1 (λ y. refl)
 means-left x i s (StoreValue v n) alone g = mutating x i s (StoreValue v n) (g.asks.1 alone).0 alone g (and_parts _ (may_mutate s) g.ok.0).1 (g.asks.1 alone).1 (λ y. refl)
 means-left x i s (StoreRoot v r) alone g = mutating x i s (StoreRoot v r) (g.asks.1 alone).0 alone g (and_parts _ (may_mutate s) g.ok.0).1 (g.asks.1 alone).1 (λ y. refl)
+means-left x i s (HoldRoot v r) alone g = mutating x i s (HoldRoot v r) (g.asks.1 alone).0 alone g (and_parts _ (may_mutate s) g.ok.0).1 (g.asks.1 alone).1 (λ y. refl)
 means-left x i s (StoreNew c part word) alone g = mutating x i s (StoreNew c part word) ops.Collect alone g (and_parts _ (may_mutate s) g.ok.0).1 g.asks (λ y. refl)
 means-left x i s step alone g = (ops.Collect, tt, still_means x.sections (section_after x.core.shape x.plan s step) s.section (λ y. refl))
 

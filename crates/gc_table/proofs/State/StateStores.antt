@@ -12,7 +12,7 @@ use Rattle.mark_core.specs.Steps.{Core, AllTrue}
 use Rattle.mark_core.proofs.Blocks.BlocksStopped.{Taken, mine as own-fact}
 use Rattle.mark_core.proofs.References.ReferencesRoots.{seat-formed}
 use Rattle.mark_core.specs.declared.kinds.Step.{Step}
-use Rattle.mark_core.specs.declared.kinds.Step.TheVariants.{StoreField, StoreValue, StoreRoot, ReadCount}
+use Rattle.mark_core.specs.declared.kinds.Step.TheVariants.{StoreField, StoreValue, StoreRoot, ReadCount, HoldRoot}
 use Rattle.mark_core.specs.declared.seat.SeatState.{SeatState}
 use Rattle.plain_heap.specs.declared.object.Ref.{Ref}
 use Rattle.plain_heap.specs.declared.object.Ref.TheVariants as refs
@@ -163,6 +163,9 @@ meaning-told c i s (StoreValue v n) op ms catalogue k st asks = ap (λ (x : Op).
 meaning-told c i s (StoreRoot v r) op ms catalogue k st asks =
     let a : Mutates c i s ms = mutates c i s (StoreRoot v r) ms k st (and_parts _ (may_mutate s) k.ok.0).1 in
     ap (λ (x : Heap). with_got refs.Nil (record (meaning_of ms i) { heap = x })) (root_told c i s (StoreRoot v r) ms catalogue v r op k st a asks.1)
+meaning-told c i s (HoldRoot v r) op ms catalogue k st asks =
+    let a : Mutates c i s ms = mutates c i s (HoldRoot v r) ms k st (and_parts _ (may_mutate s) k.ok.0).1 in
+    ap (λ (x : Heap). with_got refs.Nil (record (meaning_of ms i) { heap = x })) (root_told c i s (HoldRoot v r) ms catalogue v r op k st a asks.1)
 meaning-told c i s step op ms catalogue k st asks = refl
 
 -- What a mutator's view says of its section is what the state has there, and a store changes the plain heap of the view by its plain step.
@@ -261,6 +264,7 @@ plain_of : (x : TableState) (i : ℕ) (v : View) (step : Step) (op : Op) → IsF
 plain_of x i v (StoreField a j o) op alone k asks c = sym (ap (λ (m : Meaning). m.heap) (told_by x i v (StoreField a j o) op alone k (and_parts _ (may_mutate v.state) k.ok.0).1 asks))
 plain_of x i v (StoreValue a n) op alone k asks c = sym (ap (λ (m : Meaning). m.heap) (told_by x i v (StoreValue a n) op alone k (and_parts _ (may_mutate v.state) k.ok.0).1 asks))
 plain_of x i v (StoreRoot a r) op alone k asks c = sym (ap (λ (m : Meaning). m.heap) (told_by x i v (StoreRoot a r) op alone k (and_parts _ (may_mutate v.state) k.ok.0).1 asks))
+plain_of x i v (HoldRoot a r) op alone k asks c = sym (ap (λ (m : Meaning). m.heap) (told_by x i v (HoldRoot a r) op alone k (and_parts _ (may_mutate v.state) k.ok.0).1 asks))
 plain_of x i v step op alone k asks c = absurd (true≢false (sym c))
 
 -- a store changes the plain heap by its plain step

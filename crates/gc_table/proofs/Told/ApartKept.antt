@@ -11,7 +11,7 @@ use Rattle.mark_core.proofs.Blocks.BlocksStopped.{mine}
 use Rattle.mark_core.proofs.Caches.CachesSeat.{next-makes}
 use Rattle.mark_core.proofs.References.ReferencesRoots.{Used}
 use Rattle.mark_core.specs.declared.kinds.Step.{Step}
-use Rattle.mark_core.specs.declared.kinds.Step.TheVariants.{StoreNew, StoreField, StoreValue, StoreRoot}
+use Rattle.mark_core.specs.declared.kinds.Step.TheVariants.{StoreNew, StoreField, StoreValue, StoreRoot, HoldRoot}
 use Rattle.mark_core.specs.declared.seat.SeatState.{SeatState}
 use Rattle.plain_heap.specs.PlainHeap.{Heap, empty_heap}
 use Rattle.plain_heap.specs.Paths.{Name, IsReachable}
@@ -247,6 +247,8 @@ stays_apart x i s (StoreValue v n) alone g =
     (λ w z y e there l base. turn_late x i s (StoreValue v n) w z y _ base g (and_parts _ (may_mutate s) g.ok.0).1 e l, λ w y e there n m p q l a b. inl (a, b))
 stays_apart x i s (StoreRoot v r) alone g =
     (λ w z y e there l base. turn_late x i s (StoreRoot v r) w z y _ base g (and_parts _ (may_mutate s) g.ok.0).1 e l, λ w y e there n m p q l a b. inl (a, b))
+stays_apart x i s (HoldRoot v r) alone g =
+    (λ w z y e there l base. turn_late x i s (HoldRoot v r) w z y _ base g (and_parts _ (may_mutate s) g.ok.0).1 e l, λ w y e there n m p q l a b. inl (a, b))
 stays_apart x i s (StoreNew c part word) alone g = made_apart x i s c part word alone g
 stays_apart x i s step alone g = (λ w z y e there l base. refl, λ w y e there n m p q l a b. inl (a, b))
 

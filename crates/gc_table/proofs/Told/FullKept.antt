@@ -19,7 +19,7 @@ use Rattle.mark_core.proofs.World.WorldMoves.{Fits}
 use Rattle.mark_core.specs.declared.kinds.Phase.{Phase}
 use Rattle.mark_core.specs.declared.kinds.Phase.TheVariants.{Full, Idle, Marking, Drain, Sweep, Clear}
 use Rattle.mark_core.specs.declared.kinds.Step.{Step}
-use Rattle.mark_core.specs.declared.kinds.Step.TheVariants.{ReadPhase, EnterStep, LeaveStep, DropStep, StorePhase, LeaveHelpStep, StoreField, StoreValue, StoreRoot, StoreNew, StoreAlloc, StoreNamed, Reset, AddStat, ReadStat, ExchangeField, ExchangeValue, StoreSlot}
+use Rattle.mark_core.specs.declared.kinds.Step.TheVariants.{ReadPhase, EnterStep, LeaveStep, DropStep, StorePhase, LeaveHelpStep, StoreField, StoreValue, StoreRoot, StoreNew, StoreAlloc, StoreNamed, Reset, AddStat, ReadStat, ExchangeField, ExchangeValue, StoreSlot, HoldRoot}
 use Rattle.mark_core.specs.declared.seat.SeatState.{SeatState}
 use Rattle.mark_core.specs.Shapes.{EachCell}
 use Rattle.mark_core.specs.Bits.{cell_bit}
@@ -156,12 +156,13 @@ no_cell c i s y part word P k a =
     absurd (true≢false (sym (or_left (cell_bit (words_of c.shape c.words).allocs y) _ (a y below)) ∙ free-not-used c i s step y k free))
 
 -- so every cell stays reachable
-pub reached-on : (x : TableState) (i : ℕ) (s : SeatState) (step : Step) → Goes x i s step → All SeesFull x.core.seats → AllPublished x.core → EachCell x.core.shape (IsReachableIn x.core) → EachCell x.core.shape (ReachedAfter x.core s step)
+pub reached-on : (x : TableState) (i : ℕ) (s : SeatState) (step : Step) → Goes x i s step → All SeesFull x.core.seats → AllPublished x.core → EachCell x.core.shape (IsReachableIn x.core) → EachCell x.core.shape (ReachedAfter x.core i s step)
 reached-on x i s (StoreField v j o) g seen a r = no_mutator x.core i s (StoreField v j o) _ (taken x i s (StoreField v j o) g) seen (and_parts _ _ g.ok.0).1 g.asks.0
 reached-on x i s (ExchangeField v j y o) g seen a r = no_mutator x.core i s (ExchangeField v j y o) _ (taken x i s (ExchangeField v j y o) g) seen (and_parts _ _ g.ok.0).1 g.asks
 reached-on x i s (StoreValue v n) g seen a r = no_mutator x.core i s (StoreValue v n) _ (taken x i s (StoreValue v n) g) seen (and_parts _ _ g.ok.0).1 g.asks.0
 reached-on x i s (ExchangeValue v m n) g seen a r = no_mutator x.core i s (ExchangeValue v m n) _ (taken x i s (ExchangeValue v m n) g) seen (and_parts _ _ g.ok.0).1 g.asks
 reached-on x i s (StoreRoot v t) g seen a r = no_mutator x.core i s (StoreRoot v t) _ (taken x i s (StoreRoot v t) g) seen (and_parts _ _ g.ok.0).1 g.asks.0
+reached-on x i s (HoldRoot v t) g seen a r = no_mutator x.core i s (HoldRoot v t) _ (taken x i s (HoldRoot v t) g) seen (and_parts _ _ g.ok.0).1 g.asks.0
 reached-on x i s (StoreSlot j t) g seen a r = no_mutator x.core i s (StoreSlot j t) _ (taken x i s (StoreSlot j t) g) seen (and_parts _ _ g.ok.0).1 g.asks.0
 reached-on x i s (StoreNew y part word) g seen a r = no_cell x.core i s y part word _ (taken x i s (StoreNew y part word) g) a
 reached-on x i s step g seen a r = λ y h. reach-still x.core i s step y (taken x i s step g) refl refl (r y h)
@@ -228,7 +229,7 @@ all_published x i s g y h =
 
 -- what is true if the heap is full after a step
 abbrev FullAfter : TableState → ℕ → SeatState → Step → Type 0
-FullAfter x i s step = AllPublishedAfter x.core s step × EachCell x.core.shape (ReachedAfter x.core s step) × All SeesFull (seats_left x.core i s step) × ((k : ℕ) × (y : SectionState) × (slice_get (sections_left x s step) k ≡ Some y) × IsTrue y.full)
+FullAfter x i s step = AllPublishedAfter x.core s step × EachCell x.core.shape (ReachedAfter x.core i s step) × All SeesFull (seats_left x.core i s step) × ((k : ℕ) × (y : SectionState) × (slice_get (sections_left x s step) k ≡ Some y) × IsTrue y.full)
 
 goes_on : (x : TableState) (i : ℕ) (s : SeatState) (step : Step) → Goes x i s step → IsFull x.core → FullAfter x i s step
 goes_on x i s step g e =
@@ -254,7 +255,7 @@ found_first x i s g =
     (w, f y, ap (λ xs. slice_get xs w) own ∙ there, or_right y.full true refl)
 
 begins : (x : TableState) (i : ℕ) (s : SeatState) → Goes x i s (StorePhase Full) → FullAfter x i s (StorePhase Full)
-begins x i s g = (all_published x i s g, all_reached x i s g, seen-first x.core i s (taken x i s (StorePhase Full) g) (still_world x i s g), found_first x i s g)
+begins x i s g = (all_published x i s g, (λ y h. reach-still x.core i s (StorePhase Full) y (taken x i s (StorePhase Full) g) refl refl (all_reached x i s g y h)), seen-first x.core i s (taken x i s (StorePhase Full) g) (still_world x i s g), found_first x i s g)
 
 full_after : (x : TableState) (i : ℕ) (s : SeatState) (step : Step) → Goes x i s step → (words_left x.core s step).phase ≡ 5 → FullAfter x i s step
 full_after x i s step g e =

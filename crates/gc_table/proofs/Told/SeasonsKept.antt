@@ -15,7 +15,7 @@ use Rattle.mark_core.proofs.Blocks.BlocksStopped.{Taken, words-read, mine as own
 use Rattle.mark_core.proofs.Writing.Writes.{season-kept}
 use Rattle.mark_core.specs.declared.kinds.Shape.{Shape}
 use Rattle.mark_core.specs.declared.kinds.Step.{Step}
-use Rattle.mark_core.specs.declared.kinds.Step.TheVariants.{StoreField, StoreValue, StoreRoot, ReadSeason, NextSeason}
+use Rattle.mark_core.specs.declared.kinds.Step.TheVariants.{StoreField, StoreValue, StoreRoot, ReadSeason, NextSeason, HoldRoot}
 use Rattle.mark_core.specs.declared.seat.SeatState.{SeatState}
 use Rattle.plain_heap.specs.declared.operation.Op.{Op}
 use Rattle.gc_table.specs.declared.view.SectionState.{SectionState}
@@ -62,6 +62,7 @@ pub storer-mutates : (c : Core) (i : ℕ) (s : SeatState) (step : Step) → Take
 storer-mutates c i s (StoreField v j o) k e = (and_parts (nat_lt v 32 && nat_lt j c.shape.fields && in_variables o) (may_mutate s) k.ok.0).1
 storer-mutates c i s (StoreValue v n) k e = (and_parts (nat_lt v 32) (may_mutate s) k.ok.0).1
 storer-mutates c i s (StoreRoot v r) k e = (and_parts (nat_lt v 32) (may_mutate s) k.ok.0).1
+storer-mutates c i s (HoldRoot v r) k e = (and_parts (nat_lt v 32) (may_mutate s) k.ok.0).1
 storer-mutates c i s step k e = absurd (false≢true e)
 
 -- every step that is no store leaves the plain heap
@@ -69,6 +70,7 @@ pub heap-same : (sh : Shape) (plan : List (List Op)) (s : SeatState) (step : Ste
 heap-same sh plan s (StoreField v j o) y e = absurd (true≢false e)
 heap-same sh plan s (StoreValue v n) y e = absurd (true≢false e)
 heap-same sh plan s (StoreRoot v r) y e = absurd (true≢false e)
+heap-same sh plan s (HoldRoot v r) y e = absurd (true≢false e)
 heap-same sh plan s step y e = refl
 
 seasons_same : (sh : Shape) (plan : List (List Op)) (s : SeatState) (step : Step) (y : SectionState) → moves_season step ≡ false → (section_after sh plan s step y).seasons ≡ y.seasons

@@ -1,5 +1,10 @@
 -- After an exact cycle in the catalogue's turn each cell in use stays reachable, until the catalogue's seat stores again.
-use Rattle.std.proofs.Common.{ℕ, zero, suc, ◌≡◌, ◌%◌, ◌<◌, List, [], ◌∷◌, set, length, arith, refl, sym, ap, ◌∙◌, Bool, true, false, ◌&&◌, eqb, cond, Option, Some, None, ⊎_elim}
+use Rattle.mark_core.proofs.References.ReferencesNow.{now-left, assigns_root}
+use Rattle.mark_core.proofs.Consequences.Closing.{roots-still}
+use Rattle.mark_core.proofs.Blocks.BlocksStopped.{still-while-knows}
+use Rattle.mark_core.specs.Variables.{roots_now}
+use Rattle.mark_core.specs.Cells.{IsReachableCell}
+use Rattle.std.proofs.Common.{ℕ, zero, suc, ◌≡◌, ◌%◌, ◌<◌, List, [], ◌∷◌, set, length, arith, refl, sym, ap, ◌∙◌, subst, Bool, true, false, ◌&&◌, eqb, cond, Option, Some, None, ⊎_elim}
 use Rattle.std.specs.Prelude.{IsTrue, IfSome}
 use Rattle.std.proofs.lemmas.Bool.{false≢true, and_parts, or_cases, or_left, eqb-true, ne_eqb}
 use Rattle.std.proofs.lemmas.List.{length-set, get_or-set_same}
@@ -14,14 +19,14 @@ use Rattle.mark_core.specs.Steps.{Core}
 use Rattle.mark_core.proofs.Known.{found, words_left, seats_left}
 use Rattle.mark_core.proofs.Blocks.BlocksStopped.{Taken, within, mine}
 use Rattle.mark_core.proofs.Exacts.ExactsKept.{ExactSound, exact-kept_by}
-use Rattle.mark_core.proofs.References.ReferencesRoots.{Used, UsedAfter, stores_root}
+use Rattle.mark_core.proofs.References.ReferencesRoots.{Used, UsedAfter}
 use Rattle.mark_core.proofs.Used.UsedSeats.{IsMadeBy}
 use Rattle.mark_core.proofs.Used.UsedKept.{used-back}
 use Rattle.mark_core.specs.declared.kinds.Shape.{Shape}
 use Rattle.mark_core.specs.declared.kinds.Phase.{Phase}
 use Rattle.mark_core.specs.declared.kinds.Phase.TheVariants.{Idle, Marking, Drain, Sweep, Clear, Full}
 use Rattle.mark_core.specs.declared.kinds.Step.{Step}
-use Rattle.mark_core.specs.declared.kinds.Step.TheVariants.{StoreField, StoreValue, StoreRoot, StoreNew, StorePhase, NextSeason, ExchangeField, ExchangeValue, StoreSlot}
+use Rattle.mark_core.specs.declared.kinds.Step.TheVariants.{StoreField, StoreValue, StoreRoot, StoreNew, StorePhase, NextSeason, ExchangeField, ExchangeValue, StoreSlot, HoldRoot}
 use Rattle.mark_core.specs.declared.seat.SeatState.{SeatState}
 use Rattle.plain_heap.specs.declared.operation.Op.{Op}
 use Rattle.gc_table.specs.declared.view.SectionState.{SectionState}
@@ -45,10 +50,10 @@ AllReached c = EachCell c.shape (λ y. IsTrue (Used c y) → IsReachableIn c y)
 
 -- after the step each cell in use is reachable
 abbrev AllReachedAfter : Core → ℕ → SeatState → Step → Type 0
-AllReachedAfter c i s step = EachCell c.shape (λ y. IsTrue (UsedAfter c i s step y) → ReachedAfter c s step y)
+AllReachedAfter c i s step = EachCell c.shape (λ y. IsTrue (UsedAfter c i s step y) → ReachedAfter c i s step y)
 
 -- a step that stores no reference and makes no cell leaves them so
-still_reached : (c : Core) (i : ℕ) (s : SeatState) (step : Step) → Taken c i s step → stores_root step ≡ false → stores_cell step ≡ false → ((y : ℕ) → IsMadeBy c.shape step y → ⊥) → AllReached c → AllReachedAfter c i s step
+still_reached : (c : Core) (i : ℕ) (s : SeatState) (step : Step) → Taken c i s step → assigns_root step ≡ false → stores_cell step ≡ false → ((y : ℕ) → IsMadeBy c.shape step y → ⊥) → AllReached c → AllReachedAfter c i s step
 still_reached c i s step k r f none a y h u =
     let was : Used c y ≡ true = ⊎_elim (λ (b : Used c y ≡ true). b) (λ (b : IsMadeBy c.shape step y). absurd (none y b)) (used-back c i s step y k u) in
     reach-still c i s step y k r f (a y h was)
@@ -60,7 +65,7 @@ Settled c x = IsSettled c.shape (words_of c.shape c.words) c.seats x
 abbrev SettledAfter : Core → ℕ → SeatState → Step → SectionState → Type 0
 SettledAfter c i s step x = IsSettled c.shape (words_left c s step) (seats_left c i s step) x
 
-still_settled : (c : Core) (i : ℕ) (s : SeatState) (step : Step) (x : SectionState) → Taken c i s step → stores_root step ≡ false → stores_cell step ≡ false → ((y : ℕ) → IsMadeBy c.shape step y → ⊥) → Settled c x → SettledAfter c i s step x
+still_settled : (c : Core) (i : ℕ) (s : SeatState) (step : Step) (x : SectionState) → Taken c i s step → assigns_root step ≡ false → stores_cell step ≡ false → ((y : ℕ) → IsMadeBy c.shape step y → ⊥) → Settled c x → SettledAfter c i s step x
 still_settled c i s step x k r f none st e = let a = st e in (a.0, still_reached c i s step k r f none a.1)
 
 -- in the catalogue's turn no other section has its own
@@ -85,6 +90,7 @@ others c i s (ExchangeField v j y o) x k d moved st = others_wait c i s (Exchang
 others c i s (ExchangeValue v m n) x k d moved st = others_wait c i s (ExchangeValue v m n) x k d moved st (and_parts _ _ k.ok.0).1
 others c i s (StoreValue v n) x k d moved st = others_wait c i s (StoreValue v n) x k d moved st (and_parts _ _ k.ok.0).1
 others c i s (StoreRoot v r) x k d moved st = others_wait c i s (StoreRoot v r) x k d moved st (and_parts _ _ k.ok.0).1
+others c i s (HoldRoot v r) x k d moved st = others_wait c i s (HoldRoot v r) x k d moved st (and_parts _ _ k.ok.0).1
 others c i s (StoreSlot j r) x k d moved st = others_wait c i s (StoreSlot j r) x k d moved st (and_parts _ _ k.ok.0).1
 others c i s (StoreNew y part word) x k d moved st = others_wait c i s (StoreNew y part word) x k d moved st (and_parts _ _ k.ok.0).1
 others c i s step x k d moved st = still_settled c i s step x k refl refl (λ y e. e) st
@@ -101,7 +107,10 @@ ended : (c : Core) (i : ℕ) (s : SeatState) (x : SectionState) → Taken c i s 
     → (x.seasons % 2 ≡ 0) × AllReachedAfter c i s (StorePhase Idle)
 ended c i s x k exact e =
     let a = and_parts (s.exact && is_the s.section 0) (eqb (x.seasons % 2) 0) e in
-    (eqb-true (x.seasons % 2) 0 a.1, exact.idle_in_use (exact_still c i s k (and_parts s.exact (is_the s.section 0) a.0).0) refl)
+    let still = still-while-knows c i s (StorePhase Idle) k (and_parts s.knows _ k.ok.1.0).0 in
+    let same : roots_now (words_left c s (StorePhase Idle)).roots (seats_left c i s (StorePhase Idle)) ≡ (words_left c s (StorePhase Idle)).roots =
+    now-left c i s (StorePhase Idle) k refl ∙ roots-still c k.core.sound still in
+    (eqb-true (x.seasons % 2) 0 a.1, λ y h u. subst (λ (rs : List ℕ). IsReachableCell c.shape rs (words_left c s (StorePhase Idle)).fields y) (sym same) (exact.idle_in_use (exact_still c i s k (and_parts s.exact (is_the s.section 0) a.0).0) refl y h u))
 
 -- 30: the catalogue's seat moves the phase
 phase_moves : (c : Core) (i : ℕ) (s : SeatState) (to : Phase) (x : SectionState) → Taken c i s (StorePhase to) → ExactSound c.shape (words_left c s (StorePhase to)) (seats_left c i s (StorePhase to)) → (saw (Some to) Idle && s.exact && is_the s.section 0 && eqb (x.seasons % 2) 0) ≡ true
@@ -120,6 +129,7 @@ own c i s (ExchangeField v j y o) plan x k exact st e = absurd (false≢true e)
 own c i s (ExchangeValue v m n) plan x k exact st e = absurd (false≢true e)
 own c i s (StoreValue v n) plan x k exact st e = absurd (false≢true e)
 own c i s (StoreRoot v r) plan x k exact st e = absurd (false≢true e)
+own c i s (HoldRoot v r) plan x k exact st e = absurd (false≢true e)
 own c i s (StoreSlot j r) plan x k exact st e = absurd (false≢true e)
 own c i s (StoreNew y part word) plan x k exact st e = absurd (false≢true e)
 own c i s NextSeason plan x k exact st e = absurd (false≢true e)

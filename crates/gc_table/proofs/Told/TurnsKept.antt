@@ -11,7 +11,7 @@ use Rattle.mark_core.proofs.Blocks.BlocksStopped.{Taken}
 use Rattle.mark_core.proofs.Formed.FormedLearns.{EachAt, each-push}
 use Rattle.mark_core.specs.declared.kinds.Shape.{Shape}
 use Rattle.mark_core.specs.declared.kinds.Step.{Step}
-use Rattle.mark_core.specs.declared.kinds.Step.TheVariants.{StoreField, StoreValue, StoreRoot, StoreNew, NextSeason}
+use Rattle.mark_core.specs.declared.kinds.Step.TheVariants.{StoreField, StoreValue, StoreRoot, StoreNew, NextSeason, HoldRoot}
 use Rattle.mark_core.specs.declared.seat.SeatState.{SeatState}
 use Rattle.plain_heap.specs.PlainHeap.{Heap, empty_heap}
 use Rattle.plain_heap.specs.declared.operation.Op.{Op}
@@ -93,6 +93,7 @@ own_after : (c : Core) (plan : List (List Op)) (i : ℕ) (s : SeatState) (step :
 own_after c plan i s (StoreField v j o) w y k e f b = in_stored c i s (StoreField v j o) w (meaning_by c.shape s (seen_by c.shape plan s) (StoreField v j o) y.meaning) y k e refl b
 own_after c plan i s (StoreValue v n) w y k e f b = in_stored c i s (StoreValue v n) w (meaning_by c.shape s (seen_by c.shape plan s) (StoreValue v n) y.meaning) y k e refl b
 own_after c plan i s (StoreRoot v r) w y k e f b = in_stored c i s (StoreRoot v r) w (meaning_by c.shape s (seen_by c.shape plan s) (StoreRoot v r) y.meaning) y k e refl b
+own_after c plan i s (HoldRoot v r) w y k e f b = in_stored c i s (HoldRoot v r) w (meaning_by c.shape s (seen_by c.shape plan s) (HoldRoot v r) y.meaning) y k e refl b
 own_after c plan i s (StoreNew x part word) w y k e f b =
     let h = and_parts (nat_lt x c.shape.cells && nat_le part (c.shape.fields + 1)) (may_mutate s) k.ok.0 in
     let a = own_turn c i s (StoreNew x part word) w k e h.1 in

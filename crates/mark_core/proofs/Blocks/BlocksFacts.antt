@@ -18,7 +18,7 @@ use Rattle.mark_core.proofs.Blocks.BlocksStopped.{Taken, mine, words-read, kept-
 use Rattle.mark_core.specs.declared.kinds.Phase.{Phase}
 use Rattle.mark_core.specs.declared.kinds.Phase.TheVariants.{Idle, Marking, Drain, Sweep, Clear, Full}
 use Rattle.mark_core.specs.declared.kinds.Step.{Step}
-use Rattle.mark_core.specs.declared.kinds.Step.TheVariants.{ReadPhase, StoreRoot, ClaimBlock, ReleaseBlock, ReadFree, StoreNew, PublishCells, Observe, DropStep, StorePhase}
+use Rattle.mark_core.specs.declared.kinds.Step.TheVariants.{ReadPhase, StoreRoot, ClaimBlock, ReleaseBlock, ReadFree, StoreNew, PublishCells, Observe, DropStep, StorePhase, HoldRoot}
 use Rattle.mark_core.specs.declared.seat.SeatState.{SeatState}
 use Rattle.std.proofs.lemmas.List.{map-set}
 use Rattle.mark_core.specs.Views.{blocks}
@@ -79,6 +79,9 @@ has_section (Some x) season P e f = absurd (false≢true f)
 
 names_after : (c : Core) (i : ℕ) (s : SeatState) (step : Step) → Taken c i s step → SpentNames s → SpentNames (seat_after c.shape s step (found c s step))
 names_after c i s (StoreRoot v r) t k e =
+    let none : is_none s.section ≡ true = rw t.live at e in
+    has_section s.section s.season_seen _ (and_parts s.active _ (and_parts _ _ t.ok.0).1).1 none
+names_after c i s (HoldRoot v r) t k e =
     let none : is_none s.section ≡ true = rw t.live at e in
     has_section s.section s.season_seen _ (and_parts s.active _ (and_parts _ _ t.ok.0).1).1 none
 names_after c i s step t k e = k e

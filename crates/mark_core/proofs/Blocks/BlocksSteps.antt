@@ -26,7 +26,7 @@ use Rattle.mark_core.proofs.Basics.{none-is}
 use Rattle.mark_core.specs.declared.kinds.Phase.{Phase}
 use Rattle.mark_core.specs.declared.kinds.Phase.TheVariants.{Idle, Marking, Drain, Sweep, Clear, Full}
 use Rattle.mark_core.specs.declared.kinds.Step.{Step}
-use Rattle.mark_core.specs.declared.kinds.Step.TheVariants.{ReadAlloc, SetMark, StoreField, StoreRoot, StoreNew, PublishCells, StorePhase, NextBlock, ReadBlockMarks, StoreAlloc, ClearMarks, Reset, ExchangeField, StoreSlot}
+use Rattle.mark_core.specs.declared.kinds.Step.TheVariants.{ReadAlloc, SetMark, StoreField, StoreRoot, StoreNew, PublishCells, StorePhase, NextBlock, ReadBlockMarks, StoreAlloc, ClearMarks, Reset, ExchangeField, StoreSlot, FlushRoot}
 use Rattle.mark_core.specs.declared.seat.SeatState.{SeatState}
 use Rattle.mark_core.specs.declared.seat.CacheState.{CacheState}
 use Rattle.mark_core.specs.declared.seat.BlockState.{BlockState}
@@ -204,6 +204,7 @@ hand-at c i s StoreAlloc t = stored c i s t
 hand-at c i s ClearMarks t = cleared c i s t
 hand-at c i s (StoreField v f x) t = hand_stays c i s (StoreField v f x) (words_left c s (StoreField v f x)) s.block t refl refl refl refl refl
 hand-at c i s (ExchangeField v f x y) t = hand_stays c i s (ExchangeField v f x y) (words_left c s (ExchangeField v f x y)) s.block t refl refl refl refl refl
+hand-at c i s (FlushRoot v) t = hand_stays c i s (FlushRoot v) (words_left c s (FlushRoot v)) s.block t refl refl refl refl refl
 hand-at c i s (StoreRoot v r) t = hand_stays c i s (StoreRoot v r) (words_left c s (StoreRoot v r)) s.block t refl refl refl refl refl
 hand-at c i s (StoreSlot k r) t = hand_stays c i s (StoreSlot k r) (words_left c s (StoreSlot k r)) s.block t refl refl refl refl refl
 hand-at c i s (StoreNew x part word) t =

@@ -11,7 +11,7 @@ use Rattle.mark_core.proofs.Writing.Writes.{phase-kept, next_block-kept}
 use Rattle.mark_core.proofs.Writing.RegionWrites.{roots-kept, allocs-kept, marks-kept, fields-kept}
 use Rattle.mark_core.proofs.Blocks.BlocksStopped.{Taken, words-read}
 use Rattle.mark_core.specs.declared.kinds.Step.{Step}
-use Rattle.mark_core.specs.declared.kinds.Step.TheVariants.{ReadAlloc, ReadField, ReadRoot, SetMark, ReadMarks, ReadPhase, ReadOwn, ReadCat, StoreField, StoreRoot, ReadFree, StoreNew, PublishCells, StorePhase, NextBlock, ReadBlockMarks, StoreAlloc, ClearMarks, Reset, AddStat, ReadStat, ExchangeField, LoadSlot, StoreSlot, ReadSlot, ReadWeak}
+use Rattle.mark_core.specs.declared.kinds.Step.TheVariants.{ReadAlloc, ReadField, ReadRoot, SetMark, ReadMarks, ReadPhase, ReadOwn, ReadCat, StoreField, StoreRoot, ReadFree, StoreNew, PublishCells, StorePhase, NextBlock, ReadBlockMarks, StoreAlloc, ClearMarks, Reset, AddStat, ReadStat, ExchangeField, LoadSlot, StoreSlot, ReadSlot, ReadWeak, HoldRoot, FlushRoot}
 use Rattle.mark_core.specs.declared.seat.SeatState.{SeatState}
 use Rattle.mark_core.specs.Numbers.{done_count, last_count, named_number}
 
@@ -51,6 +51,7 @@ changes_heap (SetMark c) = true
 changes_heap (StoreField v i x) = true
 changes_heap (ExchangeField v i x y) = true
 changes_heap (StoreRoot v r) = true
+changes_heap (FlushRoot v) = true
 changes_heap (StoreSlot k r) = true
 changes_heap (StoreNew c part word) = true
 changes_heap PublishCells = true
@@ -67,6 +68,7 @@ heap-left c i s (SetMark x) t e = absurd (true≢false e)
 heap-left c i s (StoreField v x y) t e = absurd (true≢false e)
 heap-left c i s (ExchangeField v x y z) t e = absurd (true≢false e)
 heap-left c i s (StoreRoot v r) t e = absurd (true≢false e)
+heap-left c i s (FlushRoot v) t e = absurd (true≢false e)
 heap-left c i s (StoreSlot k r) t e = absurd (true≢false e)
 heap-left c i s (StoreNew x part word) t e = absurd (true≢false e)
 heap-left c i s PublishCells t e = absurd (true≢false e)
@@ -83,6 +85,7 @@ heap-left c i s (ReadMarks b) t e = same_words _ _ (words-read c i s (ReadMarks 
 heap-left c i s ReadPhase t e = same_words _ _ (words-read c i s ReadPhase t refl)
 heap-left c i s (ReadOwn x f) t e = same_words _ _ (words-read c i s (ReadOwn x f) t refl)
 heap-left c i s (ReadCat v) t e = same_words _ _ (words-read c i s (ReadCat v) t refl)
+heap-left c i s (HoldRoot v r) t e = same_words _ _ (words-read c i s (HoldRoot v r) t refl)
 heap-left c i s (ReadSlot k) t e = same_words _ _ (words-read c i s (ReadSlot k) t refl)
 heap-left c i s (ReadWeak x) t e = same_words _ _ (words-read c i s (ReadWeak x) t refl)
 heap-left c i s ReadFree t e = same_words _ _ (words-read c i s ReadFree t refl)

@@ -12,10 +12,12 @@ use Rattle.mark_core.specs.Bits.{cell_bit, nil_or, has_bit, all_ones}
 use Rattle.mark_core.specs.Seats.{is_the, scan_left, cleaning_left, work_in_hand, is_phase, may_store, block_in_hand}
 use Rattle.mark_core.specs.Views.{Grasp, grasps, grasp_of, hands, standings, Standing, Maker, makers, blocks}
 use Rattle.mark_core.specs.Cells.{packet_length, field, IsCellPath, in_use, is_kept, is_swept_block, is_unswept, IsReachableCell}
-use Rattle.mark_core.specs.Rules.WorldRules.{is_tracing, NoneActive}
+use Rattle.mark_core.specs.Rules.WorldRules.{is_tracing, NoneActive, is_stopped_phase}
 use Rattle.mark_core.specs.Steps.WorldSteps.{is_quiet, cards_clean, roots_marked, all_allocated}
 use Rattle.mark_core.specs.Rules.ColourRules.{popped_is, tends, cleans_card, owes_card, will_read, has_value, is_marked_soon, IsWaiting, IsAccounted}
-use Rattle.mark_core.specs.Closed.{sees_quiet, is_closed, IsQuiet}
+use Rattle.mark_core.specs.Closed.{sees_quiet, is_closed, IsQuiet, IsReachableIn}
+use Rattle.mark_core.specs.Variables.{roots_now}
+use Rattle.mark_core.proofs.Lagging.{Shows, idle-lags, now-still}
 use Rattle.mark_core.specs.Start.{spent_seat}
 use Rattle.mark_core.specs.Steps.{Core, after_event}
 use Rattle.mark_core.specs.Sound.{IsSoundCore}
@@ -38,7 +40,7 @@ use Rattle.std.proofs.Math.Bool.{and-false}
 use Rattle.mark_core.specs.Strong.{IsStrongBlock}
 use Rattle.mark_core.specs.Steps.SweepSteps.{survivors, own_block}
 use Rattle.mark_core.proofs.HeldBlock.{allocs-length, marks-length, MayStore, may-store, own-strong}
-use Rattle.mark_core.proofs.Blocks.BlocksStopped.{Taken, within, own-record, sweeping}
+use Rattle.mark_core.proofs.Blocks.BlocksStopped.{Taken, within, own-record, sweeping, still-stopped, still-while-knows}
 use Rattle.mark_core.proofs.Blocks.BlocksStretch.{unswept-first}
 use Rattle.mark_core.proofs.Writing.CellBits.{bit-both, bits-grow}
 use Rattle.mark_core.specs.declared.kinds.Step.{Step}
@@ -100,6 +102,7 @@ pub record IsDone (sh : Shape) (w : Words) (seats : List SeatState) : Type 0 whe
   pub idle : All (IsIdle sh.fields) (grasps seats)
   pub clean : cards_clean w.cards ≡ true
   pub roots : roots_marked w.roots w.marks ≡ true
+  pub still : All (λ (s : SeatState). IsFalse s.active) seats
 
 done_from : (c : Core) → IsWellFormed c → IsSoundCore c → is_closed c ≡ true → IsDone c.shape (words_of c.shape c.words) c.seats
 done_from c formed k e =
@@ -125,6 +128,7 @@ done_from c formed k e =
           (λ i s h. idle_grasp sh.fields (get_or c.seats i s) (still.no_seat i s h) (k.world.inactive_calm i s h (at-standing (λ (x : Standing). IsFalse x.active) c.seats i s h none)).no_card_owed);
       clean = b.1;
       roots = f.1;
+      still = λ i s h. at-standing (λ (x : Standing). IsFalse x.active) c.seats i s h none;
     }
 
 not_waiting : (sh : Shape) (w : Words) (seats : List SeatState) (c : ℕ) → IsDone sh w seats → IsWaiting sh w.cards w.heads w.entries (hands seats) (grasps seats) c → ⊥
@@ -165,8 +169,20 @@ path_marked c formed k done x (d ∷ ds) p =
     (λ (a : cell_bit w.allocs d ≡ false). absurd (not_waiting sh w c.seats d done (k.unpublished.waits done.tracing d below m a)))
     (cases_Bool (cell_bit w.allocs d))
 
+-- while no seat is active no root lags
+all-show : (c : Core) → IsSoundCore c → All (λ (s : SeatState). IsFalse s.active) c.seats → All Shows c.seats
+all-show c k a j d h = idle-lags (get_or c.seats j d) (a j d h) (k.season.lags_in_turn j d h)
+
+-- so the roots are what the seats have
+pub roots-still : (c : Core) → IsSoundCore c → All (λ (s : SeatState). IsFalse s.active) c.seats → roots_now (words_of c.shape c.words).roots c.seats ≡ (words_of c.shape c.words).roots
+roots-still c k a = now-still (words_of c.shape c.words).roots c.seats (all-show c k a)
+
 pub closed_marks : ClosedMarksAll
-closed_marks c formed k e x p = path_marked c formed k (done_from c formed k e) x p.0 p.1
+closed_marks c formed k e x p =
+    let done : IsDone c.shape (words_of c.shape c.words) c.seats = done_from c formed k e in
+    let q : IsReachableCell c.shape (words_of c.shape c.words).roots (words_of c.shape c.words).fields x =
+    subst (λ (rs : List ℕ). IsReachableCell c.shape rs (words_of c.shape c.words).fields x) (roots-still c k done.still) p in
+    path_marked c formed k done x q.0 q.1
 
 -- The heap is found full only if every cell is reachable.
 full_bit : (allocs : _) (x : ℕ) → x / 64 < length allocs → all_allocated allocs ≡ true → cell_bit allocs x ≡ true
@@ -188,7 +204,9 @@ full-reachable c seat k f x h =
     let exact : list_any (λ (t : SeatState). t.exact) c.seats ≡ true = list_any_at (λ (t : SeatState). t.exact) c.seats seat s i (ap (λ (t : SeatState). t.exact) is ∙ may.1) in
     let long : length w.allocs ≡ block_count c.shape = region-length (region_sizes c.shape) 4 c.words (omega (arith, k.formed.words)) in
     let bit : cell_bit w.allocs x ≡ true = full_bit w.allocs x (omega (arith, h, long, k.formed.shaped.whole_blocks)) full in
-    k.sound.exact.idle_in_use exact ok.0 x h (rw bit refl)
+    let here : Taken c seat s (StorePhase Full) = record { core = k; got = r.1.seat; live = r.1.live; ok = ok } in
+    let still = still-while-knows c seat s (StorePhase Full) here (and_parts s.knows (all_allocated w.allocs) may.0).0 in
+    subst (λ (rs : List ℕ). IsReachableCell c.shape rs w.fields x) (sym (roots-still c k.sound still)) (k.sound.exact.idle_in_use exact ok.0 x h (rw bit refl))
 
 -- What the sweep keeps: every cell on a path, and of the block in hand the marked cells.
 -- what the sweep keeps
@@ -251,12 +269,14 @@ stored_marked c i s x k p e =
     let sweep : is_phase w.phase Sweep ≡ true = rw (sweeping c i s StoreAlloc k k.ok.0) refl in
     sym (kept-unswept w.next_block (blocks c.seats) w.allocs w.marks (makers c.seats) x (own-unswept c i s StoreAlloc (x / 64) k e)) ∙ path-kept c k.core sweep x p.0 p.1
 
-stays_at : (c : Core) (i : ℕ) (s : SeatState) (step : Step) (x : ℕ) → Taken c i s step → IsReachableCell c.shape (words_of c.shape c.words).roots (words_of c.shape c.words).fields x
+stays_at : (c : Core) (i : ℕ) (s : SeatState) (step : Step) (x : ℕ) → Taken c i s step → IsReachableIn c x
     → cell_bit (words_of c.shape c.words).allocs x ≡ true → cell_bit (words_left c s step).allocs x ≡ true
 stays_at c i s StoreAlloc x k p e =
     let w : Words = words_of c.shape c.words in
+    let still = still-stopped c k.core (ap (λ (n : ℕ). is_stopped_phase n) (sweeping c i s StoreAlloc k k.ok.0)) in
+    let q : IsReachableCell c.shape w.roots w.fields x = subst (λ (rs : List ℕ). IsReachableCell c.shape rs w.fields x) (roots-still c k.core.sound still) p in
     bits-grow w.allocs (own_block s) (survivors s.block) x
-    (λ a _. survives w.phase w.next_block w.allocs w.marks s.block x k.ok.1.0 (own-strong c i s StoreAlloc k) (sym a) e (stored_marked c i s x k p))
+    (λ a _. survives w.phase w.next_block w.allocs w.marks s.block x k.ok.1.0 (own-strong c i s StoreAlloc k) (sym a) e (stored_marked c i s x k q))
     e
 stays_at c i s step x k p e = alloc-on c i s step x k refl e
 

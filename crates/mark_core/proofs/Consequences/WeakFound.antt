@@ -8,7 +8,8 @@ use Rattle.mark_core.specs.Layout.{Words, words_of, region_sizes}
 use Rattle.mark_core.specs.Bits.{cell_bit, has_bit, reference_in}
 use Rattle.mark_core.specs.Seats.{is_the, used_in, is_phase}
 use Rattle.mark_core.specs.Views.{Maker, makers, maker_of, blocks}
-use Rattle.mark_core.specs.Cells.{in_use, used_by, field, is_swept_block, IsCellPath}
+use Rattle.mark_core.specs.Cells.{in_use, used_by, field, is_swept_block, IsCellPath, IsReachableCell}
+use Rattle.mark_core.specs.Rules.WorldRules.{is_stopped_phase}
 use Rattle.mark_core.specs.Rules.HeapRules.{NumbersBelow, UsedOwn}
 use Rattle.mark_core.specs.Steps.MutatorSteps.{weak_reference}
 use Rattle.mark_core.specs.Closed.{IsReachableIn, is_published}
@@ -18,14 +19,15 @@ use Rattle.mark_core.specs.Numbers.{section_span}
 use Rattle.mark_core.specs.Weak.{HasGiven, IsOnly, IsAt, IsWeak, IsGone, WeakIsMade, GoneIsUnreachable, MayConclude, FindsWeak, WeakReadsTell}
 use Rattle.mark_core.proofs.Known.{HasCache, in_use-below, all-makers, found, Acted, acts}
 use Rattle.mark_core.proofs.HeldBlock.{allocs-length}
-use Rattle.mark_core.proofs.Blocks.BlocksStopped.{Taken}
+use Rattle.mark_core.proofs.Blocks.BlocksStopped.{Taken, still-stopped}
 use Rattle.mark_core.proofs.Caches.CachesAt.{caching, maker-at}
 use Rattle.mark_core.proofs.Caches.CachesClaims.{user}
 use Rattle.mark_core.proofs.Caches.CachesKept.{section-seat}
-use Rattle.mark_core.proofs.Consequences.Closing.{goes-to, path-kept, either-way}
+use Rattle.mark_core.proofs.Consequences.Closing.{goes-to, path-kept, either-way, roots-still}
 use Rattle.mark_core.proofs.Formed.FormedLearns.{one-of, used-exists}
 use Rattle.mark_core.proofs.References.ReferencesKept.{kept-used}
 use Rattle.mark_core.proofs.References.ReferencesRoots.{Used, known-used, own-used}
+use Rattle.mark_core.proofs.References.ReferencesNow.{the-roots, now-used}
 use Rattle.mark_core.specs.declared.kinds.Shape.{Shape}
 use Rattle.mark_core.specs.declared.kinds.Event.{Event}
 use Rattle.mark_core.specs.declared.kinds.Phase.TheVariants.{Sweep}
@@ -34,8 +36,8 @@ use Rattle.mark_core.specs.declared.seat.SeatState.{SeatState}
 use Rattle.std.proofs.lemmas.Option.{slice_get-get_or, same_Some}
 
 -- every reachable cell is in use, in the sweep too
-path_used : (c : Core) → IsCore c → is_phase (words_of c.shape c.words).phase Sweep ≡ false → (x : ℕ) (ds : List ℕ) → IsCellPath c.shape (words_of c.shape c.words).roots (words_of c.shape c.words).fields (x ∷ ds) → Used c x ≡ true
-path_used c k e x [] p = goes-to (Used c) (slice_index (words_of c.shape c.words).roots p.0) x p.2 (k.sound.references.roots_in_use p.0 0 p.1)
+path_used : (c : Core) → IsCore c → is_phase (words_of c.shape c.words).phase Sweep ≡ false → (x : ℕ) (ds : List ℕ) → IsCellPath c.shape (the-roots c) (words_of c.shape c.words).fields (x ∷ ds) → Used c x ≡ true
+path_used c k e x [] p = goes-to (Used c) (slice_index (the-roots c) p.0) x p.2 (now-used c p.0 k)
 path_used c k e x (d ∷ ds) p =
     let u : Used c d ≡ true = path_used c k e d ds p.1 in
     goes-to (Used c) (field c.shape (words_of c.shape c.words).fields d p.0.0) x p.0.2 (k.sound.references.fields_in_use e d (used-exists c d k.formed u) u p.0.0 p.0.1)
@@ -43,7 +45,11 @@ path_used c k e x (d ∷ ds) p =
 reachable_used : (c : Core) (x : ℕ) → IsCore c → IsReachableIn c x → Used c x ≡ true
 reachable_used c x k r =
     ⊎_elim
-    (λ (e : is_phase (words_of c.shape c.words).phase Sweep ≡ true). kept-used c x k (path-kept c k e x r.0 r.1))
+    (λ (e : is_phase (words_of c.shape c.words).phase Sweep ≡ true).
+    let still = still-stopped c k (ap is_stopped_phase (eqb-true (words_of c.shape c.words).phase 3 e)) in
+    let q : IsReachableCell c.shape (words_of c.shape c.words).roots (words_of c.shape c.words).fields x =
+    subst (λ (rs : List ℕ). IsReachableCell c.shape rs (words_of c.shape c.words).fields x) (roots-still c k.sound still) r in
+    kept-used c x k (path-kept c k e x q.0 q.1))
     (λ (e : is_phase (words_of c.shape c.words).phase Sweep ≡ false). path_used c k e x r.0 r.1)
     (cases_Bool (is_phase (words_of c.shape c.words).phase Sweep))
 

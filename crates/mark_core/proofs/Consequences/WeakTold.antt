@@ -39,7 +39,7 @@ front [] y k h = absurd (omega (arith, h))
 front (x ∷ xs) y zero h = refl
 front (x ∷ xs) y (suc k) h = front xs y k (omega (arith, h))
 
-other_stays : (c : Core) (j i : ℕ) (s t : SeatState) (step : Step) → Taken c j s step → i ≢ j → i < length c.seats → slice_get (seats_left c j s step) i ≡ Some t → t.spent ≡ false → slice_get c.seats i ≡ Some t
+pub other_stays : (c : Core) (j i : ℕ) (s t : SeatState) (step : Step) → Taken c j s step → i ≢ j → i < length c.seats → slice_get (seats_left c j s step) i ≡ Some t → t.spent ≡ false → slice_get c.seats i ≡ Some t
 other_stays c j i s t Split k n h e live = set-there c.seats j i s t n (sym (front (set c.seats j s) (start_seat c.shape (length (set c.seats j s))) i (rw length-set h)) ∙ e)
 other_stays c j i s t (Join other) k n h e live =
     ⊎_elim
@@ -51,12 +51,12 @@ other_stays c j i s t (Join other) k n h e live =
 other_stays c j i s t step k n h e live = set-there c.seats j i (seat_after c.shape s step (found c s step)) t n e
 
 -- a seat exists and, unless it was ended, knows a cell, which is published
-record Holds (i x : ℕ) (c : Core) : Type 0 where
+pub record Holds (i x : ℕ) (c : Core) : Type 0 where
   pub exists : i < length c.seats
   pub knows : (t : SeatState) → slice_get c.seats i ≡ Some t → t.spent ≡ false → (knows_cell t x ≡ true) × (cell_bit (words_of c.shape c.words).allocs x ≡ true)
 
 -- the same, where the cell is known to be in use
-record HoldsUsed (i x : ℕ) (sh : Shape) (w : Words) (seats : List SeatState) : Type 0 where
+pub record HoldsUsed (i x : ℕ) (sh : Shape) (w : Words) (seats : List SeatState) : Type 0 where
   pub exists : i < length seats
   pub knows : (t : SeatState) → slice_get seats i ≡ Some t → t.spent ≡ false → (knows_cell t x ≡ true) × (x < sh.cells → in_use w.allocs (makers seats) x ≡ true → cell_bit w.allocs x ≡ true)
 
@@ -68,7 +68,7 @@ names_used allocs ms t x n e =
     (λ (a : list_any (λ (y : ℕ). eqb y (x + 1)) t.env ≡ true). goes-to (in_use allocs ms) (x + 1) x refl (in-env t.env (x + 1) (in_use allocs ms) n.0 a))
     (or_cases (eqb t.got (x + 1)) (list_any (λ (y : ℕ). eqb y (x + 1)) t.env) e)
 
-used_holds : (i x : ℕ) (c : Core) → IsCore c → HoldsUsed i x c.shape (words_of c.shape c.words) c.seats → Holds i x c
+pub used_holds : (i x : ℕ) (c : Core) → IsCore c → HoldsUsed i x c.shape (words_of c.shape c.words) c.seats → Holds i x c
 used_holds i x c k h =
     record {
       exists = h.exists;
@@ -80,7 +80,7 @@ used_holds i x c k h =
           (a.0, a.1 (used-exists c x k.formed u) u);
     }
 
-holds_kept : (i x : ℕ) (c : Core) (e : Event) → IsCore c → NumbersFit e.step → failing_part c e ≡ None → i ≢ e.seat → Holds i x c → Holds i x (after_event c e)
+pub holds_kept : (i x : ℕ) (c : Core) (e : Event) → IsCore c → NumbersFit e.step → failing_part c e ≡ None → i ≢ e.seat → Holds i x c → Holds i x (after_event c e)
 holds_kept i x c e k n f d h =
     used_holds i x (after_event c e) (core_kept c e k n f)
     (kept-after (HoldsUsed i x) c e k f
@@ -105,7 +105,7 @@ holds_over i x (e ∷ es) c k fit others h =
     (λ d q held. holds_over i x es d q (All-tail (λ (y : Event). NumbersFit y.step) e es fit) (All-tail (λ (y : Event). i ≢ y.seat) e es others) held) (failing_part c e) refl
 
 -- who found a cell published has it in its register
-asked_holds : (c : Core) (i : ℕ) (s : SeatState) (x : ℕ) → Taken c i s (ReadWeak x) → cell_bit (words_of c.shape c.words).allocs x ≡ true → HoldsUsed i x c.shape (words_left c s (ReadWeak x)) (seats_left c i s (ReadWeak x))
+pub asked_holds : (c : Core) (i : ℕ) (s : SeatState) (x : ℕ) → Taken c i s (ReadWeak x) → cell_bit (words_of c.shape c.words).allocs x ≡ true → HoldsUsed i x c.shape (words_left c s (ReadWeak x)) (seats_left c i s (ReadWeak x))
 asked_holds c i s x k bit =
     let step : Step = ReadWeak x in
     let there : i < length c.seats = within c i s step k in

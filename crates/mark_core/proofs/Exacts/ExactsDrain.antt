@@ -25,7 +25,7 @@ use Rattle.mark_core.proofs.Writing.CellBits.{with_other, same-index, bit-there}
 use Rattle.mark_core.proofs.Hands.HandsCleaning.{scan-left}
 use Rattle.mark_core.proofs.HeldBlock.{of-view}
 use Rattle.mark_core.specs.declared.kinds.Step.{Step}
-use Rattle.mark_core.specs.declared.kinds.Step.TheVariants.{ReadField, ReadRoot, SetMark, StoreField, StoreRoot, StoreNew, PublishCells, StorePhase, NextBlock, StoreAlloc, ClearMarks, Reset, ExchangeField, LoadSlot, StoreSlot}
+use Rattle.mark_core.specs.declared.kinds.Step.TheVariants.{ReadField, ReadRoot, SetMark, StoreField, StoreRoot, StoreNew, PublishCells, StorePhase, NextBlock, StoreAlloc, ClearMarks, Reset, ExchangeField, LoadSlot, StoreSlot, FlushRoot}
 use Rattle.mark_core.specs.declared.seat.SeatState.{SeatState}
 use Rattle.mark_core.specs.declared.kinds.Shape.{Shape}
 
@@ -103,6 +103,7 @@ marks-reached c i s ClearMarks t p a own =
 marks-reached c i s (StoreField v f x) t p a own = a
 marks-reached c i s (ExchangeField v f x y) t p a own = a
 marks-reached c i s (StoreRoot v r) t p a own = a
+marks-reached c i s (FlushRoot v) t p a own = a
 marks-reached c i s (StoreSlot k r) t p a own = a
 marks-reached c i s (StoreNew x part word) t p a own = rw (marks-kept c.shape s (StoreNew x part word) word (words_of c.shape c.words) refl) a
 marks-reached c i s PublishCells t p a own = a

@@ -21,7 +21,7 @@ use Rattle.mark_core.proofs.Sweeps.SweepsSpared.{NoneUsed, none-used, use-publis
 use Rattle.mark_core.specs.declared.kinds.Phase.{Phase}
 use Rattle.mark_core.specs.declared.kinds.Phase.TheVariants.{Idle, Marking, Drain, Sweep, Clear, Full}
 use Rattle.mark_core.specs.declared.kinds.Step.{Step}
-use Rattle.mark_core.specs.declared.kinds.Step.TheVariants.{SetMark, StoreField, StoreRoot, StoreNew, PublishCells, DropStep, StorePhase, NextBlock, StoreAlloc, ClearMarks, Reset, ExchangeField, StoreSlot}
+use Rattle.mark_core.specs.declared.kinds.Step.TheVariants.{SetMark, StoreField, StoreRoot, StoreNew, PublishCells, DropStep, StorePhase, NextBlock, StoreAlloc, ClearMarks, Reset, ExchangeField, StoreSlot, FlushRoot}
 use Rattle.mark_core.specs.declared.seat.SeatState.{SeatState}
 use Rattle.std.specs.Prelude.{IsTrue, IfSome}
 use Rattle.std.proofs.lemmas.List.{length-map, get_or-map}
@@ -96,6 +96,7 @@ exact-unused_after c i s step t after e =
 pub references-left : (c : Core) (i : ℕ) (s : SeatState) (step : Step) → Taken c i s step → AllStill c → ((words_left c s step).roots ≡ (words_of c.shape c.words).roots) × ((words_left c s step).fields ≡ (words_of c.shape c.words).fields)
 references-left c i s (StoreField v f x) t still = not-still c i s (StoreField v f x) _ t still (and_parts s.active _ (and_parts _ _ t.ok.0).1).0
 references-left c i s (ExchangeField v f x y) t still = not-still c i s (ExchangeField v f x y) _ t still (and_parts s.active _ (and_parts _ _ t.ok.0).1).0
+references-left c i s (FlushRoot v) t still = not-still c i s (FlushRoot v) _ t still (and_parts s.active _ (and_parts _ _ t.ok.0).1).0
 references-left c i s (StoreRoot v r) t still = not-still c i s (StoreRoot v r) _ t still (and_parts s.active _ (and_parts _ _ t.ok.0).1).0
 references-left c i s (StoreSlot k r) t still = not-still c i s (StoreSlot k r) _ t still (and_parts s.active _ (and_parts _ _ t.ok.0).1).0
 references-left c i s (StoreNew x part word) t still = not-still c i s (StoreNew x part word) _ t still (and_parts s.active _ (and_parts _ _ t.ok.0).1).0
@@ -220,6 +221,7 @@ idle_allocs c i s (SetMark x) t still p = refl
 idle_allocs c i s (StoreField v f x) t still p = refl
 idle_allocs c i s (ExchangeField v f x y) t still p = refl
 idle_allocs c i s (StoreRoot v r) t still p = refl
+idle_allocs c i s (FlushRoot v) t still p = refl
 idle_allocs c i s (StoreSlot k r) t still p = refl
 idle_allocs c i s (StoreNew x part word) t still p = allocs-kept c.shape s (StoreNew x part word) word (words_of c.shape c.words) refl
 idle_allocs c i s (StorePhase to) t still p = refl

@@ -15,7 +15,7 @@ use Rattle.mark_core.proofs.Caches.CachesSeat.{MakesFree, next-free, free-block}
 use Rattle.mark_core.proofs.Writing.CellBits.{with_same}
 use Rattle.mark_core.specs.declared.kinds.Shape.{Shape}
 use Rattle.mark_core.specs.declared.kinds.Step.{Step}
-use Rattle.mark_core.specs.declared.kinds.Step.TheVariants.{ClaimBlock, ReleaseBlock, ReadFree, StoreNew, PublishCells, Take, Give, Push, Pop, StoreRoot, StoreLength, ReadLength}
+use Rattle.mark_core.specs.declared.kinds.Step.TheVariants.{ClaimBlock, ReleaseBlock, ReadFree, StoreNew, PublishCells, Take, Give, Push, Pop, StoreRoot, StoreLength, ReadLength, HoldRoot}
 use Rattle.mark_core.specs.declared.seat.SeatState.{SeatState}
 use Rattle.mark_core.specs.declared.seat.CacheState.{CacheState}
 use Rattle.std.specs.List.{All, AllPairs, range_with_len}
@@ -92,6 +92,7 @@ held-after sh w seats s step old k ok = k
 
 env-after : (sh : Shape) (s : SeatState) (step : Step) (old : ℕ) → length s.env ≡ 32 → length (seat_after sh s step old).env ≡ 32
 env-after sh s (StoreRoot v r) old k = rw length-set k
+env-after sh s (HoldRoot v r) old k = rw length-set k
 env-after sh s step old k = k
 
 -- the record of a seat after its step is in range, if what it read is

@@ -25,7 +25,7 @@ use Rattle.mark_core.proofs.Writing.SeatBoundsKept.{choose}
 use Rattle.mark_core.proofs.Formed.FormedGrasps.{and-left_fits, or-fits, with-fits, without-fits}
 use Rattle.mark_core.specs.declared.kinds.Shape.{Shape}
 use Rattle.mark_core.specs.declared.kinds.Step.{Step}
-use Rattle.mark_core.specs.declared.kinds.Step.TheVariants.{Reserve, Take, Give, Credit, Push, SetMark, DirtyCard, ClearCard, StoreField, StoreValue, StoreRoot, ClaimBlock, ReleaseBlock, StoreNew, PublishCells, EnterStep, LeaveStep, RaiseStep, DropStep, StorePhase, NextBlock, NextOfCards, StoreAlloc, ClearMarks, WipeCard, StorePosition, StoreNamed, Reset, AddStat, StoreLength, OpenStep, JoinHelpStep, LeaveHelpStep, CloseStep, NextSeason, ExchangeField, ExchangeValue, StoreSlot}
+use Rattle.mark_core.specs.declared.kinds.Step.TheVariants.{Reserve, Take, Give, Credit, Push, SetMark, DirtyCard, ClearCard, StoreField, StoreValue, StoreRoot, ClaimBlock, ReleaseBlock, StoreNew, PublishCells, EnterStep, LeaveStep, RaiseStep, DropStep, StorePhase, NextBlock, NextOfCards, StoreAlloc, ClearMarks, WipeCard, StorePosition, StoreNamed, Reset, AddStat, StoreLength, OpenStep, JoinHelpStep, LeaveHelpStep, CloseStep, NextSeason, ExchangeField, ExchangeValue, StoreSlot, FlushRoot}
 use Rattle.mark_core.specs.declared.seat.SeatState.{SeatState}
 use Rattle.mark_core.specs.declared.seat.CacheState.{CacheState}
 use Rattle.mark_core.specs.declared.seat.BlockState.{BlockState}
@@ -126,6 +126,7 @@ written-fits sh w seats s (ClearCard card) old k n ok h = omega arith
 written-fits sh w seats s (StoreField v i x) old k n ok h = variable_fits sh s x k.range
 written-fits sh w seats s (StoreValue v m) old k n ok h = omega (arith, n)
 written-fits sh w seats s (StoreRoot v r) old k n ok h = omega (arith, k.range.shaped.cells, k.references r ok.1.0)
+written-fits sh w seats s (FlushRoot v) old k n ok h = omega (arith, k.range.shaped.cells, k.range.env v)
 written-fits sh w seats s (StoreSlot j r) old k n ok h = omega (arith, k.range.shaped.cells, k.references r ok.1.0)
 written-fits sh w seats s (ExchangeField v i x y) old k n ok h = choose IsWord (eqb old (variable_or_nil s x)) (variable_or_nil s y) old (variable_fits sh s y k.range) h
 written-fits sh w seats s (ExchangeValue v m new) old k n ok h =

@@ -21,7 +21,7 @@ use Rattle.mark_core.proofs.Basics.{or-second}
 use Rattle.mark_core.specs.declared.kinds.Phase.{Phase}
 use Rattle.mark_core.specs.declared.kinds.Phase.TheVariants.{Idle, Marking, Drain, Sweep, Clear, Full}
 use Rattle.mark_core.specs.declared.kinds.Step.{Step}
-use Rattle.mark_core.specs.declared.kinds.Step.TheVariants.{Reserve, Take, Give, Credit, Push, SetMark, DirtyCard, ClearCard, StoreField, StoreValue, StoreRoot, ClaimBlock, ReleaseBlock, StoreNew, PublishCells, EnterStep, LeaveStep, RaiseStep, DropStep, StorePhase, NextBlock, NextOfCards, StoreAlloc, ClearMarks, WipeCard, StorePosition, StoreNamed, Reset, AddStat, StoreLength, OpenStep, JoinHelpStep, LeaveHelpStep, CloseStep, NextSeason, ExchangeField, ExchangeValue, StoreSlot}
+use Rattle.mark_core.specs.declared.kinds.Step.TheVariants.{Reserve, Take, Give, Credit, Push, SetMark, DirtyCard, ClearCard, StoreField, StoreValue, StoreRoot, ClaimBlock, ReleaseBlock, StoreNew, PublishCells, EnterStep, LeaveStep, RaiseStep, DropStep, StorePhase, NextBlock, NextOfCards, StoreAlloc, ClearMarks, WipeCard, StorePosition, StoreNamed, Reset, AddStat, StoreLength, OpenStep, JoinHelpStep, LeaveHelpStep, CloseStep, NextSeason, ExchangeField, ExchangeValue, StoreSlot, FlushRoot}
 use Rattle.mark_core.specs.declared.seat.SeatState.{SeatState}
 use Rattle.mark_core.specs.Numbers.{done_count, last_count, free_count}
 use Rattle.std.proofs.lemmas.List.{get_or-set_other, get_or-take, set-get_or}
@@ -186,6 +186,7 @@ leaves c i s (StoreField v f x) t a = works c i s (StoreField v f x) t a (λ e. 
 leaves c i s (ExchangeField v f x y) t a = works c i s (ExchangeField v f x y) t a (λ e. e) (mutator_in s _ (and_parts _ _ a.taken.ok.0).1)
 leaves c i s (StoreValue v n) t a = works c i s (StoreValue v n) t a (λ e. e) (mutator_in s _ (and_parts _ _ a.taken.ok.0).1)
 leaves c i s (ExchangeValue v m n) t a = works c i s (ExchangeValue v m n) t a (λ e. e) (mutator_in s _ (and_parts _ _ a.taken.ok.0).1)
+leaves c i s (FlushRoot v) t a = works c i s (FlushRoot v) t a (λ e. e) (mutator_in s _ (and_parts _ _ a.taken.ok.0).1)
 leaves c i s (StoreRoot v r) t a = works c i s (StoreRoot v r) t a (λ e. e) (mutator_in s _ (and_parts _ _ a.taken.ok.0).1)
 leaves c i s (StoreSlot k r) t a = works c i s (StoreSlot k r) t a (λ e. e) (mutator_in s _ (and_parts _ _ a.taken.ok.0).1)
 leaves c i s (ClaimBlock b) t a = works c i s (ClaimBlock b) t a (λ e. e) (part-from_active s.active s.knows s.admitted (and_parts _ _ a.taken.ok.1.0).0)

@@ -112,7 +112,7 @@ join_at sh w seats i j s (Some o) a g e =
       seat = slice_get_within seats j o g;
       is = get_or_from_slice_get seats j o o g;
     } in
-    ended sh w seats j o b (first_of (empty_handed o) (not (work_in_hand sh.fields o)) (is_none o.owes) (is_none o.cache) (is_none o.block) (eqb o.got 0) e)
+    ended sh w seats j o b (first_of (empty_handed o) (not (work_in_hand sh.fields o)) (is_none o.owes) (is_none o.cache) (is_none o.block) (eqb o.got 0 && eqb o.lags 0) e)
 
 -- 32: the record of another seat ends
 pub sound-join : (sh : Shape) (w : Words) (seats : List SeatState) (i j : ℕ) (s : SeatState) → At sh w seats i s → other_has_nothing sh (slice_get seats j) ≡ true → PacketsSound sh w (set seats j (spent_seat sh j))

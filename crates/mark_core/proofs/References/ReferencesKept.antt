@@ -7,8 +7,8 @@ use Rattle.std.proofs.lemmas.Grind.{get_or_default_zero}
 use Rattle.std.proofs.lemmas.Option.{slice_get-get_or}
 use Rattle.std.proofs.lemmas.List.Folds.{list_any_none}
 use Rattle.mark_core.specs.Layout.{Words, words_of, block_count}
-use Rattle.mark_core.specs.Bits.{cell_bit, nil_or}
-use Rattle.mark_core.specs.Seats.{is_phase}
+use Rattle.mark_core.specs.Bits.{cell_bit, has_bit, nil_or}
+use Rattle.mark_core.specs.Seats.{is_phase, has_turn}
 use Rattle.mark_core.specs.Views.{makers, blocks}
 use Rattle.mark_core.specs.Cells.{used_by, field, is_unswept, is_swept_block, AllGo}
 use Rattle.mark_core.specs.Rules.HeapRules.{NamesInUse, EnvIsRoots, References}
@@ -22,7 +22,7 @@ use Rattle.mark_core.proofs.Known.{found, words_left, seats_left, Acted, acts}
 use Rattle.mark_core.proofs.HeldBlock.{roots-length, own-strong}
 use Rattle.mark_core.proofs.Blocks.BlocksStopped.{Taken, mine as own-fact, words-read, sweeping, still-stopped}
 use Rattle.mark_core.proofs.Blocks.BlocksSteps.{none-at-move}
-use Rattle.mark_core.proofs.Writing.CellBits.{bits-grow}
+use Rattle.mark_core.proofs.Writing.CellBits.{bits-grow, no-bit}
 use Rattle.mark_core.proofs.Doing.{local-kept}
 use Rattle.mark_core.proofs.References.ReferencesEnv.{seat-section, env-roots, unseated-nil, unseated-slots}
 use Rattle.mark_core.proofs.References.ReferencesRoots.{new-names, names-used, Used, UsedAfter, nil-on, roots-used}
@@ -79,19 +79,19 @@ some_of : (o : Option ℕ) → is_none o ≡ false → (w : ℕ) × (o ≡ Some 
 some_of None e = absurd (true≢false e)
 some_of (Some w) e = (w, refl)
 
-at_section : (env roots : List ℕ) (o : Option ℕ) (w : ℕ) → o ≡ Some w → IfSome o (λ x. (v : ℕ) → v < 32 → slice_index env v ≡ slice_index roots (x * 32 + v)) → (v : ℕ) → v < 32 → slice_index env v ≡ slice_index roots (w * 32 + v)
-at_section env roots o w e k = subst (λ (y : Option ℕ). IfSome y (λ x. (v : ℕ) → v < 32 → slice_index env v ≡ slice_index roots (x * 32 + v))) e k
+at_section : (env roots : List ℕ) (l : ℕ) (o : Option ℕ) (w : ℕ) → o ≡ Some w → l ≡ 0 → IfSome o (λ x. (v : ℕ) → v < 32 → IsFalse (has_bit l v) → slice_index env v ≡ slice_index roots (x * 32 + v)) → (v : ℕ) → v < 32 → slice_index env v ≡ slice_index roots (w * 32 + v)
+at_section env roots l o w e z k v h = subst (λ (y : Option ℕ). IfSome y (λ x. (v : ℕ) → v < 32 → IsFalse (has_bit l v) → slice_index env v ≡ slice_index roots (x * 32 + v))) e k v h (ap (λ (m : ℕ). has_bit m v) z ∙ no-bit v)
 
 -- what each seat names is in use, since its variables are roots or nil
-swept_env : (c : Core) (p : ℕ → Bool) (t : SeatState) → AllGo p (words_of c.shape c.words).roots → EnvIsRoots (words_of c.shape c.words).roots t → (IsTrue (t.spent || is_none t.section) → All (λ r. r ≡ 0) t.env) → length t.env ≡ 32
+swept_env : (c : Core) (p : ℕ → Bool) (t : SeatState) → AllGo p (words_of c.shape c.words).roots → t.lags ≡ 0 → EnvIsRoots (words_of c.shape c.words).roots t → (IsTrue (t.spent || is_none t.section) → All (λ r. r ≡ 0) t.env) → length t.env ≡ 32
     → ((w : ℕ) → t.section ≡ Some w → w * 32 + 32 ≤ length (words_of c.shape c.words).roots) → AllGo p t.env
-swept_env c p t a f z l q j d h =
+swept_env c p t a n f z l q j d h =
     ⊎_elim
     (λ (e : (t.spent || is_none t.section) ≡ true). rw (z e j d h) refl)
     (λ (e : (t.spent || is_none t.section) ≡ false).
     let o = or_parts t.spent (is_none t.section) e in
     let s = some_of t.section o.1 in
-    let same : get_or t.env j d ≡ get_or (words_of c.shape c.words).roots (s.0 * 32 + j) 0 = get_or_default_zero t.env j d h ∙ at_section t.env (words_of c.shape c.words).roots t.section s.0 s.1 (f o.0) j (omega (arith, h, l)) in
+    let same : get_or t.env j d ≡ get_or (words_of c.shape c.words).roots (s.0 * 32 + j) 0 = get_or_default_zero t.env j d h ∙ at_section t.env (words_of c.shape c.words).roots t.lags t.section s.0 s.1 n (f o.0) j (omega (arith, h, l)) in
     subst (λ (r : ℕ). nil_or p r ≡ true) (sym same) (a (s.0 * 32 + j) 0 (omega (arith, q s.0 s.1, h, l))))
     (cases_Bool (t.spent || is_none t.section))
 
@@ -110,7 +110,7 @@ swept-names c i s k =
     let still = still-stopped c k.core (ap (λ (n : ℕ). is_stopped_phase n) (sweeping c i s StoreAlloc k k.ok.0)) in
     let all : All P c.seats =
     λ j d h. (
-      swept_env c p (get_or c.seats j d) (swept-roots c i s k) (k.core.sound.references.env_is_roots j d h) (k.core.strong.seats_strong j d h).env_of_spent (k.core.formed.seats j (get_or c.seats j d) (slice_get-get_or c.seats j d h)).env (λ w e. section_roots c j d w k.core h e),
+      swept_env c p (get_or c.seats j d) (swept-roots c i s k) (k.core.sound.season.lags_in_turn j d h (ap (λ (b : Bool). b && has_turn (get_or c.seats j d).section (get_or c.seats j d).season_seen) (still j d h))) (k.core.sound.references.env_is_roots j d h) (k.core.strong.seats_strong j d h).env_of_spent (k.core.formed.seats j (get_or c.seats j d) (slice_get-get_or c.seats j d h)).env (λ w e. section_roots c j d w k.core h e),
       rw (k.core.sound.world.inactive_calm j d h (still j d h)).register_nil refl,
     ) in
     local-kept P c.shape StoreAlloc c.seats i (seat_after c.shape s StoreAlloc (found c s StoreAlloc)) (new-names p c.shape) (new-names p c.shape) all (own-fact c i s StoreAlloc P k all)

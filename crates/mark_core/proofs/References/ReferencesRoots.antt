@@ -2,7 +2,7 @@
 use Rattle.std.proofs.Common.{ℕ, ◌≡◌, ◌+◌, ◌*◌, ◌-◌, ◌<◌, ◌≤◌, List, get_or, length, arith, refl, sym, ap, ◌∙◌, subst, Bool, true, false, not, ◌||◌, eqb, Option, Some, None, ⊎_elim, set, ◌&&◌, ◌/◌, ◌%◌, cond}
 use Rattle.std.specs.Prelude.{IsTrue, IsFalse, IfSome, unwrap_or, nat_lt, slice_index}
 use Rattle.std.specs.List.{All, list_any}
-use Rattle.std.proofs.lemmas.Bool.{true≢false, and_parts, or_cases, or_left, or_right, eqb-true, cases_Bool, ltb-true, cases_lt}
+use Rattle.std.proofs.lemmas.Bool.{true≢false, and_parts, or_cases, or_left, or_right, eqb-true, cases_Bool, ltb-true, cases_lt, eq-eqb}
 use Rattle.std.proofs.lemmas.List.{get_or-map, length-map, get_or-replicate, get_or_past}
 use Rattle.std.proofs.lemmas.List.Elements.{All-set, All-map}
 use Rattle.std.proofs.lemmas.List.Folds.{list_any_at, list_any_none}
@@ -14,7 +14,7 @@ use Rattle.mark_core.specs.Views.{makers, maker_of, Maker}
 use Rattle.mark_core.specs.Cells.{in_use, used_by, field, AllGo}
 use Rattle.mark_core.specs.Rules.WorldRules.{is_stopped_phase}
 use Rattle.mark_core.specs.Rules.HeapRules.{NamesInUse, EnvIsRoots, References}
-use Rattle.mark_core.specs.Steps.MutatorSteps.{has_reference, names_last, knows_cell, weak_reference}
+use Rattle.mark_core.specs.Steps.MutatorSteps.{has_reference, names_last, knows_cell, weak_reference, seat_variable}
 use Rattle.mark_core.specs.WellFormed.{IsSeat, IsCache}
 use Rattle.mark_core.specs.Effects.{written, seat_after, place}
 use Rattle.mark_core.specs.Steps.{Core}
@@ -27,7 +27,7 @@ use Rattle.mark_core.proofs.World.WorldReading.{any-passes, some-passes}
 use Rattle.mark_core.specs.declared.kinds.Shape.{Shape}
 use Rattle.mark_core.specs.declared.kinds.Phase.TheVariants.{Sweep}
 use Rattle.mark_core.specs.declared.kinds.Step.{Step}
-use Rattle.mark_core.specs.declared.kinds.Step.TheVariants.{ReadRoot, ReadCat, StoreRoot, LoadSlot, StoreSlot, ReadSlot, ReadOwn, ReadWeak}
+use Rattle.mark_core.specs.declared.kinds.Step.TheVariants.{ReadRoot, ReadCat, StoreRoot, LoadSlot, StoreSlot, ReadSlot, ReadOwn, ReadWeak, HoldRoot, FlushRoot}
 use Rattle.mark_core.specs.declared.seat.SeatState.{SeatState}
 use Rattle.mark_core.specs.declared.seat.CacheState.{CacheState}
 use Rattle.mark_core.specs.Start.{start_seat, start_words, start_seats, full_pool}
@@ -63,6 +63,7 @@ names-cell p r e = or_right (eqb r 0) (p (r - 1)) e
 -- the step stores a root
 abbrev pub stores_root : Step → Bool
 stores_root (StoreRoot v r) = true
+stores_root (FlushRoot v) = true
 stores_root (StoreSlot k r) = true
 stores_root step = false
 
@@ -71,8 +72,10 @@ pub roots-same : (c : Core) (i : ℕ) (s : SeatState) (step : Step) → Taken c 
 roots-same c i s (ReadRoot section v) k f = ap (λ (w : Words). w.roots) (words-read c i s (ReadRoot section v) k refl)
 roots-same c i s (ReadCat v) k f = ap (λ (w : Words). w.roots) (words-read c i s (ReadCat v) k refl)
 roots-same c i s (StoreRoot v r) k f = absurd (true≢false f)
+roots-same c i s (FlushRoot v) k f = absurd (true≢false f)
 roots-same c i s (StoreSlot j r) k f = absurd (true≢false f)
 roots-same c i s (LoadSlot section j) k f = ap (λ (w : Words). w.roots) (words-read c i s (LoadSlot section j) k refl)
+roots-same c i s (HoldRoot v r) k f = ap (λ (w : Words). w.roots) (words-read c i s (HoldRoot v r) k refl)
 roots-same c i s (ReadSlot j) k f = ap (λ (w : Words). w.roots) (words-read c i s (ReadSlot j) k refl)
 roots-same c i s step k f = roots-kept c.shape s step (written c.shape s step (found c s step)) (words_of c.shape c.words) refl
 
@@ -147,9 +150,19 @@ root_used c i s step at r k f e =
     let before : All Goes (words_of c.shape c.words).roots = λ j d h. nil-on (Used c) (UsedAfter c i s step) (get_or (words_of c.shape c.words).roots j d) on (k.core.sound.references.roots_in_use j d h) in
     All-set Goes (words_of c.shape c.words).roots at r (nil-on (Used c) (UsedAfter c i s step) r on (has-use c i s step r k e)) before
 
+-- a variable is a reference that the seat has
+pub has-variable : (s : SeatState) (v : ℕ) → v < length s.env → has_reference s (seat_variable s v) ≡ true
+has-variable s v h =
+    let r : ℕ = seat_variable s v in
+    or_left (eqb r 0 || eqb r s.got || list_any (λ (x : ℕ). eqb x r) s.env) (names_last s.cache r)
+    (or_right (eqb r 0 || eqb r s.got) (list_any (λ (x : ℕ). eqb x r) s.env) (list_any_at (λ (x : ℕ). eqb x r) s.env v 0 h (eq-eqb r r refl)))
+
 -- the cells that roots name are in use after the step
 pub roots-used : (c : Core) (i : ℕ) (s : SeatState) (step : Step) → Taken c i s step → frees step ≡ false → AllGo (UsedAfter c i s step) (words_left c s step).roots
 roots-used c i s (StoreRoot v r) k f = root_used c i s (StoreRoot v r) (unwrap_or s.section 0 * 32 + v) r k f k.ok.1.0
+roots-used c i s (FlushRoot v) k f =
+    let h : v < length s.env = omega (arith, ltb-true v 32 (and_parts (nat_lt v 32) (may_mutate s) k.ok.0).0, (seat-formed c i s (FlushRoot v) k).env) in
+    root_used c i s (FlushRoot v) (unwrap_or s.section 0 * 32 + v) (seat_variable s v) k f (has-variable s v h)
 roots-used c i s (StoreSlot j r) k f = root_used c i s (StoreSlot j r) (c.shape.sections * 32 + (unwrap_or s.section 0 * c.shape.slots + j)) r k f k.ok.1.0
 roots-used c i s step k f = roots_stay c i s step k f (roots-same c i s step k refl)
 
@@ -242,6 +255,10 @@ names_then c i s (StoreRoot v r) k =
     let e : nil_or (Used c) r ≡ true = has-use c i s (StoreRoot v r) r k k.ok.1.0 in
     let whole : nil_or (Used c) (reference_in r) ≡ true = subst (λ (y : ℕ). nil_or (Used c) y ≡ true) (sym (read-whole c i s (StoreRoot v r) r k e)) e in
     (All-set (λ (y : ℕ). IsTrue (nil_or (Used c) y)) s.env v (reference_in r) whole (own_names c i s (StoreRoot v r) k).0, refl)
+names_then c i s (HoldRoot v r) k =
+    let e : nil_or (Used c) r ≡ true = has-use c i s (HoldRoot v r) r k k.ok.1.0 in
+    let whole : nil_or (Used c) (reference_in r) ≡ true = subst (λ (y : ℕ). nil_or (Used c) y ≡ true) (sym (read-whole c i s (HoldRoot v r) r k e)) e in
+    (All-set (λ (y : ℕ). IsTrue (nil_or (Used c) y)) s.env v (reference_in r) whole (own_names c i s (HoldRoot v r) k).0, refl)
 names_then c i s step k = subst (Goes (Used c)) (sym (names-kept c.shape s step (found c s step) refl)) (own_names c i s step k)
 
 -- what each seat names is in use after the step
@@ -281,8 +298,8 @@ none-used sh n z x h =
     list_any_none (used_by x) (makers (start_seats sh n)) (All-map (λ (m : Maker). used_by x m ≡ false) maker_of (start_seats sh n) (each-seat (λ (s : SeatState). used_by x (maker_of s) ≡ false) sh n (λ k. refl))) in
     rw (unpublished sh z x h, none) refl
 
-start_env : (sh : Shape) (k : ℕ) (b : Bool) → IfSome (cond b (Some k) None) (λ w. (v : ℕ) → v < 32 → slice_index (start_seat sh k).env v ≡ slice_index (words_of sh (start_words sh)).roots (w * 32 + v))
-start_env sh k true = λ v h. get_or-replicate 32 v 0 0 h ∙ sym (no-root sh (k * 32 + v))
+start_env : (sh : Shape) (k : ℕ) (b : Bool) → IfSome (cond b (Some k) None) (λ w. (v : ℕ) → v < 32 → IsFalse (has_bit 0 v) → slice_index (start_seat sh k).env v ≡ slice_index (words_of sh (start_words sh)).roots (w * 32 + v))
+start_env sh k true = λ v h b. get_or-replicate 32 v 0 0 h ∙ sym (no-root sh (k * 32 + v))
 start_env sh k false = tt
 
 pub references-starts : (sh : Shape) (n : ℕ) → IsShape sh

@@ -33,7 +33,7 @@ use Rattle.mark_core.proofs.Basics.{none-is}
 use Rattle.mark_core.specs.declared.kinds.Shape.{Shape}
 use Rattle.mark_core.specs.declared.kinds.Phase.TheVariants.{Sweep}
 use Rattle.mark_core.specs.declared.kinds.Step.{Step}
-use Rattle.mark_core.specs.declared.kinds.Step.TheVariants.{ReadAlloc, SetMark, StoreField, StoreRoot, StoreNew, PublishCells, StorePhase, Split, Join, NextBlock, ReadBlockMarks, StoreAlloc, ClearMarks, Reset, ExchangeField, StoreSlot}
+use Rattle.mark_core.specs.declared.kinds.Step.TheVariants.{ReadAlloc, SetMark, StoreField, StoreRoot, StoreNew, PublishCells, StorePhase, Split, Join, NextBlock, ReadBlockMarks, StoreAlloc, ClearMarks, Reset, ExchangeField, StoreSlot, FlushRoot}
 use Rattle.mark_core.specs.declared.seat.SeatState.{SeatState}
 
 -- A block that is swept spares the cells that were spared before, and so does one whose marks are cleared then.
@@ -248,6 +248,7 @@ sweep-on c i s (SetMark x) t e = absurd (true≢false (sym (tracing c i s (SetMa
 sweep-on c i s (Reset which) t e = absurd (true≢false (sym (and_parts _ _ t.ok.0).1 ∙ ap (λ p. eqb p 0 || eqb p 2) e))
 sweep-on c i s (StoreField v f x) t e = not-still c i s (StoreField v f x) _ t (still-stopped c t.core (ap is_stopped_phase e)) (and_parts s.active _ (and_parts _ _ t.ok.0).1).0
 sweep-on c i s (ExchangeField v f x y) t e = not-still c i s (ExchangeField v f x y) _ t (still-stopped c t.core (ap is_stopped_phase e)) (and_parts s.active _ (and_parts _ _ t.ok.0).1).0
+sweep-on c i s (FlushRoot v) t e = not-still c i s (FlushRoot v) _ t (still-stopped c t.core (ap is_stopped_phase e)) (and_parts s.active _ (and_parts _ _ t.ok.0).1).0
 sweep-on c i s (StoreRoot v r) t e = not-still c i s (StoreRoot v r) _ t (still-stopped c t.core (ap is_stopped_phase e)) (and_parts s.active _ (and_parts _ _ t.ok.0).1).0
 sweep-on c i s (StoreSlot k r) t e = not-still c i s (StoreSlot k r) _ t (still-stopped c t.core (ap is_stopped_phase e)) (and_parts s.active _ (and_parts _ _ t.ok.0).1).0
 sweep-on c i s (StoreNew x part word) t e = not-still c i s (StoreNew x part word) _ t (still-stopped c t.core (ap is_stopped_phase e)) (and_parts s.active _ (and_parts _ _ t.ok.0).1).0

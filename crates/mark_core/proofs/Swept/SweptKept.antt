@@ -33,7 +33,7 @@ use Rattle.mark_core.proofs.Blocks.BlocksSteps.{own-block}
 use Rattle.mark_core.specs.declared.kinds.Phase.{Phase}
 use Rattle.mark_core.specs.declared.kinds.Phase.TheVariants.{Idle, Marking, Drain, Sweep, Clear, Full}
 use Rattle.mark_core.specs.declared.kinds.Step.{Step}
-use Rattle.mark_core.specs.declared.kinds.Step.TheVariants.{ReadAlloc, SetMark, StoreField, StoreRoot, StoreNew, PublishCells, StorePhase, Split, Join, NextBlock, ReadBlockMarks, StoreAlloc, ClearMarks, Reset, ExchangeField, StoreSlot}
+use Rattle.mark_core.specs.declared.kinds.Step.TheVariants.{ReadAlloc, SetMark, StoreField, StoreRoot, StoreNew, PublishCells, StorePhase, Split, Join, NextBlock, ReadBlockMarks, StoreAlloc, ClearMarks, Reset, ExchangeField, StoreSlot, FlushRoot}
 
 -- Which blocks are in no stretch, when that of one seat is replaced.
 -- what holds of each element, once one is replaced, held before if it held of that one
@@ -222,6 +222,7 @@ swept_at c i s ReadBlockMarks t k =
 swept_at c i s (StoreField v f x) t k = unswept c i s (StoreField v f x) t k refl refl refl refl
 swept_at c i s (ExchangeField v f x y) t k = unswept c i s (ExchangeField v f x y) t k refl refl refl refl
 swept_at c i s (StoreRoot v r) t k = unswept c i s (StoreRoot v r) t k refl refl refl refl
+swept_at c i s (FlushRoot v) t k = unswept c i s (FlushRoot v) t k refl refl refl refl
 swept_at c i s (StoreSlot j r) t k = unswept c i s (StoreSlot j r) t k refl refl refl refl
 swept_at c i s (StoreNew x part word) t k = unswept c i s (StoreNew x part word) t k refl refl refl refl
 swept_at c i s PublishCells t k = unswept c i s PublishCells t k refl refl refl refl

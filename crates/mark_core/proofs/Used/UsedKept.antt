@@ -112,7 +112,7 @@ publish_bit c i s x k e =
 
 has_no_cache : (sh : Shape) (o : SeatState) → has_nothing sh o ≡ true → o.cache ≡ None
 has_no_cache sh o e =
-    let a = and_parts (empty_handed o && not (work_in_hand sh.fields o) && is_none o.owes && is_none o.cache && is_none o.block) (eqb o.got 0) e in
+    let a = and_parts (empty_handed o && not (work_in_hand sh.fields o) && is_none o.owes && is_none o.cache && is_none o.block) (eqb o.got 0 && eqb o.lags 0) e in
     let b = and_parts (empty_handed o && not (work_in_hand sh.fields o) && is_none o.owes && is_none o.cache) (is_none o.block) a.0 in
     none-is o.cache (and_parts (empty_handed o && not (work_in_hand sh.fields o) && is_none o.owes) (is_none o.cache) b.0).1
 

@@ -19,7 +19,7 @@ use Rattle.mark_core.proofs.World.WorldNumbers.{Local, inside, stays, mutates, t
 use Rattle.mark_core.proofs.Basics.{none-is, or-second}
 use Rattle.mark_core.specs.declared.kinds.Shape.{Shape}
 use Rattle.mark_core.specs.declared.kinds.Step.{Step}
-use Rattle.mark_core.specs.declared.kinds.Step.TheVariants.{Reserve, Take, Give, Credit, Push, Pop, ReadAlloc, ReadField, ReadRoot, SetMark, DirtyCard, ClearCard, ReadMarks, ReadPhase, ReadOwn, ReadCat, StoreField, StoreRoot, ClaimBlock, ReleaseBlock, ReadFree, StoreNew, PublishCells, EnterStep, LeaveStep, Observe, DropStep, NextBlock, ReadBlockMarks, StoreAlloc, ClearMarks, StoreLength, ReadLength, JoinHelpStep, LeaveHelpStep, ExchangeField, LoadSlot, StoreSlot, ReadSlot, ReadWeak, CheckCard}
+use Rattle.mark_core.specs.declared.kinds.Step.TheVariants.{Reserve, Take, Give, Credit, Push, Pop, ReadAlloc, ReadField, ReadRoot, SetMark, DirtyCard, ClearCard, ReadMarks, ReadPhase, ReadOwn, ReadCat, StoreField, StoreRoot, ClaimBlock, ReleaseBlock, ReadFree, StoreNew, PublishCells, EnterStep, LeaveStep, Observe, DropStep, NextBlock, ReadBlockMarks, StoreAlloc, ClearMarks, StoreLength, ReadLength, JoinHelpStep, LeaveHelpStep, ExchangeField, LoadSlot, StoreSlot, ReadSlot, ReadWeak, CheckCard, HoldRoot, FlushRoot}
 use Rattle.mark_core.specs.declared.seat.SeatState.{SeatState}
 use Rattle.mark_core.specs.declared.seat.CacheState.{CacheState}
 use Rattle.mark_core.specs.Bits.{flag}
@@ -131,6 +131,12 @@ local-at sh w seats s (ExchangeField v i x y) old k f b ok =
 local-at sh w seats s (StoreRoot v r) old k f b ok =
     let run = (and_parts s.active _ (and_parts _ _ ok.0).1).0 in
     mutates sh s (seat_after sh s (StoreRoot v r) old) k run (runner-in s run) refl refl k.uncached refl
+local-at sh w seats s (FlushRoot v) old k f b ok =
+    let run = (and_parts s.active _ (and_parts _ _ ok.0).1).0 in
+    mutates sh s (seat_after sh s (FlushRoot v) old) k run (runner-in s run) refl refl k.uncached refl
+local-at sh w seats s (HoldRoot v r) old k f b ok =
+    let run = (and_parts s.active _ (and_parts _ _ ok.0).1).0 in
+    mutates sh s (seat_after sh s (HoldRoot v r) old) k run (runner-in s run) refl refl k.uncached refl
 local-at sh w seats s (StoreSlot j r) old k f b ok =
     let run = (and_parts s.active _ (and_parts _ _ ok.0).1).0 in
     mutates sh s (seat_after sh s (StoreSlot j r) old) k run (runner-in s run) refl refl k.uncached refl
@@ -179,7 +185,7 @@ local-at sh w seats s EnterStep old k f b ok =
     record { outside = λ e. k.outside out; calm = λ e. k.calm nothing.0; unseen = λ e. k.unseen out; uncached = k.uncached }
 local-at sh w seats s LeaveStep old k f b ok =
     let empty = empty_parts s ok.1.0 in
-    let rest = and_parts (is_none s.owes && is_none s.cache) (eqb s.got 0) ok.1.1.1.0 in
+    let rest = and_parts (is_none s.owes && is_none s.cache) (eqb s.got 0) (and_parts (is_none s.owes && is_none s.cache && eqb s.got 0) (eqb s.lags 0) ok.1.1.1.0).0 in
     let owes = none-is s.owes (and_parts (is_none s.owes) (is_none s.cache) rest.0).0 in
     let cache = none-is s.cache (and_parts (is_none s.owes) (is_none s.cache) rest.0).1 in
     let block : s.block ≡ None =

@@ -8,7 +8,7 @@ use Rattle.mark_core.specs.Effects.{seat_after}
 use Rattle.mark_core.specs.declared.kinds.Shape.{Shape}
 use Rattle.mark_core.specs.declared.kinds.Phase.{Phase}
 use Rattle.mark_core.specs.declared.kinds.Step.{Step}
-use Rattle.mark_core.specs.declared.kinds.Step.TheVariants.{Reserve, Take, Give, Credit, Push, Pop, ReadAlloc, ReadField, ReadRoot, SetMark, DirtyCard, ClearCard, ReadMarks, ReadPhase, ReadOwn, ReadCat, StoreField, StoreRoot, ClaimBlock, ReleaseBlock, ReadFree, StoreNew, PublishCells, EnterStep, LeaveStep, RaiseStep, Observe, DropStep, StorePhase, NextBlock, NextOfCards, ReadBlockMarks, StoreAlloc, ClearMarks, ReadStat, StoreLength, ReadLength, OpenStep, JoinHelpStep, LeaveHelpStep, CloseStep, SeeHelp, ReadSeason, ExchangeField, LoadSlot, StoreSlot, ReadSlot, ReadWeak, CheckCard}
+use Rattle.mark_core.specs.declared.kinds.Step.TheVariants.{Reserve, Take, Give, Credit, Push, Pop, ReadAlloc, ReadField, ReadRoot, SetMark, DirtyCard, ClearCard, ReadMarks, ReadPhase, ReadOwn, ReadCat, StoreField, StoreRoot, ClaimBlock, ReleaseBlock, ReadFree, StoreNew, PublishCells, EnterStep, LeaveStep, RaiseStep, Observe, DropStep, StorePhase, NextBlock, NextOfCards, ReadBlockMarks, StoreAlloc, ClearMarks, ReadStat, StoreLength, ReadLength, OpenStep, JoinHelpStep, LeaveHelpStep, CloseStep, SeeHelp, ReadSeason, ExchangeField, LoadSlot, StoreSlot, ReadSlot, ReadWeak, CheckCard, HoldRoot}
 use Rattle.mark_core.specs.declared.seat.SeatState.{SeatState}
 use Rattle.mark_core.specs.declared.seat.BlockState.{BlockState}
 
@@ -177,6 +177,7 @@ changes_names (StoreRoot v r) = true
 changes_names (StoreSlot k r) = true
 changes_names (ReadSlot k) = true
 changes_names (ReadWeak c) = true
+changes_names (HoldRoot v r) = true
 changes_names step = false
 
 pub names-kept : (sh : Shape) (s : SeatState) (step : Step) (old : ℕ) → changes_names step ≡ false → names_of (seat_after sh s step old) ≡ names_of s
@@ -186,6 +187,7 @@ names-kept sh s (StoreRoot v r) old e = absurd (true≢false e)
 names-kept sh s (StoreSlot k r) old e = absurd (true≢false e)
 names-kept sh s (ReadSlot k) old e = absurd (true≢false e)
 names-kept sh s (ReadWeak c) old e = absurd (true≢false e)
+names-kept sh s (HoldRoot v r) old e = absurd (true≢false e)
 names-kept sh s step old e = refl
 
 -- the phase and the season that it has seen

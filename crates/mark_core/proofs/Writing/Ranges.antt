@@ -19,7 +19,7 @@ use Rattle.mark_core.specs.Seats.{block_in_hand}
 use Rattle.mark_core.specs.Bounds.{IsStretch}
 use Rattle.mark_core.specs.declared.kinds.Shape.{Shape}
 use Rattle.mark_core.specs.declared.kinds.Step.{Step}
-use Rattle.mark_core.specs.declared.kinds.Step.TheVariants.{Reserve, Take, Give, Push, Pop, Look, ReadAlloc, ReadField, ReadRoot, SetMark, DirtyCard, ClearCard, ReadMarks, ReadCard, ReadOwn, ReadValue, ReadIdent, ReadCat, StoreField, StoreValue, StoreRoot, ClaimBlock, ReleaseBlock, ReadFree, StoreNew, PublishCells, ReadBlockMarks, StoreAlloc, ClearMarks, WipeCard, StorePosition, Reset, AddStat, ReadStat, StoreLength, ReadLength, ExchangeField, ExchangeValue, LoadSlot, StoreSlot, ReadSlot, ReadWeak, CheckCard}
+use Rattle.mark_core.specs.declared.kinds.Step.TheVariants.{Reserve, Take, Give, Push, Pop, Look, ReadAlloc, ReadField, ReadRoot, SetMark, DirtyCard, ClearCard, ReadMarks, ReadCard, ReadOwn, ReadValue, ReadIdent, ReadCat, StoreField, StoreValue, StoreRoot, ClaimBlock, ReleaseBlock, ReadFree, StoreNew, PublishCells, ReadBlockMarks, StoreAlloc, ClearMarks, WipeCard, StorePosition, Reset, AddStat, ReadStat, StoreLength, ReadLength, ExchangeField, ExchangeValue, LoadSlot, StoreSlot, ReadSlot, ReadWeak, CheckCard, HoldRoot, FlushRoot}
 use Rattle.mark_core.specs.declared.seat.SeatState.{SeatState}
 use Rattle.mark_core.specs.declared.seat.BlockState.{BlockState}
 use Rattle.mark_core.specs.Numbers.{done_count, first_position, last_count, named_number, free_count}
@@ -148,6 +148,8 @@ placed-by sh w seats s (ExchangeField v i x y) k ok =
 placed-by sh w seats s (StoreValue v n) k ok = variable_cell sh (seat_variable s v) _ k.shaped (k.env refl v) ok.1.0
 placed-by sh w seats s (ExchangeValue v m n) k ok = variable_cell sh (seat_variable s v) _ k.shaped (k.env refl v) ok.1.0
 placed-by sh w seats s (StoreRoot v r) k ok = in_roots sh (unwrap_or s.section 0) v k.section (first v 32 _ ok.0)
+placed-by sh w seats s (FlushRoot v) k ok = in_roots sh (unwrap_or s.section 0) v k.section (first v 32 _ ok.0)
+placed-by sh w seats s (HoldRoot v r) k ok = in_roots sh (unwrap_or s.section 0) v k.section (first v 32 _ ok.0)
 placed-by sh w seats s (StoreSlot j r) k ok = in_slots sh (unwrap_or s.section 0) j k.section (first j sh.slots _ ok.0)
 placed-by sh w seats s (ReadSlot j) k ok = in_slots sh (unwrap_or s.section 0) j k.section (first j sh.slots _ ok.0)
 placed-by sh w seats s (ReadWeak c) k ok = block-exists sh c k.shaped (first c sh.cells _ ok.0)

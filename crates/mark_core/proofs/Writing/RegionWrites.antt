@@ -6,7 +6,7 @@ use Rattle.mark_core.specs.Effects.{place}
 use Rattle.mark_core.proofs.Writing.Writes.{at_part, at_counter}
 use Rattle.mark_core.specs.declared.kinds.Shape.{Shape}
 use Rattle.mark_core.specs.declared.kinds.Step.{Step}
-use Rattle.mark_core.specs.declared.kinds.Step.TheVariants.{Take, Give, Push, Pop, Look, ReadAlloc, ReadField, ReadRoot, SetMark, DirtyCard, ClearCard, ReadMarks, ReadCard, ReadOwn, ReadIdent, ReadCat, StoreField, StoreRoot, ClaimBlock, ReleaseBlock, ReadFree, StoreNew, PublishCells, ReadBlockMarks, StoreAlloc, ClearMarks, WipeCard, Reset, AddStat, ReadStat, StoreLength, ReadLength, ExchangeField, LoadSlot, StoreSlot, ReadSlot, ReadWeak, CheckCard}
+use Rattle.mark_core.specs.declared.kinds.Step.TheVariants.{Take, Give, Push, Pop, Look, ReadAlloc, ReadField, ReadRoot, SetMark, DirtyCard, ClearCard, ReadMarks, ReadCard, ReadOwn, ReadIdent, ReadCat, StoreField, StoreRoot, ClaimBlock, ReleaseBlock, ReadFree, StoreNew, PublishCells, ReadBlockMarks, StoreAlloc, ClearMarks, WipeCard, Reset, AddStat, ReadStat, StoreLength, ReadLength, ExchangeField, LoadSlot, StoreSlot, ReadSlot, ReadWeak, CheckCard, HoldRoot, FlushRoot}
 use Rattle.mark_core.specs.declared.seat.SeatState.{SeatState}
 
 -- the roots
@@ -17,6 +17,8 @@ touches_roots (StoreRoot v r) = true
 touches_roots (LoadSlot section k) = true
 touches_roots (StoreSlot k r) = true
 touches_roots (ReadSlot k) = true
+touches_roots (HoldRoot v r) = true
+touches_roots (FlushRoot v) = true
 touches_roots step = false
 
 pub roots-kept : (sh : Shape) (s : SeatState) (step : Step) (v : ℕ) (w : Words) → touches_roots step ≡ false → (put_word (place sh s step) v w).roots ≡ w.roots
@@ -26,6 +28,8 @@ roots-kept sh s (StoreRoot v r) x w e = absurd (true≢false e)
 roots-kept sh s (LoadSlot section k) x w e = absurd (true≢false e)
 roots-kept sh s (StoreSlot k r) x w e = absurd (true≢false e)
 roots-kept sh s (ReadSlot k) x w e = absurd (true≢false e)
+roots-kept sh s (HoldRoot v r) x w e = absurd (true≢false e)
+roots-kept sh s (FlushRoot v) x w e = absurd (true≢false e)
 roots-kept sh s (StoreNew c part word) x w e = at_part (λ at. (put_word at x w).roots ≡ w.roots) sh c part (λ i. refl) (λ i. refl) (λ i. refl)
 roots-kept sh s (Reset which) x w e = at_counter (λ at. (put_word at x w).roots ≡ w.roots) which (λ i h. refl) (λ i. refl)
 roots-kept sh s (AddStat which by down) x w e = at_counter (λ at. (put_word at x w).roots ≡ w.roots) which (λ i h. refl) (λ i. refl)

@@ -22,7 +22,7 @@ use Rattle.mark_core.proofs.Writing.Ranges.{section-below}
 use Rattle.mark_core.proofs.Blocks.BlocksStretch.{some-taken, end-within}
 use Rattle.mark_core.specs.declared.kinds.Shape.{Shape}
 use Rattle.mark_core.specs.declared.kinds.Step.{Step}
-use Rattle.mark_core.specs.declared.kinds.Step.TheVariants.{Take, Give, Push, Pop, ReadAlloc, ReadOwn, ReadCat, StoreRoot, ClaimBlock, ReleaseBlock, ReadFree, StoreNew, PublishCells, NextBlock, ReadBlockMarks, StoreAlloc, ClearMarks, StoreLength, ReadLength, Reserve, ExchangeField, StoreSlot, ReadSlot, ReadWeak}
+use Rattle.mark_core.specs.declared.kinds.Step.TheVariants.{Take, Give, Push, Pop, ReadAlloc, ReadOwn, ReadCat, StoreRoot, ClaimBlock, ReleaseBlock, ReadFree, StoreNew, PublishCells, NextBlock, ReadBlockMarks, StoreAlloc, ClearMarks, StoreLength, ReadLength, Reserve, ExchangeField, StoreSlot, ReadSlot, ReadWeak, HoldRoot}
 use Rattle.mark_core.specs.declared.seat.SeatState.{SeatState}
 use Rattle.mark_core.specs.declared.seat.CacheState.{CacheState}
 use Rattle.mark_core.specs.declared.seat.BlockState.{BlockState}
@@ -133,6 +133,7 @@ or-nil-fits sh s (Some w) k = variable-fits sh s w k
 
 env-after : (sh : Shape) (w : Words) (seats : List SeatState) (s : SeatState) (step : Step) (old : ℕ) → SeatBounds sh s → AllTrue (parts sh w seats s step) → All (IsReference sh) (seat_after sh s step old).env
 env-after sh w seats s (StoreRoot v r) old k ok = All-set (IsReference sh) s.env v (reference_in r) (reference_fits sh r (root-fits sh s r k ok.1.0)) k.env
+env-after sh w seats s (HoldRoot v r) old k ok = All-set (IsReference sh) s.env v (reference_in r) (reference_fits sh r (root-fits sh s r k ok.1.0)) k.env
 env-after sh w seats s step old k ok = k.env
 
 weak_fits : (sh : Shape) (s : SeatState) (c old : ℕ) → c < sh.cells → IsReference sh (weak_reference s c old)
@@ -144,6 +145,7 @@ got-after sh w seats s (ReadCat v) old k ok f = reference_fits sh old f
 got-after sh w seats s (StoreRoot v r) old k ok f = omega arith
 got-after sh w seats s (StoreSlot j r) old k ok f = omega arith
 got-after sh w seats s (ReadSlot j) old k ok f = reference_fits sh old f
+got-after sh w seats s (HoldRoot v r) old k ok f = omega arith
 got-after sh w seats s (ReadWeak c) old k ok f = weak_fits sh s c old (ltb-true c sh.cells (and_parts _ _ ok.0).0)
 got-after sh w seats s step old k ok f = k
 

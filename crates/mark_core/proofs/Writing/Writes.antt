@@ -9,7 +9,7 @@ use Rattle.mark_core.specs.Effects.{place, written}
 use Rattle.mark_core.proofs.Writing.Ranges.{either}
 use Rattle.mark_core.specs.declared.kinds.Shape.{Shape}
 use Rattle.mark_core.specs.declared.kinds.Step.{Step}
-use Rattle.mark_core.specs.declared.kinds.Step.TheVariants.{Reserve, Credit, Pop, Look, ReadCount, ReadAlloc, ReadField, ReadRoot, ReadMarks, ReadCard, ReadPhase, ReadOwn, ReadValue, ReadIdent, ReadCat, ReadFree, StoreNew, EnterStep, LeaveStep, RaiseStep, Observe, DropStep, StorePhase, Split, Join, NextBlock, NextOfCards, ReadBlockMarks, Reset, AddStat, ReadStat, ReadLength, OpenStep, JoinHelpStep, LeaveHelpStep, CloseStep, SeeHelp, ReadSeason, NextSeason, LoadSlot, ReadSlot, ReadWeak, CheckCard}
+use Rattle.mark_core.specs.declared.kinds.Step.TheVariants.{Reserve, Credit, Pop, Look, ReadCount, ReadAlloc, ReadField, ReadRoot, ReadMarks, ReadCard, ReadPhase, ReadOwn, ReadValue, ReadIdent, ReadCat, ReadFree, StoreNew, EnterStep, LeaveStep, RaiseStep, Observe, DropStep, StorePhase, Split, Join, NextBlock, NextOfCards, ReadBlockMarks, Reset, AddStat, ReadStat, ReadLength, OpenStep, JoinHelpStep, LeaveHelpStep, CloseStep, SeeHelp, ReadSeason, NextSeason, LoadSlot, ReadSlot, ReadWeak, CheckCard, HoldRoot}
 use Rattle.mark_core.specs.declared.seat.SeatState.{SeatState}
 use Rattle.mark_core.specs.Numbers.{last_count, named_number}
 
@@ -32,6 +32,7 @@ only_reads (ReadIdent c) = true
 only_reads (ReadCat v) = true
 only_reads (ReadSlot k) = true
 only_reads (ReadWeak c) = true
+only_reads (HoldRoot v r) = true
 only_reads ReadFree = true
 only_reads Observe = true
 only_reads Split = true
@@ -61,6 +62,7 @@ read-written sh s (ReadIdent c) old e = refl
 read-written sh s (ReadCat v) old e = refl
 read-written sh s (ReadSlot k) old e = refl
 read-written sh s (ReadWeak c) old e = refl
+read-written sh s (HoldRoot v r) old e = refl
 read-written sh s ReadFree old e = refl
 read-written sh s Observe old e = refl
 read-written sh s Split old e = refl

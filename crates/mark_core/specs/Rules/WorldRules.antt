@@ -4,7 +4,7 @@ use Rattle.std.specs.List.{All, count_by, list_any}
 use Rattle.mark_core.specs.Shapes.{EachCell, EachPacket}
 use Rattle.mark_core.specs.Bits.{flag_where, cell_bit}
 use Rattle.mark_core.specs.Held.{Slots, holds_any}
-use Rattle.mark_core.specs.Seats.{phase_number, is_phase, saw, takes_part, work_in_hand, has_used, has_making}
+use Rattle.mark_core.specs.Seats.{phase_number, is_phase, saw, takes_part, may_mutate, work_in_hand, has_used, has_making}
 use Rattle.mark_core.specs.Views.{Standing, some_knows}
 use Rattle.mark_core.specs.Cells.{packet_length}
 use Rattle.mark_core.specs.declared.kinds.Shape.{Shape}
@@ -99,3 +99,5 @@ pub record Phases (sh : Shape) (phase : ℕ) (marks heads : List ℕ) (hs : List
 -- an active seat that has read the season knows it
 pub record Season (season : ℕ) (seats : List SeatState) : Type 0 where
   pub season_known : All (λ (s : SeatState). IsTrue s.active → IfSome s.season_seen (λ z. season ≡ z)) seats
+  -- the variables of a seat lag only while it mutates
+  pub lags_in_turn : All (λ (s : SeatState). IsFalse (may_mutate s) → s.lags ≡ 0) seats

@@ -1,4 +1,4 @@
--- The steps of a mutator: kinds 17 to 24, and 50 to 54. They read and change objects and roots, and make cells in a cached block.
+-- The steps of a mutator: kinds 17 to 24, 50 to 54, and 56 and 57. They read and change objects and roots, and make cells in a cached block.
 use Rattle.std.specs.Prelude.{ℕ, ◌+◌, ◌-◌, ◌*◌, ◌/◌, ◌%◌, List, [], ◌∷◌, Bool, true, false, not, ◌&&◌, ◌||◌, if◌then◌else◌, ◌==◌, nat_lt, nat_le, is_some, is_none, Some, None, Option, unwrap_or, slice_index, slice_set, bit_or}
 use Rattle.std.specs.List.{list_any}
 use Rattle.mark_core.specs.Layout.{block_count}
@@ -98,7 +98,7 @@ has_reference s r = (r == 0) || (r == s.got) || list_any (λ x. x == r) s.env ||
 abbrev pub store_root_parts : SeatState → ℕ → ℕ → List Bool
 store_root_parts s v r = (nat_lt v section_variables && may_mutate s) ∷ has_reference s r ∷ (is_none s.owes && not (has_making s.cache)) ∷ []
 
--- 19: the root has the reference, as has the copy of the variable in the record, and the register is empty
+-- 19: the root has the reference, as has the variable in the record, and the register is empty
 abbrev pub store_root_effect : SeatState → ℕ → ℕ → Effect
 store_root_effect s v r = stores (root_at (unwrap_or s.section 0) v) r (record s { env = slice_set s.env v (reference_in r); got = 0 })
 
@@ -151,6 +151,19 @@ weak_reference s c word = if has_bit word (c % block_cells) || used_in s.cache c
 -- 54: the register has this reference
 abbrev pub read_weak_effect : SeatState → ℕ → Effect
 read_weak_effect s c = reads (alloc_at (c / block_cells)) (λ old. record s { got = weak_reference s c old })
+
+-- 56: a mutator holds a reference in a variable of its record alone, under the condition of 19: the root lags, and the register is empty
+abbrev pub hold_root_effect : SeatState → ℕ → ℕ → Effect
+hold_root_effect s v r =
+    reads (root_at (unwrap_or s.section 0) v) (λ old. record s { env = slice_set s.env v (reference_in r); lags = with_bit s.lags v; got = 0 })
+
+-- 57: a mutator stores a variable in its root
+abbrev pub flush_root_parts : SeatState → ℕ → List Bool
+flush_root_parts s v = (nat_lt v section_variables && may_mutate s) ∷ []
+
+-- 57: the root has the variable, and doesn't lag
+abbrev pub flush_root_effect : SeatState → ℕ → Effect
+flush_root_effect s v = stores (root_at (unwrap_or s.section 0) v) (seat_variable s v) (record s { lags = without_bit s.lags v })
 
 -- 20: a seat with a section takes a block for itself to make cells in
 abbrev pub claim_block_parts : Shape → ℕ → SeatState → ℕ → List Bool

@@ -1,9 +1,9 @@
 //! The steps of a mutator on objects and roots.
 ghost use Rattle.std.specs.Prelude.{◌≡◌, ◌<◌, ◌-◌, ◌/◌, ◌==◌, ℕ, List, if◌then◌else◌, slice_index, slice_set};
 ghost use Rattle.std.specs.List.{list_any};
-ghost use Rattle.mark_core.specs.Bits.{cell_of, reference_in};
+ghost use Rattle.mark_core.specs.Bits.{cell_of, reference_in, with_bit, without_bit};
 ghost use Rattle.mark_core.specs.Cards.{card_of as card_of_cell};
-ghost use Rattle.mark_core.specs.Steps.MutatorSteps.{read_object_parts, read_own_parts, read_cat_parts, store_field_parts, store_value_parts, store_root_parts, store_slot_parts, read_slot_parts, exchange_field_parts, exchange_value_parts, read_weak_parts};
+ghost use Rattle.mark_core.specs.Steps.MutatorSteps.{read_object_parts, read_own_parts, read_cat_parts, store_field_parts, store_value_parts, store_root_parts, store_slot_parts, read_slot_parts, exchange_field_parts, exchange_value_parts, read_weak_parts, flush_root_parts};
 ghost use Rattle.mark_core.specs.Steps.MutatorSteps.{knows_cell as knows_cell_of, seat_variable as variable_of, may_change as may_change_of, in_variables as in_variables_of, variable_or_nil as variable_or_nil_of, names_last as names_last_of, has_reference as has_reference_of, weak_reference as weak_reference_of};
 ghost use Rattle.mark_core.specs.Seats.{used_in};
 ghost use Rattle.mark_core.specs.Steps.{first_false as first_false_of};
@@ -243,6 +243,33 @@ pub fn store_root(s: &mut SeatState, v: u8, r: u64) -> u64
     set_variable(&mut s.env, v, bits::reference_in(r));
     s.got = 0;
     r
+}
+
+/// The root is stored later, before the seat leaves the world.
+pub fn hold_root(s: &mut SeatState, v: u8, r: u64, old: u64) -> u64
+    requires { v < section_variables }
+    ensures word { result ≡ old }
+    ensures seat { s.new ≡ record s.old { env = slice_set s.old.env v (reference_in r); lags = with_bit s.old.lags v; got = 0 } }
+{
+    set_variable(&mut s.env, v, bits::reference_in(r));
+    s.lags = bits::with_bit(s.lags, u32::from(v));
+    s.got = 0;
+    old
+}
+
+pub fn check_flush_root(s: &SeatState, v: u8) -> Option<u8>
+    ensures { result ≡ first_false_of 1 (flush_root_parts s.now v) }
+{
+    first_false(&[v < VARIABLES && s.may_mutate()])
+}
+
+pub fn flush_root(s: &mut SeatState, v: u8) -> u64
+    requires { v < section_variables }
+    ensures word { result ≡ variable_of s.old v }
+    ensures seat { s.new ≡ record s.old { lags = without_bit s.old.lags v } }
+{
+    s.lags = bits::without_bit(s.lags, u32::from(v));
+    u64::from(variable(s, v))
 }
 
 pub fn check_store_slot(shape: &Shape, s: &SeatState, k: u16, r: u64) -> Option<u8>

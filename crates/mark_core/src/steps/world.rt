@@ -36,7 +36,7 @@ pub fn check_leave(shape: &Shape, s: &SeatState) -> Option<u8>
         s.counted,
         s.empty_handed(),
         !s.work_in_hand(shape.fields),
-        s.owes.is_none() && s.cache.is_none() && s.got == 0,
+        s.owes.is_none() && s.cache.is_none() && s.got == 0 && s.lags == 0,
     ])
 }
 
@@ -131,7 +131,7 @@ fn has_nothing(shape: &Shape, s: &SeatState) -> bool
         && s.owes.is_none()
         && s.cache.is_none()
         && s.block.is_none()
-        && s.got == 0
+        && (s.got == 0 && s.lags == 0)
 }
 
 fn is_nil_throughout(env: &[u32]) -> bool

@@ -5,8 +5,9 @@ use Rattle.std.proofs.Math.Nat.{mul-le-mul_right}
 use Rattle.std.proofs.lemmas.List.{get_or_default}
 use Rattle.std.proofs.lemmas.Option.{slice_get_within, same_Some}
 use Rattle.mark_core.specs.declared.kinds.Shape.{Shape}
-use Rattle.mark_core.specs.Cells.{field}
+use Rattle.mark_core.specs.Cells.{field, IsReachableCell}
 use Rattle.mark_core.specs.Closed.{IsReachableIn}
+use Rattle.mark_core.specs.Variables.{roots_now}
 use Rattle.mark_core.specs.Rules.HeapRules.{section_of_cell}
 use Rattle.mark_core.proofs.HeldBlock.{roots-length}
 use Rattle.mark_core.proofs.Exacts.ExactsDrain.{reach-root, reach-field}
@@ -23,6 +24,7 @@ use Rattle.gc_table.specs.declared.view.Meaning.{Meaning}
 use Rattle.gc_table.specs.declared.words.Words.{Words}
 use Rattle.gc_table.specs.StandsFor.{WordAgrees, name_at, object_count}
 use Rattle.gc_table.specs.TableState.{TableState, meanings_of, section_at}
+use Rattle.gc_table.proofs.Shown.{closed-shown}
 use Rattle.heap_dump.specs.Final.{DumpedHeap as Dumped, object}
 use Rattle.play_end.proofs.Alike.{alike-objects, alike-variables}
 use Rattle.play_end.proofs.EndListed.{meaning-there, the_words}
@@ -64,12 +66,17 @@ module _ (s : Sections) (r : Report) (w : Words) (e : IsEndOf s r w) where
       subst (λ (m : ℕ). IsNumberOf h section ref m) (sym is)
       (inr (omega arith, omega (arith, slice_get_within r.survivors.items y.0 y.1 y.2, held.count), subst (λ (name : Name). Names section ref name) same goes.1))
 
+  -- no root lags any more
+  shown : roots_now (the_words (end_state s r w e)).roots (end_state s r w e).core.seats ≡ (the_words (end_state s r w e)).roots
+  shown = closed-shown e.shape e.seats w e.closed.end (omega (arith, e.closed.made.sections, e.closed.made.seated))
+
   -- a root goes to a cell that can be reached
   pub root-reaches : (k c : ℕ) → k < length w.roots.items → slice_index w.roots.items k ≡ c + 1 → IsReachableIn (end_state s r w e).core c
   root-reaches k c inside goes =
       let x : TableState = end_state s r w e in
       let same : w.roots.items ≡ (the_words x).roots = roots-are s e.shape e.seats w e.closed in
-      reach-root x.core.shape (the_words x).roots (the_words x).fields k c (subst (λ (l : List ℕ). k < length l) same inside) (ap (λ (l : List ℕ). slice_index l k) (sym same) ∙ goes)
+      subst (λ (rs : List ℕ). IsReachableCell x.core.shape rs (the_words x).fields c) (sym shown)
+      (reach-root x.core.shape (the_words x).roots (the_words x).fields k c (subst (λ (l : List ℕ). k < length l) same inside) (ap (λ (l : List ℕ). slice_index l k) (sym same) ∙ goes))
 
   pub root-count : length w.roots.items ≡ length (section_numbers s) * 32
   root-count =
@@ -98,8 +105,8 @@ module _ (s : Sections) (r : Report) (w : Words) (e : IsEndOf s r w) where
       let place : i * 32 + v ≡ 32 * i + v = omega arith in
       let inside : 32 * i + v < length w.roots.items = omega (arith, within, low, root-count) in
       let same : variable m.heap v ≡ variable (last_heap s i) v = ap (λ (l : List Ref). slice_index_or l v refs.Nil) (alike-variables m.heap (last_heap s i) (last-alike s e.shape.cells x i m o there)) in
-      let word : slice_index (the_words x).roots (i * 32 + v) ≡ slice_index w.roots.items (32 * i + v) =
-      ap (slice_index (the_words x).roots) place ∙ ap (λ (l : List ℕ). slice_index l (32 * i + v)) (sym (roots-are s e.shape e.seats w e.closed)) in
+      let word : slice_index (roots_now (the_words x).roots x.core.seats) (i * 32 + v) ≡ slice_index w.roots.items (32 * i + v) =
+      ap (λ (l : List ℕ). slice_index l (i * 32 + v)) shown ∙ ap (slice_index (the_words x).roots) place ∙ ap (λ (l : List ℕ). slice_index l (32 * i + v)) (sym (roots-are s e.shape e.seats w e.closed)) in
       told numbers h n held i (slice_index w.roots.items (32 * i + v)) (variable (last_heap s i) v)
       (subst (λ (t : Ref). WordAgrees (the_words x).identities (object_count (meanings_of x.sections)) i (slice_index w.roots.items (32 * i + v)) t) same
       (subst (λ (t : ℕ). WordAgrees (the_words x).identities (object_count (meanings_of x.sections)) i t (variable m.heap v)) word ((e.closed.end.whole.stands o.heap.owned).roots_agree i m there v low)))
@@ -118,7 +125,7 @@ module _ (s : Sections) (r : Report) (w : Words) (e : IsEndOf s r w) where
   pub field-reaches : (j : ℕ) (y : Survivor) → IsSurvivor r j y → (i c : ℕ) → i < s.fields → field_word w s.fields (cell_of_survivor r y) i ≡ c + 1 → IsReachableIn (end_state s r w e).core c
   field-reaches j y at i c few goes =
       let x : TableState = end_state s r w e in
-      reach-field x.core.shape (the_words x).roots (the_words x).fields (cell_of_survivor r y) i c (survivor-cell s r w e j y at).1 (omega (arith, few, field-shape)) (field-is (cell_of_survivor r y) i ∙ goes)
+      reach-field x.core.shape (roots_now (the_words x).roots x.core.seats) (the_words x).fields (cell_of_survivor r y) i c (survivor-cell s r w e j y at).1 (omega (arith, few, field-shape)) (field-is (cell_of_survivor r y) i ∙ goes)
 
   pub has-fields : (j : ℕ) (y : Survivor) → IsSurvivor r j y → HasFields w s.fields (length w.idents.items) (cell_of_survivor r y)
   has-fields j y at = record { few = omega (arith, field-shape, e.closed.end.whole.core.formed.shaped.fields); room = room; within = λ i few. of i few (field_word w s.fields (cell_of_survivor r y) i) refl }

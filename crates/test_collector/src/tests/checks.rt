@@ -19,7 +19,7 @@ fn is_at_rest(heap: &Heap, seat: &HeapSeat) -> bool
         && !work_in_hand(heap.shape().fields, seat)
         && s.owes.is_none()
         && s.block.is_none()
-        && s.got == 0
+        && (s.got == 0 && s.lags == 0)
         && !has_making(seat)
 }
 
@@ -33,7 +33,7 @@ fn has_nothing(heap: &Heap, seat: &HeapSeat) -> bool
         && s.owes.is_none()
         && s.cache.is_none()
         && s.block.is_none()
-        && s.got == 0
+        && (s.got == 0 && s.lags == 0)
 }
 
 /// Whether the seat is a mutator's between two commands.

@@ -149,6 +149,11 @@ fn of_sharers(name: &str, told: Parameters) -> Option<Step> {
         },
         "read_slot" => Step::ReadSlot { k: told.slot(0) },
         "read_weak" => Step::ReadWeak { c: told.cell(0) },
+        "hold_root" => Step::HoldRoot {
+            v: told.byte(0),
+            r: told.long(1),
+        },
+        "flush_root" => Step::FlushRoot { v: told.byte(0) },
         _ => return None,
     })
 }

@@ -80,6 +80,7 @@ fn in_record(s: &SeatState, what: &str) -> Option<Option<u32>> {
         "exact" => Some(Some(u32::from(s.exact))),
         "saw_full" => Some(Some(u32::from(s.phase_seen == Some(Phase::Full)))),
         "got" => Some(Some(s.got)),
+        "lags" => Some(u32::try_from(s.lags).ok()),
         "owes" => Some(s.owes),
         "value" => Some(number_of(s.value)),
         "fresh" => Some(number_of(s.fresh)),

@@ -65,4 +65,13 @@ seat 2 got 0
 1 read_weak 0
 seat 1 got 1
 1 read_ident 0
+# what was asked for may be held in a variable whose root lags; the root is stored before the seat leaves
+1 hold_root 2 1
+seat 1 got 0
+seat 1 lags 4
+1 read_ident 0
+1 leave_step => 26 4
+1 flush_root 2
+seat 1 lags 0
+1 leave_step
 ";

@@ -24,7 +24,7 @@ use Rattle.gc_cycle.proofs.helping.help_sweep.Goals as goal
 -- nothing is in hand, by whether something of a cleaning is left
 abbrev pub nothing_by : Shape → SeatState → Bool → Bool
 nothing_by sh s left =
-    empty_handed s && not (is_some s.popped || scan_left sh.fields s.scan || is_some s.value || is_some s.fresh || left) && is_none s.owes && is_none s.cache && is_none s.block && (s.got == 0)
+    empty_handed s && not (is_some s.popped || scan_left sh.fields s.scan || is_some s.value || is_some s.fresh || left) && is_none s.owes && is_none s.cache && is_none s.block && ((s.got == 0) && (s.lags == 0))
 
 -- nothing is left of a cleaning
 done-of : (w : View) → Helps w → cleaning_left w.state.cleaning ≡ false

@@ -1,3 +1,7 @@
+use Rattle.std.proofs.Common.{subst, sym}
+use Rattle.seat_turns.specs.Coming.{ComesToNone, MakesNoneAtTurn}
+use Rattle.seat_turns.specs.declared.refused.Refused.{Refused}
+use Rattle.seat_turns.specs.declared.refused.Refused.TheVariants.{Full}
 use Rattle.gc_table.specs.Seats.{view_of}
 use Rattle.gc_table.proofs.Running.{ran-join, ran-only}
 use Rattle.seat_turns.specs.Sharing.{spares_tracers}
@@ -33,3 +37,15 @@ pub returns-in-Err-Full-clause-tracers : goal.returns-in-Err-Full-clause-tracers
 returns-in-Err-Full-clause-tracers g c =
     let l = c.come_to.ensures.leaves in
     ran-only spares_tracers (view_of c.args.seat.now) (view_of c.come_to.new.seat) (view_of c.leave_full.new.seat) l.ran c.leave_full.ensures.ran l.tracers c.leave_full.ensures.leaves.tracers
+
+pub returns-in-Err-Full-clause-none : goal.returns-in-Err-Full-clause-none
+returns-in-Err-Full-clause-none g c =
+    let e = c.cache_of-cache.ensures in
+    let comes : ComesToNone Full c.args.in_stops c.args.heap.now.shape c.cache_of-cache.result (view_of c.args.seat.now) (view_of c.come_to.new.seat) = subst (λ (r : Refused). ComesToNone r c.args.in_stops c.args.heap.now.shape c.cache_of-cache.result (view_of c.args.seat.now) (view_of c.come_to.new.seat)) c.in-Err-Full.field-0-is c.in-Err-Full.ensures.none in
+    subst (λ (r : Refused). MakesNoneAtTurn r c.args.in_stops c.args.heap.now.shape (view_of c.args.seat.now) (view_of c.leave_full.new.seat)) (sym c.leave_full.ensures.answer)
+    (record {
+      came = view_of c.come_to.new.seat;
+      comes = (c.cache_of-cache.result, own-cache c.cache_of-cache.result (view_of c.args.seat.now) e.some e.none, comes);
+      leaves = c.come_to.ensures.leaves;
+      ends = c.leave_full.ensures.out;
+    })

@@ -1,3 +1,7 @@
+use Rattle.std.proofs.Common.{subst, sym, false}
+use Rattle.seat_turns.specs.Coming.{ComesToNone, MakesNoneAtTurn}
+use Rattle.seat_turns.specs.declared.refused.Refused.{Refused}
+use Rattle.seat_turns.specs.declared.refused.Refused.TheVariants.{Full}
 use Rattle.gc_table.specs.Seats.{view_of}
 use Rattle.seat_turns.proofs.Coming.{own-cache}
 use Rattle.seat_turns.proofs.Leaving.{leaves-join}
@@ -19,3 +23,15 @@ returns-in-Ok-clause-made g c =
       leaves = c.come_to.ensures.leaves;
       makes = c.make_shared_in.ensures.makes;
     }
+
+pub returns-in-Err-Full-clause-none : goal.returns-in-Err-Full-clause-none
+returns-in-Err-Full-clause-none g c =
+    let e = c.cache_of-cache.ensures in
+    let comes : ComesToNone Full false c.args.heap.now.shape c.cache_of-cache.result (view_of c.args.seat.now) (view_of c.come_to.new.seat) = subst (λ (r : Refused). ComesToNone r false c.args.heap.now.shape c.cache_of-cache.result (view_of c.args.seat.now) (view_of c.come_to.new.seat)) c.in-Err-Full.field-0-is c.in-Err-Full.ensures.none in
+    subst (λ (r : Refused). MakesNoneAtTurn r false c.args.heap.now.shape (view_of c.args.seat.now) (view_of c.leave_full.new.seat)) (sym c.leave_full.ensures.answer)
+    (record {
+      came = view_of c.come_to.new.seat;
+      comes = (c.cache_of-cache.result, own-cache c.cache_of-cache.result (view_of c.args.seat.now) e.some e.none, comes);
+      leaves = c.come_to.ensures.leaves;
+      ends = c.leave_full.ensures.out;
+    })

@@ -1,7 +1,7 @@
 use Rattle.std.proofs.Common.{◌∙◌, ap, sym}
 use Rattle.play_end.specs.Done.{turn_word}
 use Rattle.gc_script.specs.Shown.{execution_of}
-use Rattle.warehouse.proofs.Going.{next-of, so-far-next, so-far-none, stops-within}
+use Rattle.warehouse.proofs.Going.{next-of, so-far-all, so-far-next, so-far-none, stops-within}
 use Rattle.warehouse.proofs.part.play_commands.Goals as goal
 
 pub loop-command-init : goal.loop-command-init
@@ -30,3 +30,7 @@ pub loop-command-preserved : goal.loop-command-preserved
 loop-command-preserved g c =
     so-far-next c.args.heap.now c.args.section.now c.args.season c.turn_of-turn.result c.loop-command.cache (execution_of c.in-Some.command.now) c.loop-command.command-iterator c.next.new.self c.args.mutator.now c.loop-command.mutator
     c.in-Some.ensures.steps c.loop-command.invariant c.play_command.new.cache c.play_command.new.mutator c.requires.before.season c.if-not-play_command.ensures.plays
+
+pub returns : goal.returns
+returns g c =
+    so-far-all c.args.heap.now c.args.section.now c.args.season c.turn_of-turn.result c.loop-command.cache c.loop-command.command-iterator c.args.mutator.now c.loop-command.mutator c.in-None.ensures.steps.0 c.loop-command.invariant

@@ -1,15 +1,19 @@
-use Rattle.std.proofs.Common.{ℕ, ◌≡◌, ◌+◌, ◌<◌, ◌∷◌, [], List, length, sym, ap, ◌∙◌, subst, inl, inr, ⊎_elim, arith, Some, length-append}
+use Rattle.std.proofs.Common.{ℕ, suc, ◌≡◌, ◌+◌, ◌<◌, ◌∷◌, [], List, length, sym, ap, ◌∙◌, subst, inl, inr, ⊎_elim, arith, Some, length-append}
 use Rattle.std.specs.Prelude.{slice_get, Contains}
 use Rattle.std.proofs.lemmas.Option.{slice_get_within}
+use Rattle.mark_core.specs.declared.kinds.Event.{Event}
 use Rattle.mark_core.specs.declared.seat.SeatState.{SeatState}
 use Rattle.gc_table.specs.declared.view.View.{View}
 use Rattle.gc_table.specs.declared.seat.HeapSeat.{HeapSeat}
 use Rattle.gc_table.specs.Rule.{takes_in, KnowsFull}
-use Rattle.gc_table.specs.Seats.{view_of}
+use Rattle.gc_table.specs.Seats.{seen_of, view_of}
 use Rattle.gc_table.proofs.Records.{first-of, rest-at, rest-long, got-last, got-longer}
 use Rattle.gc_table.proofs.Fitting.{possible-live}
 use Rattle.gc_table.proofs.Joining.{takes-own, takes-more, takes-log, keeps-logs, takes-full, keeps-full, first-or-past, next-or-past, same-got}
 use Rattle.gc_table.proofs.seat.Heap.join_all.Goals as goal
+
+later-in : (e : List Event) (es : List (List Event)) (fs : List Event) → Contains es fs → Contains (e ∷ es) fs
+later-in e es fs c = (suc c.0, omega (arith, c.1), c.2)
 
 pub loop-seat-init : goal.loop-seat-init
 loop-seat-init c =
@@ -19,10 +23,12 @@ loop-seat-init c =
     let at = first-of xs c.remove-first.result some_left e.value in
     let q = c.requires.seats 0 c.remove-first.result at in
     record {
-      kept = record { table = q.0.0; shape = q.0.1; live = possible-live _ c.remove-first.result.possible; outside = q.2 };
+      kept = record { table = q.0.0; shape = q.0.1; seated = c.remove-first.result.seated; live = possible-live _ c.remove-first.result.possible; outside = q.2 };
       first = λ s h. let e = same-got xs 0 c.remove-first.result s at h in (ap (λ (x : HeapSeat). (view_of x).state) e, ap (λ (x : HeapSeat). (view_of x).own) e, ap (λ (x : HeapSeat). (view_of x).plan) e, ap (λ (x : HeapSeat). (view_of x).opened) e, ap (λ (x : HeapSeat). (view_of x).log) e);
       joined = λ i s w far h m. absurd (omega (arith, far, ap length e.items, rest-long xs some_left, slice_get_within xs i s h));
       logs = λ i s far h. absurd (omega (arith, far, ap length e.items, rest-long xs some_left, slice_get_within xs i s h));
+      seen = λ s h. let e = same-got xs 0 c.remove-first.result s at h in ap seen_of e;
+      told = λ i s far h. absurd (omega (arith, far, ap length e.items, rest-long xs some_left, slice_get_within xs i s h));
       full = λ i s where_is h k. ⊎_elim
           (λ (z : i ≡ 0). subst (λ (x : HeapSeat). KnowsFull (view_of x)) (sym (same-got xs 0 c.remove-first.result s at (subst (λ (n : ℕ). slice_get xs n ≡ Some s) z h))) k)
           (λ (far : length c.remove-first.new.self.items < i). absurd (omega (arith, far, ap length e.items, rest-long xs some_left, slice_get_within xs i s h)))
@@ -42,7 +48,7 @@ loop-seat-preserved c =
     let e = c.in-Some.ensures in
     let i = c.loop-seat.invariant in
     let a = c.absorb.ensures in
-    let v : View = c.loop-seat.first.me.0 in
+    let v : View = c.loop-seat.first.me.0.view in
     let u : View = view_of c.in-Some.seat in
     let n : ℕ = length c.pop.new.self.items in
     let last = i.left n c.in-Some.seat (ap (λ (l : List HeapSeat). slice_get l n) e.items ∙ got-last c.pop.new.self.items c.in-Some.seat) in
@@ -61,6 +67,12 @@ loop-seat-preserved c =
           subst (λ (v : View). Contains v.logs (j, (view_of s).log)) (sym a.both) (⊎_elim
           (λ (z : j ≡ n + 1). subst (λ (x : ℕ × HeapSeat). Contains (takes_in v u).logs (x.0, (view_of x.1).log)) (λ y. ((number ∙ sym z) y, same j s z h y)) (takes-log v u))
           (λ (l : n + 1 < j). keeps-logs v u (j, (view_of s).log) (i.logs j s (omega (arith, l, ap length e.items, long)) h))
+          (next-or-past n j far));
+      seen = λ s h. a.told.0 ∙ i.seen s h;
+      told = λ j s far h.
+          subst (λ (xs : List (List Event)). Contains xs (seen_of s)) (sym a.told.1) (⊎_elim
+          (λ (z : j ≡ n + 1). (0, omega arith, ap seen_of (same j s z h)))
+          (λ (l : n + 1 < j). later-in (seen_of c.in-Some.seat) c.loop-seat.first.me.0.heard (seen_of s) (i.told j s (omega (arith, l, ap length e.items, long)) h))
           (next-or-past n j far));
       full = λ j s where_is h k.
           subst KnowsFull (sym a.both) (⊎_elim
@@ -92,6 +104,15 @@ returns-clause-logs c = λ j s h.
     ⊎_elim
     (λ (e : j ≡ 0). let q = i.first s (subst (λ (k : ℕ). slice_get c.args.seats.items k ≡ Some s) e h) in inl (ap (λ (x : SeatState). x.number) q.0 ∙ (c.requires.seats j s h).1, q.4))
     (λ (l : 0 < j). inr (i.logs j s (omega (arith, l, none)) h))
+    (first-or-past j)
+
+pub returns-clause-seen : goal.returns-clause-seen
+returns-clause-seen c = λ j s h.
+    let i = c.loop-seat.invariant in
+    let none : length c.loop-seat.seats.items ≡ 0 = omega (arith, c.loop-seat.seats.ok, c.in_default.ensures.cases) in
+    ⊎_elim
+    (λ (e : j ≡ 0). inl (i.seen s (subst (λ (k : ℕ). slice_get c.args.seats.items k ≡ Some s) e h)))
+    (λ (l : 0 < j). inr (i.told j s (omega (arith, l, none)) h))
     (first-or-past j)
 
 pub returns-clause-full : goal.returns-clause-full

@@ -25,4 +25,7 @@ invariant_of-seat-clause-agrees c =
     let n : ℕ = c.take_told.result in
     c.pop_at.ensures
     ∙ (ap (λ (k : ℕ). record s.state { held = set_length s.state.held p (length_in_hand s.state.held p - 1) false; popped = Some (k, false) }) c.cell_of-cell.ensures
-    ∙ ((λ i. seat_after (sym c.requires.seat.1 i) (s.agrees i) (Pop p) n) ∙ sym (ap (λ m. m.0.state) c.take_told.ensures.taken.2)))
+    ∙ ((λ i. seat_after (sym c.requires.seat.1 i) (s.agrees i) (Pop p) n) ∙ sym (ap (λ m. m.0.view.state) c.take_told.ensures.taken.2)))
+
+pub invariant_of-seat-clause-recalls : goal.invariant_of-seat-clause-recalls
+invariant_of-seat-clause-recalls c = ∣ c.take_told.ensures.taken.4 ∣₁

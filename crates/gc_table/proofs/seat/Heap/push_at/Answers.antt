@@ -19,9 +19,12 @@ pub push_at-requires-clause-room : goal.push_at-requires-clause-room
 push_at-requires-clause-room c =
     let q = c.requires in
     let s = c.args.seat.now in
-    subst (λ (n : ℕ). n < 4294967295) (sym (q.known ∙ ap (λ (x : SeatState). length_in_hand x.held c.args.p) (sym s.agrees))) (step-room s.state (s.token.me.0) (Push c.args.p c.args.cell) s.agrees s.possible q.may)
+    subst (λ (n : ℕ). n < 4294967295) (sym (q.known ∙ ap (λ (x : SeatState). length_in_hand x.held c.args.p) (sym s.agrees))) (step-room s.state (s.token.me.0.view) (Push c.args.p c.args.cell) s.agrees s.possible q.may)
 
 pub invariant_of-seat-clause-agrees : goal.invariant_of-seat-clause-agrees
 invariant_of-seat-clause-agrees c =
     let s = c.args.seat.now in
-    stored-view c.args.self.now.shape s.state _ (s.token.me.0) (Push c.args.p c.args.cell) 0 c.push_at.ensures s.agrees c.requires.seat.1 (λ m n. (refl, refl)) ∙ sym (ap (λ m. m.0.state) c.store_told.ensures.taken.2)
+    stored-view c.args.self.now.shape s.state _ (s.token.me.0.view) (Push c.args.p c.args.cell) 0 c.push_at.ensures s.agrees c.requires.seat.1 (λ m n. (refl, refl)) ∙ sym (ap (λ m. m.0.view.state) c.store_told.ensures.taken.2)
+
+pub invariant_of-seat-clause-recalls : goal.invariant_of-seat-clause-recalls
+invariant_of-seat-clause-recalls c = ∣ c.store_told.ensures.taken.4 ∣₁

@@ -8,6 +8,6 @@ pub act-requires : goal.act-requires
 act-requires c =
     let s = c.args.seat.now in
     record {
-      room = step-room s.state (s.token.me.0) c.args.step s.agrees s.possible c.requires.may;
-      number = step-number c.args.self.now.shape s.state (s.token.me.0) c.args.step s.agrees c.requires.seat.1 s.possible c.requires.may;
+      room = step-room s.state (s.token.me.0.view) c.args.step s.agrees s.possible c.requires.may;
+      number = step-number c.args.self.now.shape s.state (s.token.me.0.view) c.args.step s.agrees c.requires.seat.1 s.possible c.requires.may;
     }

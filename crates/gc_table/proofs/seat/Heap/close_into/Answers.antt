@@ -16,7 +16,9 @@ use Rattle.mark_core.specs.Places.{the_phase}
 use Rattle.mark_core.specs.Seats.{phase_of}
 use Rattle.mark_core.specs.Layout.{words_of}
 use Rattle.mark_core.specs.declared.kinds.Phase.TheVariants.{Full}
-use Rattle.gc_table.specs.Seats.{view_of, IsOutside}
+use Rattle.gc_table.specs.Seats.{seen_of, view_of, IsOutside}
+use Rattle.gc_table.specs.Seen.{Begins}
+use Rattle.mark_core.specs.declared.kinds.Event.{Event}
 use Rattle.gc_table.specs.Ends.{AreWords, IsResting, IsEnd}
 use Rattle.gc_table.specs.declared.view.View.{View}
 use Rattle.gc_table.specs.declared.view.SectionState.{SectionState}
@@ -24,10 +26,9 @@ use Rattle.gc_table.specs.declared.seat.HeapSeat.{HeapSeat}
 use Rattle.gc_table.specs.declared.words.Words.{Words}
 use Rattle.gc_table.proofs.Asking.{own-number}
 use Rattle.gc_table.proofs.Joining.{same-got, some-at}
-use Rattle.std.proofs.lemmas.Result.{IfOk-weaker}
 use Rattle.std.specs.Slots.{slots_items}
-use Rattle.gc_table.proofs.Closing.{closes}
-use Rattle.gc_table.proofs.seat.Heap.close_all.Goals as goal
+use Rattle.gc_table.proofs.TokensClosed.{closes-history}
+use Rattle.gc_table.proofs.seat.Heap.close_into.Goals as goal
 
 -- A closed heap is in a state in which each section is as its own seat left it, and of the seats with sections only the first is left.
 -- the section of seat j, if there are n sections
@@ -95,11 +96,11 @@ at_rest seats v ws f k x r z got h =
     let at : k ≡ f.index = own-number c f.index k v.state f.whole.core f.agrees.seat o.0 in
     let is : r ≡ v.state = same-got c.seats k r v.state got (ap (slice_get c.seats) at ∙ f.agrees.seat) in
     inr (z.0, z.1, is ∙ z.2, z.3))
-    (λ (i : Contains v.joined (k, x)). inl (ap (λ (t : SeatState). t.spent) (same-got c.seats k r (spent_seat c.shape k) got (f.agrees.joined k x i).1)))
+    (λ (i : Contains v.joined (k, x)). inl (c.shape, k, same-got c.seats k r (spent_seat c.shape k) got (f.agrees.joined k x i).1))
     h
 
-ends : (sh : Shape) (seats : List HeapSeat) (v : View) (ws : List ℕ) (w : Words) → 0 < length seats → AreGiven sh seats → v.shape ≡ sh → IsFirst seats v → HasAll seats v → HasLogs seats v → TellsFull seats v → IsFinal v ws → AreWords sh ws w → IsEnd sh seats w
-ends sh seats v ws w some given shaped first all logs tells f words =
+ends : (sh : Shape) (seats : List HeapSeat) (v : View) (ws : List ℕ) (w : Words) → 0 < length seats → AreGiven sh seats → v.shape ≡ sh → IsFirst seats v → HasAll seats v → HasLogs seats v → TellsFull seats v → (f : IsFinal v ws) → ((i : ℕ) (s : HeapSeat) → slice_get seats i ≡ Some s → Begins (seen_of s) f.past) → AreWords sh ws w → IsEnd sh seats w
+ends sh seats v ws w some given shaped first all logs tells f since words =
     let c = f.state.core in
     let same : c.shape ≡ sh = final-shape sh v ws f shaped in
     record {
@@ -111,6 +112,7 @@ ends sh seats v ws w some given shaped first all logs tells f words =
       full = λ i s h k. found_full sh v ws w f same (subst (λ (xs : List ℕ). AreWords sh xs w) (sym f.words) words) (tells i s h k);
       sections = λ i s k h e. section_left v ws f k (view_of s).own (all i s k h e);
       past = f.past;
+      since = since;
       led = subst (λ (x : Shape). LeadTo x f.past c) same f.led;
       came = subst (λ (x : Shape). Leads f.past (start_state x f.state.plan 1) f.state) same f.came;
       logs = λ i s h. log_left v ws f i (view_of s).log (logs i s h) ∙ ap (λ (x : Shape). log_of x f.past i) same;
@@ -134,13 +136,15 @@ returns c =
     let s = c.args.seats in
     let sh = c.args.self.shape in
     let j = c.join_all-first.ensures in
-    let v = c.join_all-first.result.me.0 in
+    let v = c.join_all-first.result.me.0.view in
     let ws : List ℕ = slots_items c.close_with-closed.result.words in
     let some : 0 < length s.items = omega (arith, s.ok, c.requires.some) in
-    let final : IsFinal v ws = closes _ _ _ _ _ _ j.left.live c.close_with-closed.ensures.values.2 in
-    IfOk-weaker
-    c.words_of-words.result
-    (AreWords c.args.self.bases.shape ws)
-    _
-    (λ (w : Words) (h : AreWords c.args.self.bases.shape ws w). ends sh s.items v ws w some (λ i x e. let q = c.requires.seats i x e in (q.0.1, q.1, q.2)) j.left.shape j.first j.sections j.logs j.full final (subst (λ (x : Shape). AreWords x ws w) c.args.self.based h))
-    c.words_of-words.ensures
+    let k = c.join_all-first.result.me.0 in
+    let last = closes-history _ _ _ _ _ _ j.left.seated j.left.live c.close_with-closed.ensures.values.2 in
+    let final : IsFinal v ws = last.0 in
+    let since : (i : ℕ) (x : HeapSeat) → slice_get s.items i ≡ Some x → Begins (seen_of x) final.past = λ i x e.
+    ⊎_elim
+    (λ (same : k.seen ≡ seen_of x). subst (λ (es : List Event). Begins es final.past) same last.1)
+    (λ (told : Contains k.heard (seen_of x)). last.2 (seen_of x) told)
+    (j.seen i x e) in
+    ends sh s.items v ws c.words_of-words.result some (λ i x e. let q = c.requires.seats i x e in (q.0.1, q.1, q.2)) j.left.shape j.first j.sections j.logs j.full final since (subst (λ (x : Shape). AreWords x ws c.words_of-words.result) c.args.self.based c.words_of-words.ensures)
