@@ -15,3 +15,4 @@ mod Sparing
 mod Tallying
 mod Visiting
 mod TracerTurns
+mod Helped

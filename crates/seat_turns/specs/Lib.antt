@@ -14,3 +14,4 @@ pub mod Tallying
 pub mod Tracing
 pub mod Weak
 pub mod TracerTries
+pub mod TracerHelps

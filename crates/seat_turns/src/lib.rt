@@ -21,6 +21,7 @@
 mod background;
 mod dismissing;
 mod gates;
+mod helping;
 mod operations;
 mod own_turn;
 mod refused;
@@ -34,6 +35,7 @@ mod weak;
 pub use background::{Tracer, Turn, rest};
 pub use dismissing::{tell_dismissed, try_dismiss};
 pub use gates::{collect_turn, enter_turn, leave, leave_turn, pass_turn, retire_own_cache};
+pub use helping::TryHelp;
 pub use operations::{make_in, make_object, read_value, refer_to_one, refers_to_nothing};
 pub use own_turn::is_turn;
 pub use refused::{NotOpened, Refused};
