@@ -1,5 +1,6 @@
 mod Counting
 mod Dealt
+pub mod Deaths
 pub mod Finding
 mod Keeping
 pub mod Logs

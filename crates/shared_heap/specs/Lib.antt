@@ -1,6 +1,7 @@
 pub mod Calls
 pub mod Closing
 pub mod Counting
+pub mod Deaths
 pub mod Finding
 pub mod Handing
 pub mod Lending

@@ -23,6 +23,7 @@
 #![tactic(auto)]
 
 ghost use Rattle.shared_heap.specs.Counting.{CounterClosed, CounterRead, LockClosed};
+ghost use Rattle.shared_heap.specs.Deaths.{TakenStays};
 ghost use Rattle.shared_heap.specs.Finding.{CallsFind, FieldFound, UpgradeFound, ValueFound};
 ghost use Rattle.shared_heap.specs.Threads.{ThreadsRun};
 
@@ -81,6 +82,12 @@ pub fn field_found()
 /// reference that was ever given out.
 pub fn upgrade_found()
     ensures { UpgradeFound }
+{}
+
+/// A weak reference that a mutator has taken it has taken for good, so [`upgrade`](SharedMutator::upgrade) tells it the
+/// object's death however many calls lie between.
+pub fn taken_stays()
+    ensures { TakenStays }
 {}
 
 /// If the mutators of a closed world made no object, and changed values only by exchanges of a number for the next,

@@ -1,0 +1,6 @@
+use Rattle.std.proofs.Common.{rules}
+use Rattle.shared_heap.proofs.Deaths.{told-dead}
+use Rattle.shared_heap.proofs.mutator.SharedMutator.upgrade.Goals as goal
+
+pub returns-in-Ok-false-clause-death : goal.returns-in-Ok-false-clause-death
+returns-in-Ok-false-clause-death c = told-dead c.args.weak c.args.v c.args.self.now c.upgrade_here.new.self (search rules)
