@@ -5,3 +5,4 @@ pub mod ShunsKept
 pub mod Beginning
 pub mod Goes
 pub mod OpenTables
+pub mod Calls

@@ -16,7 +16,7 @@ use Rattle.mark_core.specs.Effects.{seat_after}
 use Rattle.mark_core.specs.Steps.{Core}
 use Rattle.mark_core.specs.Laws.{IsCore}
 use Rattle.mark_core.specs.declared.kinds.Step.{Step}
-use Rattle.mark_core.specs.declared.kinds.Step.TheVariants.{ReadField, ReadRoot, LoadSlot, SetMark, ReadOwn, ReadCat, ReadSlot, ReadWeak, StoreRoot, StoreSlot, StoreNew, PublishCells, ClaimBlock, ReleaseBlock, ReadFree}
+use Rattle.mark_core.specs.declared.kinds.Step.TheVariants.{ReadField, ReadRoot, LoadSlot, SetMark, ReadOwn, ReadCat, ReadSlot, ReadWeak, StoreRoot, StoreSlot, StoreNew, PublishCells, ClaimBlock, ReleaseBlock, ReadFree, HoldRoot}
 use Rattle.mark_core.specs.declared.seat.SeatState.{SeatState}
 use Rattle.mark_core.specs.declared.seat.CacheState.{CacheState}
 use Rattle.mark_core.proofs.Known.{found}
@@ -173,6 +173,9 @@ seat-shuns D c i s (ReadWeak x) t a own m = record { got = weak_read D c i s x t
 seat-shuns D c i s (StoreSlot k r) t a own m = record { got = nil-misses D; last = own.last; env = own.env; value = own.value }
 seat-shuns D c i s (StoreRoot v r) t a own m =
     let whole : reference_in r ≡ r = read-whole c i s (StoreRoot v r) r t (has-use c i s (StoreRoot v r) r t t.ok.1.0) in
+    record { got = nil-misses D; last = own.last; env = All-set (Misses D) s.env v (reference_in r) (subst (Misses D) (sym whole) (has-missed D s r own t.ok.1.0)) own.env; value = own.value }
+seat-shuns D c i s (HoldRoot v r) t a own m =
+    let whole : reference_in r ≡ r = read-whole c i s (HoldRoot v r) r t (has-use c i s (HoldRoot v r) r t t.ok.1.0) in
     record { got = nil-misses D; last = own.last; env = All-set (Misses D) s.env v (reference_in r) (subst (Misses D) (sym whole) (has-missed D s r own t.ok.1.0)) own.env; value = own.value }
 seat-shuns D c i s (StoreNew x part word) t a own m = record { got = own.got; last = new_last D c i s x part word t a own; env = own.env; value = own.value }
 seat-shuns D c i s PublishCells t a own m = record { got = own.got; last = published_last D s.cache; env = own.env; value = own.value }

@@ -17,7 +17,7 @@ use Rattle.mark_core.specs.Effects.{written}
 use Rattle.mark_core.specs.Steps.{Core}
 use Rattle.mark_core.specs.declared.kinds.Shape.{Shape}
 use Rattle.mark_core.specs.declared.kinds.Step.{Step}
-use Rattle.mark_core.specs.declared.kinds.Step.TheVariants.{SetMark, StoreField, ExchangeField, StoreRoot, StoreSlot, StoreNew, PublishCells, StorePhase, NextBlock, StoreAlloc, ClearMarks, Reset, ReadField, ReadOwn}
+use Rattle.mark_core.specs.declared.kinds.Step.TheVariants.{SetMark, StoreField, ExchangeField, StoreRoot, StoreSlot, StoreNew, PublishCells, StorePhase, NextBlock, StoreAlloc, ClearMarks, Reset, ReadField, ReadOwn, FlushRoot}
 use Rattle.mark_core.specs.declared.seat.SeatState.{SeatState}
 use Rattle.mark_core.proofs.Known.{found, words_left}
 use Rattle.mark_core.proofs.Writing.Places.{words-get, region-length}
@@ -36,6 +36,8 @@ use Rattle.garbage_laws.proofs.Shuns.{Spares, Misses, SeatShuns, CoreShuns, nil-
 -- the roots
 pub roots-shun : (D : ℕ → Type 0) (c : Core) (i : ℕ) (s : SeatState) (step : Step) → Taken c i s step → CoreShuns D c → SeatShuns D s → All (Misses D) (words_left c s step).roots
 roots-shun D c i s (StoreRoot v r) t a own = All-set (Misses D) (words_of c.shape c.words).roots (unwrap_or s.section 0 * 32 + v) r (has-missed D s r own t.ok.1.0) a.roots
+roots-shun D c i s (FlushRoot v) t a own =
+    All-set (Misses D) (words_of c.shape c.words).roots (unwrap_or s.section 0 * 32 + v) (seat_variable s v) (variable-misses D c i s (FlushRoot v) (Some v) t own (and_parts (nat_lt v 32) (may_mutate s) t.ok.0).0) a.roots
 roots-shun D c i s (StoreSlot k r) t a own = All-set (Misses D) (words_of c.shape c.words).roots (c.shape.sections * 32 + (unwrap_or s.section 0 * c.shape.slots + k)) r (has-missed D s r own t.ok.1.0) a.roots
 roots-shun D c i s step t a own = subst (All (Misses D)) (sym (roots-same c i s step t refl)) a.roots
 
@@ -75,6 +77,7 @@ marks-shun D c i s ClearMarks t a own = clear_shuns D c s a
 marks-shun D c i s (StoreField v f x) t a own = a.marks
 marks-shun D c i s (ExchangeField v f x y) t a own = a.marks
 marks-shun D c i s (StoreRoot v r) t a own = a.marks
+marks-shun D c i s (FlushRoot v) t a own = a.marks
 marks-shun D c i s (StoreSlot k r) t a own = a.marks
 marks-shun D c i s (StoreNew x part word) t a own = rw (marks-kept c.shape s (StoreNew x part word) word (words_of c.shape c.words) refl) a.marks
 marks-shun D c i s PublishCells t a own = a.marks

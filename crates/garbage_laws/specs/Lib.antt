@@ -1,2 +1,3 @@
 pub mod Garbage
 pub mod OpenTables
+pub mod Calls

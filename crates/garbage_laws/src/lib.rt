@@ -1,6 +1,7 @@
 //! Garbage goes: laws about all runs of the core, and about what threads do with an open table.
 #![tactic(auto)]
 
+ghost use Rattle.garbage_laws.specs.Calls.{CallsFreeGarbage};
 ghost use Rattle.garbage_laws.specs.Garbage.{GarbageGoes};
 ghost use Rattle.garbage_laws.specs.OpenTables.{TableGarbageGoes};
 
@@ -17,4 +18,10 @@ pub fn garbage_goes()
 #[tactic(auto, using(crate::proofs::OpenTables::table_garbage_goes))]
 pub fn table_garbage_goes()
     ensures { TableGarbageGoes }
+{}
+
+/// The same of each call that ended a cycle: one of its steps freed what was garbage in Idle.
+#[tactic(auto, using(crate::proofs::Calls::calls_free_garbage))]
+pub fn calls_free_garbage()
+    ensures { CallsFreeGarbage }
 {}

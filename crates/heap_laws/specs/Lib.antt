@@ -1,0 +1,10 @@
+pub mod Moments
+pub mod Variables
+pub mod Places
+pub mod Labels
+pub mod Ends
+pub mod Named
+pub mod Locks
+pub mod Lent
+pub mod LentLocks
+pub mod Pairs

@@ -1,0 +1,15 @@
+pub mod Sums
+pub mod Seats
+pub mod Ranges
+pub mod MarkSteps
+pub mod Marks
+pub mod QueueSteps
+pub mod Queues
+pub mod ScanSteps
+pub mod Scans
+pub mod CleanSteps
+pub mod Cleans
+pub mod Drains
+pub mod DrainedCards
+pub mod Starts
+pub mod Work
