@@ -29,7 +29,8 @@ STEPS = {
     "next_of_cards": (33, ""), "read_block_marks": (34, ""), "store_alloc": (35, ""), "clear_marks": (36, ""), "wipe_card": (37, "n"),
     "store_position": (38, "n"), "store_named": (38, ""), "reset": (38, "s"), "add_stat": (39, "snb"), "read_stat": (40, "s"),
     "store_length": (41, "n"), "read_length": (42, "n"), "open_step": (43, ""), "join_help_step": (44, ""), "leave_help_step": (45, ""),
-    "close_step": (46, ""), "see_help": (47, ""), "read_season": (48, ""), "next_season": (49, ""), "check_card": (55, "n"),
+    "close_step": (46, ""), "see_help": (47, ""), "read_season": (48, ""), "next_season": (49, ""), "read_weak": (54, "n"),
+    "check_card": (55, "n"),
 }
 
 

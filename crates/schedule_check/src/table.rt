@@ -86,6 +86,7 @@ fn of_mutator(name: &str, words: &[&str], rest: Option<Step>) -> Option<Step>
         "read_value" => ReadValue one_cell(c);
         "read_ident" => ReadIdent one_cell(c);
         "read_cat" => ReadCat one_byte(v);
+        "read_weak" => ReadWeak one_cell(c);
         "store_field" => StoreField byte_byte_variable(v, i, w);
         "store_value" => StoreValue byte_number(v, n);
         "store_root" => StoreRoot byte_long(v, r);

@@ -8,7 +8,7 @@ LETTERS = {"f": "free", "u": "unpublished", "v": "unpublished, marked", "w": "wh
 CARDS = {"c": "clean", "d": "dirty", "k": "being cleaned", "x": "dirty, being cleaned"}
 MOST = 12  # objects that are told
 HERE = os.path.dirname(os.path.abspath(__file__))
-CELL_AT = {"push": 1, "read_field": 0, "set_mark": 0, "read_own": 0, "read_value": 0, "read_ident": 0, "store_new": 0}
+CELL_AT = {"push": 1, "read_field": 0, "set_mark": 0, "read_own": 0, "read_value": 0, "read_ident": 0, "read_weak": 0, "store_new": 0}
 
 
 def read_losses():

@@ -133,7 +133,7 @@ fn a_sink_that_fails_is_told(rt: HostRuntime) -> Result<(), Fail> {
     Ok(())
 }
 
-/// Each of 58 names, with parameters at their greatest or zero, and one of them once more.
+/// Each of 59 names, with parameters at their greatest or zero, and one of them once more.
 const STEPS: &str =
     "gcschedule 1; shape 64 2 2 2 4 2; 0 reserve; 0 take 255 4294967295; 0 give 4294967295 1; 0 credit
 0 push 4294967295 4294967295; 0 pop 4294967295; 0 look 255 4294967295; 0 read_count; 0 read_alloc 4294967295
@@ -146,7 +146,7 @@ const STEPS: &str =
 0 read_block_marks; 0 store_alloc; 0 clear_marks; 0 wipe_card 4294967295; 0 store_position 4294967295; 0 store_named
 0 reset 255; 0 add_stat 255 4294967295 1; 0 read_stat 255; 0 store_length 4294967295; 0 read_length 4294967295
 0 open_step; 0 join_help_step; 0 leave_help_step; 0 close_step; 0 see_help; 0 read_season; 4294967295 next_season
-0 check_card 4294967295; 0 store_field 0 0 -
+0 read_weak 4294967295; 0 check_card 4294967295; 0 store_field 0 0 -
 ";
 
 #[test]
@@ -155,7 +155,7 @@ fn each_name_is_read(rt: HostRuntime) -> Result<(), Fail> {
     let schedule = read_schedule(rt.alloc(), source.as_bytes())
         .ok()
         .ok_or("fault")?;
-    assert!(rt; schedule.line(58) == Some(61) && schedule.line(59).is_none());
+    assert!(rt; schedule.line(59) == Some(62) && schedule.line(60).is_none());
     Ok(())
 }
 
