@@ -7,7 +7,7 @@ import sys
 sys.path.insert(0, "bench")
 import figures  # noqa: E402
 
-WORDS = {"six": 6, "seven": 7, "eight": 8, "nine": 9, "sixteen": 16, "seventeen": 17, "eighteen": 18, "nineteen": 19, "twenty": 20, "fifty-three": 53, "fifty-four": 54, "fifty-five": 55}
+WORDS = {"six": 6, "seven": 7, "eight": 8, "nine": 9, "sixteen": 16, "seventeen": 17, "eighteen": 18, "nineteen": 19, "twenty": 20, "fifty-five": 55, "fifty-six": 56, "fifty-seven": 57}
 
 table = figures.table
 tables = figures.tables
