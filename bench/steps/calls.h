@@ -7,7 +7,7 @@
 #include <string.h>
 
 /* How many steps of each kind this thread took. */
-extern _Thread_local uint64_t mh_steps_taken[64];
+extern _Thread_local uint64_t mh_steps_taken[ROOM];
 
 enum call {
     NOTHING, SETS, GETS, PUTS, COPIES, FORGETS, ASKS_VALUE, ASKS_NIL, ASKS_SAME, ROOTS, EXCHANGES, EXCHANGES_VALUE, SPILLS, FILLS, FORGETS_SLOTS, PLACES, NUMBERS,

@@ -10,11 +10,13 @@ import re
 import sys
 
 KINDS = pathlib.Path(__file__).resolve().parent.parent.parent / "crates/mark_core/src/kinds.rt"
+# How many kinds of step the counts have room for.
+ROOM = 128
 TOLD = re.compile(r'(define internal [^@\n]*@"gc_table::seat::Heap::(\w+)_told::<[^\n]*ptr [^%\n]*(%a\d+)\) [^\n]*\{\nstart:\n)')
-COUNTS = "@mh_steps_taken = thread_local global [64 x i64] zeroinitializer\n"
-COUNT = """  %step.kind = load i8, ptr {step}
+COUNTS = f"@mh_steps_taken = thread_local global [{ROOM} x i64] zeroinitializer\n"
+COUNT = f"""  %step.kind = load i8, ptr {{step}}
   %step.number = zext i8 %step.kind to i64
-  %step.at = getelementptr [64 x i64], ptr @mh_steps_taken, i64 0, i64 %step.number
+  %step.at = getelementptr [{ROOM} x i64], ptr @mh_steps_taken, i64 0, i64 %step.number
   %step.before = load i64, ptr %step.at
   %step.after = add i64 %step.before, 1
   store i64 %step.after, ptr %step.at
@@ -41,9 +43,9 @@ def put_in(source, made, head, body):
 
 def tell(made):
     names = kinds()
-    if len(names) > 64:
-        sys.exit("steps: more than 64 kinds of step")
-    lines = [f"enum kind {{ {', '.join(names)}, KINDS }};", "static const char *const kind_names[KINDS] = {" + ", ".join(f'"{it}"' for it in names) + "};"]
+    if len(names) > ROOM:
+        sys.exit(f"steps: more than {ROOM} kinds of step")
+    lines = [f"enum kind {{ {', '.join(names)}, KINDS, ROOM = {ROOM} }};", "static const char *const kind_names[KINDS] = {" + ", ".join(f'"{it}"' for it in names) + "};"]
     pathlib.Path(made).write_text("\n".join(lines) + "\n")
 
 
