@@ -64,7 +64,7 @@ def place_of(name):
 
 # The module of each export that isn't in the root, and the types of their parameters.
 MODULES = {}
-TYPES = "use course::CCourse;\nuse handles::TracerHandle;\nuse seat_turns::Weak;\nuse slots::TracerSlot;\nuse work::CWork;\n"
+TYPES = "use course::CCourse;\nuse handles::TracerHandle;\nuse looking::CObject;\nuse seat_turns::Weak;\nuse slots::TracerSlot;\nuse stamps::CStamp;\nuse work::CWork;\n"
 
 
 def main():

@@ -30,14 +30,14 @@ extern "C" {
 #endif
 
 /* The version of these calls. The first number rises if a program has to be changed or compiled again. */
-#define MH_VERSION "4.1"
+#define MH_VERSION "4.2"
 
 /* What a call came to. If it isn't MH_OK, objects and variables are as before, but for what a line here says. */
 typedef enum mh_status {
     MH_OK = 0,            /* it is done */
     MH_NOT_YET = 1,       /* a step more is to be made: call again */
-    MH_STOPPED = 2,       /* another's collection is under way: the mutator is outside now, or stays there. Rest, and enter again. A tracer rests, and takes
-                             its next turn */
+    MH_STOPPED = 2,       /* another's collection is under way: the mutator is outside now, or stays there. Help or rest, and enter again. A tracer helps or
+                             rests, and takes its next turn */
     MH_NO_CELL = 3,       /* no cell is free for this mutator now: mh_finish, and if that leaves none, mh_collect. Of mh_make: its collections left none for
                              it; forget something, or try later */
     MH_OUTSIDE = 4,       /* the mutator is outside the world: enter first */
@@ -52,7 +52,7 @@ typedef enum mh_status {
     MH_IN_USE = 12,       /* another call uses this handle now */
     MH_NONE_LEFT = 13,    /* all mutators, or all tracers, are taken */
     MH_REFUSED = 14,      /* the world doesn't take the mutator or the tracer back: it has another world's name, all are back, or there is no memory. It stays
-                             the handle's. Of mh_upgrade: the weak reference is another world's */
+                             the handle's. Of mh_upgrade and mh_after: the weak reference, or the stamp, is another world's */
     MH_IDLE = 15,         /* of a tracer: no cycle is marking, so there is nothing to do now */
     MH_DISMISSED = 16,    /* of a tracer: the world has dismissed its tracers */
     MH_STILL_LENT = 17,   /* of mh_close: not all mutators and tracers are given back */
@@ -63,7 +63,8 @@ typedef enum mh_status {
     MH_UNPUBLISHED = 22,  /* of mh_weak_of: another mutator made the object and hasn't published it yet, so that nothing would tell its death. It does so at the
                              next stop at the latest, or when it takes a weak reference to the object itself */
     MH_INSIDE = 23,       /* of mh_help_step: the mutator is inside the world, and only one outside helps */
-    MH_NO_HELP = 24       /* of mh_help_step: no stop is open to helpers, or nothing was left to do in it. Rest, and enter again */
+    MH_NO_HELP = 24       /* of mh_help_step and mh_help_turn: no stop is open to helpers, or nothing was left to do in it. Rest, and enter again; a tracer
+                             takes its next turn */
 } mh_status;
 
 /* A status in words. */
@@ -158,9 +159,9 @@ typedef struct mh_cycle {
     uint64_t freed;   /* how many cells the collecting thread freed: those that helpers freed aren't among them */
     uint64_t kept;    /* how many cells are in use */
     uint64_t mutators; /* how many objects mutators traced beside the program since the cycle before, to pay for the cells that they took */
-    uint64_t traced;  /* how many objects were traced while the world stood still, */
-    uint64_t cleaned; /* and how many cards of 16 cells were cleaned then, since they were dirty */
-    uint64_t rescanned; /* how many objects of those cards were scanned again */
+    uint64_t traced;  /* how many objects the collecting thread traced while the world stood still: those that helpers traced aren't among them; */
+    uint64_t cleaned; /* and how many cards of 16 cells it cleaned then, since they were dirty */
+    uint64_t rescanned; /* how many objects of those cards it scanned again */
     uint64_t exact;   /* 1 if it left no garbage, since it was precise or none was marking beside the program. 0: what died since the cycle began may be kept
                          until the next one */
     uint64_t wasted;  /* how many objects were traced for nothing beside the program, since a precise collection marked all anew: `tracers` and `mutators`
@@ -203,6 +204,17 @@ typedef struct mh_weak {
     uint32_t number;
 } mh_weak;
 
+/* What mh_look tells of an object: where it lies, as mh_place does, and its value. */
+typedef struct mh_object {
+    uint32_t place;
+    uint32_t value;
+} mh_object;
+
+/* A stamp of a moment in a world: a plain number, which any thread may copy and keep. */
+typedef struct mh_stamp {
+    uint32_t world;
+} mh_stamp;
+
 /* Where a mutator stands: outside, inside, or between two steps of its collection. */
 enum {
     MH_AT_OUTSIDE = 0, MH_AT_INSIDE = 1, MH_AT_STOP = 2, MH_AT_ROOTS = 3, MH_AT_DRAIN = 4, MH_AT_LOOK = 5, MH_AT_CLEAN = 6, MH_AT_CLEAR = 7, MH_AT_SWEEP = 8,
@@ -230,6 +242,8 @@ mh_status mhl_put(mh_mutator *m, uint32_t v, uint32_t value);
 mh_status mhl_value(mh_mutator *m, uint32_t v, uint32_t *out);
 mh_status mhl_is_nil(mh_mutator *m, uint32_t v, uint32_t *out);
 mh_status mhl_same(mh_mutator *m, uint32_t v, uint32_t w, uint32_t *out);
+mh_status mhl_look(mh_mutator *m, uint32_t v, mh_object *what);
+mh_status mhl_fields(mh_mutator *m, uint32_t v, uint32_t first, uint32_t count);
 mh_status mhl_collect_step(mh_mutator *m, uint32_t most);
 mh_status mhl_finish_step(mh_mutator *m, uint32_t most);
 mh_status mhl_help_step(mh_mutator *m, uint32_t most);
@@ -244,9 +258,13 @@ mh_status mhl_place(mh_mutator *m, uint32_t v, uint32_t *place);
 mh_status mhl_number(mh_mutator *m, uint32_t v, uint32_t *section, uint32_t *number);
 mh_status mhl_weak_of(mh_mutator *m, uint32_t v, mh_weak *out);
 mh_status mhl_upgrade(mh_mutator *m, const mh_weak *weak, uint32_t v);
+mh_status mhl_deaths(mh_mutator *m, const mh_weak *weaks, size_t count, uint32_t v, uint32_t *dead, size_t room, uint32_t *many);
+mh_status mhl_stamp_of(mh_mutator *m, mh_stamp *out);
+mh_status mhl_after(mh_mutator *m, const mh_stamp *stamp);
 mh_status mhl_take_tracer(mh_world *world, mh_tracer *t);
 mh_status mhl_give_back_tracer(mh_world *world, mh_tracer *t);
 mh_status mhl_trace_turn(mh_tracer *t);
+mh_status mhl_help_turn(mh_tracer *t, uint32_t most);
 mh_status mhl_dismiss_step(mh_world *world);
 mh_status mhl_course(mh_mutator *m, mh_course *course);
 mh_status mhl_work(mh_mutator *m, mh_work *work);
@@ -574,6 +592,11 @@ static inline mh_status mh_value(mh_mutator *m, uint32_t v, uint32_t *out) { ret
 static inline mh_status mh_is_nil(mh_mutator *m, uint32_t v, uint32_t *out) { return MH_BY(m, mhl_is_nil(m, v, out)); }
 /* 1 if v and w refer to one object, or both to nothing, else 0. */
 static inline mh_status mh_same(mh_mutator *m, uint32_t v, uint32_t w, uint32_t *out) { return MH_BY(m, mhl_same(m, v, w, out)); }
+/* Where v's object lies, and its value, by one call: what mh_place and mh_value tell. MH_NIL if v is nil. */
+static inline mh_status mh_look(mh_mutator *m, uint32_t v, mh_object *what) { return MH_BY(m, mhl_look(m, v, what)); }
+/* The variables from `first` on become the first `count` fields of v's object, as by mh_get in this order: nil if v is. All of it is done or nothing:
+   MH_OUT_OF_RANGE where there are not so many variables or fields, or where v is one of these variables. */
+static inline mh_status mh_fields(mh_mutator *m, uint32_t v, uint32_t first, uint32_t count) { return MH_BY(m, mhl_fields(m, v, first, count)); }
 static inline mh_status mh_noted_step(mh_mutator *m, mh_status s, uint64_t why) {
     mh_course course;
     mh_work work;
@@ -613,6 +636,13 @@ static inline mh_status mh_finish_step(mh_mutator *m, uint32_t most) { return mh
 static inline mh_status mh_help_step(mh_mutator *m, uint32_t most) { return MH_BY(m, mhl_help_step(m, most)); }
 /* 1 if its collection waits for the mutators that are inside, so that a rest is due before its next step, else 0. */
 static inline mh_status mh_is_stopping(mh_mutator *m, uint32_t *out) { return MH_BY(m, mhl_is_stopping(m, out)); }
+
+/* A stamp of this moment, for other mutators to come after: all that this one has done is before it. */
+static inline mh_status mh_stamp_of(mh_mutator *m, mh_stamp *out) { return MH_BY(m, mhl_stamp_of(m, out)); }
+/* The mutator goes on from all that had happened in its world at a moment of this call: in the one order that explains what each call found, its later steps stand
+   behind that. So they stand behind all that the stamp's mutator had done, if the stamp was handed on as other memory is, by atomics, a lock or a join. No object or
+   variable changes, and nobody waits. MH_REFUSED if the stamp is another world's, MH_COLLECTING while the mutator collects. */
+static inline mh_status mh_after(mh_mutator *m, const mh_stamp *stamp) { return MH_BY(m, mhl_after(m, stamp)); }
 
 /* What a mutator does only in a shared world, but for mh_place. Elsewhere each other is MH_NOT_SHARED. */
 
@@ -655,26 +685,14 @@ static inline mh_status mh_weak_of(mh_mutator *m, uint32_t v, mh_weak *out) { re
 static inline mh_status mh_upgrade(mh_mutator *m, const mh_weak *weak, uint32_t v) { return MH_BY(m, mhl_upgrade(m, weak, v)); }
 /* How many cycles have ended in the mutator's world. It takes no step. While the number is the same, what mh_upgrade found alive isn't dead. */
 static inline mh_status mh_cycles(mh_mutator *m, uint64_t *cycles) { return MH_BY(m, (*cycles = mh_noted(m->book->last), MH_OK)); }
-static inline mh_status mh_deaths_by(mh_mutator *m, const mh_weak *weaks, uint32_t count, uint32_t v, uint32_t *dead, uint32_t *many) {
-    mh_status s = mhl_forget(m, v);
-    uint32_t k, found = 0;
-    if (s != MH_OK) return s;
-    for (k = 0; k < count && s == MH_OK; k++) {
-        if (!weaks[k].world) continue;
-        s = mhl_upgrade(m, &weaks[k], v);
-        if (s != MH_DEAD) continue;
-        dead[found++] = k;
-        s = MH_OK;
-    }
-    (void)mhl_forget(m, v);
-    *many = found;
-    return s;
-}
 /* Which of so many weak references have dead objects: `dead`, which has room for all, gets their numbers, from 0 on and in order, and `many` is how many they
-   are. One that is all zero is none yet, and is passed over. v is nil afterwards. It takes 3 steps for each at most and 2 more, and has no safe point: a large
-   table is gone through in pieces, with a safe point between two. If one is refused, as by mh_upgrade, that is the answer, and those before it are told. */
+   are. One that is all zero is none yet, and is passed over. v is nil afterwards. It takes 3 steps for each at most, one where nothing is in its cell, and 1
+   more, and has no safe point: a large table is gone through in pieces, with a safe point between two. If one is refused, as by mh_upgrade, that is the answer,
+   and those before it are told. Where the mutator isn't inside, or v is out of range, nothing is written. */
 static inline mh_status mh_deaths(mh_mutator *m, const mh_weak *weaks, uint32_t count, uint32_t v, uint32_t *dead, uint32_t *many) {
-    return MH_BY(m, mh_deaths_by(m, weaks, count, v, dead, many));
+    static const mh_weak none = {0, 0, 0, 0};
+    uint32_t nowhere = 0;
+    return MH_BY(m, mhl_deaths(m, count ? weaks : &none, count, v, count ? dead : &nowhere, count, many));
 }
 
 /* A tracer: for one thread at a time. */
@@ -690,11 +708,14 @@ static inline mh_status mh_told_turn(mh_tracer *t, mh_status s) {
 /* One turn, which marks at most 64 objects and passes at most 1,024 cards: MH_OK if a cycle is marking, MH_IDLE if none is, MH_STOPPED if a stop is
    under way, MH_DISMISSED and MH_FULL where no turn is to follow. */
 static inline mh_status mh_trace_turn(mh_tracer *t) { return MH_BY(t, mh_told_turn(t, mhl_trace_turn(t))); }
+/* A tracer helps in a mutator's collection, as mh_help_step does: a turn after one that came to MH_STOPPED. */
+static inline mh_status mh_help_turn(mh_tracer *t, uint32_t most) { return MH_BY(t, mhl_help_turn(t, most)); }
 
 /* The calls that wait. Each goes on until it is done, and so rests on the other threads' safe points. */
 
-/* How often a thread that waits yields, and how long it sleeps from then on, at first and at most, in microseconds. */
-enum { MH_YIELDS = 16, MH_SHORTEST = 50, MH_LONGEST = 1000 };
+/* How often a thread that waits yields, how often it then sleeps shortest, since most stops take some milliseconds and may want help later on, and how long it
+   sleeps, at first and at most, in microseconds. */
+enum { MH_YIELDS = 16, MH_NAPS = 64, MH_SHORTEST = 50, MH_LONGEST = 1000 };
 
 /* What a waiting thread sleeps by, if the program sets it: it is handed how long, in microseconds. No call of the library is under way then, so a program may
    leave by longjmp from there, or let in a signal that is blocked elsewhere. Each file that includes this has the variable, and the linker keeps one. */
@@ -711,13 +732,12 @@ static inline void mh_sleep(uint32_t microseconds) {
 
 /* One rest of a thread that waits. The count says how many went before, and is 0 at first. */
 static inline void mh_rest(uint32_t *count) {
-    uint32_t sleep = MH_LONGEST;
+    uint32_t naps = MH_YIELDS + MH_NAPS, sleep = MH_LONGEST;
+    if (*count < naps) sleep = MH_SHORTEST;
+    else if (*count < naps + 4) sleep = (uint32_t)MH_SHORTEST << (*count - naps + 1);
     if (*count < MH_YIELDS) sched_yield();
-    else {
-        if (*count < MH_YIELDS + 5) sleep = (uint32_t)MH_SHORTEST << (*count - MH_YIELDS);
-        mh_sleep(sleep);
-    }
-    if (*count < MH_YIELDS + 5) ++*count;
+    else mh_sleep(sleep);
+    if (*count < naps + 4) ++*count;
 }
 
 /* How many objects or blocks a step of help does. */
@@ -852,11 +872,15 @@ static inline void mh_rest_turn(mh_status s, uint32_t *count) {
     else for (k = 0; k < MH_YIELDS; k++) sched_yield();
 }
 
-/* Marks beside the mutators, turn by turn, until the world dismisses its tracers (MH_DISMISSED) or the heap is full (MH_FULL): what a thread with a tracer runs. */
+/* Marks beside the mutators, turn by turn, and helps in their collections, until the world dismisses its tracers (MH_DISMISSED) or the heap is full (MH_FULL): what a
+   thread with a tracer runs. */
 static inline mh_status mh_trace(mh_tracer *t) {
     uint32_t rests = 0;
     mh_status s;
-    while ((s = mh_trace_turn(t)) == MH_OK || s == MH_IDLE || s == MH_STOPPED) mh_rest_turn(s, &rests);
+    while ((s = mh_trace_turn(t)) == MH_OK || s == MH_IDLE || s == MH_STOPPED) {
+        if (s == MH_STOPPED && mh_help_turn(t, MH_HELP) == MH_OK) rests = 0;
+        else mh_rest_turn(s, &rests);
+    }
     return s;
 }
 

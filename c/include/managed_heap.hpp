@@ -37,7 +37,7 @@ enum class [[nodiscard]] status : uint32_t {
     ok = MH_OK, not_yet = MH_NOT_YET, stopped = MH_STOPPED, no_cell = MH_NO_CELL, outside = MH_OUTSIDE, collecting = MH_COLLECTING,
     out_of_range = MH_OUT_OF_RANGE, nil = MH_NIL, full = MH_FULL, spent = MH_SPENT, out_of_memory = MH_OUT_OF_MEMORY, given_back = MH_GIVEN_BACK,
     in_use = MH_IN_USE, none_left = MH_NONE_LEFT, refused = MH_REFUSED, idle = MH_IDLE, dismissed = MH_DISMISSED, still_lent = MH_STILL_LENT,
-    taken = MH_TAKEN, not_shared = MH_NOT_SHARED, no_cache = MH_NO_CACHE, dead = MH_DEAD, unpublished = MH_UNPUBLISHED,
+    taken = MH_TAKEN, not_shared = MH_NOT_SHARED, no_cache = MH_NO_CACHE, dead = MH_DEAD, unpublished = MH_UNPUBLISHED, inside = MH_INSIDE, no_help = MH_NO_HELP,
     empty = 100,         /* the handle was moved from, or nothing was put into it yet */
     no_variable = 101,   /* handles own all 32 variables of the mutator */
     no_slot = 102,       /* handles own all its slots */
@@ -210,6 +210,10 @@ public:
     status exchange_value(uint32_t expected, uint32_t next, bool &won) const {
         return asked(won, [&](uint32_t *is) { return mh_exchange_value(&seat_->m, v_, expected, next, is); });
     }
+    /* The place and the value of the object. */
+    status look(mh_object &out) const { return by([&] { return mh_look(&seat_->m, v_, &out); }); }
+    /* The object's first `count` fields, in handles that get variables side by side, and are as before if the call isn't done. */
+    status fields(local *outs, uint32_t count) const;
     status place(uint32_t &out) const { return by([&] { return mh_place(&seat_->m, v_, &out); }); }
     status number(uint32_t &section, uint32_t &number) const { return by([&] { return mh_number(&seat_->m, v_, &section, &number); }); }
     status weak(mh_weak &out) const { return by([&] { return mh_weak_of(&seat_->m, v_, &out); }); }
@@ -251,6 +255,24 @@ private:
     detail::seat *seat_ = nullptr;
     uint32_t v_ = 0;
 };
+
+inline status local::fields(local *outs, uint32_t count) const {
+    if (!seat_) return status::empty;
+    if (count > 16) return status::out_of_range;
+    detail::seat *const s = seat_;
+    const uint32_t run = (1u << count) - 1;
+    uint32_t first = 0, k;
+    while (first + count <= MH_VARIABLES && (s->owned & run << first)) first++;
+    if (first + count > MH_VARIABLES) return status::no_variable;
+    s->stale |= run << first;
+    status done = detail::said(mh_fields(&s->m, v_, first, count));
+    for (k = 0; done == status::ok && k < count; k++) {
+        local taken;
+        taken.own(s, first + k);
+        outs[k] = std::move(taken);
+    }
+    return done;
+}
 
 /* Stands for no object among the fields of `make`. */
 struct nothing_t {};
@@ -346,6 +368,8 @@ public:
         return by_tidy([&](mh_mutator *m) { return mh_pressure(m, bytes); });
     }
     status cycles(uint64_t &out) { return by([&](detail::seat &s) { return mh_cycles(&s.m, &out); }); }
+    status stamp(mh_stamp &out) { return by([&](detail::seat &s) { return mh_stamp_of(&s.m, &out); }); }
+    status after(const mh_stamp &stamp) { return by([&](detail::seat &s) { return mh_after(&s.m, &stamp); }); }
 
     status make(local &out, uint32_t value) {
         return made(out, [&](uint32_t v) { return mh_make_step(&seat_->m, v, value); });
@@ -432,6 +456,7 @@ public:
     /* Marks until the world dismisses its tracers: status::dismissed. */
     status trace() { return detail::said(mh_trace(&t_)); }
     status turn() { return detail::said(mh_trace_turn(&t_)); }
+    status help(uint32_t most) { return detail::said(mh_help_turn(&t_, most)); }
     status give_back() {
         if (!at_) return status::empty;
         mh_status s = at_->by_one([&] { return mh_give_back_tracer(&at_->w, &t_); });

@@ -127,14 +127,18 @@ def bounds_of(types):
 
 def told_in(page, columns):
     """What a page's table tells of each call, in the words of the clauses."""
-    found = {}
+    found, asked = {}, bounds_of(["Stepper"])
     for names, *cells in rows_of(page, "Call", *columns):
         for owner, cell in zip(columns.values(), cells):
             cell = re.sub(r"^(\d+), and 1 for each reference of an object$", r"fields + \1", cell)
             cell = re.sub(r"^1 for each slot$", "to - from", cell)
+            cell = re.sub(r"^2 for each field$", "2 * count", cell)
+            # mhl_deaths forgets a variable and then asks for each death, so no clause of its own has a number.
+            cell = re.sub(f'^{asked["Stepper", "forget"]}, and {asked["Stepper", "death"]} for each weak reference$', "", cell)
             cell = re.sub(r"^`(refill|help)_steps`, below$", r"\1_steps most x", cell)
             cell = re.sub(r"^`make_steps`, below, and 4 for each reference that it is given$", "make_steps (view_of x.seat).shape + 4 * length ns", cell)
             cell = re.sub(r"^`tried_steps`, below$", "tried_steps tried v.shape", cell)
+            cell = re.sub(r"^`tracer_help_steps`, below$", "tracer_help_steps most v.shape", cell)
             found.update({(owner, name): cell for name in re.findall(r"`([a-z]\w*)`", names) if cell})
     return found
 

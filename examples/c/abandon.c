@@ -1,6 +1,6 @@
 /*
  * Threads that leave in the midst: by a signal handler that jumps out of a waiting call, by being cancelled in one, and by ending inside the world, between two
- * steps of a collection or not. Whoever waits for them gives their handles up, and the world goes on, with their variables kept or dropped. A handler jumps only
+ * steps of a collection or not; and a tracer's thread that helps in a collection, by a jump or a cancel. Whoever waits for them gives their handles up, and the world goes on, with their variables kept or dropped. A handler jumps only
  * while its thread sleeps, which is told by what the program sleeps by: then no call of the library is under way. Arguments: rounds, 1 for a shared world.
  */
 #include "heap.h"
@@ -71,6 +71,12 @@ static void *end_collecting(void *p) {
     return 0;
 }
 
+static void *trace(void *t) {
+    if (!sigsetjmp(out, 1)) mh_trace(t);
+    sleeps = 0;
+    return 0;
+}
+
 static void wait_for_sleep(void) {
     while (!__atomic_load_n(&slept, __ATOMIC_RELAXED)) sched_yield();
 }
@@ -98,6 +104,26 @@ static void leave_midst(mh_mutator *other, mh_mutator *m, uint32_t way) {
     if (way < 4) end_waiting(thread, way % 2 == 0 || !CANCELS);
     else pthread_join(thread, 0);
     if (does[way] == wait_to_enter) MUST(mh_collect(other));
+    MUST(mh_leave(other));
+}
+
+/* A tracer's handle that its thread leaves once it has helped in the other's collection and found nothing more to do there. It is no helper, so that goes on. */
+static void leave_helping(mh_mutator *other, int by_signal) {
+    mh_tracer t = {0};
+    mh_course course = {0};
+    pthread_t thread;
+    MUST(mh_take_tracer(&world, &t));
+    MUST(mh_enter(other));
+    while (course.stage != MH_AT_SHARE) {
+        MUST_BE(MH_NOT_YET, mh_collect_step(other, 1));
+        MUST(mhl_course(other, &course));
+    }
+    __atomic_store_n(&slept, 0, __ATOMIC_RELAXED);
+    if (pthread_create(&thread, 0, trace, &t)) exit(2);
+    end_waiting(thread, by_signal || !CANCELS);
+    MUST_BE(MH_NO_HELP, mh_help_turn(&t, 1));
+    MUST(mh_give_back_tracer(&world, &t));
+    MUST(mh_collect(other));
     MUST(mh_leave(other));
 }
 
@@ -149,13 +175,14 @@ static void go_round(mh_mutator *other, uint32_t round) {
     look(keeps);
     MUST(mh_statistics(&world, &numbers));
     wrong("how many cells are in use", numbers.marked, is_shared);
+    leave_helping(other, round % 2 == 0);
 }
 
 int main(int count_of, char **words) {
     mh_mutator other = {0};
     struct sigaction handler;
     uint32_t rounds = number(count_of, words, 1, 60), k;
-    mh_sizes sizes = {.cells = CELLS, .fields = 1, .mutators = 2};
+    mh_sizes sizes = {.cells = CELLS, .fields = 1, .mutators = 2, .tracers = 1};
     is_shared = sizes.shared = number(count_of, words, 2, 0);
     sizes.slots = is_shared ? SLOTS : 0;
     mh_sleeps_by = sleep_by;
@@ -168,6 +195,6 @@ int main(int count_of, char **words) {
     for (k = 0; k < rounds; k++) go_round(&other, k);
     MUST(mh_give_back(&world, &other));
     MUST(mh_close(&world));
-    printf("%-13s %-12s %u threads left in the midst%s: by a jump or a cancel out of a waiting call, or inside; the world went on\n", "abandon", COLLECTOR, rounds, is_shared ? ", sharing" : "");
+    printf("%-13s %-12s %u threads left in the midst%s: by a jump or a cancel out of a waiting call, or inside, and as many tracers; the world went on\n", "abandon", COLLECTOR, rounds, is_shared ? ", sharing" : "");
     return 0;
 }

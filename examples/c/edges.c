@@ -59,6 +59,7 @@ static void makes_with(uint32_t v) {
 /* A number of a variable that is too great, in each place in which one stands. */
 static void variable(uint32_t v) {
     uint32_t out = 77;
+    mh_object what = {77, 77};
     MUST_BE(MH_OUT_OF_RANGE, mh_make_step(&m, v, 5));
     MUST_BE(MH_OUT_OF_RANGE, mh_make_cached(&m, v, 5));
     MUST_BE(MH_OUT_OF_RANGE, mh_make(&m, v, 5));
@@ -76,7 +77,45 @@ static void variable(uint32_t v) {
     MUST_BE(MH_OUT_OF_RANGE, mh_is_nil(&m, v, &out));
     MUST_BE(MH_OUT_OF_RANGE, mh_same(&m, v, 0, &out));
     MUST_BE(MH_OUT_OF_RANGE, mh_same(&m, 0, v, &out));
+    MUST_BE(MH_OUT_OF_RANGE, mh_look(&m, v, &what));
+    MUST_BE(MH_OUT_OF_RANGE, mh_fields(&m, v, 3, 1));
+    MUST_BE(MH_OUT_OF_RANGE, mh_fields(&m, 0, v, 1));
+    MUST_BE(MH_OUT_OF_RANGE, mh_fields(&m, 0, 33 - 2, v));
     wrong("what was written", out, 77);
+    wrong("what was written of an object", what.place == 77 && what.value == 77, 1);
+    is_as_before();
+}
+
+/* The objects of variables 0 and 1 and nothing are looked at, and their fields taken: as many as there are, into the last variables that there are, by no call into
+   the object's own variable. */
+static void looks(void) {
+    mh_object what = {77, 77};
+    uint32_t place = 7, k, out = 7;
+    MUST(mh_place(&m, 0, &place));
+    MUST(mh_look(&m, 0, &what));
+    wrong("the place of an object that is looked at", what.place, place);
+    wrong("its value", what.value, 10);
+    MUST_BE(MH_NIL, mh_look(&m, 2, &what));
+    wrong("what was written of nothing", what.value, 10);
+    for (k = 0; k < FIELDS; k++) MUST_BE(MH_OUT_OF_RANGE, mh_fields(&m, 10 + k, 10, k + 1));
+    for (k = 0; k < FIELDS; k++) MUST_BE(MH_OUT_OF_RANGE, mh_fields(&m, 0, 32 - k, k + 1));
+    MUST_BE(MH_OUT_OF_RANGE, mh_fields(&m, 0, 10, FIELDS + 1));
+    MUST(mh_fields(&m, 0, 0, 0));
+    MUST(mh_fields(&m, 0, 32, 0));
+    is_as_before();
+    MUST(mh_copy(&m, 28, 0));
+    MUST(mh_fields(&m, 28, 29, FIELDS));
+    MUST(mh_same(&m, 29, 0, &out));
+    wrong("whether field 0 was taken", out, 1);
+    MUST(mh_is_nil(&m, 30, &out));
+    wrong("whether field 1 was taken", out, 1);
+    MUST(mh_same(&m, 31, 1, &out));
+    wrong("whether field 2 was taken", out, 1);
+    MUST(mh_same(&m, 28, 0, &out));
+    wrong("whether the object's variable is as before", out, 1);
+    MUST(mh_fields(&m, 2, 28, 2));
+    for (k = 28; k < 32; k++) MUST(mh_is_nil(&m, k, &out)), wrong("whether a field of nothing is nil", out, k < 31);
+    MUST(mh_forget(&m, 31));
     is_as_before();
 }
 
@@ -100,6 +139,7 @@ static void field(uint32_t i) {
     MUST_BE(MH_OUT_OF_RANGE, mh_set(&m, 0, i, 1));
     MUST_BE(MH_OUT_OF_RANGE, mh_set(&m, 2, i, 1));
     MUST_BE(MH_OUT_OF_RANGE, mh_get(&m, 1, 0, i));
+    MUST_BE(MH_OUT_OF_RANGE, mh_fields(&m, 0, 10, i + 1));
     is_as_before();
 }
 
@@ -198,6 +238,29 @@ static void weak_references(mh_mutator *n) {
     MUST_BE(MH_DEAD, mh_upgrade(n, &weak, 3));
 }
 
+/* Stamps: those of another world are refused wherever the mutator stands, and its own while it collects. */
+static void stamps(mh_mutator *n) {
+    mh_stamp own = {77}, others = {77};
+    uint32_t k;
+    MUST(mh_stamp_of(n, &own));
+    MUST(mh_stamp_of(&m, &others));
+    for (k = 0; k < 2; k++) {
+        MUST_BE(MH_REFUSED, mh_after(n, &others));
+        MUST_BE(MH_REFUSED, mh_after(&m, &own));
+        MUST(mh_after(n, &own));
+        MUST(mh_after(&m, &others));
+        MUST(mh_leave(n));
+    }
+    MUST(mh_enter(n));
+    MUST_BE(MH_NOT_YET, mh_collect_step(n, 1));
+    MUST(mh_stamp_of(n, &own));
+    MUST_BE(MH_COLLECTING, mh_after(n, &own));
+    MUST_BE(MH_REFUSED, mh_after(n, &others));
+    MUST(mh_collect(n));
+    MUST(mh_after(n, &own));
+    is_as_before();
+}
+
 /* A shared world whose mutators have all slots that there are. */
 static void shared_world(void) {
     mh_sizes sizes = {.cells = 64, .fields = FIELDS, .mutators = 1, .shared = 1, .slots = 65536};
@@ -261,6 +324,7 @@ static void shared_world(void) {
     wrong("the maker of the root", out, 0);
     wrong("which of its maker's it is", other, 0);
     weak_references(&n);
+    stamps(&n);
     MUST(mh_give_back(&shared, &n));
     MUST(mh_close(&shared));
 }
@@ -357,6 +421,7 @@ int main(void) {
     for (k = 0; k < sizeof refused / sizeof *refused; k++) field(FIELDS + refused[k]);
     for (k = 0; k < sizeof refused / sizeof *refused; k++) calls_for_shared_worlds(refused[k]);
     stores_into_nothing();
+    looks();
     references();
     handles();
     sizes_of_worlds();

@@ -6,22 +6,9 @@
  * beside the mutators.
  */
 #include "giving_up.h"
-#include "growing.h"
+#include "hiding.h"
+#include "looking_calls.h"
 #include "shared_calls.h"
-
-static void come_in(struct job *j) {
-    mh_status s;
-    while (j->place == COLLECTING) {
-        s = told(j, mh_collect_step(&j->m, 1 + random_below(j, 100)));
-        if (s == MH_OK) { j->place = INSIDE; j->collections++; }
-        else if (s == MH_STOPPED) j->place = OUTSIDE;
-        else { must(s, MH_NOT_YET, "mh_collect_step", __FILE__, __LINE__); sched_yield(); }
-    }
-    if (j->place == OUTSIDE) {
-        MUST(mh_enter(&j->m));
-        j->place = INSIDE;
-    }
-}
 
 static void operate(struct job *j, uint32_t which) {
     uint32_t v = some_variable(j), w = some_variable(j), i = some_field(j);
@@ -111,6 +98,8 @@ static void use_gone(struct job *j, uint32_t which) {
     uint32_t v = some_variable(j), w = some_variable(j), i = some_field(j);
     uint64_t cycles = 77;
     mh_weak weak = {0, 0, 0, 0};
+    mh_object what = {77, 77};
+    mh_stamp stamp = {77};
     mh_mutator *g = &j->gone;
     switch (which) {
     case 0: SAYS(MH_GIVEN_BACK, mh_set(g, v, i, w)); break;
@@ -125,7 +114,7 @@ static void use_gone(struct job *j, uint32_t which) {
     case 9: SAYS(MH_GIVEN_BACK, mh_put(g, v, 1)); break;
     case 10: SAYS(MH_GIVEN_BACK, mh_is_nil(g, v, &out)); break;
     case 11: SAYS(MH_GIVEN_BACK, mh_same(g, v, w, &out)); break;
-    case 12: SAYS(MH_GIVEN_BACK, mh_trace_turn(&j->none)); break;
+    case 12: SAYS(MH_GIVEN_BACK, mh_trace_turn(&j->none)); SAYS(MH_GIVEN_BACK, mh_help_turn(&j->none, 1)); break;
     case 13: SAYS(MH_GIVEN_BACK, mh_give_back_tracer(&world, &j->none)); break;
     case 14: SAYS(MH_GIVEN_BACK, mh_is_stopping(g, &out)); break;
     case 15: SAYS(MH_GIVEN_BACK, mh_root(g, v)); break;
@@ -145,18 +134,38 @@ static void use_gone(struct job *j, uint32_t which) {
     case 29: SAYS(MH_GIVEN_BACK, mh_upgrade(g, &weak, v)); break;
     case 30: SAYS(MH_GIVEN_BACK, mh_deaths(g, &weak, 1, v, &out, &out)); break;
     case 31: SAYS(MH_GIVEN_BACK, mh_cycles(g, &cycles)); break;
+    case 32: SAYS(MH_GIVEN_BACK, mh_stamp_of(g, &stamp)); break;
+    case 33: SAYS(MH_GIVEN_BACK, mh_after(g, &stamp)); break;
+    case 34: SAYS(MH_GIVEN_BACK, mh_look(g, v, &what)); break;
+    case 35: SAYS(MH_GIVEN_BACK, mh_fields(g, v, w, i)); break;
     default: SAYS(MH_GIVEN_BACK, mh_forget(g, v));
     }
     wrong("what a call by a handle that was given back wrote", out, 77);
     wrong("what it wrote besides", cycles, 77);
+    wrong("what it wrote of an object", what.place == 77 && what.value == 77, 1);
+    wrong("what it wrote of a stamp", stamp.world, 77);
 }
 
-/* A turn of the thread's tracer, if it has one. */
-static void turn(struct job *j) {
-    mh_status s = told(j, mh_trace_turn(&j->t));
-    if (!j->t.at) must(s, MH_GIVEN_BACK, "mh_trace_turn", __FILE__, __LINE__);
-    else if (j->place == COLLECTING) must(s, MH_STOPPED, "mh_trace_turn", __FILE__, __LINE__);
-    else if (s != MH_STOPPED && s != MH_IDLE) must(s, MH_OK, "mh_trace_turn", __FILE__, __LINE__);
+/* A stamp of its own world, and one of another, which is refused wherever the mutator stands. */
+static void come_after(struct job *j) {
+    mh_stamp stamp = {77};
+    SAYS(MH_OK, mh_stamp_of(&j->m, &stamp));
+    SAYS(j->place == COLLECTING ? MH_COLLECTING : MH_OK, mh_after(&j->m, &stamp));
+    stamp.world++;
+    SAYS(MH_REFUSED, mh_after(&j->m, &stamp));
+}
+
+/* Steps of help in a stop, this thread's or another's, by the mutator and by the tracer, if the thread has one. */
+static void help(struct job *j) {
+    uint32_t most = 1 + random_below(j, 40);
+    mh_status s = told(j, mh_help_step(&j->m, most));
+    SAYS(MH_OUT_OF_RANGE, mh_help_step(&j->m, 0));
+    if (j->place != OUTSIDE) must(s, j->place == INSIDE ? MH_INSIDE : MH_COLLECTING, "mh_help_step", __FILE__, __LINE__);
+    else if (s != MH_NO_HELP) must(s, MH_OK, "mh_help_step", __FILE__, __LINE__);
+    if (!j->t.at) return;
+    s = told(j, mh_help_turn(&j->t, most));
+    SAYS(MH_OUT_OF_RANGE, mh_help_turn(&j->t, 0));
+    if (s != MH_NO_HELP) must(s, j->place == INSIDE ? MH_NO_HELP : MH_OK, "mh_help_turn", __FILE__, __LINE__);
 }
 
 /* The tracer goes back to the world and is taken again. */
@@ -194,23 +203,27 @@ static void lend(struct job *j) {
 
 static void *work(void *p) {
     struct job *j = p;
-    uint64_t until = j->calls, next = 0;
+    uint64_t until = j->calls, next = 0, hides = 0;
     j->calls = 0;
     begin_shadows(j);
     while (j->calls < until) {
         uint32_t which = random_below(j, 100);
         if (!random_below(j, 64)) turn(j);
+        if (!random_below(j, 64)) help(j);
         if (j->place != INSIDE && !random_below(j, 4)) which = 92 + 3 * (j->place == COLLECTING);
         if (which < 10) make(j);
         else if (which < 15) lengthen(j);
         else if (which < 25) move_reference(j);
         else if (which < 45) operate(j, 0);
         else if (which < 70) operate(j, which % 8 == 3 && which % 16 == 3 ? 0 : which % 8);
+        else if (which < 71) look_at(j, some_variable(j));
+        else if (which < 73) take_fields(j, some_variable(j));
         else if (which < 80) share(j, random_below(j, 11));
         else if (which < 82) move(j, which % 2 + (random_below(j, 256) ? 0 : 3));
         else if (which < 92) move(j, 2);
         else if (which < 96) move(j, j->place == INSIDE ? 2 : which % 4 + (which % 4 == 3));
-        else if (which < 99) use_gone(j, random_below(j, 33));
+        else if (which < 99) use_gone(j, random_below(j, 37));
+        else if (!random_below(j, 20)) come_after(j);
         else if (!random_below(j, 20)) lend(j);
         else if (!random_below(j, 20)) lend_tracer(j);
         else if (!random_below(j, 20)) forget_all(j);
@@ -219,7 +232,12 @@ static void *work(void *p) {
         if (j->calls >= next) {
             come_in(j);
             compare(j);
+            go_on();
             next = j->calls + 1000;
+        }
+        if (j->calls >= hides) {
+            hide(j);
+            hides = j->calls + HIDES;
         }
     }
     come_in(j);
@@ -237,6 +255,7 @@ int main(int count_of, char **words) {
     uint64_t answers[STATUSES] = {0};
     uint32_t tracers = n < TRACERS ? n : TRACERS;
     mh_sizes sizes = {.fields = FIELDS, .mutators = n, .tracers = tracers};
+    end_if_it_spins();
     is_shared = number(count_of, words, 4, 0);
     root_is_others = n > 1;
     cells = sizes.cells = (n * OBJECTS + n * 64 + 63) / 64 * 64 + 64 * n;

@@ -43,6 +43,23 @@ static void collect(struct job *j) {
     else { must(s, MH_OK, "mh_collect_step", __FILE__, __LINE__); j->collections += j->place == COLLECTING; j->place = INSIDE; }
 }
 
+/* A collection that was begun is ended, and the mutator is inside. Steps that wait aren't counted. */
+static void come_in(struct job *j) {
+    mh_status s;
+    while (j->place == COLLECTING) {
+        s = mh_collect_step(&j->m, 1 + random_below(j, 100));
+        if (s == MH_NOT_YET) { sched_yield(); continue; }
+        if (s != MH_STOPPED) must(s, MH_OK, "mh_collect_step", __FILE__, __LINE__);
+        told(j, s);
+        j->collections += s == MH_OK;
+        j->place = s == MH_OK ? INSIDE : OUTSIDE;
+    }
+    if (j->place == OUTSIDE) {
+        MUST(mh_enter(&j->m));
+        j->place = INSIDE;
+    }
+}
+
 /* Lets go of what a variable refers to, and in a shared world of what a slot does and, if nobody else may look at it, a field of the root. */
 static void let_go(struct job *j) {
     uint32_t v = random_below(j, VARIABLES), k = random_below(j, SLOTS), i = random_below(j, FIELDS);
@@ -100,24 +117,26 @@ static void make(struct job *j) {
     make_with(j, v, fields, count, choose(j, fields, count));
 }
 
-/* v goes from some variable's object along references, some steps far. */
-static void walk(struct job *j, uint32_t v) {
-    uint32_t from = random_below(j, MOVED), steps = random_below(j, 16), i;
+/* v goes from some variable's object along references, so many steps far, or along first fields alone. */
+static void walk(struct job *j, uint32_t v, uint32_t steps, int straight) {
+    uint32_t from = random_below(j, MOVED), i;
     SAYS(MH_OK, mh_copy(&j->m, v, from));
     for (j->variable[v] = j->variable[from]; j->variable[v] >= 0 && steps; steps--) {
-        i = random_below(j, 4) ? 0 : random_below(j, FIELDS);
+        i = straight || random_below(j, 4) ? 0 : random_below(j, FIELDS);
         SAYS(MH_OK, mh_get(&j->m, v, v, i));
         j->variable[v] = j->of[j->variable[v]].field[i];
     }
 }
 
-/* A reference moves from a field of one object to a field of another: without the card a tracer could lose what it refers to. */
+/* A reference moves from a field of one object to a field of another: without the card a tracer could lose what it refers to. While a cycle marks the first is far
+   down a list, so that it is hardly marked before the second, which a variable refers to, and what moves is the list's end, to which mostly nothing else refers. */
 static void move_reference(struct job *j) {
-    uint32_t i = random_below(j, 2), k = random_below(j, FIELDS);
+    mh_course course = {0};
+    uint32_t far = random_below(j, 4) && mhl_course(&j->m, &course) == MH_OK && course.marking, i = far ? 0 : random_below(j, 2), k = random_below(j, FIELDS);
     int32_t from, to;
     if (j->place != INSIDE) return;
-    walk(j, FOUND);
-    walk(j, NEXT);
+    walk(j, FOUND, random_below(j, far ? 512 : 16), (int)far);
+    walk(j, NEXT, far ? 0 : random_below(j, 16), 0);
     from = j->variable[FOUND];
     to = j->variable[NEXT];
     if (from >= 0 && to >= 0 && !(root_is_others && (from == ROOT || to == ROOT))) {

@@ -113,6 +113,13 @@ static inline mh_status mh_same(mh_mutator *m, uint32_t v, uint32_t w, uint32_t 
     *out = m->v[v] == m->v[w];
     return MH_OK;
 }
+static inline mh_status mh_fields(mh_mutator *m, uint32_t v, uint32_t first, uint32_t count) {
+    uint32_t k;
+    mh_status s = MH_OK;
+    MH_AT(m, v < 32 && first <= 32 && count <= 32 - first && count <= m->fields && (v < first || v - first >= count));
+    for (k = 0; s == MH_OK && k < count; k++) s = mh_get(m, first + k, v, k);
+    return s;
+}
 
 /* What a shared world has besides. There are no slots and no numbers of objects. */
 static inline mh_status mh_root(mh_mutator *m, uint32_t v) {

@@ -45,7 +45,7 @@ run() {
     timeout "$(bound "$seconds")" "$work/$program" "$@" || fail "$program $* $(ended $?)"
 }
 
-programs="binary_trees gcbench rewriter fuzz fills_up edges billion speed queue map counter torture places weak_table cleaner misuse abandon cycles hidden helped timeline weak_map"
+programs="binary_trees gcbench rewriter fuzz fills_up edges billion speed queue map counter torture order places weak_table cleaner misuse abandon cycles hidden helped timeline weak_map"
 for name in $programs; do build "$name" "$name"; done
 for name in misuse fuzz speed abandon; do build "$name" "$name.guarded" -DMH_CHECKED; done
 
@@ -63,9 +63,9 @@ echo "== full heaps, calls at the edge, and calls at random"
 run 60 edges
 for threads in 1 2 4; do run 120 fills_up $threads; done
 run 300 fuzz 1000000 1 1 0 5
-run 300 fuzz 1000000 4 3 0 1
+run 300 fuzz 800000 4 3 0 1
 run 300 fuzz 1000000 1 1 1 5
-run 300 fuzz 1000000 4 3 1 1
+run 300 fuzz 800000 4 3 1 1
 
 echo "== one handle used by two, and calls that exchange its word"
 run 60 misuse
@@ -96,6 +96,8 @@ for tracers in 0 2; do
     run 300 counter 4 4000 $tracers
     run 300 torture 4 4000 512 $tracers 1
 done
+run 300 order 20000
+run 300 order 20000 2
 run 300 queue 4 4 500 512 1
 run 300 map 8 1500 512 2048 1
 run 300 map 4 20000 300 1024 2 1
@@ -154,7 +156,7 @@ fi
 for kind in $kinds; do
     if echo 'int main(void) { return 0; }' | cc -fsanitize=$kind -o "$work/there" -x c - 2>"$work/log" && "$work/there"; then
         echo "== under -fsanitize=$kind"
-        for name in binary_trees gcbench rewriter fuzz fills_up edges queue map counter torture places weak_table cleaner weak_map abandon cycles; do build "$name" "$name.checked" -g -fsanitize=$kind -fno-sanitize-recover=all; done
+        for name in binary_trees gcbench rewriter fuzz fills_up edges queue map counter torture order places weak_table cleaner weak_map abandon cycles; do build "$name" "$name.checked" -g -fsanitize=$kind -fno-sanitize-recover=all; done
         run 600 binary_trees.checked 10 2 1 16384
         run 600 gcbench.checked 10
         run 600 rewriter.checked 5 5
@@ -168,6 +170,7 @@ for kind in $kinds; do
         run 600 map.checked 4 1000 64 1024 1
         run 600 counter.checked 4 500 1
         run 600 torture.checked 4 1000 512 1 4
+        run 600 order.checked 300 1
         run 600 places.checked 4 1500 320
         run 600 weak_table.checked 5000
         run 600 cleaner.checked 4 3000 640

@@ -8,7 +8,7 @@
 #include "heap.h"
 #include <string.h>
 
-enum { FIELDS = 3, OBJECTS = 6000, ROOT = OBJECTS, VARIABLES = 32, FOUND = 31, NEXT = 30, MOVED = 29, SLOTS = 40, STATUSES = 23, TRACERS = 8,
+enum { FIELDS = 3, OBJECTS = 6000, ROOT = OBJECTS, VARIABLES = 32, FOUND = 31, NEXT = 30, MOVED = 29, SLOTS = 40, STATUSES = 25, TRACERS = 8,
        KEPT = 16 };
 enum place { OUTSIDE, INSIDE, COLLECTING };
 

@@ -10,7 +10,7 @@
 
 using mh::must;
 
-enum : uint32_t { left = 0, right = 1, rest = 0, depth = 14, length = 20000, threads = 4, pushes = 5000 };
+enum : uint32_t { rest = 0, depth = 14, length = 20000, threads = 4, pushes = 5000 };
 
 static void build(mh::mutator &m, mh::local &out, uint32_t height) {
     if (height == 0) return must(m.make(out, 1));
@@ -26,10 +26,10 @@ static void build(mh::mutator &m, mh::local &out, uint32_t height) {
 
 static uint32_t count(const mh::local &tree) {
     uint32_t nodes = 1;
-    for (uint32_t side : {left, right}) {
-        mh::local child;
+    mh::local children[2];
+    must(tree.fields(children, 2));
+    for (const mh::local &child : children) {
         bool is_nil;
-        must(tree.get(side, child));
         must(child.is_nil(is_nil));
         if (!is_nil) nodes += count(child);
     }

@@ -78,6 +78,23 @@ static void of_others(mh::mutator &m, mh::mutator &other) {
     expect(a.get(16, nil), status::out_of_range, "a field that isn't there");
 }
 
+/* A stamp of another world, and one of its own. */
+static void other_stamps(mh::mutator &m) {
+    mh::world world;
+    mh::mutator n, none;
+    mh_stamp own = {}, others = {};
+    done(world.open(sizes_of(64, 1, 1, 0, 0)), "another world");
+    done(world.take(n), "its mutator");
+    done(m.stamp(own), "a stamp");
+    done(n.stamp(others), "another world's");
+    expect(m.after(others), status::refused, "after another world's stamp");
+    expect(n.after(own), status::refused, "after a stamp in another world");
+    expect(none.after(own), status::empty, "after a stamp by no mutator");
+    expect(none.stamp(others), status::empty, "a stamp by no mutator");
+    done(m.after(own), "after a stamp");
+    done(n.after(others), "after a stamp in its own world");
+}
+
 /* Handles that outlive their mutator. */
 static void left_over(mh::world &world, mh::mutator &&m) {
     mh::local a, b;
@@ -98,6 +115,42 @@ static void left_over(mh::world &world, mh::mutator &&m) {
     expect(a.value(value), status::given_back, "a value by the old handle");
     expect(world.take(next), status::taken, "a mutator for a handle that has one");
     done(next.leave(), "out");
+}
+
+/* An object is looked at, and its fields are taken: into handles that keep what they have if the call isn't done. */
+static void looked_at(mh::mutator &m) {
+    mh::local a, nil, none, fields[3];
+    mh_object what = {7, 7};
+    uint32_t place = 0, value = 0;
+    bool is = false;
+    done(m.make(a, 5), "an object");
+    done(a.set(1, a), "its second field");
+    done(m.nil(nil), "a nil variable");
+    expect(none.look(what), status::empty, "a look by an empty handle");
+    expect(nil.look(what), status::nil, "a look at nothing");
+    expect(what.place == 7 && what.value == 7, true, "whether nothing was written");
+    done(a.look(what), "a look");
+    done(a.place(place), "a place");
+    expect(what.place, place, "the place that a look tells");
+    expect(what.value, 5, "the value that a look tells");
+    done(m.make(fields[0], 9), "what a field's handle had before");
+    expect(none.fields(fields, 2), status::empty, "the fields of an empty handle");
+    expect(a.fields(fields, 3), status::out_of_range, "three fields of two");
+    expect(a.fields(fields, 17), status::out_of_range, "more fields than an object can have");
+    done(fields[0].value(value), "what the handle has still");
+    expect(value, 9, "what the handle has still");
+    done(a.fields(fields, 2), "two fields");
+    done(fields[0].is_nil(is), "the first");
+    expect(is, true, "whether the first is nil");
+    done(fields[1].same(a, is), "the second");
+    expect(is, true, "whether the second is the object");
+    expect(fields[2].is_empty(), true, "whether the third has none");
+    std::vector<mh::local> all;
+    while (all.emplace_back(), m.nil(all.back()) == status::ok) {}
+    all.erase(all.begin() + 3);
+    all.erase(all.begin() + 8);
+    expect(a.fields(&none, 1), status::ok, "a field into one of two variables that are left");
+    expect(a.fields(fields, 2), status::no_variable, "two fields, where no two variables side by side are left");
 }
 
 static void build(mh::mutator &m, mh::local &list, uint32_t length) {
@@ -139,8 +192,10 @@ int main() {
         expect(world.take(third), status::none_left, "a third of two");
         done(m.enter(), "in");
         nothing_there(m);
+        looked_at(m);
         all_owned(m, slots);
         of_others(m, other);
+        other_stamps(m);
         dropped(m);
         done(world.percent_kept(percent), "how full it is");
         done(world.statistics(numbers), "its numbers");

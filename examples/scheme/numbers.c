@@ -8,21 +8,22 @@
 
 struct number { int is_flonum; int32_t n; double d; };
 
-static double flonum_of(uint32_t v) {
-    uint64_t bits = bits_at(beside(v));
+static double flonum_at(const unsigned char *at) {
+    uint64_t bits = bits_at(at);
     double d;
     memcpy(&d, &bits, sizeof d);
     return d;
 }
 
 static struct number number_of(value v) {
-    uint32_t w = word_of(v);
+    unsigned char *at = 0;
+    uint32_t w = v.reg == NOWHERE ? v.word : look(v.reg, EMPTY, &at);
     struct number it = {0, 0, 0};
     if (KIND(w) == INTEGER) it.n = (int32_t)w / 16;
-    else if (KIND(w) == WIDE) it.n = (int32_t)bits_at(beside(v.reg));
+    else if (KIND(w) == WIDE) it.n = (int32_t)bits_at(at);
     else if (KIND(w) == FLONUM) {
         it.is_flonum = 1;
-        it.d = flonum_of(v.reg);
+        it.d = flonum_at(at);
         return it;
     } else fail_at(v, "a number");
     it.d = it.n;

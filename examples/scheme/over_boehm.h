@@ -45,6 +45,10 @@ static inline void make_beside(uint32_t v, uint32_t word) {
     heap_made(v, word, o);
 }
 static inline unsigned char *beside(uint32_t v) { return (unsigned char *)heap_at[v]->field; }
+static inline uint32_t look(uint32_t v, uint32_t otherwise, unsigned char **at) {
+    *at = heap_at[v] ? beside(v) : 0;
+    return word_or(v, otherwise);
+}
 
 /* The memory of an object that make_text made. */
 static inline unsigned char *text_at(uint32_t v) { return (unsigned char *)heap_at[v]->field[0]; }

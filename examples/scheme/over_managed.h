@@ -60,6 +60,16 @@ static inline unsigned char *beside(uint32_t v) {
     heap_must(mh_place(&heap_mutator, v, &place));
     return heap_beside + (size_t)place * BESIDE;
 }
+/* The word of v's object, and where the bytes beside it are; or this, and nowhere, if v is nil. */
+static inline uint32_t look(uint32_t v, uint32_t otherwise, unsigned char **at) {
+    mh_object what = {0, 0};
+    mh_status s = mh_look(&heap_mutator, v, &what);
+    *at = 0;
+    if (s == MH_NIL) return otherwise;
+    heap_must(s);
+    *at = heap_beside + (size_t)what.place * BESIDE;
+    return what.value;
+}
 
 /* A thread sanitizer doesn't see into the library. It is told that who finds memory does so after all that was done by who has used it. */
 #ifdef __SANITIZE_THREAD__

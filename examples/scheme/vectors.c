@@ -100,7 +100,10 @@ value p_list_to_vector(value *a, uint32_t n, uint32_t t) {
 }
 
 /* Where the bytes of a string lie; and what is said once one was read or stored there. */
-static unsigned char *bytes_of(uint32_t string) { return DATA(word(string)) <= BESIDE ? beside(string) : text_at(string); }
+static unsigned char *bytes_of(uint32_t string) {
+    unsigned char *at;
+    return DATA(look(string, EMPTY, &at)) <= BESIDE ? at : text_at(string);
+}
 static void used(uint32_t string, unsigned char *bytes) {
     if (DATA(word(string)) > BESIDE) text_used(bytes);
 }

@@ -4,4 +4,4 @@ pub mod FirstSeason
 pub mod Runs
 pub mod Threads
 pub mod Starting
-pub mod Gathered
+pub mod SeatsGathered

@@ -2,13 +2,14 @@
 ghost use Rattle.std.specs.Prelude.{◌≡◌, All, IfErr, IfOk};
 ghost use Rattle.std.specs.Arc.{arc_value};
 ghost use Rattle.managed_heap.specs.Closing.{AreAllThere, HasLeft, IsWorldEnd};
-ghost use Rattle.managed_heap.specs.WorldClosing.{IsUnclosed};
+ghost use Rattle.managed_heap.specs.WorldClosing.{AreGathered, IsUnclosed};
 
 use crate::gathered_close::{NotClosed, close_world};
 use crate::lent::{Lent, Opened};
 use crate::mutator::Mutator;
 use crate::world::World;
-use gc_table::{Heap, HeapSeat, Words};
+use gc_table::{Heap, HeapSeat, Room, Words};
+use plain_heap::OutOfMemory;
 use seat_turns::Tracer;
 use std::alloc::Global;
 use std::sync::Arc;
@@ -54,6 +55,10 @@ impl Opened for World {
         self.sizes.tracers
     }
 
+    fn room(&self, alloc: Global) -> Result<Room, OutOfMemory> {
+        self.heap.room(alloc)
+    }
+
     fn into_heap(self) -> (Arc<Heap, Global>, HeapSeat) {
         let World {
             heap,
@@ -71,7 +76,8 @@ impl Opened for World {
 impl World {
     /// Closes the world with all its mutators and tracers, each in the order of their numbers, and hands out its
     /// words: the end of one run, in which nobody else took part ([`threads_run`](crate::threads_run)). If one is
-    /// missing, or there is no memory for the list of seats, all is handed back.
+    /// missing, or there is no memory, all is handed back as it was; if somebody else has the heap still, the
+    /// heap with the seats, to be tried again.
     pub fn into_words(
         self,
         alloc: Global,
@@ -81,7 +87,7 @@ impl World {
         requires same { All (λ m. arc_value m.heap ≡ arc_value self.heap) mutators.items }
         requires same_tracers { All (λ t. arc_value t.heap ≡ arc_value self.heap) tracers.items }
         ensures closed { IfOk result (λ w. IsWorldEnd self mutators.items tracers.items w) }
-        ensures unclosed { IfErr result (λ e. IsUnclosed (AreAllThere self mutators.items tracers.items) e self mutators.items tracers.items) }
+        ensures unclosed { IfErr result (λ e. IsUnclosed (AreAllThere self mutators.items tracers.items) (AreGathered HasLeft (arc_value self.heap) self.zero mutators.items tracers.items) e self mutators.items tracers.items) }
     {
         close_world(self, alloc, mutators, tracers)
     }

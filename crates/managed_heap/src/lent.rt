@@ -1,13 +1,15 @@
 //! What a world lends, and the world.
 ghost use Rattle.std.specs.Arc.{arc_value};
-ghost use Rattle.std.specs.Prelude.{ℕ, ◌≡◌};
+ghost use Rattle.std.specs.Prelude.{ℕ, ◌≡◌, IfOk};
+ghost use Rattle.gc_table.specs.Ends.{HasRoom};
 ghost use Rattle.gc_table.specs.Seats.{state_of};
 ghost use Rattle.gc_table.specs.declared.seat.Heap.{Heap};
 ghost use Rattle.gc_table.specs.declared.seat.HeapSeat.{HeapSeat};
 ghost use Rattle.seat_turns.specs.Standing.{RestsOutside};
 ghost use Rattle.managed_heap.specs.Gathering.{IsFirstSeat};
 
-use gc_table::{Heap, HeapSeat};
+use gc_table::{Heap, HeapSeat, Room};
+use plain_heap::OutOfMemory;
 use seat_turns::Tracer;
 use std::alloc::Global;
 use std::sync::Arc;
@@ -68,6 +70,10 @@ pub trait Opened: Drop {
     /// How many tracers it has.
     fn tracer_count(&self) -> u32
         ensures count { result ≡ tracers_of self.now };
+
+    /// Room for the words of its heap.
+    fn room(&self, alloc: Global) -> Result<Room, OutOfMemory>
+        ensures room { IfOk result (HasRoom (heap_of self.now).shape) };
 
     /// Its heap and the seat of section 0. What nobody has taken is gone.
     fn into_heap(self) -> (Arc<Heap, Global>, HeapSeat)

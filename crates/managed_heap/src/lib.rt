@@ -45,13 +45,14 @@
 //! [`Opened`], sizes and numbers, how tracers are dealt out, and how a world is closed with all that it lent.
 #![tactic(auto)]
 
-ghost use Rattle.managed_heap.specs.Threads.{ThreadsRun};
+ghost use Rattle.managed_heap.specs.Threads.{ThreadsRun, WordsStand};
 
 mod calls;
 mod closing;
 mod dealing;
 mod dealt_tracers;
 mod dismissing;
+mod gathered;
 mod gathered_close;
 mod gathering;
 mod handing;
@@ -67,6 +68,7 @@ mod world;
 
 pub use cache_refills::Watch;
 pub use dealt_tracers::deal_tracers;
+pub use gathered::Gathered;
 pub use gathered_close::{NotClosed, Unclosed, close_world};
 pub use gc_cycle::{Counts, Paid};
 pub use gc_table::Words;
@@ -84,4 +86,10 @@ pub use world::World;
 #[tactic(auto, using(crate::proofs::Threads::threads))]
 pub fn threads_run()
     ensures { ThreadsRun }
+{}
+
+/// The words of a closed world are the plain heaps of its mutators: each root and each object that a path reaches are
+/// what the mutator's calls made of them.
+pub fn words_stand()
+    ensures { WordsStand }
 {}

@@ -8,6 +8,7 @@ use Rattle.gc_table.specs.Seats.{Found, state_of}
 use Rattle.seat_turns.specs.Exchanging.{ExchangesField, ExchangesValue}
 use Rattle.seat_steps.specs.declared.came.Came.{Came}
 use Rattle.seat_steps.specs.declared.came.Came.TheVariants as cames
+use Rattle.seat_steps.specs.Asking.{LacksObject}
 use Rattle.seat_steps.specs.Acting.{CanExchange, IsVariable, StepperActs, WantsObject}
 use Rattle.seat_steps.specs.declared.stepper.Stage.TheVariants.{Inside}
 use Rattle.seat_steps.specs.declared.stepper.Stepper.{Stepper}
@@ -35,13 +36,13 @@ pub counted :
 counted v m n before after came (Ok won) x y done none w = subst (λ c. ExchangesValueTo v m n before after c x y) (sym w.0) (won, w.1, done)
 counted v m n before after came (Err why) x y done none w = subst (λ c. ExchangesValueTo v m n before after c x y) (sym w.0) (uncounted v m n before after why x y none w.1)
 
-unplaced : (v before after : ℕ) (came : Came) (x : Stepper) → WantsObject came (IsVariable v) v x x → after ≡ before → PlacesTo v before after came x x
+unplaced : (v before after : ℕ) (came : Came) (x : Stepper) → LacksObject came v x → after ≡ before → PlacesTo v before after came x x
 unplaced v before after cames.Done x d q = absurd d
-unplaced v before after came x d q = (d, q)
+unplaced v before after came x d q = (d, refl, q)
 
 pub placed :
     (v before after : ℕ) (came : Came) (r : Result ℕ Came) (x : Stepper) → IfOk r (λ c. word_in (state_of x.seat) v ≡ c + 1) → IfOk r (λ c. c < (arc_value x.heap).shape.cells) → IfOk r (λ _. IsVariable v × (x.stage ≡ Inside))
-    → IfErr r (λ why. WantsObject why (IsVariable v) v x x) → WritesPlace came r before after → PlacesTo v before after came x x
+    → IfErr r (λ why. LacksObject why v x) → WritesPlace came r before after → PlacesTo v before after came x x
 placed v before after came (Ok place) x at inside may none w =
     subst (λ c. PlacesTo v before after c x x) (sym w.0) (subst (λ k. PlacesTo v before k cames.Done x x) (sym w.1) (at, inside, may.0, may.1, refl))
 placed v before after came (Err why) x at inside may none w = subst (λ c. PlacesTo v before after c x x) (sym w.0) (unplaced v before after why x none w.1)

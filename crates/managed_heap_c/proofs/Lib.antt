@@ -1,11 +1,15 @@
 pub mod Acted
 pub mod Answered
+pub mod Died
 pub mod Given
+pub mod Looked
 pub mod Made
 pub mod Numbered
+pub mod Stamped
 pub mod Stored
 pub mod Tested
 pub mod Told
+pub mod Unpacked
 pub mod Upgraded
 pub mod Used
 pub mod Values

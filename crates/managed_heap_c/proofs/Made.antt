@@ -23,7 +23,7 @@ unfolding SetsFirst
 sets-more k v ns x z y done more = let e : suc k ≡ k + 1 = omega arith in subst (λ n. SetsFirst n v ns x y) e (z, done, more)
 
 -- one call after another, by the lengths of the logs
-then_more : (j k : ℕ) (u v w : View) → AtMost j u v → AtMost k v w → AtMost (j + k) u w
+pub then_more : (j k : ℕ) (u v w : View) → AtMost j u v → AtMost k v w → AtMost (j + k) u w
 then_more j k u v w p q =
     let first = length-drop (length u.log) v.log in
     let last = length-drop (length v.log) w.log in

@@ -57,8 +57,8 @@ count-by came v b m n before after x y i e = e
 
 pub place-by : (came : Came) (v b before after : ℕ) (x y : Stepper) → IsByteOf v b → PlacesTo b before after came x y → PlacesTo v before after came x y
 place-by cames.Done v b before after x y i e = subst (λ k. PlacesTo k before after cames.Done x y) (same v b i e.2) e
-place-by cames.Nil v b before after x y i e = subst (λ k. PlacesTo k before after cames.Nil x y) (same v b i e.0.0) e
-place-by cames.OutOfRange v b before after x y i e = ((λ l. e.0.0 (byte-in v b i l), e.0.1), e.1)
+place-by cames.Nil v b before after x y i e = subst (λ k. PlacesTo k before after cames.Nil x y) (same v b i e.0.0.0) e
+place-by cames.OutOfRange v b before after x y i e = (λ l. e.0 (byte-in v b i l), e.1, e.2)
 place-by came v b before after x y i e = e
 
 pub number-by : (came : Came) (v b p q r s : ℕ) (x y : Stepper) → IsByteOf v b → NumbersTo b p q r s came x y → NumbersTo v p q r s came x y

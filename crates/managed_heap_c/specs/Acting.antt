@@ -9,6 +9,7 @@ use Rattle.seat_turns.specs.Clearing.{clearing_steps}
 use Rattle.seat_turns.specs.Exchanging.{ExchangesField, ExchangesValue}
 use Rattle.seat_steps.specs.declared.came.Came.{Came}
 use Rattle.seat_steps.specs.declared.came.Came.TheVariants as cames
+use Rattle.seat_steps.specs.Asking.{LacksObject}
 use Rattle.seat_steps.specs.Acting.{ActsTo, CanExchange, HasSlots, IsSlot, IsVariable, StepperActs, WantsObject}
 use Rattle.seat_steps.specs.declared.stepper.Stage.TheVariants.{Inside}
 use Rattle.seat_steps.specs.declared.stepper.Stepper.{Stepper}
@@ -39,7 +40,7 @@ ForgetsSlots from to came x y = ActsTo came (HasSlots x from to) (to - from) (Ta
 -- what asking for the place of a variable's object came to, in either kind of world; the mutator is as it was
 abbrev pub PlacesTo : ℕ → ℕ → ℕ → Came → Stepper → Stepper → Type 0
 PlacesTo v before after cames.Done x y = (word_in (state_of x.seat) v ≡ after + 1) × (after < (arc_value x.heap).shape.cells) × IsVariable v × (x.stage ≡ Inside) × (y ≡ x)
-PlacesTo v before after came x y = WantsObject came (IsVariable v) v x y × (after ≡ before)
+PlacesTo v before after came x y = LacksObject came v x × (y ≡ x) × (after ≡ before)
 
 -- one read found the number of variable v's object, of which C has the maker's part and the rest
 abbrev pub FindsNumber : ℕ → ℕ → ℕ → Stepper → Stepper → Type 0

@@ -2,14 +2,17 @@ pub mod Acting
 pub mod Answering
 pub mod Asking
 pub mod Bytes
+pub mod Deaths
 pub mod Filled
 pub mod Kinds
 pub mod Lent
+pub mod Looking
 pub mod Making
 pub mod Own
 pub mod Owned
 pub mod Sharing
 pub mod Sizing
+pub mod Stamping
 pub mod Storing
 pub mod Taking
 pub mod Telling

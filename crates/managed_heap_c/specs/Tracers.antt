@@ -1,8 +1,11 @@
 -- What an export of a tracer answers.
 use Rattle.std.specs.Prelude.{ℕ, ◌≡◌, ◌⊎◌, Option, Some, None, IsFalse, IsTrue}
 use Rattle.gc_table.specs.Seats.{Across}
+use Rattle.seat_turns.specs.TracerHelps.{TracerHelps}
 use Rattle.seat_turns.specs.TracerTries.{TriesTurn}
 use Rattle.seat_turns.specs.declared.background.Tracer.{Tracer}
+use Rattle.seat_turns.specs.declared.helping.TryHelp.{TryHelp}
+use Rattle.seat_turns.specs.declared.helping.TryHelp.TheVariants as helps
 use Rattle.seat_turns.specs.declared.try_turns.TryTurn.{TryTurn}
 use Rattle.seat_turns.specs.declared.try_turns.TryTurn.TheVariants as tries
 use Rattle.managed_heap_c.specs.Kinds as kinds
@@ -27,6 +30,17 @@ abbrev pub AnswersTurn : ℕ → Option Tracer → Option Tracer → Type 0
 AnswersTurn n None y = (n ≡ 11) × (y ≡ None)
 AnswersTurn n (Some s) y = (tried : TryTurn) × (t : Tracer) × (n ≡ status_of_turn tried) × (y ≡ Some t) × TriesTracerTurn tried s t
 
+-- the number of what a tracer's step of help came to
+abbrev pub status_of_help : TryHelp → ℕ
+status_of_help helps.Helped = 0
+status_of_help helps.OutOfRange = 6
+status_of_help helps.NoHelp = 24
+
+-- the handle was given back, or else the step of help came to what the answer says, and did this
+abbrev pub AnswersHelp : ℕ → ℕ → Option Tracer → Option Tracer → Type 0
+AnswersHelp most n None y = (n ≡ 11) × (y ≡ None)
+AnswersHelp most n (Some s) y = (helped : TryHelp) × (t : Tracer) × (n ≡ status_of_help helped) × (y ≡ Some t) × TracerHelps most helped s t
+
 -- another call uses the tracer's handle, and nothing changed
 abbrev pub IsTracerInUse : ℕ → TracerHand → TracerHand → Type 0
 IsTracerInUse n x y = (n ≡ 12) × IsTrue x.busy × (y ≡ x)
@@ -34,6 +48,10 @@ IsTracerInUse n x y = (n ≡ 12) × IsTrue x.busy × (y ≡ x)
 -- the answer of a turn by a handle that no other call uses, and none does afterwards; or another uses it, and nothing changed
 abbrev pub AnswersTurnOnce : ℕ → TracerHand → TracerHand → Type 0
 AnswersTurnOnce n x y = (IsFalse x.busy × IsFalse y.busy × AnswersTurn n x.tracer y.tracer) ⊎ IsTracerInUse n x y
+
+-- the answer of a step of help by a handle that no other call uses, and none does afterwards; or another uses it, and nothing changed
+abbrev pub AnswersHelpOnce : ℕ → ℕ → TracerHand → TracerHand → Type 0
+AnswersHelpOnce most n x y = (IsFalse x.busy × IsFalse y.busy × AnswersHelp most n x.tracer y.tracer) ⊎ IsTracerInUse n x y
 
 -- the world had this tracer, and has the others still
 abbrev pub IsLent : Tracer → Option AnyWorld → Option AnyWorld → Type 0

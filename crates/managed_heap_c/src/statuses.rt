@@ -1,10 +1,10 @@
 //! What a call answers to C: the numbers of `mh_status`.
 ghost use Rattle.std.specs.Prelude.{◌≡◌};
 ghost use Rattle.managed_heap_c.specs.Answering.{status_of_came};
-ghost use Rattle.managed_heap_c.specs.Tracers.{status_of_turn};
+ghost use Rattle.managed_heap_c.specs.Tracers.{status_of_help, status_of_turn};
 
 use seat_steps::Came;
-use seat_turns::TryTurn;
+use seat_turns::{TryHelp, TryTurn};
 
 pub const OK: u32 = 0;
 
@@ -68,5 +68,16 @@ pub fn turn_status(tried: TryTurn) -> u32
         TryTurn::Full => 8,
         TryTurn::Idle => 15,
         TryTurn::Dismissed => 16,
+    }
+}
+
+/// The number of what a tracer's step of help came to.
+pub fn help_status(helped: TryHelp) -> u32
+    ensures number { result ≡ status_of_help helped }
+{
+    match helped {
+        TryHelp::Helped => 0,
+        TryHelp::OutOfRange => 6,
+        TryHelp::NoHelp => 24,
     }
 }

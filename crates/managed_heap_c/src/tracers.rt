@@ -1,10 +1,12 @@
 //! What a call does with the tracer behind a handle.
 ghost use Rattle.std.specs.Prelude.{IfErr, IfOk, IsFalse};
-ghost use Rattle.managed_heap_c.specs.Tracers.{AnswersTurn, Dismissing, GivesTracer, GivesTracerBack, HoldsTracer, IsLent, LendsNone, TakesTracer};
+ghost use Rattle.managed_heap_c.specs.Tracers.{AnswersHelp, AnswersTurn, Dismissing, GivesTracer, GivesTracerBack, HoldsTracer, IsLent, LendsNone, TakesTracer};
 
 use crate::hands::{AnyWorld, TracerHand, Whole};
 use crate::slots::{TracerSlot, tracer_slot};
-use crate::statuses::{GIVEN_BACK, NONE_LEFT, OK, OUT_OF_MEMORY, REFUSED, STOPPED, turn_status};
+use crate::statuses::{
+    GIVEN_BACK, NONE_LEFT, OK, OUT_OF_MEMORY, REFUSED, STOPPED, help_status, turn_status,
+};
 use seat_turns::Tracer;
 use std::alloc::{AllocError, Global};
 
@@ -85,6 +87,16 @@ pub fn turn_by(hand: &mut TracerHand) -> u32
     match &mut hand.tracer {
         None => GIVEN_BACK,
         Some(tracer) => turn_status(tracer.try_turn()),
+    }
+}
+
+/// How the step of help ended, or `GIVEN_BACK` if the handle is empty.
+pub fn help_turn_by(hand: &mut TracerHand, most: u32) -> u32
+    ensures answers { AnswersHelp most result hand.old.tracer hand.new.tracer }
+{
+    match &mut hand.tracer {
+        None => GIVEN_BACK,
+        Some(tracer) => help_status(tracer.help_step(most)),
     }
 }
 

@@ -1,11 +1,11 @@
 //! Tracers for programs in C: one thread marks with each, beside the mutators.
-ghost use Rattle.managed_heap_c.specs.Tracers.{AnswersTurnOnce, Dismissing, GivesTracerOnce, TakesTracer};
+ghost use Rattle.managed_heap_c.specs.Tracers.{AnswersHelpOnce, AnswersTurnOnce, Dismissing, GivesTracerOnce, TakesTracer};
 
 use crate::handles::{TracerHandle, WorldHandle};
 use crate::lending::{lend_tracer, lend_whole};
 use crate::slots::TracerSlot;
 use crate::statuses::IN_USE;
-use crate::tracers::{dismiss_by, give_tracer_by, take_tracer_at, turn_by};
+use crate::tracers::{dismiss_by, give_tracer_by, help_turn_by, take_tracer_at, turn_by};
 use crate::using::{begins_turn, ends_turn};
 use std::alloc::Global;
 
@@ -31,6 +31,20 @@ pub extern "C" fn mhl_trace_turn(h: &mut TracerHandle) -> u32
         return IN_USE;
     }
     let answer = turn_by(hand);
+    ends_turn(hand);
+    answer
+}
+
+/// A step of help by a tracer, in a stop: at most `most` objects or blocks (or one stretch).
+#[unsafe(no_mangle)]
+pub extern "C" fn mhl_help_turn(h: &mut TracerHandle, most: u32) -> u32
+    ensures answers { AnswersHelpOnce most result h.old.hand h.new.hand }
+{
+    let hand = lend_tracer(h);
+    if !begins_turn(hand) {
+        return IN_USE;
+    }
+    let answer = help_turn_by(hand, most);
     ends_turn(hand);
     answer
 }

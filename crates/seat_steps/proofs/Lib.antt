@@ -2,6 +2,7 @@ mod Amounts
 mod Answered
 mod AtTurn
 mod Counted
+mod Dying
 pub mod Few
 mod LookedAt
 pub mod Places
@@ -19,3 +20,6 @@ mod Gates
 mod Helped
 pub mod Found
 pub mod Searched
+pub mod Stamped
+pub mod Taken
+mod Known

@@ -11,7 +11,7 @@ use Rattle.mark_core.specs.declared.kinds.Phase.TheVariants.{Clear, Drain, Full,
 use Rattle.mark_core.specs.declared.kinds.Shape.{Shape}
 use Rattle.mark_core.specs.declared.kinds.Step.{Step}
 use Rattle.mark_core.specs.declared.kinds.Step.TheVariants.{RaiseStep, StorePhase}
-use Rattle.gc_table.specs.Log.{Only, event, events}
+use Rattle.gc_table.specs.Log.{Only, all_steps, event, events}
 use Rattle.gc_table.specs.Running.{Ran}
 use Rattle.gc_table.specs.Seats.{Sits, view_of}
 use Rattle.gc_table.specs.declared.seat.Heap.{Heap}
@@ -23,6 +23,9 @@ use Rattle.gc_table.proofs.Running.{ran-events, ran-join, ran-refl}
 use Rattle.packet_pools.specs.Counts.{count_of}
 use Rattle.packet_pools.specs.Fields.{picked}
 use Rattle.packet_pools.specs.Seeking.{some_event}
+use Rattle.garbage_laws.specs.Calls.{ended_cycle}
+use Rattle.garbage_laws.specs.Garbage.{ends_cycle as moves_to_idle}
+use Rattle.garbage_laws.proofs.Calls.{calls_free_garbage}
 use Rattle.gc_cycle.specs.Collecting.{HoldsWorld}
 use Rattle.gc_cycle.specs.Courses.{TakesCourse, goes_on, phase_stored}
 use Rattle.gc_cycle.specs.Cycles.{collects_exactly}
@@ -202,6 +205,20 @@ counts-on exact v w p x s = (
   λ e. part-exact Idle v w p ∙ s.1 e,
 )
 
+-- whoever ended one cycle moved the phase to Idle
+unmoved : (step : Step) (n : ℕ) → not (moves_to_idle step) ≡ true → ends_cycle step n ≡ false
+unmoved (StorePhase Idle) n e = absurd (false≢true e)
+unmoved (StorePhase Marking) n e = refl
+unmoved (StorePhase Drain) n e = refl
+unmoved (StorePhase Clear) n e = refl
+unmoved (StorePhase Sweep) n e = refl
+unmoved (StorePhase Full) n e = refl
+unmoved step n e = refl
+
+moved_one : (es : List Entry) (b : Bool) → all_steps (λ step. not (moves_to_idle step)) es ≡ b → count_of ends_cycle es ≡ 1 → ended_cycle es ≡ true
+moved_one es true all one = let none = count-none ends_cycle es (none-of-steps (λ step. not (moves_to_idle step)) ends_cycle unmoved es all) in absurd (omega (arith, none, one))
+moved_one es false all one = ap not all
+
 pub collects-all :
     (exact : Bool) (h : Heap) (ss : List Step) (v : View) (y : HeapSeat) → Sits h y → TakesCourse [] ss v (view_of y) → ((u : View) → HasCollectedSince u v → collects_exactly h.shape (begins u) (events u (view_of y)) ≡ true) → CountsSinceAsked exact v
     → ∥ CollectsSinceAsked exact (view_of y) ∥₁
@@ -209,8 +226,10 @@ collects-all exact h ss v y sits c k s =
     let w : View = view_of y in
     ∥∥₁_map s.0
     (λ (q : (u : View) × HasAsked 1 u v × (IsTrue exact → HasCollectedSince u v)).
+    let a : HasAsked 1 q.0 w = asked_on 1 q.0 v w q.1 c.changed.ran (course_calm [] ss v w refl c) in
     record {
       start = q.0;
-      asked = asked_on 1 q.0 v w q.1 c.changed.ran (course_calm [] ss v w refl c);
+      asked = a;
+      frees = calls_free_garbage a.asked w a.ran (moved_one (events a.asked w) _ refl a.ends);
       collects = λ e. subst (λ (sh : Shape). collects_exactly sh (begins q.0) (events q.0 w) ≡ true) (sym sits.1) (k q.0 (q.2 e));
     })

@@ -6,6 +6,7 @@ use Rattle.mark_core.specs.declared.kinds.Phase.TheVariants.{Drain, Marking}
 use Rattle.mark_core.specs.declared.kinds.Step.TheVariants.{Reset}
 use Rattle.gc_table.specs.Log.{events}
 use Rattle.gc_table.specs.declared.view.View.{View}
+use Rattle.garbage_laws.specs.Calls.{FreesBetween}
 use Rattle.gc_cycle.specs.Courses.{TakesCourse, sets_numbers}
 use Rattle.gc_cycle.specs.Cycles.{collects_exactly}
 use Rattle.gc_cycle.specs.Moments.{begins}
@@ -16,10 +17,12 @@ use Rattle.seat_steps.specs.Asked.{HasAsked}
 use Rattle.seat_steps.specs.Causes.{ArrivesBy, FoundFull}
 use Rattle.seat_steps.specs.declared.came.Came.{Came}
 
--- since the seat asked for its stop one cycle ended, and one only; if it was to be exact, a drain began with no cell marked, and then it ended
+-- since the seat asked for its stop one cycle ended, and one only, by a step that freed what was garbage as that began; if it was to be exact, a drain began with no
+-- cell marked, and then it ended
 pub record CollectsSinceAsked (exact : Bool) (w : View) : Type 0 where
   pub start : View
   pub asked : HasAsked 1 start w
+  pub frees : FreesBetween asked.asked w
   pub collects : IsTrue exact → IsTrue (collects_exactly w.shape (begins start) (events start w))
 
 -- the seat gave up its cache, if it had one, stored its position, left, and asked for the flag: it is the seat's own if it was down

@@ -1,4 +1,5 @@
 pub mod Acting
+pub mod Deaths
 pub mod Amounts
 pub mod Asked
 pub mod Asking
@@ -13,6 +14,8 @@ pub mod Stepping
 pub mod Steps
 pub mod Waiting
 pub mod Weak
+pub mod Taken
+pub mod Stamping
 pub mod Arriving
 pub mod Causes
 pub mod Doing

@@ -31,7 +31,7 @@ pub enum Came {
     Unpublished,
     /// The weak reference's object is dead. The variable refers to nothing.
     Dead,
-    /// The weak reference is another world's.
+    /// The weak reference, or the stamp, is another world's.
     OtherWorld,
     /// The mutator is inside the world: only one outside helps.
     Inside,

@@ -5,6 +5,7 @@ ghost use Rattle.mark_core.specs.Steps.MutatorSteps.{seat_variable as word_in};
 ghost use Rattle.mark_core.specs.declared.kinds.Step.TheVariants.{ReadIdent};
 ghost use Rattle.gc_table.specs.Seats.{Found, state_of};
 ghost use Rattle.seat_steps.specs.Acting.{IsVariable, StepperActs, WantsObject};
+ghost use Rattle.seat_steps.specs.Asking.{LacksObject};
 ghost use Rattle.seat_steps.specs.declared.stepper.Stage.TheVariants as stages;
 
 use crate::came::Came;
@@ -19,7 +20,7 @@ impl Stepper {
         ensures place { IfOk result (λ c. word_in (state_of self.now.seat) v ≡ c + 1) }
         ensures inside { IfOk result (λ c. c < (arc_value self.now.heap).shape.cells) }
         ensures may { IfOk result (λ _. IsVariable v × (self.now.stage ≡ stages.Inside)) }
-        ensures refused { IfErr result (λ came. WantsObject came (IsVariable v) v self.now self.now) }
+        ensures refused { IfErr result (λ came. LacksObject came v self.now) }
     {
         if v >= VARIABLES {
             return Err(Came::OutOfRange);

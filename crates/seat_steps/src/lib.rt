@@ -4,13 +4,17 @@
 //! or the heap is full, the seat is outside the world afterwards, and the answer says why ([`Came`]).
 //!
 //! The calls are in `stepping`, `asking` and `refills`, those of a world that shares its objects in `acting`,
-//! `spilling`, `knowing` and `weak`; the collection is in `steps`, `sharing` and `sweeps`, and help in another's in `helping`. What
+//! `spilling`, `knowing`, `weak` and `deaths`; the collection is in `steps`, `sharing` and `sweeps`, and help in another's in `helping`. What
 //! they do with the heap and the seat is in `tries`, `operations`, `getting` and `seeking`.
 #![tactic(auto)]
+
+ghost use Rattle.seat_steps.specs.Stamping.{SteppersInOrder};
+ghost use Rattle.seat_steps.specs.Taken.{TakenStays};
 
 mod acting;
 mod asking;
 mod came;
+mod deaths;
 mod getting;
 mod handing;
 mod helping;
@@ -22,6 +26,7 @@ mod resting;
 mod seeking;
 mod sharing;
 mod spilling;
+mod stamping;
 mod stepper;
 mod stepping;
 mod steps;
@@ -32,4 +37,17 @@ mod weak;
 
 pub use came::Came;
 pub use resting::RestingSeat;
+pub use stamping::Stamp;
 pub use stepper::{Stage, Stepper};
+
+/// What a stepper does after it came [`after`](Stepper::after) a stamp stands behind all that the stamp's mutator had done,
+/// in each later run, and in that of the closed world.
+pub fn steppers_in_order()
+    ensures { SteppersInOrder }
+{}
+
+/// A weak reference that a stepper has taken it has taken for good, so [`upgrade`](Stepper::upgrade) and
+/// [`death`](Stepper::death) tell it the object's death however many calls lie between.
+pub fn taken_stays()
+    ensures { TakenStays }
+{}

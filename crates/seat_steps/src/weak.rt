@@ -3,6 +3,7 @@ ghost use Rattle.std.specs.Prelude.{IfErr, IfOk};
 ghost use Rattle.mutator_ops.specs.Upgrading.{Upgrades};
 ghost use Rattle.seat_turns.specs.Weak.{TakesWeakIn, identity_of};
 ghost use Rattle.seat_steps.specs.Acting.{DeclinesToAct, IsVariable, StepperActs};
+ghost use Rattle.seat_steps.specs.Taken.{HasTaken, UpgradeTellsDeath};
 ghost use Rattle.seat_steps.specs.Weak.{CanUpgrade, HasNoWeak, UpgradesTo};
 
 use crate::came::Came;
@@ -15,6 +16,7 @@ impl Stepper {
     /// mutator made the object and hasn't published it yet, which it does at the next stop at the latest.
     pub fn weak(&mut self, v: u8) -> Result<Weak, Came>
         ensures takes { IfOk result (λ weak. StepperActs (IsVariable v) 4 (TakesWeakIn self.old.name v weak) self.old self.new) }
+        ensures taken { IfOk result (λ weak. HasTaken weak self.new) }
         ensures refused { IfErr result (λ came. HasNoWeak came v self.old self.new) }
     {
         if !self.shares() {
@@ -61,9 +63,11 @@ impl Stepper {
     }
 
     /// Variable v refers to the weak reference's object, which keeps it, if the object is alive. `Dead` if no path leads
-    /// to it any more; then variable v refers to nothing.
+    /// to it any more; then variable v refers to nothing. If this mutator took the weak reference, `Dead` says that no
+    /// path leads to the object from any mutator's variables or slots, nor ever will.
     pub fn upgrade(&mut self, weak: Weak, v: u8) -> Came
         ensures upgrades { UpgradesTo result weak v self.old self.new }
+        ensures told { UpgradeTellsDeath result weak v self.old self.new }
     {
         if weak.world != self.name {
             return Came::OtherWorld;

@@ -27,7 +27,7 @@ use Rattle.shared_heap.specs.Threads.{IsWhole}
 use Rattle.shared_heap.specs.declared.mutator.SharedMutator.{SharedMutator}
 use Rattle.shared_heap.specs.declared.world.SharedWorld.{SharedWorld}
 use Rattle.managed_heap.specs.Gathering.{AreLeft, seats_of}
-use Rattle.managed_heap.proofs.Gathered.{left-at, left-long, got-past, split-at}
+use Rattle.managed_heap.proofs.SeatsGathered.{left-at, left-long, got-past, split-at}
 use Rattle.shared_heap.proofs.Keeping.{made-more, spared-values}
 use Rattle.shared_heap.proofs.Rooted.{all-join, all-more}
 

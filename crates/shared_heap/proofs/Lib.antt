@@ -9,4 +9,5 @@ mod Once
 pub mod RootRead
 mod Rooted
 mod Rooting
+pub mod Stamped
 mod Telling

@@ -8,13 +8,15 @@ use Rattle.seat_steps.specs.Handing.{IsNewStepper}
 use Rattle.seat_steps.specs.Stepping.{is_collecting, shares}
 use Rattle.seat_steps.specs.declared.stepper.Stage.TheVariants as stages
 use Rattle.seat_steps.specs.declared.stepper.Stepper.{Stepper}
+use Rattle.shared_heap.specs.Calls.{LeavesFrom}
 use Rattle.shared_heap.specs.declared.mutator.Place.TheVariants.{Outside}
 use Rattle.shared_heap.specs.declared.mutator.SharedMutator.{SharedMutator}
 
--- the stepper is this mutator, outside the world, and new; no step was taken that a plain heap sees, and none if the mutator was outside
+-- the stepper is this mutator, outside the world, and new; the seat gave up its cache and left if the mutator was inside, and did nothing if not
 pub record IsInSteps (m : SharedMutator) (s : Stepper) : Type 0 where
   pub outside : s.stage ≡ stages.Outside
   pub rests : m.place ≡ Outside → s.seat ≡ m.seat
+  pub left : LeavesFrom m.place m.seat s.seat
   pub leaves : Across LeavesHeap m.seat s.seat
   pub world : arc_value s.heap ≡ arc_value m.heap
   pub name_is : s.name ≡ m.name

@@ -10,6 +10,7 @@ pub mod Opening
 pub mod Planning
 pub mod Rooting
 pub mod Spilling
+pub mod Stamping
 pub mod Threads
 pub mod Wanting
 pub mod Weak

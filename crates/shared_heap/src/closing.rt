@@ -2,12 +2,13 @@
 ghost use Rattle.std.specs.Prelude.{◌≡◌, All, IfErr, IfOk};
 ghost use Rattle.std.specs.Arc.{arc_value};
 ghost use Rattle.shared_heap.specs.Closing.{AreAllThere, HasLeft, IsSharedEnd};
-ghost use Rattle.managed_heap.specs.WorldClosing.{IsUnclosed};
+ghost use Rattle.managed_heap.specs.WorldClosing.{AreGathered, IsUnclosed};
 
 use crate::mutator::SharedMutator;
 use crate::world::SharedWorld;
-use gc_table::{Heap, HeapSeat, Words};
+use gc_table::{Heap, HeapSeat, Room, Words};
 use managed_heap::{Lent, NotClosed, Opened, close_world};
+use plain_heap::OutOfMemory;
 use seat_turns::Tracer;
 use std::alloc::Global;
 use std::sync::Arc;
@@ -52,6 +53,10 @@ impl Opened for SharedWorld {
         self.sizes.tracers
     }
 
+    fn room(&self, alloc: Global) -> Result<Room, OutOfMemory> {
+        self.heap.room(alloc)
+    }
+
     fn into_heap(self) -> (Arc<Heap, Global>, HeapSeat) {
         let SharedWorld {
             heap,
@@ -69,7 +74,8 @@ impl Opened for SharedWorld {
 impl SharedWorld {
     /// Closes the world with all its mutators and tracers, each in the order of their numbers, and hands out its
     /// words: the end of one run, in which nobody else took part ([`threads_run`](crate::threads_run)). If one is
-    /// missing, or there is no memory for the list of seats, all is handed back.
+    /// missing, or there is no memory, all is handed back as it was; if somebody else has the heap still, the
+    /// heap with the seats, to be tried again.
     pub fn close(
         self,
         alloc: Global,
@@ -79,7 +85,7 @@ impl SharedWorld {
         requires same { All (λ m. arc_value m.heap ≡ arc_value self.heap) mutators.items }
         requires same_tracers { All (λ t. arc_value t.heap ≡ arc_value self.heap) tracers.items }
         ensures closed { IfOk result (λ w. IsSharedEnd self mutators.items tracers.items w) }
-        ensures unclosed { IfErr result (λ e. IsUnclosed (AreAllThere self mutators.items tracers.items) e self mutators.items tracers.items) }
+        ensures unclosed { IfErr result (λ e. IsUnclosed (AreAllThere self mutators.items tracers.items) (AreGathered HasLeft (arc_value self.heap) self.zero mutators.items tracers.items) e self mutators.items tracers.items) }
     {
         close_world(self, alloc, mutators, tracers)
     }

@@ -24,7 +24,8 @@
 
 ghost use Rattle.shared_heap.specs.Counting.{CounterClosed, CounterRead, LockClosed};
 ghost use Rattle.shared_heap.specs.Deaths.{TakenStays};
-ghost use Rattle.shared_heap.specs.Finding.{CallsFind, FieldFound, UpgradeFound, ValueFound};
+ghost use Rattle.shared_heap.specs.Finding.{CallsFind, FieldFound, SteppersFind, UpgradeFound, ValueFound};
+ghost use Rattle.shared_heap.specs.Stamping.{CallsInOrder};
 ghost use Rattle.shared_heap.specs.Threads.{ThreadsRun};
 
 mod calls;
@@ -40,15 +41,18 @@ mod opening;
 mod planning;
 mod reading;
 mod slots;
+mod stamping;
 mod tracing;
 mod weak;
 mod world;
 
 pub use gc_table::Words;
-pub use managed_heap::{NotClosed, Sizes as SharedSizes, Statistics as SharedStatistics, Unclosed};
+pub use managed_heap::{
+    Gathered, NotClosed, Sizes as SharedSizes, Statistics as SharedStatistics, Unclosed,
+};
 pub use mutator::{Place, SharedMutator};
 pub use reading::root_value;
-pub use seat_steps::{Came, Stage, Stepper};
+pub use seat_steps::{Came, Stage, Stamp, Stepper};
 pub use seat_turns::{NotOpened, Refused, Tracer, TryTurn, Turn, Upgraded, Weak};
 pub use world::SharedWorld;
 
@@ -65,6 +69,12 @@ pub fn threads_run()
 #[tactic(auto, using(crate::proofs::Finding::finding))]
 pub fn calls_find()
     ensures { CallsFind }
+{}
+
+/// So it is with a mutator in steps, as programs in C have them.
+#[tactic(auto, using(crate::proofs::Finding::finding))]
+pub fn steppers_find()
+    ensures { SteppersFind }
 {}
 
 /// So [`value`](SharedMutator::value) answers the value that the object had in this heap.
@@ -88,6 +98,12 @@ pub fn upgrade_found()
 /// object's death however many calls lie between.
 pub fn taken_stays()
     ensures { TakenStays }
+{}
+
+/// What a mutator does after it came [`after`](SharedMutator::after) a stamp stands behind all that the stamp's mutator had
+/// done, in each later run, and in that of the closed world.
+pub fn calls_in_order()
+    ensures { CallsInOrder }
 {}
 
 /// If the mutators of a closed world made no object, and changed values only by exchanges of a number for the next,

@@ -7,6 +7,7 @@ mod objects;
 mod opening;
 mod orders;
 mod pools;
+mod refusing;
 mod scanning;
 mod seasons;
 mod stops;

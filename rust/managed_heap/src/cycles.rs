@@ -40,11 +40,11 @@ pub struct Cycle {
     pub kept: u32,
     /// How many objects mutators traced beside the program since the cycle before, to pay for the cells that they took.
     pub mutators: u64,
-    /// How many objects were traced while the world stood still.
+    /// How many objects the collecting thread traced while the world stood still: those that helpers traced aren't among them.
     pub traced: u32,
-    /// How many cards of 16 cells were cleaned then, since they were dirty.
+    /// How many cards of 16 cells it cleaned then, since they were dirty.
     pub cleaned: u32,
-    /// How many objects of those cards were scanned again.
+    /// How many objects of those cards it scanned again.
     pub rescanned: u32,
     /// Whether it left no garbage, since it was precise or no cycle was marking beside the program. If not, what died since the cycle began may be kept until
     /// the next one.

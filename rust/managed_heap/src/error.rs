@@ -10,6 +10,7 @@ pub(crate) const IDLE: u32 = 15;
 pub(crate) const DISMISSED: u32 = 16;
 pub(crate) const NO_CACHE: u32 = 20;
 pub(crate) const DEAD: u32 = 21;
+pub(crate) const NO_HELP: u32 = 24;
 
 /// Why a call did nothing: objects and variables are as before.
 #[derive(Clone, Copy, Debug, PartialEq, Eq, Hash)]
@@ -27,7 +28,7 @@ pub enum Error {
     NotShared,
     /// Another mutator made the object and hasn't published it yet, so that nothing would tell its death.
     Unpublished,
-    /// The weak reference is another world's.
+    /// The weak reference, or the stamp, is another world's.
     OtherWorld,
     /// The reachable objects fill all cells, for good.
     Full,
@@ -70,7 +71,7 @@ impl fmt::Display for Error {
             Error::Nil => f.write_str("the variable refers to no object"),
             Error::NotShared => f.write_str("the world isn't shared"),
             Error::Unpublished => f.write_str("another mutator hasn't published the object yet"),
-            Error::OtherWorld => f.write_str("the weak reference is another world's"),
+            Error::OtherWorld => f.write_str("the weak reference or the stamp is another world's"),
             Error::Full => f.write_str("the reachable objects fill all cells, for good"),
             Error::Spent => f.write_str("the mutator has made all objects that it can"),
             Error::OutOfMemory => f.write_str("there is no memory"),

@@ -94,14 +94,16 @@ mod library;
 mod mutator;
 mod payloads;
 mod resting;
+mod stamp;
 mod tracer;
 mod weak;
 mod world;
 
 pub use cycles::{Cycle, Why};
 pub use error::Error;
-pub use mutator::{Mutator, VARIABLES};
+pub use mutator::{Mutator, Object, VARIABLES};
 pub use payloads::Payloads;
+pub use stamp::Stamp;
 pub use tracer::{Tracer, Turn};
 pub use weak::Weak;
 pub use world::{Sizes, Statistics, World};

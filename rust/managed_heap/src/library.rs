@@ -1,6 +1,8 @@
 //! The exports of the library, and its handles. All that isn't safe is here.
 
 use crate::error::Error;
+use crate::mutator::Object;
+use crate::stamp::Stamp;
 use crate::weak::Weak;
 use std::os::raw::c_void;
 use std::ptr::null_mut;
@@ -82,6 +84,8 @@ extern "C" {
     fn mhl_value(m: *mut Handle, v: u32, out: *mut u32) -> u32;
     fn mhl_is_nil(m: *mut Handle, v: u32, out: *mut u32) -> u32;
     fn mhl_same(m: *mut Handle, v: u32, w: u32, out: *mut u32) -> u32;
+    fn mhl_look(m: *mut Handle, v: u32, what: *mut Object) -> u32;
+    fn mhl_fields(m: *mut Handle, v: u32, first: u32, count: u32) -> u32;
     fn mhl_collect_step(m: *mut Handle, most: u32) -> u32;
     fn mhl_finish_step(m: *mut Handle, most: u32) -> u32;
     fn mhl_help_step(m: *mut Handle, most: u32) -> u32;
@@ -96,9 +100,12 @@ extern "C" {
     fn mhl_number(m: *mut Handle, v: u32, section: *mut u32, number: *mut u32) -> u32;
     fn mhl_weak_of(m: *mut Handle, v: u32, out: *mut Weak) -> u32;
     fn mhl_upgrade(m: *mut Handle, weak: *const Weak, v: u32) -> u32;
+    fn mhl_stamp_of(m: *mut Handle, out: *mut Stamp) -> u32;
+    fn mhl_after(m: *mut Handle, stamp: *const Stamp) -> u32;
     fn mhl_course(m: *mut Handle, out: *mut RawCourse) -> u32;
     fn mhl_work(m: *mut Handle, out: *mut RawWork) -> u32;
     fn mhl_trace_turn(t: *mut Handle) -> u32;
+    fn mhl_help_turn(t: *mut Handle, most: u32) -> u32;
     fn mhl_traced(t: *mut Handle, out: *mut u64) -> u32;
     fn free(at: *mut c_void);
 }
@@ -220,6 +227,15 @@ impl Handle {
         Handle::written(|out| unsafe { mhl_same(self, v, w, out) }).map(|told| told == 1)
     }
 
+    pub fn look(&mut self, v: u32) -> Result<Object, Error> {
+        let mut what = Object::default();
+        Error::of(unsafe { mhl_look(self, v, &mut what) }).map(|()| what)
+    }
+
+    pub fn fields(&mut self, v: u32, first: u32, count: u32) -> u32 {
+        unsafe { mhl_fields(self, v, first, count) }
+    }
+
     pub fn collect_step(&mut self, most: u32) -> u32 {
         unsafe { mhl_collect_step(self, most) }
     }
@@ -278,6 +294,15 @@ impl Handle {
         unsafe { mhl_upgrade(self, weak, v) }
     }
 
+    pub fn stamp(&mut self) -> Result<Stamp, Error> {
+        let mut stamp = Stamp::default();
+        Error::of(unsafe { mhl_stamp_of(self, &mut stamp) }).map(|()| stamp)
+    }
+
+    pub fn after(&mut self, stamp: &Stamp) -> u32 {
+        unsafe { mhl_after(self, stamp) }
+    }
+
     pub fn course(&mut self) -> RawCourse {
         let mut course = RawCourse::default();
         unsafe { mhl_course(self, &mut course) };
@@ -292,6 +317,10 @@ impl Handle {
 
     pub fn trace_turn(&mut self) -> u32 {
         unsafe { mhl_trace_turn(self) }
+    }
+
+    pub fn help_turn(&mut self, most: u32) -> u32 {
+        unsafe { mhl_help_turn(self, most) }
     }
 
     pub fn traced(&mut self) -> u64 {

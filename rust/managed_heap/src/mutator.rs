@@ -4,6 +4,8 @@ use crate::cycles::{Why, CLOSE, END, PART};
 use crate::error::{Error, DEAD, NOT_YET, NO_CACHE, NO_CELL, OK, STOPPED};
 use crate::library::{Handle, RawCourse};
 use crate::resting::Rests;
+use crate::stamp::Stamp;
+use crate::tracer::HELP;
 use crate::weak::Weak;
 use crate::world::Shared;
 use std::ops::Range;
@@ -14,9 +16,6 @@ pub const VARIABLES: u32 = 32;
 
 /// How many roots, objects, cards or blocks it does between two looks at what it waits for.
 const STEP: u32 = 4096;
-
-/// How many objects or blocks it does in a step of help.
-const HELP: u32 = 1024;
 
 /// How many references an object has at most.
 const FIELDS: usize = 16;
@@ -29,6 +28,16 @@ const LOOK: u64 = 64;
 
 /// How many collections of its own it makes for one object. The first is ordinary, and the others are precise.
 const TRIES: u32 = 3;
+
+/// What [`Mutator::look`] tells of an object.
+#[repr(C)]
+#[derive(Clone, Copy, Debug, Default, PartialEq, Eq)]
+pub struct Object {
+    /// Where it lies, as [`Mutator::place`] tells.
+    pub place: u32,
+    /// Its value.
+    pub value: u32,
+}
 
 /// What a thread acts on a world through. It has 32 variables, 0 to 31, which are its roots: an object that can be reached from them is kept, and all else is
 /// garbage. It may move to another thread, and is used by one at a time.
@@ -114,13 +123,13 @@ impl Mutator {
         Error::of(status)?;
         self.made += 1;
         if self.made % LOOK == 0 {
-            self.look();
+            self.notice();
         }
         Ok(())
     }
 
     /// Looks whether a cycle is marking, and tells what it has traced.
-    fn look(&mut self) {
+    fn notice(&mut self) {
         if !self.shared.cycles.saw_marking() && self.handle.course().marking == 1 {
             self.shared.cycles.see_marking();
         }
@@ -210,6 +219,17 @@ impl Mutator {
         self.handle.same(v, w)
     }
 
+    /// Where variable v's object lies, and its value, at once. [`Error::Nil`] if v refers to nothing.
+    pub fn look(&mut self, v: u32) -> Result<Object, Error> {
+        self.handle.look(v)
+    }
+
+    /// These variables become the first fields of variable v's object, as by [`Mutator::get`] in this order. All of it is done or nothing:
+    /// [`Error::OutOfRange`] if there are not so many variables or fields, or if v is one of these variables.
+    pub fn fields(&mut self, v: u32, into: Range<u32>) -> Result<(), Error> {
+        Error::of(self.handle.fields(v, into.start, into.end.saturating_sub(into.start)))
+    }
+
     /// Variable v becomes the root of a shared world: the object that the world made as it opened, by which its mutators find each other's objects.
     pub fn root(&mut self, v: u32) -> Result<(), Error> {
         Error::of(self.handle.root(v))
@@ -266,6 +286,18 @@ impl Mutator {
             DEAD => Ok(false),
             status => Error::of(status).map(|()| true),
         }
+    }
+
+    /// A stamp of this moment, for other mutators to come after: all that this one has done is before it.
+    pub fn stamp(&mut self) -> Result<Stamp, Error> {
+        self.handle.stamp()
+    }
+
+    /// The mutator goes on from all that had happened in its world at a moment of this call: in the one order that explains what each call found, its later steps
+    /// stand behind that, so behind all that the stamp's mutator had done. No object or variable changes, and nobody waits. [`Error::OtherWorld`] if the stamp is
+    /// another world's.
+    pub fn after(&mut self, stamp: &Stamp) -> Result<(), Error> {
+        Error::of(self.handle.after(stamp))
     }
 
     /// How many cycles have ended in its world. While the number is the same, what [`Mutator::upgrade`] found alive isn't dead.

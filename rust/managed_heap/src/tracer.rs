@@ -1,6 +1,6 @@
 //! Tracers.
 
-use crate::error::{Error, DISMISSED, IDLE, STOPPED};
+use crate::error::{Error, DISMISSED, IDLE, NO_HELP, STOPPED};
 use crate::library::Handle;
 use crate::resting::{Rests, LONGEST};
 use crate::world::Shared;
@@ -15,11 +15,14 @@ pub enum Turn {
     Marked,
     /// No cycle is marking.
     Idle,
-    /// A collection is under way, and it did nothing.
+    /// A collection is under way, and it did nothing. [`Tracer::help_turn`] helps in it.
     Stopped,
     /// The tracers are dismissed, and it did nothing.
     Dismissed,
 }
+
+/// How many objects or blocks it does in a step of help.
+pub(crate) const HELP: u32 = 1024;
 
 /// What a thread marks through beside the mutators, if a processor is free for it.
 ///
@@ -58,12 +61,22 @@ impl Tracer {
         }
     }
 
-    /// Turn by turn, until the tracers are dismissed: what a thread with a tracer runs.
+    /// Helps in a mutator's collection, if that is open to helpers: it traces at most so many objects, or sweeps at most so many blocks of 64 cells (one stretch at
+    /// least), and that collection waits until it has. True if it did some of the work. What it traces so isn't told in [`Cycle::tracers`](crate::Cycle::tracers).
+    pub fn help_turn(&mut self, most: u32) -> Result<bool, Error> {
+        match self.handle.help_turn(most) {
+            NO_HELP => Ok(false),
+            other => Error::of(other).map(|()| true),
+        }
+    }
+
+    /// Turn by turn, and with help in collections, until the tracers are dismissed: what a thread with a tracer runs.
     pub fn trace(&mut self) -> Result<(), Error> {
         let mut rests = Rests::default();
         loop {
             match self.turn()? {
                 Turn::Dismissed => return Ok(()),
+                Turn::Stopped if self.help_turn(HELP)? => rests = Rests::default(),
                 Turn::Stopped => rests.rest(),
                 Turn::Idle => sleep(Duration::from_micros(LONGEST)),
                 Turn::Marked => {

@@ -1,6 +1,6 @@
 //! The crate over the library: each call once, each refusal, and what dropping gives back.
 
-use managed_heap::{Error, Mutator, Sizes, Tracer, Turn, Why, World, VARIABLES};
+use managed_heap::{Error, Mutator, Object, Sizes, Tracer, Turn, Why, World, VARIABLES};
 use std::thread;
 
 fn inside(world: &World) -> Mutator {
@@ -55,6 +55,26 @@ fn each_call_does_what_it_says() {
     m.leave().unwrap();
     assert_eq!(world.statistics().unwrap().cells, 64);
     assert_eq!(world.statistics().unwrap().marked, 2);
+}
+
+#[test]
+fn an_object_is_looked_at_and_its_fields_are_taken() {
+    let world = World::open(Sizes::of_cells(64).fields(3)).unwrap();
+    let mut m = inside(&world);
+    m.make(0, 7).unwrap();
+    m.make(1, 8).unwrap();
+    m.set(0, 0, 0).unwrap();
+    m.set(0, 2, 1).unwrap();
+    let place = m.place(0).unwrap();
+    assert_eq!(m.look(0), Ok(Object { place, value: 7 }));
+    assert_eq!(m.look(5), Err(Error::Nil));
+    m.fields(0, 10..13).unwrap();
+    assert_eq!((m.same(10, 0), m.is_nil(11), m.same(12, 1)), (Ok(true), Ok(true), Ok(true)));
+    for refused in [0..1, 10..14, 30..33] {
+        assert_eq!(m.fields(0, refused), Err(Error::OutOfRange));
+    }
+    m.leave().unwrap();
+    assert_eq!((m.look(0), m.fields(0, 10..13)), (Err(Error::Outside), Err(Error::Outside)));
 }
 
 #[test]
@@ -260,6 +280,8 @@ fn a_world_outlives_its_handle_while_a_mutator_is_out() {
 fn threads_collect_beside_a_tracer() {
     let world = World::open(Sizes::of_cells(1024).mutators(3).tracers(1)).unwrap();
     let mut tracer = world.tracer().unwrap();
+    assert_eq!(tracer.help_turn(0), Err(Error::OutOfRange));
+    assert_eq!(tracer.help_turn(1), Ok(false));
     let tracing = thread::spawn(move || {
         tracer.trace().unwrap();
         tracer.turn()

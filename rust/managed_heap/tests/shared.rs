@@ -3,6 +3,7 @@
 use managed_heap::{Error, Mutator, Sizes, World};
 use std::collections::HashSet;
 use std::sync::atomic::{AtomicBool, Ordering};
+use std::sync::mpsc;
 use std::thread;
 
 /// The variables: the root, and others.
@@ -106,6 +107,41 @@ fn a_world_that_isnt_shared_refuses_by_name() {
     assert_eq!(m.number(0), Err(Error::NotShared));
     assert!(m.place(0).unwrap() < 64);
     assert_eq!(m.value(0), Ok(7));
+}
+
+#[test]
+fn who_comes_after_a_stamp_finds_what_was_stored_before_it() {
+    let world = World::open(Sizes::of_cells(64).mutators(2).shared(true)).unwrap();
+    let mut one = at_root(&world);
+    let mut two = at_root(&world);
+    let (hand_on, handed_on) = mpsc::channel();
+    let storing = thread::spawn(move || {
+        for n in 1..=1_000 {
+            one.put(ROOT, n).unwrap();
+            hand_on.send((n, one.stamp().unwrap())).unwrap();
+            one.safe_point().unwrap();
+        }
+    });
+    for (n, stamp) in handed_on {
+        two.after(&stamp).unwrap();
+        assert!(two.value(ROOT).unwrap() >= n);
+    }
+    storing.join().unwrap();
+    assert_eq!(two.value(ROOT), Ok(1_000));
+}
+
+#[test]
+fn a_stamp_of_another_world_is_refused() {
+    let world = World::open(Sizes::of_cells(64).shared(true)).unwrap();
+    let other = World::open(Sizes::of_cells(64)).unwrap();
+    let (mut m, mut n) = (inside(&world), inside(&other));
+    let (stamp, others) = (m.stamp().unwrap(), n.stamp().unwrap());
+    assert_eq!(m.after(&others), Err(Error::OtherWorld));
+    assert_eq!(n.after(&stamp), Err(Error::OtherWorld));
+    m.leave().unwrap();
+    assert_eq!(m.after(&others), Err(Error::OtherWorld));
+    assert_eq!(m.after(&stamp), Ok(()));
+    assert_eq!(n.after(&others), Ok(()));
 }
 
 /// Whether somebody has the lock. It is no part of the lock: who has it finds nobody else, also after others had their turn.

@@ -1,11 +1,11 @@
-//! Threads that wait for each other, so that they run at the same time. In vain, they give up after some seconds.
+//! Threads that wait for each other, so that they run at the same time. In vain, they give up, before a test's minute is over.
 use std::sync::Wait;
 use std::sync::atomic::AtomicU64;
 use std::sync::atomic::Ordering::SeqCst;
 use std::time::Duration;
 
 /// How often a thread looks, after each look asleep for a millisecond at most.
-const LOOKS: u32 = 5_000;
+const LOOKS: u32 = 40_000;
 
 /// Where this many threads meet.
 #[derive(Drop)]

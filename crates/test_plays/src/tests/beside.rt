@@ -68,16 +68,9 @@ say a a
 
 /// A script, its commands, the workers, the held sections, and for which commands and how many turns of the tracer they
 /// wait.
-type Row = (
-    &'static [u8],
-    u64,
-    u32,
-    &'static [u32],
-    &'static [(u32, u64)],
-    u64,
-);
+type Row<'a> = (&'a [u8], u64, u32, &'a [u32], &'a [(u32, u64)], u64);
 
-const ROWS: [Row; 4] = [
+const ROWS: [Row<'static>; 4] = [
     // Section 1 waits for the last command of section 2, and the other way round.
     (TWO, 6, 2, &[1], &[(2, 2)], 0),
     (TWO, 6, 2, &[2], &[(1, 2)], 0),
@@ -86,7 +79,7 @@ const ROWS: [Row; 4] = [
 ];
 
 /// Whether all was played, and nothing waited for was given up.
-fn meets<R: AllocGlobal + Threads + Wait + Sync>(rt: &R, row: &Row) -> Option<bool> {
+fn meets<R: AllocGlobal + Threads + Wait + Sync>(rt: &R, row: &Row<'_>) -> Option<bool> {
     let (script, commands, workers, held, awaited, turns) = *row;
     if workers < 1 || 32 < workers {
         return None;
@@ -104,6 +97,34 @@ fn meets<R: AllocGlobal + Threads + Wait + Sync>(rt: &R, row: &Row) -> Option<bo
     let is_done = play(rt, rt.alloc(), &script, &options, &gate).is_ok();
     let has_met = !gate.passed.was_given_up() && !gate.turned.was_given_up();
     Some(is_done && has_met && gate.own.load(SeqCst) == commands)
+}
+
+/// Whether so many warehouses meet, each with a worker of its own, which waits in the first command for all others.
+fn all_meet<R: AllocGlobal + Threads + Wait + Sync>(rt: &R, warehouses: u32) -> Option<bool> {
+    let mut script = "gcscript 1\n".to_string(rt.alloc()).ok()?;
+    let mut held = Vec::new(rt.alloc());
+    let mut awaited = Vec::new(rt.alloc());
+    for number in 1..=warehouses {
+        script.push_str("warehouse\nnew a 1\n").ok()?;
+        held.push(number).ok()?;
+        awaited.push((number, 0_u64)).ok()?;
+    }
+    let row = (
+        script.as_bytes(),
+        u64::from(warehouses),
+        warehouses,
+        held.as_slice(),
+        awaited.as_slice(),
+        0,
+    );
+    meets(rt, &row)
+}
+
+#[test]
+fn there_are_as_many_workers_as_asked(rt: HostRuntime) {
+    for workers in [8, 32] {
+        assert!(rt; all_meet(&rt, workers) == Some(true), "{workers}");
+    }
 }
 
 #[test]

@@ -4,8 +4,8 @@ use std::sync::atomic::AtomicU64;
 use std::sync::atomic::Ordering::SeqCst;
 use std::time::Duration;
 
-/// After so many looks a thread gives up: five seconds or more.
-const LOOKS: u32 = 5_000;
+/// After so many looks a thread gives up: forty seconds or more, of the sixty that a test has.
+const LOOKS: u32 = 40_000;
 
 /// In microseconds, between two looks.
 const SLEEP: u64 = 1_000;

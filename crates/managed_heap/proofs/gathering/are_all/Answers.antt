@@ -1,7 +1,7 @@
 use Rattle.std.proofs.Common.{ℕ, ◌≡◌, ◌<◌, ◌+◌, ◌∙◌, ⊎_elim, ap, arith, get_or, sym}
 use Rattle.std.proofs.lemmas.Option.{get_or_from_slice_get, slice_get_within}
 use Rattle.gc_table.specs.Seats.{state_of}
-use Rattle.managed_heap.proofs.Gathered.{below-or-last}
+use Rattle.managed_heap.proofs.SeatsGathered.{below-or-last}
 use Rattle.managed_heap.proofs.gathering.are_all.Goals as goal
 
 pub loop-at-preserved : goal.loop-at-preserved

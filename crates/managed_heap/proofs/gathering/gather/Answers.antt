@@ -3,7 +3,7 @@ use Rattle.std.proofs.lemmas.List.Elements.{All-head, All-push, All-rest}
 use Rattle.gc_table.specs.declared.seat.Heap.{Heap}
 use Rattle.seat_turns.specs.Standing.{RestsOutside}
 use Rattle.managed_heap.specs.Gathering.{AreOf, handed}
-use Rattle.managed_heap.proofs.Gathered.{gathers-more, gathers-none}
+use Rattle.managed_heap.proofs.SeatsGathered.{gathers-more, gathers-none}
 use Rattle.managed_heap.proofs.gathering.gather.Goals as goal
 
 pub loop-at-init : goal.loop-at-init

@@ -1,5 +1,5 @@
 use Rattle.std.proofs.Common.{◌<◌, length, arith}
-use Rattle.managed_heap.proofs.Gathered.{first-and-rest}
+use Rattle.managed_heap.proofs.SeatsGathered.{first-and-rest}
 use Rattle.managed_heap.proofs.taking.first_of.Goals as goal
 
 pub returns-clause-first : goal.returns-clause-first

@@ -16,6 +16,7 @@ returns c =
       steps = record {
         outside = e.outside;
         rests = λ out. e.seat ∙ subst (λ (p : Place). LeavesFrom p c.args.self.seat c.leave.new.self.seat) out l.left.leaves;
+        left = subst (λ (s : HeapSeat). LeavesFrom c.args.self.place c.args.self.seat s) (sym e.seat) l.left.leaves;
         leaves = subst (λ (s : HeapSeat). LeavesHeap (view_of c.args.self.seat) (view_of s)) (sym e.seat) l.left.same.leaves;
         world = ap (λ h. arc_value h) e.heap ∙ l.world;
         name_is = e.name_is ∙ l.name;

@@ -9,6 +9,9 @@ use Rattle.gc_table.specs.declared.seat.Heap.{Heap}
 use Rattle.gc_table.specs.declared.seat.HeapSeat.{HeapSeat}
 use Rattle.gc_table.specs.declared.words.Words.{Words}
 use Rattle.seat_turns.specs.declared.background.Tracer.{Tracer}
+use Rattle.std.specs.Arc.{arc_value}
+use Rattle.managed_heap.specs.WorldClosing.{AreGathered}
+use Rattle.managed_heap.specs.declared.gathered.Gathered.{Gathered}
 use Rattle.managed_heap.specs.Gathering.{AreAll, AreInOrder, AreLeft, AreThere, Gathers, IsEndOf, IsFirstSeat, handed, seats_of}
 
 -- Elements of lists.
@@ -140,6 +143,15 @@ module _ {X : Type 0} (seat_in : X → HeapSeat) (L : X → HeapSeat → Type 0)
       t.seats_are ∙ ap (λ (l : List HeapSeat). workers ++ l) (tracers_left ts t.rest (gathers-left (λ (t : Tracer). t.seat) (λ (t : Tracer) (s : HeapSeat). s ≡ t.seat) ts workers seats t))
       ∙ ap (λ (l : List HeapSeat). l ++ seats_of ts) (m.seats_are ∙ ap (λ (l : List HeapSeat). l ++ m.rest) alone)
 
+  all-there : (view_of root).opened ≡ length (root ∷ m.rest ++ seats_of ts)
+  all-there =
+      let long = ap length m.seats_are in
+      let both = length-append before m.rest in
+      let tail = seats-long ts in
+      let whole = length-append m.rest (seats_of ts) in
+      let workers_are = workers_long in
+      omega (arith, first.opened, there.tracers_are.0, one, long, both, tail, whole, workers_are)
+
   pub all-ended : (w : Words) → IsEnd h.shape seats w → IsEndOf L h root ms ts w
   all-ended w end =
       record {
@@ -147,11 +159,17 @@ module _ {X : Type 0} (seat_in : X → HeapSeat) (L : X → HeapSeat → Type 0)
         left = gathers-left seat_in L ms before workers m;
         workers = there.sections;
         ends = subst (λ (l : List HeapSeat). IsEnd h.shape l w) these end;
-        all =
-            let long = ap length m.seats_are in
-            let both = length-append before m.rest in
-            let tail = seats-long ts in
-            let whole = length-append m.rest (seats_of ts) in
-            let workers_are = workers_long in
-            omega (arith, first.opened, there.tracers_are.0, one, long, both, tail, whole, workers_are);
+        all = all-there;
+      }
+
+  -- they were gathered, and the heap wasn't closed
+  pub all-gathered : (g : Gathered) → arc_value g.heap ≡ h → g.seats.items ≡ seats → AreGathered L h root ms ts g
+  all-gathered g heap_is seats_are =
+      record {
+        heap_is = heap_is;
+        rest = m.rest;
+        left = gathers-left seat_in L ms before workers m;
+        seats_are = seats_are ∙ these;
+        workers = there.sections;
+        all = all-there;
       }
