@@ -1,12 +1,12 @@
 """Plants faults in the collector, and tells which programs in C notice them: python3 tests/planted.py [FAULT..], or all faults.
 
 Each fault is a change of some lines that a proof would refuse. It is put into a copy of the repository, from which c/unproved.sh makes the library, and the programs
-of examples/c run over that. A program notices the fault if it ends with another status than 0, crashes, or doesn't end in 60 seconds, where it wants some two
-without a fault. First all of them run over the library without a fault, where each has to pass. ROUNDS says how often each runs, 3 times if it isn't set; a fault
-counts as noticed if it was each time.
+of examples/c run over that. A program notices the fault if it ends by itself with another status than 0, or crashes: one that has to be stopped after BOUND seconds,
+120 if it isn't set, where it wants some two without a fault, doesn't. First all of them run over the library without a fault, where each has to pass. ROUNDS says how
+often each runs, 3 times if it isn't set, with the seeds 1, 2 and so on if it takes one.
 
-It prints a row for each fault. The status is 1 if a program fails without a fault, or one that has to notice a fault doesn't. It wants the kit and a C compiler, and
-takes two processor minutes a fault.
+It prints a row for each program, with what one of its runs said. The status is 1 if a program fails without a fault, or one that has to notice a fault each time
+doesn't. It wants the kit and a C compiler, and takes two processor minutes a fault.
 """
 import os
 import re
@@ -17,17 +17,18 @@ import tempfile
 
 TOP = os.path.dirname(os.path.dirname(os.path.abspath(__file__)))
 ROUNDS = int(os.environ.get("ROUNDS", "3"))
-SECONDS = 60
+SECONDS = int(os.environ.get("BOUND", "120"))
 
-# The programs, each with its words: sizes at which cycles mark beside the program.
+# The programs, each with its words: sizes at which cycles mark beside the program. SEED is another number in each run.
 PROGRAMS = {
     "hidden": "65536 40",
     "hidden, a tracer": "65536 40 1",
     "map": "4 20000 300 1024 2",
-    "torture": "4 60000 1024 1",
-    "fuzz": "600000 1 1",
-    "fuzz, 4 threads": "1000000 4 3",
-    "fuzz, shared": "1000000 4 1 1",
+    "torture": "4 60000 1024 1 SEED",
+    "fuzz": "600000 1 SEED",
+    "fuzz, 4 threads": "800000 4 SEED",
+    "fuzz, shared": "600000 1 SEED 1",
+    "fuzz, shared, 4 threads": "800000 4 SEED 1",
     "cycles": "4 300000 16384 1",
     "binary_trees": "16 2 0 524288",
     "queue": "2 2 3000 128 2",
@@ -40,7 +41,7 @@ PROGRAMS = {
     "gcbench": "14",
 }
 
-STORE = "        heap.dirty_card(seat, card);"
+HIDDEN, FUZZ, SHARED = ["hidden", "hidden, a tracer"], ["fuzz", "fuzz, 4 threads"], ["fuzz, shared", "fuzz, shared, 4 threads"]
 
 
 class Fault:
@@ -66,30 +67,31 @@ class Fault:
 FAULTS = {
     "card": Fault(
         "the barrier leaves the card out",
-        ["hidden", "hidden, a tracer", "map", "cycles"],
-        ("card_clean/src/barrier.rt", "store_ref", STORE, "        let _ = card;"),
-        ("card_clean/src/sharing.rt", "share_ref", STORE, "        let _ = card;"),
-        ("card_clean/src/sharing.rt", "exchange_ref", STORE, "        let _ = card;"),
+        [*HIDDEN, "map", "torture", *FUZZ, *SHARED, "cycles"],
+        ("card_clean/src/barrier.rt", "pay_card", "        heap.dirty_card(seat, card);", "        let _ = card;"),
     ),
     "root": Fault(
         "variable 2 of each mutator isn't marked",
-        ["fuzz", "fuzz, shared"],
+        [*HIDDEN, "map", "torture", *FUZZ, *SHARED],
         ("card_clean/src/roots.rt", "mark_root", "if word != 0 {", "if word != 0 && v != 2 {"),
         ("tracer/src/roots.rt", "scan_root", "if word == 0 {", "if word == 0 || variable == 2 {"),
     ),
     "slot": Fault(
         "slot 0 of each mutator isn't marked",
-        ["torture"],
+        ["map", "torture", *SHARED],
         ("card_clean/src/roots.rt", "mark_slot", "if word != 0 {", "if word != 0 && k != 0 {"),
     ),
     "weak": Fault(
         "an upgrade doesn't look at the allocation bit",
-        ["fuzz, shared", "weak_table", "weak_map", "cleaner"],
+        ["fuzz, shared, 4 threads", "weak_table", "weak_map", "cleaner"],
         ("mark_core/src/steps/mutator.rt", "weak_reference", "if bits::has_bit(old, c.number() % BLOCK_CELLS) ||", "if old == old ||"),
     ),
     "sweep": Fault(
-        "the sweep begins after one step of the drain",
-        ["fuzz", "fuzz, 4 threads", "fuzz, shared", "hidden", "binary_trees"],
+        "the sweep begins after one step of the drain with helpers, and one without",
+        [*HIDDEN, "map", "torture", *FUZZ, *SHARED, "binary_trees"],
+        ("seat_steps/src/sharing.rt", "share", "if popped != most {", "if popped <= most {"),
+        ("seat_steps/src/sharing.rt", "empty", "if popped == most {", "if popped > most {"),
+        ("seat_steps/src/sharing.rt", "empty", "if !finds_no_work_shared(&self.heap, &mut self.seat) {", "if !finds_no_work_shared(&self.heap, &mut self.seat) && most == 0 {"),
         ("seat_steps/src/steps.rt", "trace", "if popped != most {", "if popped <= most {"),
         ("seat_steps/src/steps.rt", "look", "if !finds_all_marked(&self.heap, &mut self.seat) {", "if !finds_all_marked(&self.heap, &mut self.seat) && most == 0 {"),
     ),
@@ -115,13 +117,13 @@ def build_programs(work, archive):
         subprocess.run(["cc", *flags, "-o", os.path.join(work, name), source, archive, "-lpthread"], check=True)
 
 
-def run(work, program):
-    """What a run came to: nothing if it passed, else what it says last, or how it ended."""
-    command = [os.path.join(work, program.partition(",")[0]), *PROGRAMS[program].split()]
+def run(work, program, seed):
+    """What a run came to: nothing if it passed, None if it didn't end, else what it says last, or how it ended."""
+    command = [os.path.join(work, program.partition(",")[0]), *PROGRAMS[program].replace("SEED", str(seed)).split()]
     try:
         ran = subprocess.run(command, stdout=subprocess.PIPE, stderr=subprocess.STDOUT, text=True, errors="replace", timeout=SECONDS)
     except subprocess.TimeoutExpired:
-        return "no answer"
+        return None
     said = ran.stdout.strip().split("\n")[-1]
     return "" if ran.returncode == 0 else f"killed by signal {-ran.returncode}" if ran.returncode < 0 else re.sub(r"^\S*/examples", "examples", said)
 
@@ -133,11 +135,12 @@ def try_fault(work, name):
     wrong = 0
     print(f"{fault.what if fault else 'no fault'}:", flush=True)
     for program in PROGRAMS:
-        said = [run(work, program) for _ in range(ROUNDS)]
-        times = sum(it != "" for it in said)
-        print(f"    {program} ({PROGRAMS[program]}): {times} of {ROUNDS}{next((': ' + it for it in said if it), '')}", flush=True)
+        said = [run(work, program, round + 1) for round in range(ROUNDS)]
+        times = sum(bool(it) for it in said)
+        endless = f", {said.count(None)} without an end" if None in said else ""
+        print(f"    {program} ({PROGRAMS[program]}): {times} of {ROUNDS}{endless}{next((': ' + it for it in said if it), '')}", flush=True)
         has_to = fault and program in fault.noticed_by
-        bad = times < ROUNDS if has_to else any(said) if not fault else False
+        bad = times < ROUNDS if has_to else not fault and any(it != "" for it in said)
         if bad:
             print("    WRONG: it " + ("has to notice" if fault else "has to pass"), flush=True)
         wrong += bad

@@ -5,9 +5,9 @@
  * that is garbage, so that cycles come. With one mutator and no tracer a run is the same each time.
  * Arguments: cells, rounds, tracers, how many cycles have to mark beside the program.
  */
-#include "heap.h"
+#include "going_on.h"
 
-enum { LEFT, RIGHT, FROM, TO, MOVED, NEW };
+enum { FROM, TO, LEFT, RIGHT, MOVED, NEW };
 
 static mh_world world;
 static mh_mutator m;
@@ -43,6 +43,7 @@ static void make_moved(void) {
 /* FROM's object becomes TO's, which is its number. */
 static void move(uint32_t number) {
     uint32_t nil = 1, value = 0;
+    go_on();
     MUST(mh_get(&m, MOVED, FROM, 1));
     MUST(mh_is_nil(&m, MOVED, &nil));
     wrong("whether a holder has no object", nil, 0);
@@ -72,6 +73,7 @@ int main(int count, char **words) {
     uint64_t beside = 0;
     pthread_t marking[8];
     holders = cells / 10;
+    end_if_it_spins();
     open_with(&world, cells, 2, 1, tracers);
     MUST(mh_log_cycles(&world, count_beside, &beside));
     MUST(mh_take_mutator(&world, &m));

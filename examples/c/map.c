@@ -2,16 +2,17 @@
  * A map with chains that threads fill, change and empty together. Each field of the root is a chain; an object has a key and a count in its value, and the next
  * object in field 0. To raise a key's count is to exchange its object's value for the next one, or to put an object with count 1 before the chain, as long as
  * nothing else was put there. To empty a chain is to exchange it for nothing; whoever did takes each count by exchanging it for 0, which none raises. So a count is
- * taken once, and what was taken and what is left at the end make the number of times that keys were raised. Arguments: threads, raises of each thread, keys,
- * cells, tracers, how many cycles have to mark beside the program.
+ * taken once, and what was taken and what is left at the end make the number of times that keys were raised. Besides, each thread has a shelf (shelf.h). Arguments:
+ * threads, raises of each thread, keys, cells, tracers, how many cycles have to mark beside the program.
  */
-#include "team.h"
+#include "shelf.h"
 
-enum { ROOT, OLD, NEW, AT, NIL };
+enum { ROOT, NIL, SHELF, MOVED, FOUND, OLD, NEW, AT };
 enum { CHAINS = 16, COUNT_BITS = 20, COUNT = (1u << COUNT_BITS) - 1 };
 
 static uint32_t threads, raises, keys;
 static uint64_t taken[THREADS], left;
+static struct shelf shelves[THREADS];
 
 static void nothing(mh_mutator *m, uint32_t number) { (void)m; (void)number; }
 
@@ -74,11 +75,21 @@ static uint64_t clear(mh_mutator *m, uint32_t key) {
     return count;
 }
 
+/* What a thread does besides. */
+static void do_besides(mh_mutator *m, uint32_t number, uint32_t k) {
+    tend_shelf(m, &shelves[number]);
+    if (k % 64 == 0) go_on();
+    if (number == 0 && k % 1024 == 0) collect_slowly(m, 1 + k / 1024, k / 1024 % 2);
+}
+
 static void work(mh_mutator *m, uint32_t number) {
     uint64_t seed = 0x9e3779b97f4a7c15u * (number + 1);
     uint32_t k;
     MUST(mh_root(m, ROOT));
+    shelves[number] = (struct shelf){.shelf = SHELF, .moved = MOVED, .found = FOUND, .nil = NIL, .exchanges = 1};
+    begin_shelf(m, &shelves[number]);
     for (k = 0; k < raises; k++) {
+        do_besides(m, number, k);
         raise_count(m, random_below(&seed, keys));
         if (k % 8 == 0) taken[number] += clear(m, random_below(&seed, keys));
         if (k % 32 == 0) taken[number] += empty(m, random_below(&seed, CHAINS));
@@ -99,7 +110,8 @@ int main(int count_of, char **words) {
     raises = number(count_of, words, 2, 100000);
     keys = number(count_of, words, 3, 64);
     if (threads < 1 || threads > THREADS || keys > 1u << (32 - COUNT_BITS) || (uint64_t)threads * raises > COUNT) return 2;
-    act_together(cells, CHAINS, 0, threads, tracers, nothing, work, end);
+    end_if_it_spins();
+    act_together(cells, CHAINS, SHELVED, threads, tracers, nothing, work, end);
     for (sum = left, k = 0; k < threads; k++) sum += taken[k];
     wrong("the counts that were taken", sum, (uint64_t)threads * raises);
     enough_beside(beside, number(count_of, words, 6, 0));

@@ -5,25 +5,24 @@
  * Afterwards each reference that was read was one that was stored in that field of that object. A walk of what the root reaches agrees with the stores: a field
  * has what some thread stored there last, or nothing if none stored. A field of the root is only exchanged, so that it has the one reference by which the
  * exchanges that were won hang together. Where an object lies, and which one it is, is what its maker was told.
- * A third of the cells or more have objects that are kept in slots, so that much is marked beside the program.
+ * A third of the cells or more have objects that are kept in slots, so that much is marked beside the program. After each cycle a thread looks at all that it
+ * keeps, and at its shelf (shelf.h).
  * Arguments: threads, steps of each thread, cells, tracers, seed, how many cycles have to mark beside the program.
  */
-#include "team.h"
+#include "logs.h"
+#include "shelf.h"
 #include <string.h>
 
-/* ROOT and NIL are always so. A thread keeps what it likes in the variables from OWN on and below FOUND, and in its slots, which are SLOTS or less. */
-enum { ROOT, NIL, OWN, FOUND = 28, OTHER, SLOTS = 4096, FIELDS = 3 };
+/* ROOT and NIL are always so. A thread keeps what it likes in the variables from OWN on and below FOUND, and in its slots behind those of its shelf, which are SLOTS
+   or less. */
+enum { ROOT, NIL, OWN, FOUND = 28, OTHER, MOVED, SHELF, SLOTS = 4096, FIELDS = 3 };
 
-/* An object's value: who made it from bit BY on, 0 for the root, and below how many that one had made before. NONE stands for nothing. */
+/* An object's value: who made it from bit BY on, 0 for the root, and below how many that one had made before. */
 enum { BY = 26, MOST = (1u << BY) - 1 };
-#define NONE 0xffffffffu
-
-/* A store: field `field` of object `in` became `what`; by an exchange if it was `from`. A read has the same, and no `from`. */
-struct entry { uint32_t in, field, what, from, thread, at; };
-struct log { struct entry *of; uint32_t count, room; };
 
 struct thread {
     struct log stores, reads;
+    struct shelf shelf;
     uint32_t own[32], slots[SLOTS], maker, made;
     uint64_t seed;
 };
@@ -33,21 +32,6 @@ static uint32_t count_of_threads, steps, cells, slots;
 
 /* What lies beside the heap for each cell: the value of the object that was made there last. */
 static uint32_t *lies_beside;
-
-/* All stores, in the order of objects, fields, threads. */
-static struct entry *all;
-static uint32_t stores;
-
-static void note(struct log *log, uint32_t in, uint32_t field, uint32_t what, uint32_t from, uint32_t thread) {
-    struct entry *e;
-    if (log->count == log->room) {
-        log->room = 2 * log->room + 1000;
-        log->of = realloc(log->of, log->room * sizeof *log->of);
-        if (!log->of) exit(2);
-    }
-    e = &log->of[log->count];
-    e->in = in; e->field = field; e->what = what; e->from = from; e->thread = thread; e->at = log->count++;
-}
 
 /* Which object v refers to, as its value says, and its number, and what lies beside the heap at its place. */
 static uint32_t which(mh_mutator *m, uint32_t v) {
@@ -63,11 +47,61 @@ static uint32_t which(mh_mutator *m, uint32_t v) {
     return value;
 }
 
+/* Slot k becomes what v is; v becomes what slot k is; and slots become nil. */
+static void spill(mh_mutator *m, struct thread *t, uint32_t v, uint32_t k) {
+    MUST(mh_spill(m, v, SHELVED + k));
+    t->slots[k] = t->own[v];
+}
+
+static void fill(mh_mutator *m, struct thread *t, uint32_t v, uint32_t k) {
+    MUST(mh_fill(m, v, SHELVED + k));
+    t->own[v] = which(m, v);
+    wrong("what a slot has", t->own[v], t->slots[k]);
+}
+
+static void forget_slots(mh_mutator *m, struct thread *t, uint32_t from, uint32_t to) {
+    MUST(mh_forget_slots(m, SHELVED + from, SHELVED + to));
+    for (; from < to; from++) t->slots[from] = NONE;
+}
+
 static void let_go(mh_mutator *m, struct thread *t) {
     uint32_t v;
-    for (v = OWN; v < 32; v++) { MUST(mh_forget(m, v)); t->own[v] = NONE; }
-    MUST(mh_forget_slots(m, 0, slots));
-    for (v = 0; v < slots; v++) t->slots[v] = NONE;
+    for (v = OWN; v <= OTHER; v++) { MUST(mh_forget(m, v)); t->own[v] = NONE; }
+    forget_slots(m, t, 0, slots);
+}
+
+/* v's object is alive, if its maker has published it. */
+static int is_alive(mh_mutator *m, uint32_t v) {
+    mh_weak weak;
+    mh_status s = mh_weak_of(m, v, &weak);
+    if (s == MH_UNPUBLISHED) return 0;
+    must(s, MH_OK, "mh_weak_of", __FILE__, __LINE__);
+    wrong("whether an object that is kept is dead", mh_upgrade(m, &weak, OTHER) == MH_DEAD, 0);
+    return 1;
+}
+
+/* v refers to what is kept in it, or in the slot by which it was filled: that has been published, since a cycle has ended. */
+static void is_there(mh_mutator *m, uint32_t v, uint32_t kept) {
+    wrong("what is kept", which(m, v), kept);
+    if (kept != NONE) wrong("whether it is published", (uint64_t)is_alive(m, v), 1);
+}
+
+/* Looks at all that the thread keeps, and at what the fields of its variables' objects have. */
+static void look_at_own(mh_mutator *m, struct thread *t) {
+    uint32_t k, i;
+    for (k = OWN; k < FOUND; k++) {
+        is_there(m, k, t->own[k]);
+        for (i = 0; i < FIELDS; i++) {
+            MUST(mh_get(m, FOUND, k, i));
+            if (which(m, FOUND) != NONE) is_alive(m, FOUND);
+        }
+    }
+    for (k = 0; k < slots; k++) {
+        fill(m, t, FOUND, k);
+        is_there(m, FOUND, t->slots[k]);
+    }
+    MUST(mh_forget(m, FOUND));
+    MUST(mh_forget(m, OTHER));
 }
 
 /* Lets go of all, and of what the root refers to. */
@@ -145,15 +179,13 @@ static void step(mh_mutator *m, struct thread *t, uint32_t number) {
     else if (what < 77) swap(m, t, number, w, v, i);
     else if (what < 81) { MUST(mh_copy(m, w, v)); t->own[w] = t->own[v]; }
     else if (what < 84) { MUST(mh_forget(m, v)); t->own[v] = NONE; }
-    else if (what < 92) { MUST(mh_spill(m, v, k)); t->slots[k] = t->own[v]; }
-    else if (what < 96) { MUST(mh_fill(m, w, k)); t->own[w] = which(m, w); wrong("what a slot has", t->own[w], t->slots[k]); }
-    else if (what < 97 && k % 4 == 0) {
-        uint32_t from = k - k % 8, at;
-        MUST(mh_forget_slots(m, from, from + 8));
-        for (at = from; at < from + 8; at++) t->slots[at] = NONE;
-    } else if (what < 99) wrong("what a variable refers to", which(m, v), t->own[v]);
-    else if (number == 0 && k == 0) MUST(mh_collect(m));
+    else if (what < 92) spill(m, t, v, k);
+    else if (what < 96) fill(m, t, w, k);
+    else if (what < 97 && k % 4 == 0) forget_slots(m, t, k - k % 8, k - k % 8 + 8);
+    else if (what < 99) wrong("what a variable refers to", which(m, v), t->own[v]);
+    else if (number == 0 && k % 32 == 0) collect_slowly(m, 1 + random_below(&t->seed, 40), random_below(&t->seed, 2));
     MUST(mh_safe_point(m));
+    if (tend_shelf(m, &t->shelf)) look_at_own(m, t);
 }
 
 static void begin(mh_mutator *m, uint32_t number) {
@@ -164,12 +196,15 @@ static void begin(mh_mutator *m, uint32_t number) {
     lies_beside[place] = 0;
 }
 
-/* An object tells the thread by which number it makes. */
+/* An object tells the thread by which number it makes. Then it makes its shelf. */
 static void learn_maker(mh_mutator *m, struct thread *t) {
     make(m, FOUND, 0);
     MUST(mh_number(m, FOUND, &t->maker, &t->made));
-    wrong("how many were made before the first", t->made++, 0);
+    wrong("how many were made before the first", t->made, 0);
     MUST(mh_forget(m, FOUND));
+    t->shelf = (struct shelf){.shelf = SHELF, .moved = MOVED, .found = OTHER, .nil = NIL};
+    begin_shelf(m, &t->shelf);
+    t->made = 2 + SHELVED * LISTED;
 }
 
 static void work(mh_mutator *m, uint32_t number) {
@@ -180,49 +215,11 @@ static void work(mh_mutator *m, uint32_t number) {
     memset(t->slots, 0xff, sizeof t->slots);
     t->own[ROOT] = 0;
     learn_maker(m, t);
-    for (k = 0; k < steps; k++) step(m, t, number);
+    for (k = 0; k < steps; k++) {
+        step(m, t, number);
+        if (k % 64 == 0) go_on();
+    }
     let_go(m, t);
-}
-
-static int in_order(const void *p, const void *q) {
-    const struct entry *a = p, *b = q;
-    if (a->in != b->in) return a->in < b->in ? -1 : 1;
-    if (a->field != b->field) return a->field < b->field ? -1 : 1;
-    if (a->thread != b->thread) return a->thread < b->thread ? -1 : 1;
-    return a->at < b->at ? -1 : a->at > b->at;
-}
-
-/* The stores in this field of this object: the first of them, and how many. */
-static uint32_t stores_in(uint32_t in, uint32_t field, uint32_t *many) {
-    struct entry key = {in, field, 0, 0, 0, 0};
-    uint32_t low = 0, high = stores, first;
-    while (low < high) {
-        uint32_t middle = low + (high - low) / 2;
-        if (in_order(&all[middle], &key) < 0) low = middle + 1;
-        else high = middle;
-    }
-    for (first = low; low < stores && all[low].in == in && all[low].field == field; low++) {}
-    *many = low - first;
-    return first;
-}
-
-/* Whether the reference was stored in the field of the object, or stored there last by some thread. */
-static int was_stored(uint32_t in, uint32_t field, uint32_t what, int last) {
-    uint32_t many, first = stores_in(in, field, &many), k;
-    if (what == NONE && (!last || !many)) return 1;
-    for (k = first; k < first + many; k++) {
-        int is_last = k + 1 == first + many || all[k + 1].thread != all[k].thread;
-        if (all[k].what == what && (!last || is_last)) return 1;
-    }
-    return 0;
-}
-
-/* What the exchanges of a field of the root leave in it. It began with nothing, and each goes on from what another left, so that of all references but the last
-   as many come as go. */
-static uint32_t left_in_root(uint32_t field) {
-    uint32_t many, first = stores_in(0, field, &many), k, left = NONE;
-    for (k = first; k < first + many; k++) left ^= all[k].what ^ all[k].from;
-    return left;
 }
 
 static void gather(void) {
@@ -243,6 +240,7 @@ static void check_reads(void) {
         for (n = 0; n < threads[k].reads.count; n++) {
             struct entry *e = &threads[k].reads.of[n];
             if (!was_stored(e->in, e->field, e->what, 0)) wrong("a reference that was read and never stored there", e->what, NONE);
+            if (n % 64 == 0) go_on();
         }
 }
 
@@ -263,6 +261,7 @@ static void walk(mh_mutator *m, unsigned char *seen) {
             if (!seen[place]) MUST(mh_spill(m, FOUND, waiting++));
             seen[place] = 1;
         }
+        go_on();
         MUST(mh_safe_point(m));
     }
 }
@@ -286,10 +285,11 @@ int main(int count, char **words) {
     if (count_of_threads < 1 || count_of_threads > THREADS) return 2;
     slots = cells / count_of_threads / 8 * 8;
     if (slots < 8 || slots > SLOTS) return 2;
+    end_if_it_spins();
     lies_beside = calloc(cells, sizeof *lies_beside);
     if (!lies_beside) return 2;
     for (k = 0; k < count_of_threads; k++) threads[k].seed = seed * 0x9e3779b97f4a7c15u + k + 1;
-    act_together(cells, FIELDS, cells + 1, count_of_threads, tracers, begin, work, end);
+    act_together(cells, FIELDS, cells + 1 + SHELVED, count_of_threads, tracers, begin, work, end);
     for (k = 0; k < count_of_threads; k++) {
         made += threads[k].made;
         free(threads[k].stores.of);
