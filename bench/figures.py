@@ -14,6 +14,7 @@ from utilisation import WINDOWS, utilisation
 
 TOP = pathlib.Path(__file__).resolve().parent.parent
 SERIES = "bench/results/2026-11-30-pauses.md"
+CALLS = "bench/results/2026-12-01-c.md"
 CYCLE = TOP / "bench/results/2026-11-30-cycle.txt"
 
 
@@ -75,13 +76,20 @@ PROGRAMS = [
 ]
 
 
-def pauses_of(*columns):
+# The same of the series from C.
+CALLERS = [
+    ("C, 0", "from C, no tracer", 0), ("C, 1", "from C, one tracer", 0), ("C, 2", "from C, two tracers", 0),
+    ("beside, 1", "from Rattle, one tracer", 0), *[it for it in PROGRAMS if it[2]],
+]
+
+
+def pauses_of(*columns, series=SERIES, programs=PROGRAMS):
     """For each pair of cells and workers its heading, and what each program has there in these columns of the table of pauses."""
-    header, rows = table(SERIES, "Program", "Mean stop")
+    header, rows = table(series, "Program", "Mean stop")
     cells, workers, program = (header.index(it) for it in ("Cells", "Workers", "Program"))
     found = {}
     for row in rows:
-        for begin, name, colour in PROGRAMS:
+        for begin, name, colour in programs:
             if row[program].startswith(begin):
                 found.setdefault((row[cells], row[workers]), []).append((name, [number(row[header.index(it)]) for it in columns], colour))
     return [(f"{int(size[0]):,} cells, {size[1]} worker{'s' * (size[1] != '1')}", rows) for size, rows in found.items()]
@@ -92,6 +100,13 @@ def pauses():
     of_size = lambda rows: [(name, (mean / 1000, longest / 1000), colour) for name, (mean, longest), colour in rows]
     groups = [(size, of_size(rows)) for size, rows in pauses_of("Mean stop", "Longest")]
     return drawing.ranges("Stops: the mean, and the longest of a run", "milliseconds", groups, ("mean", "longest (median of five runs)"))
+
+
+def pauses_from_c():
+    """The same of the series from C."""
+    groups = [(size, [(name, (mean / 1000, longest / 1000), colour) for name, (mean, longest), colour in rows])
+              for size, rows in pauses_of("Mean stop", "Longest", series=CALLS, programs=CALLERS)]
+    return drawing.ranges("Stops from C: the mean, and the longest of a run", "milliseconds", groups, ("mean", "longest (median of three runs)"))
 
 
 def pauses_rate():
@@ -130,7 +145,7 @@ def cycle():
 
 FIGURES = {
     "cycle": cycle, "longest_call": longest_call, "mutator_utilisation": mutator_utilisation, "to_floor": to_floor, "speed_up": speed_up, "pauses": pauses,
-    "pauses_rate": pauses_rate,
+    "pauses_from_c": pauses_from_c, "pauses_rate": pauses_rate,
 }
 
 

@@ -3,7 +3,7 @@
 # work over Boehm's collector, in Go and in Java. From the top of the repository: chrt -f 10 sh bench/pauses.sh [RUNS [PROGRAM]] prints two tables, 5 runs if no
 # number is given. Without a program, ours is proved and built. A peer that can't be built is left out with a word, and so is one that finds no memory.
 # SIZES in the environment has CELLS/WORKERS/CYCLES, the last of which is how often a run uses up the free cells, and TRACERS how many tracers ours has.
-# LIBRARY is the archive for C, if not the proved one; its stops are those before its first mutator is done.
+# LIBRARY is the archive for C and Rust, if not the proved one; their stops are those before their first mutator is done. WAYS are the two of ours, PEERS all others.
 # Every heap has 48 bytes for each cell, which an object takes in ours, in Boehm's and in Go. PERCENT has how much of it Boehm's gets, if the live set doesn't fit.
 set -eu
 cd "$(dirname "$0")/.."
@@ -12,6 +12,8 @@ program=${2:-}
 sizes=${SIZES:-65536/4/50 1048576/1/10 1048576/4/20 4194304/4/10}
 tracers_of=${TRACERS:-0 1}
 percent=${PERCENT:-100 107 125 200 400 800}
+ways=${WAYS:-beside stops}
+peers=" ${PEERS:-c rust boehm go java} "
 live=60
 folder=${TMPDIR:-/tmp}/pauses.$$
 mkdir "$folder"
@@ -21,6 +23,10 @@ trap 'rm -rf "$folder"' EXIT
 program=${program:-crates/bench_heaps/out/bench_heaps}
 archive=${LIBRARY:-crates/managed_heap_c/out/libmanaged_heap_c.a}
 { [ -f "$archive" ] && cc -std=gnu11 -O2 -pthread -I c/include -o "$folder/c" bench/pauses/pauses.c "$archive"; } || echo 'C left out: bench/pauses/pauses.c is built where the library is, or LIBRARY names it' >&2
+mkdir "$folder/library"
+{ [ -f "$archive" ] && command -v cargo >/dev/null 2>&1 && cp "$archive" "$folder/library/libmanaged_heap.a" && MANAGED_HEAP_LIB=$folder/library CARGO_TARGET_DIR=$folder/target \
+    cargo build --quiet --release --offline --manifest-path rust/managed_heap/Cargo.toml --example pauses && cp "$folder/target/release/examples/pauses" "$folder/rust"; } ||
+    echo 'Rust left out: bench/pauses/pauses.rs is built where the library and cargo are, or LIBRARY names it' >&2
 g++ -std=c++20 -O2 -pthread -o "$folder/boehm" bench/pauses/pauses.cpp -lgc 2>/dev/null || echo 'boehm left out: bench/pauses/pauses.cpp is built where there is libgc' >&2
 { command -v go >/dev/null 2>&1 && go build -o "$folder/go" bench/pauses/pauses.go 2>/dev/null; } || echo 'go left out: bench/pauses/pauses.go is built where there is Go' >&2
 { command -v javac >/dev/null 2>&1 && javac -d "$folder/java" bench/pauses/Pauses.java 2>/dev/null; } || echo 'java left out: bench/pauses/Pauses.java is built where there is Java' >&2
@@ -29,11 +35,11 @@ g++ -std=c++20 -O2 -pthread -o "$folder/boehm" bench/pauses/pauses.cpp -lgc 2>/d
 transactions() { echo $(($1 * (100 - live) / 100 / 16 * cycles)); }
 
 # A line of numbers from what a program told: rate, stops, mean, longest, the latencies of transactions, cycles, traced by mutators and by tracers, left to
-# the stops, scanned again in them, and floated. A peer tells the first eight.
+# the stops, scanned again in them, floated, and kept. A peer tells the first eight.
 numbers() {
     awk '{ for (k = 1; k < NF; k++) if ($(k + 1) ~ /^[0-9]+$/) found[$k] = $(k + 1) }
         END { print found["rate"] + 0, found["stops"] + 0, found["mean"] + 0, found["longest"] + 0, found["p50"] + 0, found["p99"] + 0, found["p999"] + 0,
-            found["slowest"] + 0, found["cycles"] + 0, found["mutators"] + 0, found["tracers"] + 0, found["left"] + 0, found["rescanned"] + 0, found["floated"] + 0 }'
+            found["slowest"] + 0, found["cycles"] + 0, found["mutators"] + 0, found["tracers"] + 0, found["left"] + 0, found["rescanned"] + 0, found["floated"] + 0, found["kept"] + 0 }'
 }
 
 # The stops of Java's collector while the transactions went on, with the time until all threads stood, as the log of safepoints tells them.
@@ -55,10 +61,10 @@ ours() {
     numbers <"$folder/told" >>"$folder/$4-$3.$1.$2"
 }
 
-# The library for C.
-c_calls() {
-    "$folder/c" "$1" $live "$2" "$3" "$(transactions "$1")" >"$folder/told"
-    numbers <"$folder/told" >>"$folder/c-$3.$1.$2"
+# The library, by the calls for C or for Rust.
+calls_of() {
+    "$folder/$1" "$2" $live "$3" "$4" "$(transactions "$2")" >"$folder/told"
+    numbers <"$folder/told" >>"$folder/$1-$4.$2.$3"
 }
 
 # Boehm's collector, in the smallest heap in which it finds room, and in a larger one from where it doesn't any more.
@@ -93,17 +99,19 @@ java_peer() {
     fi
 }
 
+# has FILE: whether this peer was built and is wanted.
+has() { [ -e "$folder/$1" ] && [ "$peers" != "${peers#* "$1" }" ]; }
+
 round() {
     for tracers in $tracers_of; do
-        ours "$1" "$2" "$tracers" beside
-        ours "$1" "$2" "$tracers" stops
-        [ ! -x "$folder/c" ] || c_calls "$1" "$2" "$tracers"
+        for way in $ways; do ours "$1" "$2" "$tracers" "$way"; done
+        for language in c rust; do ! has $language || calls_of $language "$1" "$2" "$tracers"; done
     done
-    [ ! -x "$folder/boehm" ] || boehm stop "$1" "$2"
-    [ ! -x "$folder/boehm" ] || boehm incremental "$1" "$2"
-    [ ! -x "$folder/go" ] || go_peer "$1" "$2"
+    ! has boehm || boehm stop "$1" "$2"
+    ! has boehm || boehm incremental "$1" "$2"
+    ! has go || go_peer "$1" "$2"
     # three megabytes, which is what 65,536 cells take, aren't enough for Java
-    { [ -d "$folder/java" ] && [ "$1" -ge 262144 ]; } || return 0
+    { has java && [ "$1" -ge 262144 ]; } || return 0
     java_peer G1 "$1" "$2" G1GC
     java_peer Z "$1" "$2" ZGC
     java_peer Shenandoah "$1" "$2" ShenandoahGC
@@ -125,10 +133,11 @@ line() {
 }
 
 pauses_lines() {
-    for way in beside stops; do
+    for way in $ways; do
         for tracers in $tracers_of; do line "$1 | $2 | $way, $tracers" "$way-$tracers.$1.$2"; done
     done
     for tracers in $tracers_of; do line "$1 | $2 | C, $tracers" "c-$tracers.$1.$2"; done
+    for tracers in $tracers_of; do line "$1 | $2 | Rust, $tracers" "rust-$tracers.$1.$2"; done
     for mode in stop incremental; do
         [ ! -s "$folder/$mode.$1.$2" ] || line "$1 | $2 | Boehm, $mode, $(cut -d ' ' -f 1 "$folder/$mode.$1.$2.shares") %" "$mode.$1.$2"
     done
@@ -143,6 +152,18 @@ work_lines() {
     done
 }
 
+# What the library's stops traced, with helpers: what was kept and not traced beside the program.
+calls_lines() {
+    for language in c rust; do
+        for tracers in $tracers_of; do
+            key=$language-$tracers.$1.$2
+            [ ! -s "$folder/$key" ] || awk -v row="| $1 | $2 | $language, $tracers" '{ part[NR] = 100 * ($15 - $10 - $11) / $15; cycles[NR] = $9; k = NR
+                for (; k > 1 && part[k - 1] > part[k]; k--) { x = part[k]; part[k] = part[k - 1]; part[k - 1] = x } }
+                END { printf "%s | %d | %.2f |\n", row, cycles[1], part[int((NR + 1) / 2)] }' "$folder/$key"
+        done
+    done
+}
+
 left=$runs
 while [ "$left" -gt 0 ]; do
     each round
@@ -154,7 +175,16 @@ echo
 echo "| Cells | Workers | Program | Orders a second | Stops | Mean stop | Longest | Transaction, p50 | p99 | p99.9 | Slowest |"
 echo "|---|---|---|---|---|---|---|---|---|---|---|"
 each pauses_lines
-echo
-echo "| Cells | Workers | Tracers | Cycles | Traced by mutators | By tracers | Left to the stops | Scanned again | Floated |"
-echo "|---|---|---|---|---|---|---|---|---|"
-each work_lines
+case " $ways " in *" beside "*)
+    echo
+    echo "| Cells | Workers | Tracers | Cycles | Traced by mutators | By tracers | Left to the stops | Scanned again | Floated |"
+    echo "|---|---|---|---|---|---|---|---|---|"
+    each work_lines
+    ;;
+esac
+if [ -e "$folder/c" ] || [ -e "$folder/rust" ]; then
+    echo
+    echo "| Cells | Workers | Program | Cycles | Traced in the stops, per cent of what was kept |"
+    echo "|---|---|---|---|---|"
+    each calls_lines
+fi

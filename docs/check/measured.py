@@ -10,12 +10,13 @@ from utilisation import utilisation  # noqa: E402
 
 BENCH, PAUSES, PERFORMANCE = "bench/README.md", "docs/PAUSES.md", "docs/PERFORMANCE.md"
 SERIES = "bench/results/2026-11-30-pauses.md"
+CALLS = "bench/results/2026-12-01-c.md"
 LARGE = ["orders", "live", "objects", "stores", "reads"]
 FRONT = ("4194304", "4")
 
-# Of each row of the series: orders a second, the mean and the longest stop, and the slowest transaction.
+# Of each row of a series: orders a second, the mean and the longest stop, and the slowest transaction.
 COLUMNS = ["Cells", "Workers", "Program", "Orders a second", "Mean stop", "Longest", "Slowest"]
-STOPS = {tuple(row[:3]): [float(it) for it in row[3:]] for row in rows_of(SERIES, *COLUMNS)}
+STOPS, CALLED = ({tuple(row[:3]): [float(it) for it in row[3:]] for row in rows_of(series, *COLUMNS)} for series in (SERIES, CALLS))
 ALONE = {label(row[0]): row[1:] for row in rows_of(BENCH, "Script", "gcplay, ns a command", "gcplay to the floor", "gcplay, processor ms", "Floor", "Go")}
 THREADS = {tuple(row[:2]): [float(it) for it in row[2:]] for row in rows_of(BENCH, "Workers", "Tracers", "`orders`, clock ms", "`live`, clock ms")}
 
@@ -24,16 +25,16 @@ def milliseconds(micros):
     return float(f"{micros / 1000:.0f}" if micros >= 10000 else f"{micros / 1000:.1f}" if micros >= 1000 else f"{micros / 1000:.2f}")
 
 
-def row(program, size=FRONT):
+def row(program, size=FRONT, series=STOPS):
     """The row of a program; Boehm's names how large its heap was, too."""
-    return next(it for key, it in STOPS.items() if key[:2] == size and key[2].startswith(program))
+    return next(it for key, it in series.items() if key[:2] == size and key[2].startswith(program))
 
 
 # The rows of the table of README.md that are of the series, with the program's name there.
 FRONT_ROWS = {
+    "this one from C, one tracer": "C, 1",
+    "this one from Rust, one tracer": "Rust, 1",
     "this one from Rattle, one tracer": "beside, 1",
-    "this one from Rattle, no tracer": "beside, 0",
-    "this one, marking only in pauses, one tracer": "stops, 1",
     "Boehm, stop the world": "Boehm, stop",
     "Go 1.19": "Go",
     "G1 (Java 17)": "G1",
@@ -46,10 +47,10 @@ def check_front():
     table = rows_of("README.md", "Collector", "Mean pause, ms", "Longest pause, ms", "Slowest transaction, ms", "Transactions a second")
     told = {name: [number(it) for it in cells] for name, *cells in table if name in FRONT_ROWS}
     for name, program in FRONT_ROWS.items():
-        rate, mean, longest, slowest = row(program)
+        rate, mean, longest, slowest = row(program, series=CALLED)
         right = [*map(milliseconds, (mean, longest, slowest)), 1000 * round(rate / 1000)]
         if told.get(name) != right:
-            print(f"README.md: {name}: {told.get(name)}, where {SERIES} has {right}")
+            print(f"README.md: {name}: {told.get(name)}, where {CALLS} has {right}")
 
 
 def check_speed():
