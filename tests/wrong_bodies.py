@@ -115,9 +115,9 @@ def copy_crates(crate, to):
 
 
 def check(folder):
-    """What a check of the crate in this folder prints."""
+    """What a check of the crate in this folder prints, a message of several lines as one."""
     ran = subprocess.run(["rt", "check", "--jobs", "1"], cwd=folder, stdout=subprocess.PIPE, stderr=subprocess.STDOUT, text=True, errors="replace")
-    return ran.stdout
+    return re.sub(r"\n +(?=\S)", " ", ran.stdout)
 
 
 def apply_some(bodies, folder, most):
