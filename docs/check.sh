@@ -2,7 +2,7 @@
 # Compares the documents with the repository, and pages with each other: each file in docs/check/ is a check, whose head says what it compares.
 # The programs of docs/EMBEDDING.md are run by tests/embedding.sh.
 # From the top of the repository: sh docs/check.sh [CHECK..], all checks if none is named. It prints all that differs, and ends with status 1 if
-# something does; if all agrees it prints nothing, and ends with 0.
+# something does; if all agrees it says so on standard error, and ends with 0.
 set -eu
 export LC_ALL=C
 cd "$(dirname "$0")/.."
@@ -23,5 +23,5 @@ for check in docs/check/*; do
     case " ${*:-$name} " in *" $name "*) run "$name" "$check" & ;; esac
 done
 wait
-cat "$folder"/*.found
-! cat "$folder"/*.found | grep -q .
+! cat "$folder"/*.found | grep . || exit 1
+echo "docs/check.sh: all agrees" >&2

@@ -51,7 +51,7 @@ end_parts() {
 
 # Compares the documents with the repository: whatever it says is a difference.
 documents() {
-    sh docs/check.sh >"$work/differs" 2>&1 && [ ! -s "$work/differs" ] || { cat "$work/differs" && return 1; }
+    sh docs/check.sh >"$work/differs" 2>&1 || { cat "$work/differs" && return 1; }
 }
 
 # The files of the repository as a clone has them, with nothing built.
