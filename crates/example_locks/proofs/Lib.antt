@@ -1,0 +1,9 @@
+mod Answered
+mod Steps
+mod Calls
+mod Lent
+mod Acted
+mod Inside
+mod Ended
+mod Lending
+mod Opened

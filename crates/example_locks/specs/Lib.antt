@@ -1,0 +1,4 @@
+pub mod Visits
+pub mod Guarding
+pub mod Pairs
+pub mod Open

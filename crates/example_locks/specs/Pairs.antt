@@ -1,0 +1,10 @@
+-- What is so of a world for two threads before they begin.
+use Rattle.std.specs.Arc.{arc_value}
+use Rattle.shared_heap.specs.Lending.{IsFreshSharer}
+use Rattle.shared_heap.specs.declared.mutator.SharedMutator.{SharedMutator}
+use Rattle.shared_heap.specs.declared.world.SharedWorld.{SharedWorld}
+
+-- these are the world's mutators 1 and 2, which have done nothing
+pub record AreNew (w : SharedWorld) (a b : SharedMutator) : Type 0 where
+  pub first : IsFreshSharer (arc_value w.heap) w.sizes.name 1 a
+  pub second : IsFreshSharer (arc_value w.heap) w.sizes.name 2 b
