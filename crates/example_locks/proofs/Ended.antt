@@ -28,7 +28,7 @@ use Rattle.shared_heap.specs.Logs.{Adds}
 use Rattle.shared_heap.specs.Threads.{IsWhole, ThreadsRun}
 use Rattle.shared_heap.specs.declared.mutator.SharedMutator.{SharedMutator}
 use Rattle.shared_heap.specs.declared.world.SharedWorld.{SharedWorld}
-use Rattle.example_locks.specs.Guarding.{IsGuarded, spares_fields}
+use Rattle.example_locks.specs.Guarding.{IsGuarded}
 use Rattle.example_locks.specs.Pairs.{AreNew}
 use Rattle.example_locks.specs.Visits.{VisitsRoot}
 use Rattle.example_locks.proofs.Inside.{finds-whole, reads-alike}
@@ -116,12 +116,12 @@ module _ (world : SharedWorld) (a b : SharedMutator) (w : Words) (end : IsShared
         made = each_log (λ (l : List Entry). all_steps (makes_zero sh.fields) l ≡ true) refl (zero-zeros sh.fields (view_of world.zero).log values) (λ l t. t.zeros) whole.root.section;
       }
 
-  keeps_pair : all_steps spares_fields (view_of world.zero).log ≡ true → KeepsPair sh es 0 whole.root
-  keeps_pair none =
+  keeps_pair : KeepsPair sh es 0 whole.root
+  keeps_pair =
       record {
         takes = takes_lent;
-        pairs = each_log (λ (l : List Entry). fits_pairs false None l ≡ true) refl (zero-pairs sh.fields false (view_of world.zero).log values none) (λ l t. t.pairs);
-        stored = each_log (λ (l : List Entry). IsStoredLent 0 l) (none-told sh.fields).stored (zero-stored (view_of world.zero).log none) (λ l t. t.stored);
+        pairs = each_log (λ (l : List Entry). fits_pairs false None l ≡ true) refl (zero-pairs sh.fields false (view_of world.zero).log values world.first.fields) (λ l t. t.pairs);
+        stored = each_log (λ (l : List Entry). IsStoredLent 0 l) (none-told sh.fields).stored (zero-stored (view_of world.zero).log world.first.fields) (λ l t. t.stored);
       }
 
 -- both threads visited the lock so many times
@@ -140,8 +140,7 @@ guarded runs alone pair world a b w end n p q =
       visits = ((told fields (n + n) (view_of a.seat).log p).won, (told fields (n + n) (view_of b.seat).log q).won);
       alone = alone (arc_value world.heap).shape r.0 0 r.1.root (takes_lent world a b w end r.0 r.1 (n + n) p q);
       pair =
-          λ none.
-          let keeps = keeps_pair world a b w end r.0 r.1 (n + n) p q none in
+          let keeps = keeps_pair world a b w end r.0 r.1 (n + n) p q in
           let finds = finds-whole alone pair (arc_value world.heap).shape r.0 0 r.1.root keeps in
           (finds, reads-alike alone pair (arc_value world.heap).shape r.0 0 r.1.root keeps r.1.tells finds);
     }

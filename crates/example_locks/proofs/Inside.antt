@@ -23,7 +23,8 @@ use Rattle.heap_laws.proofs.Fields.{kept_refs, stores_field}
 use Rattle.heap_laws.proofs.LentLocks.{Happening, core, event_at, split}
 use Rattle.heap_laws.proofs.PairLogs.{fits_split}
 use Rattle.heap_laws.proofs.PairSteps.{Free, Inside, fits, inside_other, log, quiet_free, waits, waits_own}
-use Rattle.example_locks.specs.Guarding.{FindsWhole, IsVisit, Reads, ReadsAlike, spares_fields}
+use Rattle.shared_heap.specs.Rooting.{spares_fields}
+use Rattle.example_locks.specs.Guarding.{FindsWhole, IsVisit, Reads, ReadsAlike}
 
 -- Who is outside isn't half done.
 none_some : (q : Option (Option ℕ)) → is_none q ≡ true → q ≡ None

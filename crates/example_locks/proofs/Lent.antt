@@ -16,7 +16,7 @@ use Rattle.heap_laws.specs.LentLocks.{IsThroughLent, makes_zero}
 use Rattle.heap_laws.specs.Locks.{stores_none}
 use Rattle.heap_laws.specs.Pairs.{IsStoredLent, fits_pair, fits_pairs, pending, pending_after}
 use Rattle.seat_turns.specs.Sharing.{spares_heap}
-use Rattle.example_locks.specs.Guarding.{spares_fields}
+use Rattle.shared_heap.specs.Rooting.{spares_fields}
 use Rattle.example_locks.specs.Visits.{Visits, VisitsRoot, keeps_root}
 use Rattle.example_locks.proofs.Steps.{all-join, all-more, fits_join, spared-visits, turns_join, visits-join}
 

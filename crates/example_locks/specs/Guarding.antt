@@ -1,15 +1,13 @@
 -- What is so of a world in which two threads changed a pair behind a lock.
-use Rattle.std.specs.Prelude.{ℕ, ◌≡◌, ◌+◌, ◌<◌, ◌≤◌, List, [], ◌∷◌, Bool, true, false, Option, Some, IsFalse, IsTrue, length, slice_get, take}
+use Rattle.std.specs.Prelude.{ℕ, ◌≡◌, ◌+◌, ◌<◌, ◌≤◌, List, [], ◌∷◌, Bool, false, Option, Some, IsFalse, IsTrue, length, slice_get, take}
 use Rattle.std.specs.Arc.{arc_value}
 use Rattle.plain_heap.specs.Paths.{Name}
 use Rattle.mark_core.specs.declared.kinds.Event.{Event}
 use Rattle.mark_core.specs.declared.kinds.Shape.{Shape}
-use Rattle.mark_core.specs.declared.kinds.Step.{Step}
-use Rattle.mark_core.specs.declared.kinds.Step.TheVariants.{ExchangeField, ReadOwn, StoreField}
+use Rattle.mark_core.specs.declared.kinds.Step.TheVariants.{ReadOwn}
 use Rattle.mark_core.specs.declared.seat.SeatState.{SeatState}
 use Rattle.mark_core.specs.Layout.{words_of}
 use Rattle.gc_table.specs.AgreementLaws.{found_of}
-use Rattle.gc_table.specs.Log.{all_steps}
 use Rattle.gc_table.specs.Past.{log_of}
 use Rattle.gc_table.specs.RunWorlds.{name_at, referred}
 use Rattle.gc_table.specs.Runs.{core_after}
@@ -19,15 +17,10 @@ use Rattle.gc_table.specs.Single.{is_inside, won_count}
 use Rattle.gc_table.specs.declared.words.Words.{Words}
 use Rattle.heap_laws.specs.Pairs.{IsWholePair}
 use Rattle.shared_heap.specs.Closing.{IsSharedEnd, all_seats}
+use Rattle.shared_heap.specs.Rooting.{spares_fields}
 use Rattle.shared_heap.specs.Threads.{IsWhole}
 use Rattle.shared_heap.specs.declared.mutator.SharedMutator.{SharedMutator}
 use Rattle.shared_heap.specs.declared.world.SharedWorld.{SharedWorld}
-
--- the step stores in no field
-abbrev pub spares_fields : Step → Bool
-spares_fields (StoreField v i x) = false
-spares_fields (ExchangeField v i x y) = false
-spares_fields step = true
 
 -- seat i has the lock after the first k of these events
 abbrev pub has_lock : Shape → List Event → ℕ → ℕ → Bool
@@ -75,5 +68,4 @@ pub record IsGuarded (n : ℕ) (w : Words) : Type 0 where
   pub whole : IsWhole (arc_value world.heap).shape (all_seats world ended.rest []) w past
   pub visits : (won_count (view_of first.seat).log ≡ n + n) × (won_count (view_of second.seat).log ≡ n + n)
   pub alone : IsAlone (arc_value world.heap).shape past
-  -- the seat of section 0, which makes the root, is to store in no field
-  pub pair : IsTrue (all_steps spares_fields (view_of world.zero).log) → FindsWhole (arc_value world.heap).shape past whole.root × ReadsAlike (arc_value world.heap).shape past whole.root
+  pub pair : FindsWhole (arc_value world.heap).shape past whole.root × ReadsAlike (arc_value world.heap).shape past whole.root

@@ -14,7 +14,8 @@ use Rattle.gc_table.specs.Single.{spares_values}
 use Rattle.gc_table.specs.declared.view.Entry.{Entry}
 use Rattle.gc_table.specs.declared.view.TokenState.{TokenState}
 use Rattle.gc_table.specs.declared.view.View.{View}
-use Rattle.example_locks.specs.Guarding.{FindsWhole, IsAlone, ReadsAlike, spares_fields}
+use Rattle.shared_heap.specs.Rooting.{spares_fields}
+use Rattle.example_locks.specs.Guarding.{FindsWhole, IsAlone, ReadsAlike}
 use Rattle.example_locks.specs.Visits.{VisitsRoot}
 
 -- the seat of section 0 stored once at most in its variable 0, changed no value, and stored in no field

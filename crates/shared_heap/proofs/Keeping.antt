@@ -29,9 +29,10 @@ use Rattle.gc_table.proofs.SeasonMoves.{count-join}
 use Rattle.mutator_ops.specs.Sharing.{next_word}
 use Rattle.seat_turns.specs.Sharing.{spares_heap}
 use Rattle.shared_heap.specs.Opening.{IsNewSeat}
-use Rattle.shared_heap.specs.Rooting.{IsRootSeat, MakesRoot, Spares, spares_season}
+use Rattle.shared_heap.specs.Rooting.{IsRootSeat, MakesRoot, Spares, spares_fields, spares_season}
 use Rattle.shared_heap.proofs.Once.{once-then, root-log, root-once, season-spared, spared}
-use Rattle.shared_heap.proofs.Rooted.{all-more, makes-ran}
+use Rattle.shared_heap.proofs.RootFields.{field-spared, root-fields}
+use Rattle.shared_heap.proofs.Rooted.{all-join, all-more, makes-ran}
 use Rattle.shared_heap.proofs.Rooting.{first-start}
 
 -- what no plain heap sees, and leaves the season, doesn't move it on
@@ -264,6 +265,7 @@ root-seat h x y new some m =
             seasons = ran-keeps IsCounted season_counted v w ran none;
           };
       one = subst (λ (sh : Shape). MakesOne sh.fields w.log) new.0.1 (root_one v w new.1.log m);
+      fields = root-fields v w new.1.log m;
     }
 
 -- and does so after what no plain heap sees
@@ -285,4 +287,5 @@ root-kept h x y r s =
             seasons = ran-keeps IsCounted season_counted v w s.ran r.keeps.seasons;
           };
       one = subst (MakesOne fields) (sym g.1) (record { made = let n = more.made in let was = r.one.made in omega (arith, n, was); values = more.values });
+      fields = ap (all_steps spares_fields) g.1 ∙ all-join spares_fields v.log g.0 r.fields (all-more spares_heap spares_fields field-spared g.0 only);
     }

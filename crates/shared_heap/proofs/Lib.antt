@@ -6,6 +6,7 @@ mod Keeping
 pub mod Logs
 mod Lost
 mod Once
+mod RootFields
 pub mod RootRead
 mod Rooted
 mod Rooting

@@ -1,8 +1,8 @@
 -- The root: the seat of section 0 makes it before anybody else acts, and keeps it in its variable 0.
-use Rattle.std.specs.Prelude.{ℕ, ◌≡◌, ◌<◌, ◌+◌, Bool, false}
+use Rattle.std.specs.Prelude.{ℕ, ◌≡◌, ◌<◌, ◌+◌, Bool, true, false, IsTrue}
 use Rattle.mark_core.specs.declared.kinds.Step.{Step}
-use Rattle.mark_core.specs.declared.kinds.Step.TheVariants.{NextSeason}
-use Rattle.gc_table.specs.Log.{Only}
+use Rattle.mark_core.specs.declared.kinds.Step.TheVariants.{ExchangeField, NextSeason, StoreField}
+use Rattle.gc_table.specs.Log.{Only, all_steps}
 use Rattle.gc_table.specs.Running.{Ran}
 use Rattle.gc_table.specs.Seats.{state_of, view_of}
 use Rattle.gc_table.specs.declared.seat.Heap.{Heap}
@@ -38,11 +38,18 @@ pub record MakesRoot (v w : View) : Type 0 where
   pub creates : ShareCreates 0 0 cell before made
   pub rest : Spares made w
 
--- the seat of section 0: it keeps the root in its variable 0, an object of value 0, and has made no other
+-- the step stores in no field
+abbrev pub spares_fields : Step → Bool
+spares_fields (StoreField v i x) = false
+spares_fields (ExchangeField v i x y) = false
+spares_fields step = true
+
+-- the seat of section 0: it keeps the root in its variable 0, an object of value 0, has made no other, and stored in no field
 pub record IsRootSeat (h : Heap) (s : HeapSeat) : Type 0 where
   pub number : (state_of s).number ≡ 0
   pub keeps : KeepsRoot 0 s
   pub one : MakesOne h.shape.fields (view_of s).log
+  pub fields : IsTrue (all_steps spares_fields (view_of s).log)
 
 -- the heap was opened with a seat for each section and for this many tracers
 abbrev pub HasSeats : Heap → ℕ → HeapSeat → Type 0
