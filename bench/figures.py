@@ -14,7 +14,7 @@ from utilisation import WINDOWS, utilisation
 
 TOP = pathlib.Path(__file__).resolve().parent.parent
 SERIES = "bench/results/2026-11-30-pauses.md"
-CALLS = "bench/results/2026-12-01-c.md"
+CALLS = "bench/results/2026-12-pauses-c.md"
 CYCLE = TOP / "bench/results/2026-11-30-cycle.txt"
 
 

@@ -10,7 +10,7 @@ from utilisation import utilisation  # noqa: E402
 
 BENCH, PAUSES, PERFORMANCE = "bench/README.md", "docs/PAUSES.md", "docs/PERFORMANCE.md"
 SERIES = "bench/results/2026-11-30-pauses.md"
-CALLS = "bench/results/2026-12-01-c.md"
+CALLS = "bench/results/2026-12-pauses-c.md"
 LARGE = ["orders", "live", "objects", "stores", "reads"]
 FRONT = ("4194304", "4")
 
