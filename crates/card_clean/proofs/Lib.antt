@@ -1,5 +1,6 @@
 pub mod Owned
 mod Steps
+mod Stopped
 mod Between
 mod Learning
 pub mod Drawing

@@ -9,6 +9,7 @@ ghost use Rattle.gc_table.specs.Seats.{Across, did, state_of, view_of};
 ghost use Rattle.packet_pools.specs.OnlyTraced.{OnlyTraced, OnlyCleaned};
 ghost use Rattle.gc_table.specs.Log.{events, event};
 ghost use Rattle.packet_pools.specs.Tracing.{IsTracer};
+ghost use Rattle.packet_pools.specs.Counts.{count_of, dirties};
 ghost use Rattle.packet_pools.specs.Hands.{HoldsPacket};
 ghost use Rattle.packet_pools.specs.Scanning.{Fills, InHand, owes_redirty};
 ghost use Rattle.card_clean.specs.Cleaning.{Cleans, LearnsCells, RescansCard};
@@ -39,6 +40,7 @@ fn read_block(heap: &Heap, seat: &mut HeapSeat, card: u32) -> (u64, bool)
     ensures seat { IsTracer heap.now seat.new }
     ensures only { Across OnlyTraced seat.old seat.new }
     ensures learns { Across (LearnsCells card result.0 result.1) seat.old seat.new }
+    ensures published { IsFalse (state_of seat.old).active → IsFalse result.1 }
     ensures few { length (did seat.old seat.new) ≤ 2 }
 {
     heap.read_marks(seat, card / BLOCK_CARDS);
@@ -85,6 +87,7 @@ fn rescan_card(heap: &Heap, seat: &mut HeapSeat, card: u32, out: &mut Held) -> C
     ensures most { result.rescanned ≤ card_cells }
     ensures left { rescanned_in (view_of seat.old) (did seat.old seat.new) ≡ result.rescanned }
     ensures rescans { RescansCard heap.now.shape card result (did seat.old seat.new) }
+    ensures clean { IsFalse (state_of seat.old).active → IsTrue result.redirtied → 2 ≤ count_of dirties (did seat.old seat.new) }
     ensures few { length (did seat.old seat.new) ≤ rescan_steps result.rescanned heap.now.shape + 3 }
 {
     let (left, owes) = read_block(heap, seat, card);
@@ -99,6 +102,7 @@ fn rescan_card(heap: &Heap, seat: &mut HeapSeat, card: u32, out: &mut Held) -> C
 
 /// Cleans a card: if it is dirty it is cleared, and then its marked published cells are scanned again, into packet
 /// `out`. If it has a marked cell that isn't published yet, or a cell found no packet with room, it is dirtied again.
+/// While the world is stopped only the latter may be: then the card of that cell is dirtied too.
 ///
 /// The card is cleared first. In the other order a white cell x that is stored in an object c of the card can be lost:
 ///
@@ -128,6 +132,7 @@ pub fn clean_card(heap: &Heap, seat: &mut HeapSeat, card: u32, out: &mut Held) -
     ensures most { result.rescanned ≤ card_cells }
     ensures left { rescanned_in (view_of seat.old) (did seat.old seat.new) ≡ result.rescanned }
     ensures cleans { Cleans heap.now.shape card result (did seat.old seat.new) }
+    ensures clean { IsFalse (state_of seat.old).active → IsTrue result.redirtied → 2 ≤ count_of dirties (did seat.old seat.new) }
     ensures few { length (did seat.old seat.new) ≤ clean_steps result.rescanned heap.now.shape }
 {
     if !heap.clear_card(seat, card) {

@@ -8,6 +8,7 @@ ghost use Rattle.packet_pools.specs.Hands.{free_slots};
 ghost use Rattle.packet_pools.specs.OnlyTraced.{OnlyCleaned};
 ghost use Rattle.packet_pools.specs.Seeking.{NoOutput, only_moves, output_pools};
 ghost use Rattle.packet_pools.specs.Tracing.{IsTracer};
+ghost use Rattle.packet_pools.specs.Counts.{count_of, dirties};
 ghost use Rattle.card_clean.specs.Cleaning.{CleansOne};
 ghost use Rattle.card_clean.specs.Leaving.{rescanned_in};
 ghost use Rattle.packet_pools.specs.StepBounds.{output_steps};
@@ -31,6 +32,7 @@ pub fn clean_one(heap: &Heap, seat: &mut HeapSeat, card: u32) -> Option<Cleaned>
     ensures work { IsFalse (work_in_hand heap.now.shape.fields (state_of seat.new)) }
     ensures owes { ((state_of seat.new).owes ≡ (state_of seat.old).owes) ⊎ ((state_of seat.new).owes ≡ None) }
     ensures some { IfSome result (λ r. CleansOne heap.now.shape card r (did seat.old seat.new) × (r.rescanned ≤ card_cells) × (rescanned_in (view_of seat.old) (did seat.old seat.new) ≡ r.rescanned)) }
+    ensures clean { IfSome result (λ r. IsFalse (state_of seat.old).active → IsTrue r.redirtied → 2 ≤ count_of dirties (did seat.old seat.new)) }
     ensures none { IfNone result ((state_of seat.new ≡ state_of seat.old) × NoOutput heap.now.shape (did seat.old seat.new) × IsTrue (only_moves output_pools (did seat.old seat.new)) × (rescanned_in (view_of seat.old) (did seat.old seat.new) ≡ 0)) }
     ensures few { IfSome result (λ r. length (did seat.old seat.new) ≤ clean_one_steps r.rescanned heap.now.shape) × IfNone result (length (did seat.old seat.new) ≤ output_steps heap.now.shape) }
 {

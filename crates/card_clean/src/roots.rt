@@ -1,14 +1,15 @@
 //! Roots are seen to: what each refers to is marked.
 ghost use Rattle.std.specs.Prelude.{◌≡◌, ◌<◌, ◌≤◌, ◌+◌, ◌-◌, ◌*◌, [], ◌∷◌, IsTrue, IsFalse, length};
 ghost use Rattle.std.specs.List.{range_with_len};
-ghost use Rattle.mark_core.specs.Held.{has_free_slot};
+ghost use Rattle.mark_core.specs.Held.{has_free_slot, holds_any};
 ghost use Rattle.mark_core.specs.Layout.{root_count};
-ghost use Rattle.mark_core.specs.Numbers.{section_variables};
+ghost use Rattle.mark_core.specs.Numbers.{deferred_pool_number, section_variables};
 ghost use Rattle.mark_core.specs.Seats.{work_in_hand};
 ghost use Rattle.gc_table.specs.Log.{Only};
 ghost use Rattle.gc_table.specs.Seats.{Across, did, Sits, state_of, view_of};
 ghost use Rattle.packet_pools.specs.Fields.{picked};
 ghost use Rattle.packet_pools.specs.OnlyTraced.{OnlyTraced};
+ghost use Rattle.packet_pools.specs.Outside.{AreNotedOutside};
 ghost use Rattle.packet_pools.specs.Tracing.{IsTracer};
 ghost use Rattle.packet_pools.specs.Hands.{HoldsPacket};
 ghost use Rattle.packet_pools.specs.Scanning.{Fills};
@@ -133,6 +134,7 @@ pub fn see_to_some(heap: &Heap, seat: &mut HeapSeat, from: u32, end: u32) -> boo
     ensures left { rescanned_in (view_of seat.old) (did seat.old seat.new) ≡ 0 }
     ensures steps { Across (Only sees_roots) seat.old seat.new }
     ensures none { IsFalse result → (state_of seat.new ≡ state_of seat.old) × NoPacket heap.now.shape (did seat.old seat.new) }
+    ensures pooled { IsFalse (holds_any (state_of seat.old).held) → AreNotedOutside deferred_pool_number (view_of seat.old) → IsTrue result }
     ensures noted { IsTrue result → RootsBetween from end (view_of seat.new) }
     ensures reads { IsTrue result → picked (roots_read heap.now.shape) (did seat.old seat.new) ≡ range_with_len from (end - from) }
     ensures few { length (did seat.old seat.new) ≤ see_to_steps (end - from) heap.now.shape }
@@ -158,7 +160,7 @@ pub fn count_roots(heap: &Heap, seat: &HeapSeat) -> u32
 /// marked. The seat has no work in hand and holds at most two packets.
 ///
 /// The answer is false only if this call found no packet, with room or with entries; nothing is marked then. It doesn't
-/// look for deferred packets.
+/// look for deferred packets. It is true if the seat holds no packet and knows that none is deferred.
 pub fn see_to_roots(heap: &Heap, seat: &mut HeapSeat) -> bool
     requires seat { IsTracer heap.now seat.old }
     requires ready { IsBeforeSweep (view_of seat.old) }
@@ -171,6 +173,7 @@ pub fn see_to_roots(heap: &Heap, seat: &mut HeapSeat) -> bool
     ensures left { rescanned_in (view_of seat.old) (did seat.old seat.new) ≡ 0 }
     ensures steps { Across (Only sees_roots) seat.old seat.new }
     ensures none { IsFalse result → (state_of seat.new ≡ state_of seat.old) × NoPacket heap.now.shape (did seat.old seat.new) }
+    ensures pooled { IsFalse (holds_any (state_of seat.old).held) → AreNotedOutside deferred_pool_number (view_of seat.old) → IsTrue result }
     ensures rooted { IsTrue result → IsRooted (view_of seat.new) }
     ensures few { length (did seat.old seat.new) ≤ see_to_steps (root_count heap.now.shape) heap.now.shape }
 {

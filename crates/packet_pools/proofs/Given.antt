@@ -1,12 +1,16 @@
 -- A seat that stores a packet's length, gives the packet back and counts it.
-use Rattle.std.proofs.Common.{ℕ, ◌≡◌, ◌<◌, refl, sym, ap, ◌∙◌, Bool, true, false, not, Some, eqb}
+use Rattle.std.proofs.Common.{ℕ, ◌≡◌, ◌<◌, [], ◌∷◌, refl, sym, ap, ◌∙◌, subst, Bool, true, false, not, Some, eqb}
 use Rattle.std.proofs.lemmas.Bool.{not_from_true}
 use Rattle.mark_core.specs.Held.{holds_any, holds_another, has_entry, is_stored, length_in_hand, known_length, drop_packet, set_length}
 use Rattle.mark_core.specs.declared.seat.SeatState.{SeatState}
 use Rattle.mark_core.specs.declared.kinds.Step.TheVariants.{Credit, Give, StoreLength}
 use Rattle.gc_table.specs.declared.view.View.{View}
 use Rattle.gc_table.specs.Seats.{Found, Stored}
+use Rattle.mark_core.specs.Steps.PacketSteps.{pool_for}
+use Rattle.mark_core.specs.declared.kinds.Shape.{Shape}
 use Rattle.packet_pools.specs.OnlyTraced.{OnlyTraced}
+use Rattle.packet_pools.specs.Outside.{KeepsOutside}
+use Rattle.packet_pools.proofs.Outside.{keeps-join, keeps-store_length, keeps-give, keeps-credit}
 use Rattle.packet_pools.specs.Tracing.{Traces}
 use Rattle.packet_pools.proofs.TracedSteps.{traced-join}
 use Rattle.packet_pools.proofs.Doing.{traced-store_length, traced-give, traced-credit, traces-on}
@@ -60,6 +64,16 @@ module _ {v w x : View} {p n m : ℕ} {d : Bool} (t : Traces v) (k : known_lengt
   pub gave-traces : 0 < n → Traces x
   gave-traces some = let e = gave-full some in traces-on v x gave-later t (ap (λ (s : SeatState). s.reserved) e) (ap (λ (s : SeatState). s.credit) e)
 
+  -- what was noted of other pools stays
+  pub gave-outside : p < v.shape.packets → KeepsOutside (pool_for v.shape n d ∷ []) v x
+  gave-outside low =
+      let shape : w.shape ≡ v.shape = ap (λ (z : View). z.shape) a in
+      let held = ap (λ (z : View). length_in_hand z.state.held p) a in
+      let long : length_in_hand w.state.held p ≡ n = held ∙ known-length (stored v.state p n k).held p n (stored-known v.state p n k) in
+      let to : pool_for w.shape (length_in_hand w.state.held p) d ≡ pool_for v.shape n d = λ i. pool_for (shape i) (long i) d in
+      keeps-join (pool_for v.shape n d ∷ []) v w x shape (ap (λ (z : View). z.state.alone) a) (keeps-store_length v w _ (pool_for v.shape n d ∷ []) p refl a)
+      (keeps-give w x m (pool_for v.shape n d) p d (subst (λ (sh : Shape). p < sh.packets) (sym shape) low) to b.1 b.0)
+
 -- an empty one is counted then
 module _ {v w x y : View} {p n m j : ℕ} {d : Bool} (t : Traces v) (k : known_length v.state.held p ≡ Some n) (a : Stored (StoreLength p) v w) (b : Found (Give p d) m w x) (e : Found Credit j x y) where
   pub counted-state : y.state ≡ record v.state { held = drop_packet v.state.held p }
@@ -67,6 +81,11 @@ module _ {v w x y : View} {p n m j : ℕ} {d : Bool} (t : Traces v) (k : known_l
 
   pub counted-later : OnlyTraced v y
   counted-later = traced-join v x y (gave-later t k a b) (traced-credit x y j e.1 e.0)
+
+  pub counted-outside : p < v.shape.packets → KeepsOutside (pool_for v.shape n d ∷ []) v y
+  counted-outside low =
+      let later = gave-later t k a b in
+      keeps-join (pool_for v.shape n d ∷ []) v x y later.shape (ap (λ (s : SeatState). s.alone) later.rest) (gave-outside t k a b low) (keeps-credit x y j (pool_for v.shape n d ∷ []) e.1 e.0)
 
   pub counted-traces : Traces y
   counted-traces = traces-on v y counted-later t (ap (λ (z : View). z.state.reserved) e.0 ∙ sym t.unreserved) (ap (λ (z : View). z.state.credit) e.0 ∙ sym t.uncredited)

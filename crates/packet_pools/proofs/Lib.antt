@@ -1,11 +1,14 @@
 pub mod TracedSteps
 pub mod Conditions
+pub mod InDrain
 pub mod Searches
 pub mod Doing
 pub mod TakenOne
 pub mod TakenRead
 pub mod WordSearch
 pub mod Given
+pub mod Outside
+pub mod Pooled
 pub mod Exchanged
 pub mod Filled
 pub mod Few

@@ -1,6 +1,6 @@
 -- The search of one word of a pool, packet by packet.
 use Rattle.std.proofs.Common.{ℕ, ◌≡◌, ◌<◌, ◌≤◌, ◌+◌, ◌*◌, ◌/◌, ◌%◌, List, [], ◌∷◌, ◌++◌, length, arith, refl, sym, ap, ◌∙◌, subst, ⊎_elim, Bool, true, false, eq-eqb}
-use Rattle.std.specs.Prelude.{IsTrue, slice_index, ◌==◌, ◌-◌, ◌^◌}
+use Rattle.std.specs.Prelude.{IsTrue, IsFalse, Some, slice_index, ◌==◌, ◌-◌, ◌^◌}
 use Rattle.std.proofs.lemmas.Bool.{cases_lt, true≢false, false≢true, and_from, or_left, not_from_false, false_from_ne_true}
 use Rattle.std.specs.Int.{trailing_zeros}
 use mir.Syntax.{w64}
@@ -23,6 +23,10 @@ use Rattle.mark_core.proofs.Pool.PoolPlaces.{in-no-pool}
 use Rattle.gc_table.specs.declared.view.View.{View}
 use Rattle.gc_table.specs.Fetching.{is_in_range}
 use Rattle.gc_table.specs.Taking.{after, Finds}
+use Rattle.gc_table.specs.Seats.{Found}
+use Rattle.gc_table.specs.Notes.{look}
+use Rattle.mark_core.specs.Places.{pool_at}
+use Rattle.packet_pools.proofs.Outside.{look-noted}
 use Rattle.packet_pools.specs.declared.held.Held.{Held}
 use Rattle.packet_pools.specs.OnlyTraced.{OnlyTraced}
 use Rattle.gc_table.specs.Log.{events}
@@ -109,7 +113,7 @@ word-starts sh q not_full g n v w shape b e f =
     }
 
 -- the bits below the lowest one that is set are clear
-clear-below : (word i : ℕ) → word < 2 ^ 64 → i < trailing_zeros w64 word → i < word_bits → has_bit word i ≡ false
+pub clear-below : (word i : ℕ) → word < 2 ^ 64 → i < trailing_zeros w64 word → i < word_bits → has_bit word i ≡ false
 clear-below word i small below l =
     ⊎_elim
     (λ (some : 0 < word). ap (λ b. b == 1) ((bit_at-trailing_zeros w64 word some small).2 i below))
@@ -174,3 +178,35 @@ word-next sh q not_full g word p v w u l h k later same got miss moving =
     this : p < sh.packets → (b : Bool) → has_bit word (p % word_bits) ≡ b → missed sh.entries q not_full p (events v w ++ events w u) ≡ true
     this low true e = missed-right sh.entries q not_full p (events v w) (events w u) (ungot sh q not_full (word_bits * g) p p (events v w) k.misses (omega arith)) (miss low e)
     this low false e = missed-left sh.entries q not_full p (events v w) (events w u) (or_left _ _ (or_left _ _ (k.shown p (in-word g p l h) e)))
+
+-- the word was read, and has the bit of no packet below p
+pub record LooksBelow (sh : Shape) (q g word p : ℕ) (v w : View) : Type 0 where
+  pub found : Found (Look q g) word v w
+  pub clear : (x : ℕ) → x < sh.packets → x < p → x / word_bits ≡ g → has_bit word (x % word_bits) ≡ false
+
+pub below-starts : (sh : Shape) (q g n z : ℕ) (v w : View) → n < 2 ^ 64 → z ≡ trailing_zeros w64 n → Found (Look q g) n v w → LooksBelow sh q g n (word_bits * g + z) v w
+below-starts sh q g n z v w small is f =
+    record {
+      found = f;
+      clear =
+          λ x there low here.
+          let most = trailing_le 64 n in
+          let place : x % word_bits ≡ x - word_bits * g = omega (arith, here) in
+          let below : x % word_bits < trailing_zeros w64 n = omega (arith, here, low, is, place) in
+          clear-below n (x % word_bits) small below (omega arith);
+    }
+
+pub below-next : (sh : Shape) (q g word p : ℕ) (v w u : View) → LooksBelow sh q g word p v w → v.state.alone ≡ true → p / word_bits ≡ g
+    → (p < sh.packets → look (pool_at w.shape q (p / word_bits)) w.known ≡ Some word → IsFalse (has_bit word (p % word_bits))) → ((p < sh.packets → IsFalse (has_bit word (p % word_bits))) → u ≡ w) → LooksBelow sh q g word (p + 1) v u
+below-next sh q g word p v w u k alone here clear same =
+    let noted : look (pool_at w.shape q (p / word_bits)) w.known ≡ Some word = subst (λ x. look (pool_at w.shape q x) w.known ≡ Some word) (sym here) (look-noted v w q g word alone k.found.0) in
+    let none : p < sh.packets → has_bit word (p % word_bits) ≡ false = λ low. clear low noted in
+    record {
+      found = (same none ∙ k.found.0, k.found.1);
+      clear =
+          λ x there low at.
+          ⊎_elim
+          (λ (e : x < p). k.clear x there e at)
+          (λ (e : p ≤ x). let is : p ≡ x = omega (arith, e, low) in subst (λ y. has_bit word (y % word_bits) ≡ false) is (none (subst (λ y. y < sh.packets) (sym is) there)))
+          (cases_lt x p);
+    }

@@ -4,6 +4,7 @@ pub mod Tracing
 pub mod Hands
 pub mod Quiet
 pub mod Seeking
+pub mod Outside
 pub mod Gains
 pub mod StepBounds
 pub mod Scanning

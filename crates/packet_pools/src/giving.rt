@@ -8,6 +8,8 @@ ghost use Rattle.packet_pools.specs.OnlyTraced.{OnlyTraced};
 ghost use Rattle.gc_table.specs.Log.{steps_of};
 ghost use Rattle.packet_pools.specs.Tracing.{IsTracer};
 ghost use Rattle.packet_pools.specs.Hands.{HoldsPacket};
+ghost use Rattle.packet_pools.specs.Outside.{KeepsOutside};
+ghost use Rattle.mark_core.specs.Steps.PacketSteps.{pool_for};
 
 use crate::held::Held;
 use gc_table::{Heap, HeapSeat};
@@ -21,6 +23,7 @@ pub fn give(heap: &Heap, seat: &mut HeapSeat, held: Held, deferred: bool)
     requires work { IsTrue (work_in_hand heap.now.shape.fields (state_of seat.old)) → IsTrue (holds_another (state_of seat.old).held held.packet) }
     ensures seat { IsTracer heap.now seat.new }
     ensures only { Across OnlyTraced seat.old seat.new }
+    ensures outside { Across (KeepsOutside (pool_for heap.now.shape held.length deferred ∷ [])) seat.old seat.new }
     ensures state { state_of seat.new ≡ record (state_of seat.old) { held = drop_packet (state_of seat.old).held held.packet } }
     ensures steps { steps_of (did seat.old seat.new) ≡ StoreLength held.packet ∷ Give held.packet deferred ∷ (if held.length == 0 then Credit ∷ [] else []) }
 {

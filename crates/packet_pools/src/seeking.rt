@@ -1,5 +1,5 @@
 //! A packet is looked for in one pool.
-ghost use Rattle.std.specs.Prelude.{ℕ, ◌≡◌, [], ◌∷◌, ◌<◌, ◌+◌, ◌*◌, ◌/◌, ◌%◌, ◌≤◌, length, IsTrue, IsFalse, IfSome, IfNone};
+ghost use Rattle.std.specs.Prelude.{ℕ, ◌≡◌, [], ◌∷◌, ◌<◌, ◌+◌, ◌*◌, ◌/◌, ◌%◌, ◌≤◌, length, Some, IsTrue, IsFalse, IfSome, IfNone};
 ghost use Rattle.mark_core.specs.Bits.{has_bit as has_bit_of};
 ghost use Rattle.mark_core.specs.Held.{holds};
 ghost use Rattle.mark_core.specs.Layout.{pool_words};
@@ -8,6 +8,9 @@ ghost use Rattle.gc_table.specs.Seats.{Across, did, Sits, state_of, view_of};
 ghost use Rattle.packet_pools.specs.OnlyTraced.{OnlyTraced};
 ghost use Rattle.packet_pools.specs.Seeking.{only_moves, was_got};
 ghost use Rattle.packet_pools.specs.Gains.{FindsNone, Gains, Seeks, missed};
+ghost use Rattle.packet_pools.specs.Outside.{AreNotedOutside, KeepsOutside, LooksInVain};
+ghost use Rattle.mark_core.specs.Places.{pool_at};
+ghost use Rattle.gc_table.specs.Notes.{look};
 ghost use Rattle.packet_pools.specs.StepBounds.{TriesPackets, had_steps, pool_steps, try_steps};
 
 use crate::giving::give;
@@ -24,6 +27,8 @@ fn take_packet(heap: &Heap, seat: &mut HeapSeat, q: u8, p: u32, not_full: bool) 
     ensures only { Across OnlyTraced seat.old seat.new }
     ensures some { IfSome result (λ h. Across (Gains q not_full h) seat.old seat.new) }
     ensures none { IfNone result (Across (FindsNone heap.now.shape q not_full p (p + 1)) seat.old seat.new) }
+    ensures outside { IfNone result (Across (KeepsOutside (q ∷ [])) seat.old seat.new) }
+    ensures clear { IfNone result (IsFalse not_full → (n : ℕ) → look (pool_at (view_of seat.old).shape q (p / word_bits)) (view_of seat.old).known ≡ Some n → IsFalse (has_bit_of n (p % word_bits))) }
     ensures few { length (did seat.old seat.new) ≤ try_steps not_full + had_steps result }
 {
     if !heap.take(seat, q, p) {
@@ -53,6 +58,9 @@ fn take_shown(
     ensures only { Across OnlyTraced seat.old seat.new }
     ensures some { IfSome result (λ h. Across (Gains q not_full h) seat.old seat.new) }
     ensures none { IfNone result ((state_of seat.new ≡ state_of seat.old) × ((x : ℕ) → IsTrue (was_got x (did seat.old seat.new)) → IsTrue not_full × (x < p + 1)) × (p < heap.now.shape.packets → IsTrue (has_bit_of word (p % word_bits)) → IsTrue (missed heap.now.shape.entries q not_full p (did seat.old seat.new))) × IsTrue (only_moves (q ∷ []) (did seat.old seat.new))) }
+    ensures outside { IfNone result (Across (KeepsOutside (q ∷ [])) seat.old seat.new) }
+    ensures clear { IfNone result (IsFalse not_full → p < heap.now.shape.packets → look (pool_at (view_of seat.old).shape q (p / word_bits)) (view_of seat.old).known ≡ Some word → IsFalse (has_bit_of word (p % word_bits))) }
+    ensures same { (p < heap.now.shape.packets → IsFalse (has_bit_of word (p % word_bits))) → view_of seat.new ≡ view_of seat.old }
     ensures few { (p < heap.now.shape.packets → length (did seat.old seat.new) ≤ try_steps not_full + had_steps result) × (heap.now.shape.packets ≤ p → length (did seat.old seat.new) ≤ 0) }
 {
     if p < heap.shape().packets && has_bit(word, p % WORD_BITS) {
@@ -70,6 +78,8 @@ fn take_in_word(heap: &Heap, seat: &mut HeapSeat, q: u8, g: u32, not_full: bool)
     ensures only { Across OnlyTraced seat.old seat.new }
     ensures some { IfSome result (λ h. Across (Gains q not_full h) seat.old seat.new) }
     ensures none { IfNone result (Across (FindsNone heap.now.shape q not_full (word_bits * g) (word_bits * g + word_bits)) seat.old seat.new) }
+    ensures outside { IfNone result (Across (KeepsOutside (q ∷ [])) seat.old seat.new) }
+    ensures vain { IfNone result (IsFalse not_full → IsTrue (state_of seat.old).alone → Across (LooksInVain heap.now.shape q g) seat.old seat.new) }
     ensures few { TriesPackets heap.now.shape not_full 1 (word_bits * g) (word_bits * g + word_bits) (had_steps result) (did seat.old seat.new) }
 {
     let word = heap.look(seat, q, g);
@@ -89,6 +99,8 @@ pub(crate) fn take_any(heap: &Heap, seat: &mut HeapSeat, q: u8, not_full: bool) 
     ensures only { Across OnlyTraced seat.old seat.new }
     ensures some { IfSome result (λ h. Across (Gains q not_full h) seat.old seat.new) }
     ensures none { IfNone result (Across (FindsNone heap.now.shape q not_full 0 (word_bits * pool_words heap.now.shape)) seat.old seat.new) }
+    ensures outside { IfNone result (Across (KeepsOutside (q ∷ [])) seat.old seat.new) }
+    ensures noted { IfNone result (IsFalse not_full → IsTrue (state_of seat.old).alone → AreNotedOutside q (view_of seat.new)) }
     ensures few { length (did seat.old seat.new) ≤ pool_steps not_full heap.now.shape + had_steps result }
 {
     for g in 0..heap.shape().packets.div_ceil(WORD_BITS) {

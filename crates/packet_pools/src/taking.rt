@@ -2,12 +2,13 @@
 ghost use Rattle.std.specs.Prelude.{◌<◌, ◌≤◌, ◌+◌, ◌*◌, [], ◌∷◌, length, false, IsTrue, IfSome, IfNone};
 ghost use Rattle.mark_core.specs.Held.{has_free_slot};
 ghost use Rattle.mark_core.specs.Layout.{pool_words};
-ghost use Rattle.mark_core.specs.Numbers.{empty_pool_number, word_bits};
-ghost use Rattle.gc_table.specs.Seats.{Across, did, state_of};
+ghost use Rattle.mark_core.specs.Numbers.{empty_pool_number, high_pool_number, low_pool_number, word_bits};
+ghost use Rattle.gc_table.specs.Seats.{Across, did, state_of, view_of};
 ghost use Rattle.packet_pools.specs.OnlyTraced.{OnlyTraced};
 ghost use Rattle.packet_pools.specs.Tracing.{IsTracer};
 ghost use Rattle.packet_pools.specs.Seeking.{NoDeferred, NoInput, NoOutput, deferred_pools, input_pools, output_pools};
 ghost use Rattle.packet_pools.specs.Gains.{FindsNone, Takes, TakesNone};
+ghost use Rattle.packet_pools.specs.Outside.{AreNotedOutside, KeepsOutside};
 ghost use Rattle.packet_pools.specs.StepBounds.{deferred_steps, input_steps, output_steps, pool_steps};
 
 use crate::held::Held;
@@ -24,6 +25,8 @@ pub fn take_input(heap: &Heap, seat: &mut HeapSeat) -> Option<Held>
     ensures only { Across OnlyTraced seat.old seat.new }
     ensures some { IfSome result (λ h. Across (Takes input_pools h) seat.old seat.new × (0 < h.length)) }
     ensures none { IfNone result (Across (TakesNone (NoInput heap.now.shape) input_pools) seat.old seat.new) }
+    ensures outside { IfNone result (Across (KeepsOutside input_pools) seat.old seat.new) }
+    ensures noted { IfNone result (IsTrue (state_of seat.old).alone → AreNotedOutside high_pool_number (view_of seat.new) × AreNotedOutside low_pool_number (view_of seat.new)) }
     ensures few { length (did seat.old seat.new) ≤ input_steps heap.now.shape }
 {
     match take_any(heap, seat, HIGH_POOL, false) {
@@ -52,6 +55,8 @@ fn take_empty(heap: &Heap, seat: &mut HeapSeat) -> Option<Held>
     ensures only { Across OnlyTraced seat.old seat.new }
     ensures some { IfSome result (λ h. Across (Takes (empty_pool_number ∷ []) h) seat.old seat.new) }
     ensures none { IfNone result (Across (FindsNone heap.now.shape empty_pool_number false 0 (word_bits * pool_words heap.now.shape)) seat.old seat.new) }
+    ensures outside { IfNone result (Across (KeepsOutside (empty_pool_number ∷ [])) seat.old seat.new) }
+    ensures noted { IfNone result (IsTrue (state_of seat.old).alone → AreNotedOutside empty_pool_number (view_of seat.new)) }
     ensures few { length (did seat.old seat.new) ≤ pool_steps false heap.now.shape + 2 }
 {
     heap.reserve(seat);
@@ -73,6 +78,8 @@ pub fn take_output(heap: &Heap, seat: &mut HeapSeat) -> Option<Held>
     ensures only { Across OnlyTraced seat.old seat.new }
     ensures some { IfSome result (λ h. Across (Takes output_pools h) seat.old seat.new × (h.length < heap.now.shape.entries)) }
     ensures none { IfNone result (Across (TakesNone (NoOutput heap.now.shape) output_pools) seat.old seat.new) }
+    ensures outside { IfNone result (Across (KeepsOutside output_pools) seat.old seat.new) }
+    ensures noted { IfNone result (IsTrue (state_of seat.old).alone → AreNotedOutside empty_pool_number (view_of seat.new) × AreNotedOutside low_pool_number (view_of seat.new)) }
     ensures few { length (did seat.old seat.new) ≤ output_steps heap.now.shape }
 {
     if let Some(held) = take_empty(heap, seat) {

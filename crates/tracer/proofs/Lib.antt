@@ -4,9 +4,11 @@ pub mod Quiet
 pub mod OneStep
 pub mod Carried
 pub mod Hand
+pub mod InStop
 pub mod Moves
 pub mod Moments
 pub mod Whole
 pub mod RootScans
 pub mod Recycled
+pub mod Emptied
 pub mod TraceRows

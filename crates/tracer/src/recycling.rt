@@ -1,8 +1,9 @@
 //! Deferred cells are traced again.
-ghost use Rattle.std.specs.Prelude.{◌≡◌, ◌<◌, ◌≤◌, ◌+◌, ◌*◌, ◌/◌, if◌then◌else◌, ◌-◌, length};
-ghost use Rattle.mark_core.specs.Numbers.{word_bits};
+ghost use Rattle.std.specs.Prelude.{◌≡◌, ◌<◌, ◌≤◌, ◌+◌, ◌*◌, ◌/◌, if◌then◌else◌, ◌-◌, length, IsTrue};
+ghost use Rattle.mark_core.specs.Numbers.{deferred_pool_number, word_bits};
 ghost use Rattle.gc_table.specs.Seats.{Across, did, state_of, view_of};
 ghost use Rattle.packet_pools.specs.OnlyTraced.{OnlyTraced};
+ghost use Rattle.packet_pools.specs.Outside.{AreNotedOutside};
 ghost use Rattle.packet_pools.specs.Tracing.{IsTracer};
 ghost use Rattle.tracer.specs.Hands.{IsIdle};
 ghost use Rattle.tracer.specs.Recycling.{Recycled, Recycles};
@@ -86,7 +87,7 @@ fn recycle_words(heap: &Heap, seat: &mut HeapSeat) -> u32
 }
 
 /// Moves the deferred packets to the pools of their lengths, where tracers find them: how many it moved, each at most
-/// once.
+/// once. A seat that is alone knows then that no packet is deferred.
 ///
 /// Cells that still aren't published are deferred again, so a caller publishes first, or waits for others to.
 pub fn recycle_deferred(heap: &Heap, seat: &mut HeapSeat) -> u32
@@ -96,6 +97,7 @@ pub fn recycle_deferred(heap: &Heap, seat: &mut HeapSeat) -> u32
     ensures only { Across OnlyTraced seat.old seat.new }
     ensures state { state_of seat.new ≡ state_of seat.old }
     ensures recycled { Recycled heap.now.shape result (did seat.old seat.new) }
+    ensures outside { IsTrue (state_of seat.old).alone → AreNotedOutside deferred_pool_number (view_of seat.new) }
     ensures few { length (did seat.old seat.new) ≤ recycle_steps heap.now.shape }
 {
     let moved = recycle_words(heap, seat);

@@ -52,6 +52,7 @@ fn trace_cell(heap: &Heap, seat: &mut HeapSeat, packets: &mut Packets, cell: Cel
     ensures packets { Carries (packets_of packets.new) (view_of seat.new) × HasCellAndRoom heap.now.shape packets.new.deferred }
     ensures work { IsFalse (work_in_hand heap.now.shape.fields (state_of seat.new)) }
     ensures most { (result.deferred ≤ 1) × (result.overflowed ≤ 16) }
+    ensures undeferred { IsFalse (state_of seat.old).active → result.deferred ≡ 0 }
     ensures part { Part heap.now.shape (packet_of packets.old.deferred) (packet_of packets.new.deferred) 0 result.deferred result.overflowed (view_of seat.old) (did seat.old seat.new) }
     ensures few { length (did seat.old seat.new) ≤ object_steps heap.now.shape }
 {
@@ -79,6 +80,7 @@ fn trace_all(heap: &Heap, seat: &mut HeapSeat, packets: &mut Packets, quota: u32
     ensures packets { Carries (packets_of packets.new) (view_of seat.new) × HasCellAndRoom heap.now.shape packets.new.deferred }
     ensures work { IsFalse (work_in_hand heap.now.shape.fields (state_of seat.new)) }
     ensures part { Part heap.now.shape (packet_of packets.old.deferred) (packet_of packets.new.deferred) result.done result.deferred result.overflowed (view_of seat.old) (did seat.old seat.new) }
+    ensures undeferred { IsFalse (state_of seat.old).active → result.deferred ≡ 0 }
     ensures stopped { ((result.stopped ≡ Stopped.Quota) × (result.done ≡ quota)) ⊎ ((result.stopped ≡ Stopped.NoWork) × (result.done < quota) × Across (SearchedInVain heap.now.shape packets.new) seat.old seat.new) }
     ensures few { length (did seat.old seat.new) ≤ result.done * (turn_steps heap.now.shape + object_steps heap.now.shape) + turn_steps heap.now.shape }
 {
@@ -138,7 +140,7 @@ fn finish(heap: &Heap, seat: &mut HeapSeat, packets: Packets)
 }
 
 /// Traces at most `quota` objects: each is popped, and what it refers to is marked and pushed. The answer is Quota
-/// exactly if `done` is the quota, and never NoPacket.
+/// exactly if `done` is the quota, and never NoPacket. While the world is stopped nothing is deferred.
 pub fn trace(heap: &Heap, seat: &mut HeapSeat, quota: u32) -> Traced
     requires seat { IsTracer heap.now seat.old }
     requires idle { IsIdle (view_of seat.old) }
@@ -148,6 +150,7 @@ pub fn trace(heap: &Heap, seat: &mut HeapSeat, quota: u32) -> Traced
     ensures state { Across KeepsRecord seat.old seat.new }
     ensures stopped { ((result.stopped ≡ Stopped.Quota) × (result.done ≡ quota)) ⊎ ((result.stopped ≡ Stopped.NoWork) × (result.done < quota) × Across FoundNoWork seat.old seat.new) }
     ensures tally { Across (Tally result.done result.deferred result.overflowed) seat.old seat.new }
+    ensures undeferred { IsFalse (state_of seat.old).active → result.deferred ≡ 0 }
     ensures deferral { Across Defers seat.old seat.new }
     ensures ends { IsTrue (all_end_well (view_of seat.old) (did seat.old seat.new)) }
     ensures few { length (did seat.old seat.new) ≤ trace_steps result.done heap.now.shape }

@@ -16,6 +16,8 @@ use Rattle.mark_core.specs.declared.kinds.Shape.{Shape}
 use Rattle.packet_pools.specs.StepBounds.{give_steps, output_steps}
 use Rattle.card_clean.specs.StepBounds.{clean_steps}
 use Rattle.packet_pools.proofs.Few.{few-join, few-steps, given-few}
+use Rattle.packet_pools.specs.Counts.{count_of, dirties}
+use Rattle.packet_pools.proofs.Counting.{count-join}
 use Rattle.card_clean.proofs.one_card.clean_one.Goals as goal
 
 pub take_output-requires-clause-free : goal.take_output-requires-clause-free
@@ -96,3 +98,17 @@ returns-clause-few c =
     let first = few-join (output_steps sh) n v w x a.only.ran d.only.ran a.few d.few in
     let both = cleaned-join v w x (traced-cleaned v w a.only) d.only in
     (few-join (output_steps sh + n) give_steps v x y both.ran g.only.ran first (few-steps give_steps x y _ g.steps (given-few k.packet false (k.length == 0))), tt)
+
+pub returns-clause-clean : goal.returns-clause-clean
+returns-clause-clean c = λ still dirty.
+    let v : View = view_of c.args.seat.now in
+    let w : View = view_of c.take_output.new.seat in
+    let x : View = view_of c.clean_card-cleaned.new.seat in
+    let y : View = view_of c.give.new.seat in
+    let a = c.take_output.ensures.only in
+    let d = c.clean_card-cleaned.ensures in
+    let g = c.give.ensures.only in
+    let most = d.clean (ap (λ (s : SeatState). s.active) a.rest ∙ still) dirty in
+    let p = ap (count_of dirties) (events-join v w y a.log (cleaned-join w x y d.only (traced-cleaned x y g)).log) ∙ count-join dirties (events v w) (events w y) in
+    let q = ap (count_of dirties) (events-join w x y d.only.log g.log) ∙ count-join dirties (events w x) (events x y) in
+    omega (arith, most, p, q)

@@ -123,3 +123,6 @@ returns-clause-few c =
     let g = c.give.ensures in
     let first = few-join (any_steps sh) n v w x a.only.ran b.only.ran a.few b.few in
     few-join (any_steps sh + n) give_steps v x y (traced-join v w x a.only b.only).ran g.only.ran first (few-steps give_steps x y _ g.steps (given-few k.packet false (k.length == 0)))
+
+pub returns-in_default-clause-pooled : goal.returns-in_default-clause-pooled
+returns-in_default-clause-pooled c = λ none deferred. c.in_default.ensures.pooled c.requires.ready.drains.alone none deferred

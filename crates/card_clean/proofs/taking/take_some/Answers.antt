@@ -16,6 +16,15 @@ use Rattle.packet_pools.specs.OnlyTraced.{OnlyTraced}
 use Rattle.card_clean.specs.Taking.{NoPacket}
 use Rattle.packet_pools.specs.StepBounds.{input_steps, output_steps}
 use Rattle.packet_pools.proofs.Few.{few-join}
+use Rattle.std.specs.Prelude.{is_some}
+use Rattle.std.proofs.Common.{subst}
+use Rattle.std.proofs.Math.Logic.{∥∥₁_elim}
+use Rattle.std.proofs.Props.{props}
+use Rattle.mark_core.specs.Held.{holds_any}
+use Rattle.mark_core.specs.declared.seat.SeatState.{SeatState}
+use Rattle.gc_table.specs.Rule.{IsPossible}
+use Rattle.packet_pools.specs.Outside.{AreNotedOutside, KeepsOutside}
+use Rattle.packet_pools.proofs.Pooled.{alone-pooled}
 use Rattle.card_clean.proofs.taking.take_some.Goals as goal
 
 -- the pools of an input are among those of an output
@@ -61,3 +70,24 @@ returns-in-None-clause-few c =
     let e = c.take_output.ensures in
     let f = c.take_input.ensures in
     few-join (output_steps sh) (input_steps sh) (view_of c.args.seat.now) (view_of c.take_output.new.seat) (view_of c.take_input.new.seat) e.only.ran f.only.ran e.few f.few
+
+-- a search that fails finds each packet outside each pool, so it doesn't
+found-some : (sh : Shape) (o : Option Held) (v w x : View) → w.state ≡ v.state → v.state.alone ≡ true → holds_any v.state.held ≡ false → OnlyTraced v w → OnlyTraced w x → AreNotedOutside 3 v → KeepsOutside output_pools v w → (IsTrue v.state.alone → AreNotedOutside 0 w × AreNotedOutside 1 w) → ∥ IsPossible x ∥₁
+    → IfNone o ((x.state ≡ w.state) × NoInput sh (events w x) × IsTrue (only_moves input_pools (events w x))) → IfNone o (KeepsOutside input_pools w x) → IfNone o (IsTrue w.state.alone → AreNotedOutside 2 x × AreNotedOutside 1 x) → is_some o ≡ true
+found-some sh (Some h) v w x same alone none a b deferred keeps out possible e k n = refl
+found-some sh None v w x same alone none a b deferred keeps out possible e k n =
+    let here : w.state.alone ≡ true = ap (λ (s : SeatState). s.alone) same ∙ alone in
+    let last : x.state ≡ v.state = e.0 ∙ same in
+    let pools = out alone in
+    let more = n here in
+    let before = λ (p : ℕ) (l : p < x.shape.packets). subst (λ (s : Shape). p < s.packets) b.shape l in
+    let first = λ (p : ℕ) (l : p < x.shape.packets). subst (λ (s : Shape). p < s.packets) a.shape (before p l) in
+    let empty : AreNotedOutside 0 x = λ p l. k here 0 p refl (before p l) (pools.0 p (before p l)) in
+    let waits : AreNotedOutside 3 x = λ p l. k here 3 p refl (before p l) (keeps alone 3 p refl (first p l) (deferred p (first p l))) in
+    absurd (∥∥₁_elim possible (Prim.hlevel props) (λ (p : IsPossible x). alone-pooled p.state p.index x p.whole p.agrees (ap (λ (s : SeatState). s.alone) last ∙ alone) (ap (λ (s : SeatState). holds_any s.held) last ∙ none) empty more.1 more.0 waits))
+
+pub returns-in-None-clause-pooled : goal.returns-in-None-clause-pooled
+returns-in-None-clause-pooled c = λ alone none deferred.
+    let e = c.in-None.ensures in
+    let f = c.take_input.ensures in
+    found-some c.args.heap.now.shape c.take_input.result (view_of c.args.seat.now) (view_of c.take_output.new.seat) (view_of c.take_input.new.seat) e.none.0 alone none e.only f.only deferred e.outside e.noted c.take_input.new.seat.possible f.none f.outside f.noted

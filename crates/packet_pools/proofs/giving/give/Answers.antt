@@ -1,4 +1,4 @@
-use Rattle.std.proofs.Common.{ℕ, ◌≡◌, ◌<◌, sym, ap, ◌∙◌, subst, arith, Some}
+use Rattle.std.proofs.Common.{ℕ, ◌≡◌, ◌<◌, sym, ap, ◌∙◌, subst, arith, Some, [], ◌∷◌}
 use Rattle.std.proofs.lemmas.Bool.{or_left}
 use Rattle.mark_core.specs.Held.{known_length, holds_another, is_stored}
 use Rattle.mark_core.specs.Seats.{work_in_hand}
@@ -8,7 +8,9 @@ use Rattle.gc_table.specs.declared.view.View.{View}
 use Rattle.gc_table.specs.Seats.{view_of}
 use Rattle.packet_pools.proofs.Conditions.{may-store_length, may-give, may-credit}
 use Rattle.packet_pools.proofs.Exchanged.{known-held, known-has, known-entry}
-use Rattle.packet_pools.proofs.Given.{stored, stored-known, stored-head, stored-another, returned-empty, gave-state, gave-later, gave-full, gave-traces, counted-state, counted-later, counted-traces}
+use Rattle.packet_pools.proofs.Given.{stored, stored-known, stored-head, stored-another, returned-empty, gave-state, gave-later, gave-full, gave-traces, counted-state, counted-later, counted-traces, gave-outside, counted-outside}
+use Rattle.mark_core.specs.Steps.PacketSteps.{pool_for}
+use Rattle.packet_pools.specs.Outside.{KeepsOutside}
 use Rattle.packet_pools.proofs.giving.give.Goals as goal
 
 pub store_length-requires-clause-may : goal.store_length-requires-clause-may
@@ -64,3 +66,15 @@ returns-then-length-eq0-clause-seat c = (c.credit.ensures.seat, counted-traces c
 
 pub returns-else-length-eq0-clause-seat : goal.returns-else-length-eq0-clause-seat
 returns-else-length-eq0-clause-seat c = (c.give.ensures.seat, gave-traces c.requires.seat.1 c.requires.held.known c.store_length.ensures.view c.give.ensures.view.1 (let d = c.if-length-eq0.false in omega (arith, d)))
+
+pub returns-then-length-eq0-clause-outside : goal.returns-then-length-eq0-clause-outside
+returns-then-length-eq0-clause-outside c =
+    let v : View = view_of c.args.seat.now in
+    subst (λ (sh : Shape). KeepsOutside (pool_for sh c.args.held.length c.args.deferred ∷ []) v (view_of c.credit.new.seat)) c.requires.seat.0.1
+    (counted-outside c.requires.seat.1 c.requires.held.known c.store_length.ensures.view c.give.ensures.view.1 c.credit.ensures.view.1 c.requires.held.there)
+
+pub returns-else-length-eq0-clause-outside : goal.returns-else-length-eq0-clause-outside
+returns-else-length-eq0-clause-outside c =
+    let v : View = view_of c.args.seat.now in
+    subst (λ (sh : Shape). KeepsOutside (pool_for sh c.args.held.length c.args.deferred ∷ []) v (view_of c.give.new.seat)) c.requires.seat.0.1
+    (gave-outside c.requires.seat.1 c.requires.held.known c.store_length.ensures.view c.give.ensures.view.1 c.requires.held.there)

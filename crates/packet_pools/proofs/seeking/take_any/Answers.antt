@@ -1,4 +1,4 @@
-use Rattle.std.proofs.Common.{ℕ, ◌≡◌, ◌+◌, ◌*◌, arith, subst, sym, ap, ◌∙◌, refl, List, [], ◌∷◌}
+use Rattle.std.proofs.Common.{ℕ, ◌≡◌, ◌+◌, ◌*◌, arith, subst, sym, ap, ◌∙◌, refl, List, [], ◌∷◌, ◌<◌, true}
 use Rattle.std.proofs.lemmas.Bool.{false≢true}
 use Rattle.mark_core.specs.Layout.{pool_words}
 use Rattle.mark_core.specs.Numbers.{word_bits}
@@ -14,6 +14,9 @@ use Rattle.packet_pools.proofs.Few.{few-none, tries-all, tries-start, tries-word
 use Rattle.packet_pools.proofs.TracedSteps.{traced-join, traced-refl}
 use Rattle.packet_pools.proofs.Searches.{misses-join}
 use Rattle.packet_pools.proofs.WordSearch.{seeks-on, gains-from}
+use Rattle.mark_core.specs.declared.seat.SeatState.{SeatState}
+use Rattle.packet_pools.proofs.Searches.{below-words}
+use Rattle.packet_pools.proofs.Outside.{keeps-join, keeps-refl, noted-next}
 use Rattle.packet_pools.proofs.seeking.take_any.Goals as goal
 
 pub take_in_word-requires-clause-seat : goal.take_in_word-requires-clause-seat
@@ -44,6 +47,11 @@ loop-g-preserved c =
       misses =
           subst (λ (x : ℕ × List Entry). MissesPackets sh c.args.q c.args.not_full 0 x.0 x.1) (λ y. (next y, sym (events-join v w u i.only.log e.only.log) y))
           (misses-join sh c.args.q c.args.not_full 0 (word_bits * g) (word_bits * g + word_bits) (events v w) (events w u) (omega arith) i.misses e.none.1);
+      outside = keeps-join (c.args.q ∷ []) v w u i.only.shape (ap (λ (s : SeatState). s.alone) i.state) i.outside e.outside;
+      noted =
+          λ room alone p low below.
+          let here : w.state.alone ≡ true = ap (λ (s : SeatState). s.alone) i.state ∙ alone in
+          noted-next sh c.args.q g w u here (e.vain room here) (i.noted room alone) p low below;
       few = tries-word sh c.args.not_full g 0 v w u i.only.ran e.only.ran i.few e.few;
     }
 
@@ -68,6 +76,8 @@ loop-g-init c =
       only = traced-refl v;
       state = refl;
       misses = record { all = λ p a b l. absurd (omega (arith, b)); got = λ p t. absurd (false≢true (ap (was_got p) (sym none) ∙ t)); moves = ap (only_moves (c.args.q ∷ [])) none };
+      outside = keeps-refl (c.args.q ∷ []) v;
+      noted = λ room alone p low below. absurd (omega (arith, below));
       few = tries-start c.args.heap.now.shape c.args.not_full 0 0 (events v v) (omega arith) (few-none v);
     }
 
@@ -91,3 +101,16 @@ returns-clause-few c =
     let end = c.div_ceil-g-end.ensures in
     let packets : c.shape.result.packets ≡ sh.packets = ap (λ (x : Shape). x.packets) c.shape.ensures in
     tries-all sh c.args.not_full g 0 (word_bits * g) _ (omega (arith, most, end, packets)) c.loop-g.invariant.few
+
+pub returns-clause-noted : goal.returns-clause-noted
+returns-clause-noted c = λ room alone p there.
+    let sh : Shape = c.args.heap.now.shape in
+    let i = c.loop-g.invariant in
+    let g : ℕ = c.loop-g.g in
+    let past = c.loop-g-test.false in
+    let most = c.loop-g.auto.g-end in
+    let end = c.div_ceil-g-end.ensures in
+    let packets : c.shape.result.packets ≡ sh.packets = ap (λ (x : Shape). x.packets) c.shape.ensures in
+    let last : g ≡ pool_words sh = omega (arith, past, most, end, packets) in
+    let low : p < sh.packets = subst (λ (s : Shape). p < s.packets) i.sits.1 there in
+    i.noted room alone p low (subst (λ x. p < word_bits * x) (sym last) (below-words sh p low))

@@ -1,4 +1,4 @@
-use Rattle.std.proofs.Common.{ℕ, ◌≡◌, ◌<◌, ◌≤◌, ◌+◌, ◌%◌, sym, ap, ◌∙◌, subst, arith, Bool, true, false, eqb}
+use Rattle.std.proofs.Common.{ℕ, ◌≡◌, ◌<◌, ◌≤◌, ◌+◌, ◌%◌, ◌/◌, [], ◌∷◌, sym, ap, ◌∙◌, subst, arith, Bool, true, false, eqb}
 use Rattle.std.specs.Prelude.{IsTrue}
 use Rattle.std.proofs.lemmas.Bool.{true≢false}
 use Rattle.mark_core.specs.Bits.{has_bit}
@@ -18,6 +18,13 @@ use Rattle.packet_pools.proofs.Few.{few-after, few-join, few-steps, given-full, 
 use Rattle.packet_pools.proofs.Doing.{traced-read_length, traced-take}
 use Rattle.packet_pools.proofs.TakenOne.{lost-state, lost-misses, work-holds}
 use Rattle.packet_pools.proofs.TakenRead.{w-there, w-holds, w-unread, only-traced, held, gains, traces, keeps-another, back-state, back-misses, fits}
+use Rattle.mark_core.specs.Places.{pool_at}
+use Rattle.mark_core.specs.Steps.PacketSteps.{pool_for}
+use Rattle.mark_core.specs.declared.seat.SeatState.{SeatState}
+use Rattle.gc_table.proofs.Noticing.{found-noted}
+use Rattle.packet_pools.specs.Outside.{KeepsOutside}
+use Rattle.packet_pools.proofs.TracedSteps.{place-again}
+use Rattle.packet_pools.proofs.Outside.{keeps-take, keeps-read_length, keeps-join, full-high}
 use Rattle.packet_pools.proofs.seeking.take_packet.Goals.{else-not_full-via-then-not_full+else-length-shape, else-not_full-via-else-not_full}
 use Rattle.packet_pools.proofs.seeking.take_packet.Goals as goal
 
@@ -175,3 +182,41 @@ returns-clause-few c =
     let pair = few-join 1 1 v w x (traced-take v w t.0 c.args.q c.args.p t.2 t.1).ran (traced-read_length w x r.0 c.args.p r.2 r.1).ran (few-after v w _ _ t.1) (few-after w x _ _ r.1) in
     let some = some-tries c.args.not_full in
     omega (arith, pair, some)
+
+pub returns-then-not-take-clause-outside : goal.returns-then-not-take-clause-outside
+returns-then-not-take-clause-outside c =
+    let v : View = view_of c.args.seat.now in
+    let t = c.take.ensures.view in
+    keeps-take v (view_of c.take.new.seat) t.0 c.args.q c.args.p (there c.args.heap.now.shape v c.args.p c.requires.seat.0.1 c.requires.packet.0) t.2 t.1
+
+pub returns-then-not-take-clause-clear : goal.returns-then-not-take-clause-clear
+returns-then-not-take-clause-clear c = λ room n noted.
+    let v : View = view_of c.args.seat.now in
+    let at : ℕ × ℕ = pool_at v.shape c.args.q (c.args.p / word_bits) in
+    let t = c.take.ensures.view in
+    let lost : has_bit t.0 (c.args.p % word_bits) ≡ false = sym t.3 ∙ c.if-not-take.true in
+    ap (λ x. has_bit x (c.args.p % word_bits)) (sym (found-noted v (Take c.args.q c.args.p) t.0 n at t.2 (place-again at) noted)) ∙ lost
+
+pub returns-then-length-shape-clause-outside : goal.returns-then-length-shape-clause-outside
+returns-then-length-shape-clause-outside c =
+    let sh : Shape = c.args.heap.now.shape in
+    let v : View = view_of c.args.seat.now in
+    let w : View = view_of c.take.new.seat in
+    let x : View = view_of c.read_length-length.new.seat in
+    let y : View = view_of c.give.new.seat in
+    let t = c.take.ensures.view in
+    let r = c.read_length-length.ensures.view in
+    let high : c.args.q ≡ high_pool_number = c.requires.high c.if-not_full.true in
+    let full : c.read_length-length.result ≡ sh.entries = c.if-length-shape.true ∙ ap (λ (s : Shape). s.entries) c.shape.ensures in
+    let to : pool_for sh c.read_length-length.result false ≡ c.args.q = full-high sh c.read_length-length.result c.args.heap.now.shaped.entries.0 full ∙ sym high in
+    let took = keeps-take v w t.0 c.args.q c.args.p (there sh v c.args.p c.requires.seat.0.1 c.requires.packet.0) t.2 t.1 in
+    let read = keeps-read_length w x r.0 (c.args.q ∷ []) c.args.p r.2 r.1 in
+    let gave = subst (λ q. KeepsOutside (q ∷ []) x y) to c.give.ensures.outside in
+    let one = traced-take v w t.0 c.args.q c.args.p t.2 t.1 in
+    let two = traced-read_length w x r.0 c.args.p r.2 r.1 in
+    keeps-join (c.args.q ∷ []) v x y (two.shape ∙ one.shape) (ap (λ (s : SeatState). s.alone) (two.rest ∙ one.rest))
+    (keeps-join (c.args.q ∷ []) v w x one.shape (ap (λ (s : SeatState). s.alone) one.rest) took read)
+    gave
+
+pub returns-then-length-shape-clause-clear : goal.returns-then-length-shape-clause-clear
+returns-then-length-shape-clause-clear c = λ room n noted. absurd (true≢false (sym c.if-not_full.true ∙ room))

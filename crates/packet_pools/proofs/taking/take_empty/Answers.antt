@@ -1,4 +1,4 @@
-use Rattle.std.proofs.Common.{ℕ, ◌≡◌, ◌*◌, ◌++◌, [], ◌∷◌, sym, ap, ◌∙◌, subst, arith, false, inl, ◌+◌}
+use Rattle.std.proofs.Common.{ℕ, ◌≡◌, ◌<◌, ◌*◌, ◌++◌, [], ◌∷◌, sym, ap, ◌∙◌, subst, arith, false, inl, ◌+◌, refl}
 use Rattle.mark_core.specs.Layout.{pool_words}
 use Rattle.mark_core.specs.Held.{has_free_slot, holds}
 use Rattle.mark_core.specs.Numbers.{empty_pool_number, word_bits}
@@ -22,6 +22,9 @@ use Rattle.packet_pools.proofs.Conditions.{may-reserve, traces-later}
 use Rattle.packet_pools.proofs.Doing.{traced-reserve, traced-credit, traces-on, traces-gained}
 use Rattle.packet_pools.specs.StepBounds.{pool_steps}
 use Rattle.packet_pools.proofs.Few.{few-after, few-join}
+use Rattle.packet_pools.specs.Outside.{IsNotedOutside}
+use Rattle.packet_pools.proofs.TracedSteps.{seen-found}
+use Rattle.packet_pools.proofs.Outside.{keeps-join, keeps-reserve, keeps-credit, outside-step}
 use Rattle.packet_pools.proofs.taking.take_empty.Goals as goal
 
 pub reserve-requires-clause-may : goal.reserve-requires-clause-may
@@ -146,3 +149,29 @@ returns-in-None-clause-few c =
     let rest = few-join (n + 0) 1 w u x f.only.ran last.ran f.few (few-after u x _ _ d.0) in
     let all = few-join 1 (n + 0 + 1) v w x (traced-reserve v w _ e.1 e.0).ran (traced-join w u x f.only last).ran (few-after v w _ _ e.0) rest in
     omega (arith, all)
+
+pub returns-in-None-clause-outside : goal.returns-in-None-clause-outside
+returns-in-None-clause-outside c =
+    let v : View = view_of c.args.seat.now in
+    let w : View = view_of c.reserve.new.seat in
+    let u : View = view_of c.take_any.new.seat in
+    let x : View = view_of c.credit.new.seat in
+    let e = c.reserve.ensures.view.1 in
+    let d = c.credit.ensures.view.1 in
+    let f = c.in-None.ensures in
+    let first = traced-reserve v w _ e.1 e.0 in
+    keeps-join (0 ∷ []) v w x first.shape (ap (λ (s : SeatState). s.alone) first.rest) (keeps-reserve v w _ (0 ∷ []) e.1 e.0)
+    (keeps-join (0 ∷ []) w u x f.only.shape (ap (λ (s : SeatState). s.alone) f.only.rest) f.outside (keeps-credit u x _ (0 ∷ []) d.1 d.0))
+
+pub returns-in-None-clause-noted : goal.returns-in-None-clause-noted
+returns-in-None-clause-noted c = λ alone p there.
+    let v : View = view_of c.args.seat.now in
+    let w : View = view_of c.reserve.new.seat in
+    let u : View = view_of c.take_any.new.seat in
+    let x : View = view_of c.credit.new.seat in
+    let e = c.reserve.ensures.view.1 in
+    let d = c.credit.ensures.view.1 in
+    let f = c.in-None.ensures in
+    let here = ap (λ (s : SeatState). s.alone) (traced-reserve v w _ e.1 e.0).rest ∙ alone in
+    let still = ap (λ (s : SeatState). s.alone) f.only.rest ∙ here in
+    subst (IsNotedOutside 0 p) (sym d.0) (outside-step u Credit _ 0 p refl still (seen-found u Credit _ refl d.1) (inl refl) (f.noted refl here p (subst (λ (z : View). p < z.shape.packets) d.0 there)))

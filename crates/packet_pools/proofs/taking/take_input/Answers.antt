@@ -17,6 +17,9 @@ use Rattle.packet_pools.proofs.Searches.{all-range, pool-missed, takes-first, ta
 use Rattle.packet_pools.specs.StepBounds.{had_steps, pool_steps}
 use Rattle.packet_pools.proofs.Few.{few-join, had-most}
 use Rattle.packet_pools.proofs.Doing.{if-some, if-none, seeks-from, traces-same, traces-gained, traces-either, low-some}
+use Rattle.std.specs.Prelude.{IsFalse}
+use Rattle.packet_pools.specs.Outside.{AreNotedOutside, KeepsOutside}
+use Rattle.packet_pools.proofs.Outside.{keeps-join, keeps-more, not-rest, head-only, if-both}
 use Rattle.packet_pools.proofs.taking.take_input.Goals as goal
 
 pub take_any-requires-in-None-clause-seat : goal.take_any-requires-in-None-clause-seat
@@ -99,3 +102,32 @@ returns-in-None-clause-few c =
     let most = had-most c.take_any-in-None.result in
     let all = few-join n (n + had_steps c.take_any-in-None.result) (view_of c.args.seat.now) (view_of c.take_any.new.seat) (view_of c.take_any-in-None.new.seat) e.only.ran f.only.ran (let few = e.few in omega (arith, few)) f.few in
     omega (arith, all, most)
+
+pub returns-in-None-clause-outside : goal.returns-in-None-clause-outside
+returns-in-None-clause-outside c =
+    let v : View = view_of c.args.seat.now in
+    let u : View = view_of c.take_any.new.seat in
+    let w : View = view_of c.take_any-in-None.new.seat in
+    let e = c.in-None.ensures in
+    let f = c.take_any-in-None.ensures in
+    if-none c.take_any-in-None.result (KeepsOutside (low_pool_number ∷ []) u w) (KeepsOutside input_pools v w)
+    (λ k. keeps-join input_pools v u w e.only.shape (ap (λ (s : SeatState). s.alone) e.only.rest)
+    (keeps-more (high_pool_number ∷ []) input_pools v u (λ q n. head-only q high_pool_number (low_pool_number ∷ []) n) e.outside)
+    (keeps-more (low_pool_number ∷ []) input_pools u w (λ q n. not-rest q high_pool_number (low_pool_number ∷ []) n) k))
+    f.outside
+
+pub returns-in-None-clause-noted : goal.returns-in-None-clause-noted
+returns-in-None-clause-noted c =
+    let v : View = view_of c.args.seat.now in
+    let u : View = view_of c.take_any.new.seat in
+    let w : View = view_of c.take_any-in-None.new.seat in
+    let e = c.in-None.ensures in
+    let f = c.take_any-in-None.ensures in
+    if-both c.take_any-in-None.result (KeepsOutside (low_pool_number ∷ []) u w) (IsFalse false → IsTrue u.state.alone → AreNotedOutside low_pool_number w) (IsTrue v.state.alone → AreNotedOutside high_pool_number w × AreNotedOutside low_pool_number w)
+    (λ k n alone.
+    let here = ap (λ (s : SeatState). s.alone) e.only.rest ∙ alone in
+    let high = e.noted refl alone in (
+      λ p there. let low = subst (λ (s : Shape). p < s.packets) f.only.shape there in k here high_pool_number p refl low (high p low),
+      n refl here,
+    ))
+    f.outside f.noted

@@ -20,6 +20,8 @@ use Rattle.packet_pools.specs.OnlyTraced.{OnlyTraced}
 use Rattle.packet_pools.specs.StepBounds.{had_steps, pool_steps}
 use Rattle.packet_pools.proofs.Few.{few-join, had-most}
 use Rattle.packet_pools.proofs.Doing.{if-some, if-none, seeks-from, traces-same, traces-gained, traces-either, low-room}
+use Rattle.packet_pools.specs.Outside.{AreNotedOutside, KeepsOutside}
+use Rattle.packet_pools.proofs.Outside.{keeps-join, keeps-more, not-rest, head-only}
 use Rattle.packet_pools.proofs.taking.take_output.Goals as goal
 
 pub returns-in-Some-take_any-clause-seat : goal.returns-in-Some-take_any-clause-seat
@@ -174,3 +176,45 @@ returns-clause-few c =
     let two = two-few n None v a b e.only f.only e.few f.few in
     let all = few-join (2 * n + 0 + 2) (pool_steps true sh + had_steps c.take_any-2.result) v b d (traced-join v a b e.only f.only).ran g.only.ran two g.few in
     omega (arith, all, most)
+
+pub returns-clause-outside : goal.returns-clause-outside
+returns-clause-outside c =
+    let v : View = view_of c.args.seat.now in
+    let a : View = view_of c.take_empty.new.seat in
+    let b : View = view_of c.take_any.new.seat in
+    let d : View = view_of c.take_any-2.new.seat in
+    let e = c.in_default.ensures in
+    let f = c.in_default-take_any.ensures in
+    let g = c.take_any-2.ensures in
+    let qs : List ℕ = low_pool_number ∷ high_pool_number ∷ [] in
+    if-none c.take_any-2.result (KeepsOutside (high_pool_number ∷ []) b d) (KeepsOutside output_pools v d)
+    (λ k. keeps-join output_pools v a d e.only.shape (ap (λ (s : SeatState). s.alone) e.only.rest)
+    (keeps-more (empty_pool_number ∷ []) output_pools v a (λ q n. head-only q empty_pool_number qs n) e.outside)
+    (keeps-more qs output_pools a d (λ q n. not-rest q empty_pool_number qs n)
+    (keeps-join qs a b d f.only.shape (ap (λ (s : SeatState). s.alone) f.only.rest)
+    (keeps-more (low_pool_number ∷ []) qs a b (λ q n. head-only q low_pool_number (high_pool_number ∷ []) n) f.outside)
+    (keeps-more (high_pool_number ∷ []) qs b d (λ q n. not-rest q low_pool_number (high_pool_number ∷ []) n) k))))
+    g.outside
+
+pub returns-clause-noted : goal.returns-clause-noted
+returns-clause-noted c =
+    let v : View = view_of c.args.seat.now in
+    let a : View = view_of c.take_empty.new.seat in
+    let b : View = view_of c.take_any.new.seat in
+    let d : View = view_of c.take_any-2.new.seat in
+    let e = c.in_default.ensures in
+    let f = c.in_default-take_any.ensures in
+    let g = c.take_any-2.ensures in
+    if-none c.take_any-2.result (KeepsOutside (high_pool_number ∷ []) b d) (IsTrue v.state.alone → AreNotedOutside empty_pool_number d × AreNotedOutside low_pool_number d)
+    (λ k alone.
+    let here = ap (λ (s : SeatState). s.alone) e.only.rest ∙ alone in
+    let there = ap (λ (s : SeatState). s.alone) f.only.rest ∙ here in
+    let empty = e.noted alone in
+    let low = f.noted refl here in (
+      λ p h.
+          let hb = subst (λ (s : Shape). p < s.packets) g.only.shape h in
+          let ha = subst (λ (s : Shape). p < s.packets) f.only.shape hb in
+          k there empty_pool_number p refl hb (f.outside here empty_pool_number p refl ha (empty p ha)),
+      λ p h. let hb = subst (λ (s : Shape). p < s.packets) g.only.shape h in k there low_pool_number p refl hb (low p hb),
+    ))
+    g.outside

@@ -242,3 +242,6 @@ returns-clause-few c =
     let last = few-join (k + turn_steps sh) (3 * give_steps) w x y f.only.ran g.only.ran f.few g.few in
     let all = few-join (input_steps sh) (k + turn_steps sh + 3 * give_steps) v w y e.only.ran (traced-join w x y f.only g.only).ran e.few last in
     omega (arith, all)
+
+pub returns-clause-undeferred : goal.returns-clause-undeferred
+returns-clause-undeferred c = λ still. c.trace_all-traced.ensures.undeferred (ap (λ (s : SeatState). s.active) c.in-Some.ensures.only.rest ∙ still)

@@ -125,6 +125,11 @@ loop-turn-preserved c =
       work = f.work;
       done = omega (arith, i.done);
       stopped = i.stopped;
+      undeferred =
+          λ still.
+          let before = i.undeferred still in
+          let now = f.undeferred (ap (λ (s : SeatState). s.active) (traced-join v w x i.only (traced-join w u x g.only e.only)).rest ∙ still) in
+          omega (arith, before, now);
       most = (omega (arith, i.most.0, f.most.0), omega (arith, i.most.1, f.most.1, c.from.ensures));
       part =
           part-then sh o q r c.loop-turn.traced.done 1 c.loop-turn.traced.deferred c.trace_cell-passed.result.deferred c.loop-turn.traced.overflowed c.trace_cell-passed.result.overflowed _ _ _ v w y i.only whole refl refl (ap (λ n. c.loop-turn.traced.overflowed + n) (sym c.from.ensures)) i.part

@@ -13,6 +13,8 @@ use Rattle.tracer.specs.Hands.{packet_of, packets_of}
 use Rattle.tracer.specs.Parts.{HasPopped, Part}
 use Rattle.tracer.proofs.Carried.{carries-same}
 use Rattle.tracer.proofs.Hand.{alloc-cleaning, traced-read_alloc, may-read_alloc, published, scanned, unpublished}
+use Rattle.std.proofs.lemmas.Bool.{true≢false}
+use Rattle.tracer.proofs.InStop.{cell-published}
 use Rattle.tracer.proofs.Joined.{part-then}
 use Rattle.tracer.proofs.OneStep.{part-alloc}
 use Rattle.gc_table.specs.declared.view.View.{View}
@@ -163,3 +165,10 @@ returns-clause-few c =
     let few = p.few in
     let some = some-field sh.fields (follow_steps sh) c.args.heap.now.shaped.fields.0 in
     few-join 1 (scan_steps sh.fields sh) v w (view_of c.defer-overflowed.new.seat) r.only.ran p.only.ran (few-after v w _ _ r.view) (omega (arith, few, some))
+
+pub returns-clause-undeferred : goal.returns-clause-undeferred
+returns-clause-undeferred c = λ still.
+    let v : View = view_of c.args.seat.now in
+    let n : ℕ = c.read_alloc-word.result in
+    let finds : Finds (ReadAlloc (c.args.cell / block_cells)) n v = subst (λ x. Finds (ReadAlloc (x / block_cells)) n v) c.number.ensures c.read_alloc-word.ensures.view.1 in
+    absurd (true≢false (sym (cell-published v c.args.cell n c.requires.cell finds c.requires.seat.1.may still) ∙ bit-of n c.number-2.result c.args.cell c.has_bit.result false c.number-2.ensures c.has_bit.ensures c.if-has_bit.false))
