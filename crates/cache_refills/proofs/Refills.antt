@@ -2,6 +2,7 @@
 pub mod Payment
 pub mod PaidFor
 pub mod Early
+pub mod Apart
 pub mod Paced
 pub mod Popping
 pub mod Rounds

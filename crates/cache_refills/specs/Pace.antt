@@ -4,5 +4,6 @@ pub mod Pacing
 pub mod Early
 pub mod Others
 pub mod Paying
+pub mod Deferring
 pub mod Payment
 pub mod StepBounds

@@ -8,6 +8,7 @@ ghost use Rattle.std.specs.Prelude.{◌≡◌, ◌≤◌, ◌+◌, length, Some}
 ghost use Rattle.mark_core.specs.declared.kinds.Phase.TheVariants.{Marking};
 ghost use Rattle.gc_table.specs.Seats.{Across, did, Sits, state_of, view_of};
 ghost use Rattle.gc_cycle.specs.Standing.{Mutates};
+ghost use Rattle.cache_refills.specs.Pace.Deferring.{LeavesDeferred};
 ghost use Rattle.cache_refills.specs.Pace.Early.{PassesEarly, early_end as end_by};
 ghost use Rattle.cache_refills.specs.Pace.Pacing.{card_looks, most_told};
 ghost use Rattle.cache_refills.specs.Pace.Payment.{TracesNone};
@@ -38,6 +39,7 @@ pub(crate) fn pass_early(heap: &Heap, seat: &mut HeapSeat, from: u32, end: u32)
     ensures seat { Sits heap.now seat.new }
     ensures passes { PassesEarly heap.now.shape from end (did seat.old seat.new) }
     ensures none { Across (TracesNone 0) seat.old seat.new }
+    ensures leaves { Across LeavesDeferred seat.old seat.new }
     ensures few { length (did seat.old seat.new) ≤ early_steps heap.now.shape }
 {
     let end = end.min(heap.shape().cells / CARD_CELLS);

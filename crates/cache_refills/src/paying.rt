@@ -18,6 +18,7 @@ ghost use Rattle.gc_table.specs.Running.{Ran};
 ghost use Rattle.gc_table.specs.Seats.{Across, did, Sits, state_of, view_of};
 ghost use Rattle.gc_table.specs.declared.view.View.{View};
 ghost use Rattle.packet_pools.specs.Counts.{count_of};
+ghost use Rattle.cache_refills.specs.Pace.Deferring.{RecyclesLast, TracesApart, TracesThenRecycles};
 ghost use Rattle.cache_refills.specs.Pace.Early.{HasPassed, PassesNext, early_seen};
 ghost use Rattle.cache_refills.specs.Pace.Payment.{HasPaid, MarksAndTraces, TracesNone, TracesOn, reads_number, stop_of};
 ghost use Rattle.cache_refills.specs.Pace.Pacing.{card_looks, looks_by, looks_seen, owed_seen};
@@ -69,6 +70,7 @@ pub(crate) fn pay(heap: &Heap, seat: &mut HeapSeat, cells: u32) -> Paid
     ensures paid { Across (HasPaid cells result) seat.old seat.new }
     ensures passes { Across (PassesNext heap.now.shape cells) seat.old seat.new }
     ensures others { Across (SeesToNext heap.now.shape) seat.old seat.new }
+    ensures defers { Across (RecyclesLast heap.now.shape result) seat.old seat.new }
     ensures own { (view_of seat.new).own ≡ (view_of seat.old).own }
     ensures few { length (did seat.old seat.new) ≤ payment_steps result.done card_looks heap.now.shape }
 {
@@ -123,6 +125,7 @@ fn mark_and_trace(heap: &Heap, seat: &mut HeapSeat, owed: Owed) -> Paid
     ensures pays { Across (MarksAndTraces (own_section (state_of seat.old)) owed.objects owed.looks result) seat.old seat.new }
     ensures passes { Across (HasPassed heap.now.shape owed.from owed.end owed.looks) seat.old seat.new }
     ensures other { Across (SeesToRoots (owed.turn % heap.now.shape.sections)) seat.old seat.new }
+    ensures recycles { Across (TracesThenRecycles heap.now.shape result.stopped) seat.old seat.new }
     ensures few { length (did seat.old seat.new) ≤ 2 * section_steps heap.now.shape + early_steps heap.now.shape + quota_steps result.done owed.looks heap.now.shape }
 {
     let section = seat.state().section.unwrap_or(0);
@@ -164,6 +167,7 @@ fn pay_quota(heap: &Heap, seat: &mut HeapSeat, quota: u32, looks: u32) -> Paid
     ensures seat { Sits heap.now seat.new }
     ensures traces { Across (TracesOn quota 0 looks result) seat.old seat.new }
     ensures late { count_of looks_at_card (did seat.old seat.new) ≤ looks }
+    ensures recycles { Across (TracesThenRecycles heap.now.shape result.stopped) seat.old seat.new }
     ensures few { length (did seat.old seat.new) ≤ quota_steps result.done looks heap.now.shape }
 {
     let paid = trace_and_clean(heap, seat, quota, looks);
@@ -180,6 +184,7 @@ fn trace_and_clean(heap: &Heap, seat: &mut HeapSeat, quota: u32, looks: u32) -> 
     ensures seat { Sits heap.now seat.new }
     ensures traces { Across (TracesOn quota 0 looks result) seat.old seat.new }
     ensures late { count_of looks_at_card (did seat.old seat.new) ≤ looks }
+    ensures apart { Across TracesApart seat.old seat.new }
     ensures few { length (did seat.old seat.new) ≤ trace_steps result.done heap.now.shape + looks * look_steps heap.now.shape }
 {
     let first = trace(heap, seat, quota);
@@ -210,6 +215,7 @@ fn look_at_next(heap: &Heap, seat: &mut HeapSeat, before: Paid) -> Option<Paid>
     ensures ran { Across Ran seat.old seat.new }
     ensures none { IfNone result (Across (TracesNone 1) seat.old seat.new) }
     ensures once { count_of looks_at_card (did seat.old seat.new) ≤ 1 }
+    ensures apart { Across TracesApart seat.old seat.new }
     ensures few { IfSome result (λ paid. (before.done ≤ paid.done) × (length (did seat.old seat.new) ≤ 3 + clean_one_steps card_cells heap.now.shape + trace_steps (paid.done - before.done) heap.now.shape)) × IfNone result (length (did seat.old seat.new) ≤ 3 + output_steps heap.now.shape) }
 {
     let card = next_card(heap, seat)?;
@@ -229,6 +235,7 @@ fn clean_and_trace(heap: &Heap, seat: &mut HeapSeat, card: u32, before: Paid) ->
     ensures none { IfNone result (Across (TracesNone 0) seat.old seat.new) }
     ensures ran { Across Ran seat.old seat.new }
     ensures unlooked { IsTrue (never looks_at_card (did seat.old seat.new)) }
+    ensures apart { Across TracesApart seat.old seat.new }
     ensures few { IfSome result (λ paid. (before.done ≤ paid.done) × (length (did seat.old seat.new) ≤ clean_one_steps card_cells heap.now.shape + trace_steps (paid.done - before.done) heap.now.shape)) × IfNone result (length (did seat.old seat.new) ≤ output_steps heap.now.shape) }
 {
     clean(heap, seat, card)?;

@@ -1,16 +1,17 @@
 -- What the steps of cleaning don't do, for a pass over all cards.
-use Rattle.std.proofs.Common.{ℕ, zero, suc, ◌≡◌, ◌+◌, ◌-◌, ◌*◌, ◌%◌, List, [], ◌∷◌, ◌++◌, refl, sym, ap, ◌∙◌, Bool, true, false, not, ⊎_elim, ◌⊎◌, inl, inr, ◌&&◌}
-use Rattle.std.specs.Prelude.{if◌then◌else◌, min}
+use Rattle.std.proofs.Common.{ℕ, zero, suc, ◌≡◌, ◌+◌, ◌-◌, ◌*◌, ◌%◌, List, [], ◌∷◌, ◌++◌, refl, sym, ap, ◌∙◌, Bool, true, false, not, ⊎_elim, ◌⊎◌, inl, inr, ◌&&◌, subst, eqb-true}
+use Rattle.std.specs.Prelude.{◌==◌, if◌then◌else◌, min}
 use Rattle.std.proofs.lemmas.Bool.{not-true, or_from, false≢true}
 use Rattle.mark_core.specs.Cards.{block_of_card}
 use Rattle.mark_core.specs.Layout.{card_count}
+use Rattle.mark_core.specs.Numbers.{deferred_pool_number}
 use Rattle.mark_core.specs.declared.kinds.Shape.{Shape}
 use Rattle.mark_core.specs.declared.kinds.Step.{Step}
-use Rattle.mark_core.specs.declared.kinds.Step.TheVariants.{ClearCard, DirtyCard, ReadAlloc, ReadCard, ReadMarks, NextOfCards, Pop, ReadRoot, ReadStat, LoadSlot}
+use Rattle.mark_core.specs.declared.kinds.Step.TheVariants.{ClearCard, DirtyCard, ReadAlloc, ReadCard, ReadMarks, NextOfCards, Pop, ReadRoot, ReadStat, LoadSlot, Take}
 use Rattle.gc_table.specs.Log.{event, all_steps, events}
 use Rattle.gc_table.specs.declared.view.Entry.{Entry}
 use Rattle.packet_pools.specs.Counts.{scans_object, only_scans}
-use Rattle.packet_pools.specs.Seeking.{moves_packet, output_pools, some_event, only_moves}
+use Rattle.packet_pools.specs.Seeking.{in_pools, moves_packet, output_pools, some_event, only_moves}
 use Rattle.card_clean.specs.Cleaning.{Cleans, CleansOne, FoundClean, FoundDirty}
 use Rattle.card_clean.specs.DirtyCards.{CleanedFrom, CleanedWhereDirty, CleansStretch, CleansStretches, stretch_cards, stretch_count}
 use Rattle.card_clean.specs.Taking.{CleansWithPacket}
@@ -22,7 +23,7 @@ use Rattle.packet_pools.specs.OnlyTraced.{OnlyTracedBy, traces_cells}
 use Rattle.card_clean.specs.Drained.{sees_roots}
 use Rattle.tracer.specs.Roots.{only_roots, scans_roots}
 use Rattle.tracer.specs.Tally.{only_traces, is_trace_step}
-use Rattle.gc_cycle.specs.Sorts.{draws_or_clears, pops, reads_pace, reads_root}
+use Rattle.gc_cycle.specs.Sorts.{draws_or_clears, pops, reads_pace, reads_root, takes_deferred}
 use Rattle.gc_cycle.proofs.Sequences.{none-of-steps}
 
 -- Steps that the calls which trace don't take.
@@ -96,6 +97,26 @@ pub moves-unrooted : (qs : List ℕ) → Spares (moves_packet qs) reads_root
 moves-unrooted qs (ReadRoot section v) n e = absurd (false≢true e)
 moves-unrooted qs (LoadSlot section k) n e = absurd (false≢true e)
 moves-unrooted qs step n e = refl
+
+-- the deferred pool is none of those in which a packet with room is looked for
+outputs-other : (pool : ℕ) → in_pools pool output_pools ≡ true → (pool == deferred_pool_number) ≡ false
+outputs-other pool e = by_test (pool == deferred_pool_number) refl
+  where
+    by_test : (b : Bool) → (pool == deferred_pool_number) ≡ b → b ≡ false
+    by_test true h = absurd (false≢true (subst (λ q. in_pools q output_pools ≡ true) (eqb-true pool deferred_pool_number h) e))
+    by_test false h = refl
+
+pub moves-undeferred : Spares (moves_packet output_pools) takes_deferred
+moves-undeferred (Take pool packet) n e = outputs-other pool e
+moves-undeferred step n e = refl
+
+pub scan-undeferred : Spares scans_object takes_deferred
+scan-undeferred (Take pool packet) n e = outputs-other pool e
+scan-undeferred step n e = refl
+
+pub roots-undeferred : Spares scans_roots takes_deferred
+roots-undeferred (Take pool packet) n e = outputs-other pool e
+roots-undeferred step n e = refl
 
 -- only moves of packets
 pub moved-untaken : (qs : List ℕ) (f : Sort) → Spares (moves_packet qs) f → (es : List Entry) → only_moves qs es ≡ true → never f es ≡ true

@@ -39,9 +39,13 @@ abbrev pub tries_stopping : Step → Bool
 tries_stopping RaiseStep = true
 tries_stopping step = stays_calm step
 
--- the seat has left the running world since it came in last, or has raised its flag since it resumed the world last: it waits in a stop, or holds one
+-- the seat has raised its flag since it resumed the world last: it holds a stop
+abbrev pub holds_stop : List Entry → Bool
+holds_stop es = some_event raises_flag (since_or_all resumes es)
+
+-- the seat has left the running world since it came in last, and waits in a stop; or it holds one
 abbrev pub is_in_stop : List Entry → Bool
-is_in_stop es = some_event leaves (since_or_all comes_in es) || some_event raises_flag (since_or_all resumes es)
+is_in_stop es = some_event leaves (since_or_all comes_in es) || holds_stop es
 
 -- cells were popped only in such stops
 abbrev pub pops_in_stops : List Entry → Bool

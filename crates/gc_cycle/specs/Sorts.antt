@@ -1,12 +1,12 @@
 -- Sorts of events: what one step did, by the word that it found.
 use Rattle.std.specs.Prelude.{ℕ, ◌==◌, ◌&&◌, ◌||◌, not, if◌then◌else◌, List, [], ◌∷◌, Bool, true, false, nat_le, nat_lt, Some}
-use Rattle.mark_core.specs.Numbers.{block_counter, card_counter, free_count, last_count, traced_count}
+use Rattle.mark_core.specs.Numbers.{block_counter, card_counter, deferred_pool_number, free_count, last_count, traced_count}
 use Rattle.mark_core.specs.Bits.{all_ones, has_flag}
 use Rattle.mark_core.specs.Seats.{is_phase, phase_of, saw}
 use Rattle.mark_core.specs.declared.kinds.Phase.{Phase}
 use Rattle.mark_core.specs.declared.kinds.Phase.TheVariants.{Idle, Marking, Drain, Sweep, Clear, Full}
 use Rattle.mark_core.specs.declared.kinds.Step.{Step}
-use Rattle.mark_core.specs.declared.kinds.Step.TheVariants.{ReadCount, ReadAlloc, ReadRoot, ClearCard, ReadPhase, StoreField, StoreValue, StoreRoot, StoreNew, ClaimBlock, EnterStep, LeaveStep, RaiseStep, Observe, DropStep, StorePhase, NextBlock, NextOfCards, StoreNamed, AddStat, ReadStat, OpenStep, JoinHelpStep, ExchangeField, ExchangeValue, LoadSlot, StoreSlot, HoldRoot}
+use Rattle.mark_core.specs.declared.kinds.Step.TheVariants.{ReadCount, ReadAlloc, ReadRoot, ClearCard, ReadPhase, StoreField, StoreValue, StoreRoot, StoreNew, ClaimBlock, EnterStep, LeaveStep, RaiseStep, Observe, DropStep, StorePhase, NextBlock, NextOfCards, StoreNamed, AddStat, ReadStat, OpenStep, JoinHelpStep, ExchangeField, ExchangeValue, LoadSlot, StoreSlot, HoldRoot, Take}
 use Rattle.gc_table.specs.Taking.{moves_from}
 pub use Rattle.card_clean.specs.Cleaning.{clears}
 pub use Rattle.tracer.specs.Roots.{shows_marked}
@@ -172,6 +172,11 @@ reads_all_ones b step found = false
 abbrev pub reads_free_cell : ℕ → Step → ℕ → Bool
 reads_free_cell blocks (ReadAlloc b) found = nat_lt b blocks && not (found == all_ones)
 reads_free_cell blocks step found = false
+
+-- a packet was taken out of the deferred pool, or tried to be
+abbrev pub takes_deferred : Step → ℕ → Bool
+takes_deferred (Take pool packet) found = pool == deferred_pool_number
+takes_deferred step found = false
 
 -- the section was named, before it finds the heap full
 abbrev pub names : Step → ℕ → Bool

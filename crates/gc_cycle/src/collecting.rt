@@ -1,13 +1,14 @@
 //! Safe points, and collections that a mutator asks for.
-ghost use Rattle.std.specs.Prelude.{[], ◌≡◌, ◌≢◌, ◌≤◌, ◌⊎◌, length, None, Some, IfNone, IfSome, IsFalse, IsTrue};
+ghost use Rattle.std.specs.Prelude.{[], List, ◌≡◌, ◌≢◌, ◌≤◌, ◌⊎◌, length, None, Some, IfNone, IfSome, IsFalse, IsTrue};
 ghost use Rattle.std.specs.Bool.{OnFalse, OnTrue};
 ghost use Rattle.mark_core.specs.Steps.MutatorSteps.{used_bits};
 ghost use Rattle.mark_core.specs.declared.kinds.Phase.TheVariants.{Full};
 ghost use Rattle.mark_core.specs.declared.kinds.Step.TheVariants.{ReadPhase};
+ghost use Rattle.gc_table.specs.declared.view.Entry.{Entry};
 ghost use Rattle.gc_table.specs.declared.view.View.{View};
 ghost use Rattle.gc_table.specs.Rule.{KnowsFull};
 ghost use Rattle.packet_pools.specs.Counts.{count_of};
-ghost use Rattle.gc_cycle.specs.Events.{never};
+ghost use Rattle.gc_cycle.specs.Events.{each_after, never};
 ghost use Rattle.gc_table.specs.Seats.{Across, did, Sits, state_of, Took, view_of};
 ghost use Rattle.packet_pools.specs.Seeking.{some_event};
 ghost use Rattle.gc_table.specs.Log.{Only, steps_of};
@@ -15,9 +16,9 @@ ghost use Rattle.gc_table.specs.Running.{Ran};
 ghost use Rattle.gc_cycle.specs.Answering.{AnswersTo, CollectsTo, EndsFull, GivesWay, GoesOn, HasCache, KeepsOn, SafeTo, TellsFull, answers, giving_up, retires, waits_helping};
 ghost use Rattle.gc_cycle.specs.Collecting.{EndsStop, HoldsWorld, TriesAgain, spares_section};
 ghost use Rattle.gc_cycle.specs.Cycles.{never_fills};
-ghost use Rattle.gc_cycle.specs.Mutating.{pops_in_stops};
+ghost use Rattle.gc_cycle.specs.Mutating.{holds_stop, is_in_stop, pops_in_stops};
 ghost use Rattle.gc_cycle.specs.Polling.{poll_found_stop, saw_full};
-ghost use Rattle.gc_cycle.specs.Sorts.{ends_cycle, polls, raises_flag, tries_marking};
+ghost use Rattle.gc_cycle.specs.Sorts.{ends_cycle, polls, pops, raises_flag, tries_marking};
 ghost use Rattle.gc_cycle.specs.Sparing.{KnowsAnswer, spares_part};
 ghost use Rattle.gc_cycle.specs.Standing.{KeepsSeat, KeepsSection, Mutates};
 ghost use Rattle.gc_cycle.specs.Statistics.{ChangesBy, ChangesNumbers, GivesUp, cache_of};
@@ -34,8 +35,8 @@ use std::sync::Wait;
 use stop_world::{poll, resume};
 
 /// A precise collection by a mutator without a cache, that has done `done` commands: of its own one cycle ends, and
-/// then exactly the reachable cells are in use. If another seat's stop comes first it tries again. Full: it read that
-/// the heap is full.
+/// then exactly the reachable cells are in use. If another seat's stop comes first it tries again. It pops cells only in
+/// stops. Full: it read that the heap is full.
 pub fn collect<R: Wait>(rt: &R, heap: &Heap, seat: &mut HeapSeat, done: u32) -> Safe
     requires seat { Sits heap.now seat.old × Mutates (view_of seat.old) }
     requires cache { (state_of seat.old).cache ≡ None }
@@ -49,6 +50,7 @@ pub fn collect<R: Wait>(rt: &R, heap: &Heap, seat: &mut HeapSeat, done: u32) -> 
     ensures spares { Across (Only spares_part) seat.old seat.new }
     ensures numbers { Across (ChangesNumbers []) seat.old seat.new }
     ensures unbegun { IsTrue (never tries_marking (did seat.old seat.new)) }
+    ensures pops { IsTrue (pops_in_stops (did seat.old seat.new)) }
     ensures known { KnowsAnswer result (view_of seat.new) }
 {
     for _ in rt.forever() {
@@ -72,6 +74,7 @@ fn collect_once<R: Wait>(rt: &R, heap: &Heap, seat: &mut HeapSeat, done: u32) ->
     ensures only { Across (Only spares_section) seat.old seat.new }
     ensures numbers { Across (ChangesNumbers []) seat.old seat.new }
     ensures unbegun { IsTrue (never tries_marking (did seat.old seat.new)) }
+    ensures pops { IsTrue (pops_in_stops (did seat.old seat.new)) }
     ensures known { IfSome result (λ safe. KnowsAnswer safe (view_of seat.new)) }
 {
     if stores_if_full(heap, seat, done) {
@@ -94,6 +97,7 @@ fn collect_in_stop<R: Wait>(rt: &R, heap: &Heap, seat: &mut HeapSeat)
     ensures ends { Across EndsStop seat.old seat.new }
     ensures numbers { Across (ChangesNumbers []) seat.old seat.new }
     ensures unbegun { IsTrue (never tries_marking (did seat.old seat.new)) }
+    ensures pops { (before : List Entry) → IsTrue (holds_stop before) → IsTrue (each_after is_in_stop pops before (did seat.old seat.new)) }
 {
     if has_seen_full(seat) {
         resume(heap, seat);

@@ -132,7 +132,7 @@ pub(crate) fn drain_alone<R: Wait>(rt: &R, heap: &Heap, seat: &mut HeapSeat) -> 
     ensures rescanned { result ≡ min (rescanned_in (view_of seat.old) (did seat.old seat.new)) most }
 {
     heap.reset(seat, BLOCK_COUNTER);
-    see_to_roots(rt, heap, seat);
+    see_to_roots(heap, seat);
     let mut rescanned: u32 = 0;
     for _ in rt.forever() {
         if is_drained(heap, seat) {

@@ -7,6 +7,8 @@ ghost use Rattle.mark_core.specs.Layout.{root_count};
 ghost use Rattle.gc_table.specs.Log.{Only};
 ghost use Rattle.gc_table.specs.Notes.{look};
 ghost use Rattle.gc_table.specs.Seats.{Across, did, Sits, state_of, view_of};
+ghost use Rattle.mark_core.specs.Numbers.{deferred_pool_number};
+ghost use Rattle.packet_pools.specs.Outside.{AreNotedOutside};
 ghost use Rattle.packet_pools.specs.Tracing.{traces};
 ghost use Rattle.packet_pools.specs.Fields.{picked};
 ghost use Rattle.tracer.specs.StepBounds.{recycle_steps, section_steps};
@@ -18,14 +20,13 @@ ghost use Rattle.gc_cycle.specs.Drained.{RootedAlone};
 ghost use Rattle.gc_cycle.specs.Events.{never};
 ghost use Rattle.gc_cycle.specs.Finishing.{IsAloneIn, IsPart};
 ghost use Rattle.gc_cycle.specs.Lower.{HasTraced, ScansRoots};
-ghost use Rattle.gc_cycle.specs.Sorts.{draws_or_clears, pops, reads_pace};
+ghost use Rattle.gc_cycle.specs.Sorts.{draws_or_clears, pops, reads_pace, takes_deferred};
 ghost use Rattle.gc_cycle.specs.Standing.{is_at_rest};
 ghost use Rattle.gc_cycle.specs.Statistics.{leaves_numbers};
 ghost use Rattle.gc_cycle.specs.RoundParts.{LacksPacket};
 
 use card_clean::count_roots;
 use gc_table::{Heap, HeapSeat};
-use std::sync::Wait;
 use tracer::RootScan;
 
 /// Marks what the roots of a section refer to.
@@ -38,6 +39,7 @@ pub fn scan_roots(heap: &Heap, seat: &mut HeapSeat, section: u32) -> RootScan
     ensures rescanned { rescanned_in (view_of seat.old) (did seat.old seat.new) ≡ 0 }
     ensures uncleaned { IsTrue (never draws_or_clears (did seat.old seat.new)) }
     ensures unpopped { IsTrue (never pops (did seat.old seat.new)) }
+    ensures undeferred { IsTrue (never takes_deferred (did seat.old seat.new)) }
     ensures unread { IsTrue (never reads_pace (did seat.old seat.new)) }
     ensures unlooked { IsTrue (never looks_at_card (did seat.old seat.new)) }
     ensures scans { Across (ScansRoots section result) seat.old seat.new }
@@ -47,7 +49,7 @@ pub fn scan_roots(heap: &Heap, seat: &mut HeapSeat, section: u32) -> RootScan
 }
 
 /// Marks what the roots from `from` on and before `end` refer to. If it finds no packet it is false, and brings back
-/// what was deferred, which is all that can keep packets from a seat that is alone.
+/// what was deferred, which is all that can keep packets from a seat that is alone: the next call is true.
 pub(crate) fn sees_to_some(heap: &Heap, seat: &mut HeapSeat, from: u32, end: u32) -> bool
     requires seat { Sits heap.now seat.old }
     requires alone { IsAloneIn Drain (view_of seat.old) × (look the_next_block (view_of seat.old).known ≡ Some 0) }
@@ -63,6 +65,8 @@ pub(crate) fn sees_to_some(heap: &Heap, seat: &mut HeapSeat, from: u32, end: u32
     ensures only { IsTrue result → Across (Only sees_roots) seat.old seat.new }
     ensures reads { IsTrue result → picked (roots_read heap.now.shape) (did seat.old seat.new) ≡ range_with_len from (end - from) }
     ensures lacks { IsFalse result → Across LacksPacket seat.old seat.new }
+    ensures outside { IsFalse result → AreNotedOutside deferred_pool_number (view_of seat.new) }
+    ensures pooled { AreNotedOutside deferred_pool_number (view_of seat.old) → IsTrue result }
     ensures few { length (did seat.old seat.new) ≤ see_to_steps (end - from) heap.now.shape + recycle_steps heap.now.shape }
 {
     if card_clean::see_to_some(heap, seat, from, end) {
@@ -80,24 +84,24 @@ fn sees_to_all_roots(heap: &Heap, seat: &mut HeapSeat) -> bool
     ensures next { look the_next_block (view_of seat.new).known ≡ Some 0 }
     ensures rescanned { rescanned_in (view_of seat.old) (did seat.old seat.new) ≡ 0 }
     ensures rooted { IsTrue result → RootedAlone (view_of seat.new) }
+    ensures outside { IsFalse result → AreNotedOutside deferred_pool_number (view_of seat.new) }
+    ensures pooled { AreNotedOutside deferred_pool_number (view_of seat.old) → IsTrue result }
 {
     let end = count_roots(heap, seat);
     sees_to_some(heap, seat, 0, end)
 }
 
-/// Marks what all roots refer to. It ends because each packet is in a pool: once the deferred ones are back one can
-/// be had.
-pub(crate) fn see_to_roots<R: Wait>(rt: &R, heap: &Heap, seat: &mut HeapSeat)
+/// Marks what all roots refer to. Each packet is in a pool, so if none is found the deferred ones are brought back, and
+/// then one is.
+pub(crate) fn see_to_roots(heap: &Heap, seat: &mut HeapSeat)
     requires seat { Sits heap.now seat.old }
     requires alone { IsAloneIn Drain (view_of seat.old) × (look the_next_block (view_of seat.old).known ≡ Some 0) }
     ensures seat { Sits heap.now seat.new × RootedAlone (view_of seat.new) }
     ensures part { Across (IsPart Drain) seat.old seat.new }
     ensures rescanned { rescanned_in (view_of seat.old) (did seat.old seat.new) ≡ 0 }
 {
-    for _ in rt.forever() {
-        if sees_to_all_roots(heap, seat) {
-            return;
-        }
+    if sees_to_all_roots(heap, seat) {
+        return;
     }
-    unreachable!()
+    sees_to_all_roots(heap, seat);
 }

@@ -1,9 +1,10 @@
 //! Tracing, and what waits to be traced.
-ghost use Rattle.std.specs.Prelude.{◌==◌, ◌≡◌, ◌≤◌, ◌+◌, IsTrue, length};
-ghost use Rattle.mark_core.specs.Numbers.{empty_offset};
+ghost use Rattle.std.specs.Prelude.{◌==◌, ◌≡◌, ◌≤◌, ◌+◌, IsTrue, IsFalse, length};
+ghost use Rattle.mark_core.specs.Numbers.{deferred_pool_number, empty_offset};
 ghost use Rattle.mark_core.specs.declared.kinds.Step.TheVariants.{ReadCount};
 ghost use Rattle.gc_table.specs.Seats.{Across, Answered, did, Sits, state_of, view_of};
 ghost use Rattle.packet_pools.specs.Seeking.{some_event};
+ghost use Rattle.packet_pools.specs.Outside.{AreNotedOutside};
 ghost use Rattle.packet_pools.specs.Tracing.{traces};
 ghost use Rattle.tracer.specs.Deferral.{Defers};
 ghost use Rattle.tracer.specs.Recycling.{Recycled};
@@ -28,6 +29,7 @@ pub fn trace(heap: &Heap, seat: &mut HeapSeat, quota: u32) -> Traced
     ensures ends { Across (EndsTrace quota result) seat.old seat.new }
     ensures most { result.done ≤ quota }
     ensures tally { Across (Tally result.done result.deferred result.overflowed) seat.old seat.new }
+    ensures undeferred { IsFalse (state_of seat.old).active → result.deferred ≡ 0 }
     ensures deferral { Across Defers seat.old seat.new }
     ensures rescanned { rescanned_in (view_of seat.old) (did seat.old seat.new) ≡ 0 }
     ensures uncleaned { IsTrue (never draws_or_clears (did seat.old seat.new)) }
@@ -45,6 +47,7 @@ pub fn recycle_deferred(heap: &Heap, seat: &mut HeapSeat) -> u32
     requires rest { IsTrue (is_at_rest heap.now.shape (state_of seat.old)) }
     ensures seat { Sits heap.now seat.new }
     ensures recycled { Recycled heap.now.shape result (did seat.old seat.new) }
+    ensures outside { IsTrue (state_of seat.old).alone → AreNotedOutside deferred_pool_number (view_of seat.new) }
     ensures traced { Across HasTraced seat.old seat.new }
     ensures rescanned { rescanned_in (view_of seat.old) (did seat.old seat.new) ≡ 0 }
     ensures uncleaned { IsTrue (never draws_or_clears (did seat.old seat.new)) }

@@ -1,7 +1,6 @@
 -- Where a mutator on its way to a cache pops cells: in stops, and after it has claimed its block.
-use Rattle.std.proofs.Common.{ℕ, ◌≡◌, List, [], ◌∷◌, ◌++◌, refl, sym, ap, ◌∙◌, Bool, true, false, not, ◌||◌, ⊎_elim}
-use Rattle.std.specs.Prelude.{if◌then◌else◌}
-use Rattle.std.proofs.lemmas.Bool.{and_from, cases_Bool, false≢true, or_parts, or_right}
+use Rattle.std.proofs.Common.{if◌then◌else◌, ℕ, ◌≡◌, List, [], ◌∷◌, ◌++◌, refl, sym, ap, ◌∙◌, Bool, true, false, ⊎_elim}
+use Rattle.std.proofs.lemmas.Bool.{cases_Bool, false≢true}
 use Rattle.mark_core.specs.declared.kinds.Step.{Step}
 use Rattle.mark_core.specs.declared.kinds.Step.TheVariants.{ClaimBlock, Pop}
 use Rattle.gc_table.specs.Log.{events, Only}
@@ -9,14 +8,13 @@ use Rattle.gc_table.specs.declared.view.Entry.{Entry}
 use Rattle.gc_table.specs.declared.view.View.{View}
 use Rattle.packet_pools.specs.Seeking.{some_event}
 use Rattle.packet_pools.proofs.Searches.{some-left, some-right}
-use Rattle.gc_cycle.specs.Events.{before_last, each_after, since_or_all, Sort}
+use Rattle.gc_cycle.specs.Events.{before_last, Sort}
 use Rattle.gc_cycle.specs.Mutating.{is_in_stop, pops_in_stops, stays_calm}
-use Rattle.gc_cycle.specs.Sorts.{claims, pops, raises_flag, resumes}
+use Rattle.gc_cycle.specs.Sorts.{claims, pops}
 use Rattle.cache_refills.specs.Pace.Paying.{pops_where_paid}
 use Rattle.cache_refills.specs.Refilling.{prepares}
 use Rattle.cache_refills.proofs.Stops.Visits.{before-later, up-to}
 use Rattle.gc_cycle.proofs.Sequences.{none-of-steps, some-none}
-use Rattle.gc_cycle.proofs.Since.{since-unlike}
 pub use Rattle.gc_cycle.proofs.Stops.Popping.{answered-pops, pops-join, unpopped}
 
 prepares-unpopped : (step : Step) (n : ℕ) → prepares step ≡ true → pops step n ≡ false
@@ -62,15 +60,3 @@ calm-unclaimed step n e = refl
 
 pub calm-claims : (v w : View) → Only stays_calm v w → some_event claims (events v w) ≡ false
 calm-claims v w o = none-of-steps stays_calm claims calm-unclaimed (events v w) o
-
--- while the seat holds a stop
-
-abbrev pub is_held : List Entry → Bool
-is_held es = some_event raises_flag (since_or_all resumes es)
-
-pub held-pops : (before es : List Entry) → some_event resumes es ≡ false → is_held before ≡ true → each_after is_in_stop pops before es ≡ true
-held-pops before [] n h = refl
-held-pops before (e ∷ es) n h =
-    let p = or_parts (resumes e.step e.found) (some_event resumes es) n in
-    and_from _ _ (or_right (not (pops e.step e.found)) _ (or_right _ (some_event raises_flag (since_or_all resumes before)) h))
-    (held-pops (before ++ e ∷ []) es p.1 (ap (some_event raises_flag) (since-unlike resumes before (e ∷ []) (ap (λ (b : Bool). b || false) p.0)) ∙ some-left raises_flag (since_or_all resumes before) (e ∷ []) h))

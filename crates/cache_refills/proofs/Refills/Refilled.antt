@@ -36,6 +36,7 @@ use Rattle.alloc_cache.specs.Claiming.{claimed_by}
 use Rattle.alloc_cache.specs.Retiring.{retiring_steps}
 use Rattle.alloc_cache.specs.declared.cache.Cache.{Cache}
 use Rattle.cache_refills.specs.Getting.{GetsCache, LooksBeyond}
+use Rattle.cache_refills.specs.Pace.Deferring.{RecyclesLast}
 use Rattle.cache_refills.specs.Pace.Early.{PassesNext}
 use Rattle.cache_refills.specs.Pace.Others.{SeesToNext}
 use Rattle.gc_cycle.specs.Answering.{answers, EndsFull, GoesOn, last_phase}
@@ -141,7 +142,7 @@ module _ (h : Cache) (done : ℕ) (u v w x : View) (n : ℕ) (k : HasClaimed h d
   told : picked lowers_free (since_claim (events u x)) ≡ ones h.cells ∷ []
   told = ap (picked lowers_free) since ∙ ap (λ l. ones h.cells ∷ l) (picked-none pays_cells lowers_free pays-unlowered (events w x) o)
 
-  gets-cache : (p : Paid) → Mutates v → IsCached h v → Mutates x → x.state.cache ≡ w.state.cache → x.state.phase_seen ≡ w.state.phase_seen → saw (Some (phase_of n)) Full ≡ false → Pays u.shape (own_section u.state) (ones h.cells) p (begins u) (events u x) → (some_event (reads_phase Marking) (since_claim (events u x)) ≡ true → LooksBeyond u.shape (ones h.cells) u x) → GetsCache h p done u x
+  gets-cache : (p : Paid) → Mutates v → IsCached h v → Mutates x → x.state.cache ≡ w.state.cache → x.state.phase_seen ≡ w.state.phase_seen → saw (Some (phase_of n)) Full ≡ false → Pays u.shape (own_section u.state) (ones h.cells) p (begins u) (events u x) → (some_event (reads_phase Marking) (since_claim (events u x)) ≡ true → LooksBeyond u.shape (ones h.cells) p u x) → GetsCache h p done u x
   gets-cache p m cached now kept seen low pays beyond =
       record {
         goes_on = goes m now seen low;
@@ -223,10 +224,10 @@ module _ (h : Cache) (done : ℕ) (u v w x : View) (n : ℕ) (k : HasClaimed h d
           (λ c. absurd (⊎_elim (λ (a : Known v the_phase 1). other 0 a) (λ (b : Known v the_phase 5). other 4 b) c))
           k.paced
 
-  pub gets-paid : (p : Paid) → Mutates v → IsCached h v → HasPaid (ones h.cells) p w x → phase_of n ≡ Marking → PassesNext u.shape (ones h.cells) w x → SeesToNext u.shape w x → GetsCache h p done u x
-  gets-paid p m cached q e passes others =
+  pub gets-paid : (p : Paid) → Mutates v → IsCached h v → HasPaid (ones h.cells) p w x → phase_of n ≡ Marking → PassesNext u.shape (ones h.cells) w x → SeesToNext u.shape w x → RecyclesLast u.shape p w x → GetsCache h p done u x
+  gets-paid p m cached q e passes others defers =
       gets-cache p m cached q.mutates q.cache q.seen (ap (λ z. saw (Some z) Full) e) (in_marking (pays-marking p q e))
-      (λ marking. record { paying = w; before = before; pays = r; claimed = claimed; unclaimed = untaken pays_cells claims pays-unclaimed (events w x) o; passes = passes; others = others })
+      (λ marking. record { paying = w; before = before; pays = r; claimed = claimed; unclaimed = untaken pays_cells claims pays-unclaimed (events w x) o; passes = passes; others = others; defers = defers })
     where
       claimed : some_event claims (events u w) ≡ true
       claimed =

@@ -24,7 +24,7 @@ use Rattle.cache_refills.specs.Stops.{cycles_with_cause, has_ended, may_end, res
 use Rattle.cache_refills.proofs.Causes.{after-join, after-none, since-more}
 use Rattle.cache_refills.proofs.Stops.StopsAgain.{tried-unended}
 use Rattle.gc_cycle.specs.Mutating.{is_in_stop, pops_in_stops, tries_stopping}
-use Rattle.cache_refills.proofs.Refills.Popping.{answered-pops, held-pops}
+use Rattle.gc_cycle.proofs.Stops.Popping.{answered-pops, held-pops}
 use Rattle.cache_refills.proofs.Stops.Visits.{before-later, unresumed-ends}
 use Rattle.gc_cycle.proofs.Refills.Answered.{answers-out}
 use Rattle.gc_cycle.proofs.Sequences.{none-of-steps, some-none}

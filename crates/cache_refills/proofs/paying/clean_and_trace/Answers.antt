@@ -4,6 +4,7 @@ use Rattle.gc_table.specs.Seats.{view_of}
 use Rattle.gc_table.specs.declared.view.View.{View}
 use Rattle.gc_cycle.specs.declared.counts.Paid.{Paid}
 use Rattle.cache_refills.specs.Pace.Payment.{TracesNone}
+use Rattle.cache_refills.proofs.Refills.Apart.{apart-earlier, apart-none, apart-one}
 use Rattle.cache_refills.proofs.Refills.Payment.{cleaned-none, none-traces, traces-on}
 use Rattle.std.specs.Prelude.{IfSome}
 use Rattle.mark_core.specs.declared.kinds.Shape.{Shape}
@@ -67,3 +68,15 @@ returns-clause-unlooked c =
     let e = c.in_ok-clean.ensures in
     let t = c.trace-more.ensures in
     never-run looks_at_card (view_of c.args.seat.now) (view_of c.clean.new.seat) (view_of c.trace-more.new.seat) e.traced.ran t.traced.ran e.unlooked t.unlooked
+
+pub returns-in_err-clean-clause-apart : goal.returns-in_err-clean-clause-apart
+returns-in_err-clean-clause-apart c =
+    let e = c.in_err-clean.ensures in apart-none (view_of c.args.seat.now) (view_of c.clean.new.seat) (record { ran = e.traced.ran; unpopped = e.unpopped; untaken = e.undeferred })
+
+pub returns-clause-apart : goal.returns-clause-apart
+returns-clause-apart c =
+    let w : View = view_of c.clean.new.seat in
+    let x : View = view_of c.trace-more.new.seat in
+    let e = c.in_ok-clean.ensures in
+    let t = c.trace-more.ensures in
+    apart-earlier (view_of c.args.seat.now) w x (record { ran = e.traced.ran; unpopped = e.unpopped; untaken = e.undeferred }) (apart-one w x t.traced.ran t.deferral)

@@ -1,7 +1,9 @@
 use Rattle.std.proofs.Common.{ℕ, ap, arith, ◌≤◌, ◌+◌, ◌-◌, length, Option, subst, sym}
 use Rattle.gc_table.specs.Seats.{view_of}
 use Rattle.gc_table.specs.declared.view.View.{View}
+use Rattle.cache_refills.specs.Pace.Deferring.{LeavesDeferred}
 use Rattle.cache_refills.specs.Pace.Payment.{TracesNone}
+use Rattle.cache_refills.proofs.Refills.Apart.{apart-earlier, apart-none, leaves-join, leaves-looked}
 use Rattle.cache_refills.proofs.Refills.Payment.{card-looked, cleaned-not, cleaned-on, none-join, traces-none}
 use Rattle.gc_table.proofs.Running.{ran-join}
 use Rattle.gc_cycle.proofs.Few.{few-after, few-join}
@@ -29,6 +31,14 @@ seen c =
 
 short : (c : After-read_card) → length (events (view_of c.next_card.new.seat) (view_of c.read_card.new.seat)) ≤ 1
 short c = let e = c.read_card.ensures.view in few-after (view_of c.next_card.new.seat) (view_of c.read_card.new.seat) (ReadCard c.in_ok-card.card) e.0 e.1
+
+-- no packet was taken for it, nor for the card that came before
+left : (c : After-read_card) → LeavesDeferred (view_of c.args.seat.now) (view_of c.read_card.new.seat)
+left c =
+    let n = c.next_card.ensures in
+    let e = c.read_card.ensures.view in
+    leaves-join (view_of c.args.seat.now) (view_of c.next_card.new.seat) (view_of c.read_card.new.seat) (record { ran = n.ran; unpopped = n.unpopped; untaken = n.undeferred })
+    (leaves-looked c.in_ok-card.card e.0 (view_of c.next_card.new.seat) (view_of c.read_card.new.seat) (seen c).traced.ran e.1)
 
 seen-once : (c : After-read_card) → count_of looks_at_card (events (view_of c.next_card.new.seat) (view_of c.read_card.new.seat)) ≤ 1
 seen-once c =
@@ -124,3 +134,14 @@ returns-clause-once c =
     let n = c.next_card.ensures in
     let d = (goal.at.returns-clause-once c).After-read_card in
     looks-join 0 1 v w (view_of c.read_card.new.seat) n.ran (seen d).traced.ran (unlooked-few (events v w) n.unlooked) (seen-once d)
+
+pub returns-in_err-card-clause-apart : goal.returns-in_err-card-clause-apart
+returns-in_err-card-clause-apart c =
+    let n = c.in_err-card.ensures in apart-none (view_of c.args.seat.now) (view_of c.next_card.new.seat) (record { ran = n.ran; unpopped = n.unpopped; untaken = n.undeferred })
+
+pub returns-then-read_card-clause-apart : goal.returns-then-read_card-clause-apart
+returns-then-read_card-clause-apart c =
+    apart-earlier (view_of c.args.seat.now) (view_of c.read_card.new.seat) (view_of c.clean_and_trace.new.seat) (left (goal.at.returns-then-read_card-clause-apart c).After-read_card) c.clean_and_trace.ensures.apart
+
+pub returns-clause-apart : goal.returns-clause-apart
+returns-clause-apart c = apart-none (view_of c.args.seat.now) (view_of c.read_card.new.seat) (left (goal.at.returns-clause-apart c).After-read_card)

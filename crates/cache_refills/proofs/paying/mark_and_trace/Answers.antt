@@ -19,7 +19,9 @@ use Rattle.cache_refills.specs.Pace.StepBounds.{early_steps, quota_steps}
 use Rattle.gc_cycle.proofs.Few.{few-join}
 use Rattle.gc_cycle.proofs.Sequences.{this-moment}
 use Rattle.gc_cycle.specs.Moments.{begins, finds_no_packet}
-use Rattle.gc_table.proofs.Running.{ran-events, ran-join}
+use Rattle.gc_table.proofs.Running.{ran-events, ran-join, ran-refl}
+use Rattle.tracer.specs.declared.traced.Stopped.TheVariants.{NoWork}
+use Rattle.cache_refills.proofs.Refills.Apart.{apart-none, leaves-join, recycles-none, stops-other, traces-later}
 use Rattle.cache_refills.proofs.paying.mark_and_trace.Goals as goal
 
 pub scan_roots-requires-clause-section : goal.scan_roots-requires-clause-section
@@ -142,3 +144,30 @@ returns-in-Done-clause-passes c =
       passes = p.passes;
       late = q.late;
     })
+
+pub returns-in-NoPacket-clause-recycles : goal.returns-in-NoPacket-clause-recycles
+returns-in-NoPacket-clause-recycles c =
+    let v : View = view_of c.scan_roots.new.seat in
+    let e = c.in-NoPacket.ensures in
+    record {
+      traced = v;
+      traces = apart-none (view_of c.args.seat.now) v (record { ran = e.traced.ran; unpopped = e.unpopped; untaken = e.undeferred });
+      ran = ran-refl v;
+      recycles = recycles-none c.stopped_at.result c.args.heap.now.shape v (λ (k : c.stopped_at.result ≡ NoWork). stops-other c.args.owed.objects (sym c.stopped_at.ensures ∙ k));
+    }
+
+pub returns-in-Done-clause-recycles : goal.returns-in-Done-clause-recycles
+returns-in-Done-clause-recycles c =
+    let sh : Shape = c.args.heap.now.shape in
+    let u : View = view_of c.args.seat.now in
+    let v : View = view_of c.scan_roots.new.seat in
+    let y : View = view_of c.scan_roots-in-Done.new.seat in
+    let x : View = view_of c.pass_early.new.seat in
+    let w : View = view_of c.pay_quota.new.seat in
+    let e = c.in-Done.ensures in
+    let o = c.scan_roots-in-Done.ensures in
+    let q = c.pay_quota.ensures in
+    let stopped = c.pay_quota.result.stopped in
+    traces-later sh stopped u y w
+    (leaves-join u v y (record { ran = e.traced.ran; unpopped = e.unpopped; untaken = e.undeferred }) (record { ran = o.traced.ran; unpopped = o.unpopped; untaken = o.undeferred }))
+    (traces-later sh stopped y x w c.pass_early.ensures.leaves q.recycles)

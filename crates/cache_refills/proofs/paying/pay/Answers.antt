@@ -13,6 +13,7 @@ use Rattle.tracer.specs.StepBounds.{section_steps}
 use Rattle.cache_refills.specs.Pace.StepBounds.{early_steps, quota_steps}
 use Rattle.gc_cycle.proofs.Few.{few-after, few-join}
 use Rattle.cache_refills.proofs.Few.{quota-fewer}
+use Rattle.cache_refills.proofs.Refills.Apart.{leaves-read, traces-later}
 use Rattle.cache_refills.proofs.Refills.Early.{passes-next, sees-next}
 use Rattle.cache_refills.proofs.paying.pay.Goals as goal
 
@@ -58,3 +59,15 @@ returns-clause-others c =
     let q = c.owed_now-owed.ensures in
     let p = c.mark_and_trace-paid.ensures in
     sees-next c.args.heap.now.shape c.args.cells o.from o.end o.looks c.mark_and_trace-paid.result.done (view_of c.args.seat.now) (view_of c.owed_now-owed.new.seat) (view_of c.mark_and_trace-paid.new.seat) (view_of c.add_stat.new.seat) q.ran q.only p.pays.traced.ran p.pays.unread c.add_stat.ensures.view o.turn q.turn p.other
+
+pub returns-clause-defers : goal.returns-clause-defers
+returns-clause-defers c =
+    let u : View = view_of c.args.seat.now in
+    let v : View = view_of c.owed_now-owed.new.seat in
+    let w : View = view_of c.mark_and_trace-paid.new.seat in
+    let q = c.owed_now-owed.ensures in
+    record {
+      recycled = w;
+      traces = traces-later c.args.heap.now.shape c.mark_and_trace-paid.result.stopped u v w (leaves-read u v q.ran q.only) c.mark_and_trace-paid.ensures.recycles;
+      tells = c.add_stat.ensures.view;
+    }

@@ -1,6 +1,8 @@
 use Rattle.std.proofs.Common.{◌+◌, ◌*◌, arith}
 use Rattle.gc_table.specs.Seats.{view_of}
 use Rattle.gc_table.specs.declared.view.View.{View}
+use Rattle.gc_table.proofs.Running.{ran-refl}
+use Rattle.cache_refills.proofs.Refills.Apart.{recycles-none, recycles-work}
 use Rattle.cache_refills.proofs.Refills.Payment.{traces-quiet, undrawn-few}
 use Rattle.mark_core.specs.declared.kinds.Shape.{Shape}
 use Rattle.tracer.specs.StepBounds.{recycle_steps, trace_steps}
@@ -31,3 +33,24 @@ returns-in-NoWork-clause-late c =
     let e = c.recycle_deferred.ensures in
     let all = looks-join c.args.looks 0 (view_of c.args.seat.now) v w a.traces.traced.ran e.traced.ran a.late (unlooked-few (events v w) e.unlooked) in
     omega (arith, all)
+
+pub returns-in-NoWork-clause-recycles : goal.returns-in-NoWork-clause-recycles
+returns-in-NoWork-clause-recycles c =
+    let v : View = view_of c.trace_and_clean-paid.new.seat in
+    let e = c.recycle_deferred.ensures in
+    record {
+      traced = v;
+      traces = c.trace_and_clean-paid.ensures.apart;
+      ran = e.traced.ran;
+      recycles = recycles-work c.trace_and_clean-paid.result.stopped c.args.heap.now.shape c.recycle_deferred.result v (view_of c.recycle_deferred.new.seat) c.in-NoWork.is e.recycled;
+    }
+
+pub returns-in_default-clause-recycles : goal.returns-in_default-clause-recycles
+returns-in_default-clause-recycles c =
+    let v : View = view_of c.trace_and_clean-paid.new.seat in
+    record {
+      traced = v;
+      traces = c.trace_and_clean-paid.ensures.apart;
+      ran = ran-refl v;
+      recycles = recycles-none c.trace_and_clean-paid.result.stopped c.args.heap.now.shape v c.in_default.not-NoWork;
+    }

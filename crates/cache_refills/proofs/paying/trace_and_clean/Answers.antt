@@ -3,6 +3,7 @@ use Rattle.mark_core.specs.declared.seat.SeatState.{SeatState}
 use Rattle.gc_table.specs.Seats.{view_of}
 use Rattle.gc_table.specs.declared.view.View.{View}
 use Rattle.cache_refills.specs.Pace.Payment.{TracesOn}
+use Rattle.cache_refills.proofs.Refills.Apart.{apart-join, apart-one}
 use Rattle.cache_refills.proofs.Refills.Payment.{mutates-on, traces-none, traces-on, traces-within}
 use Rattle.cache_refills.proofs.Few.{look-last, look-more, looks-fewer}
 use Rattle.gc_table.specs.Log.{events}
@@ -19,6 +20,7 @@ loop-look-init c =
       traces =
           subst (λ n. TracesOn c.args.quota 0 0 (record { quota = c.args.quota; done = n; stopped = c.trace-first.result.stopped }) v w) (zero-add c.trace-first.result.done)
           (traces-on c.args.quota c.args.quota 0 c.trace-first.result v w t.traced t.ends t.most (zero-add c.args.quota) t.unread t.unrooted t.uncleaned);
+      apart = apart-one v w t.traced.ran t.deferral;
       late = unlooked-few (events v w) t.unlooked;
       few = let few = t.few in omega (arith, few);
     }
@@ -30,6 +32,7 @@ returns-in_default c =
     record {
       seat = i.sits;
       traces = traces-within c.args.quota 0 c.loop-look._look c.args.looks c.loop-look.paid (view_of c.args.seat.now) (view_of c.loop-look.seat) (omega (arith, t)) i.traces;
+      apart = i.apart;
       late = let late = i.late in omega (arith, late, t);
       few = looks-fewer c.loop-look.paid.done c.loop-look._look c.args.looks c.args.heap.now.shape _ (omega (arith, t)) i.few;
     }
@@ -66,6 +69,7 @@ loop-look-preserved c =
     record {
       sits = e.seat;
       traces = subst (λ n. TracesOn n 0 (c.loop-look._look + 1) c.in-Some.more u w) q (e.some u c.loop-look._look (subst (λ n. TracesOn n 0 c.loop-look._look c.loop-look.paid u v) (sym q) i.traces));
+      apart = apart-join u v w i.apart e.apart;
       late = looks-join c.loop-look._look 1 u v w i.traces.traced.ran e.ran i.late e.once;
       few = look-more c.loop-look.paid.done c.in-Some.more.done c.loop-look._look c.args.heap.now.shape u v w i.traces.traced.ran e.ran e.few.0.0 i.few e.few.0.1;
     }
@@ -105,3 +109,9 @@ returns-clause-late c =
     let late = c.loop-look.invariant.late in
     let end = c.loop-look.auto in
     omega (arith, late, end)
+
+pub returns-in_default-look_at_next-clause-apart : goal.returns-in_default-look_at_next-clause-apart
+returns-in_default-look_at_next-clause-apart c = apart-join (view_of c.args.seat.now) (view_of c.loop-look.seat) (view_of c.look_at_next.new.seat) c.loop-look.invariant.apart c.in_default-look_at_next.ensures.apart
+
+pub returns-clause-apart : goal.returns-clause-apart
+returns-clause-apart c = c.loop-look.invariant.apart

@@ -11,6 +11,7 @@ use Rattle.gc_cycle.proofs.Few.{few-after, few-join, few-steps, giving-few}
 use Rattle.gc_cycle.specs.Answering.{answers}
 use Rattle.gc_cycle.specs.Mutating.{stays_calm}
 use Rattle.std.specs.Int.Count.{ones}
+use Rattle.cache_refills.specs.Pace.Deferring.{RecyclesLast}
 use Rattle.cache_refills.specs.Pace.Early.{PassesNext}
 use Rattle.cache_refills.specs.Pace.Others.{SeesToNext}
 use Rattle.cache_refills.specs.Pace.Payment.{HasPaid, pays_cells}
@@ -113,7 +114,8 @@ returns-in-Marking c =
           let same : sh ≡ u.shape = sym c.requires.seat.0.1 ∙ ran-shape u v k.ran in
           gets-paid c.args.cache c.args.done u v w x t.0 k (t.1, t.2) q.ran q.only c.pay-paid.result c.requires.seat.1 c.requires.cache q (sym t.3 ∙ c.in-Marking.is)
           (subst (λ (z : Shape). PassesNext z (ones c.args.cache.cells) w x) same (subst (λ n. PassesNext sh n w x) c.free.ensures c.pay-paid.ensures.passes))
-          (subst (λ (z : Shape). SeesToNext z w x) same c.pay-paid.ensures.others);
+          (subst (λ (z : Shape). SeesToNext z w x) same c.pay-paid.ensures.others)
+          (subst (λ (z : Shape). RecyclesLast z c.pay-paid.result w x) same c.pay-paid.ensures.defers);
     }
 
 pub returns-in_default : goal.returns-in_default

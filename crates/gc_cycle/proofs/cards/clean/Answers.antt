@@ -17,9 +17,9 @@ use Rattle.card_clean.specs.Cleaning.{CleansOne, FoundClean, FoundDirty}
 use Rattle.card_clean.specs.declared.cleaned.Cleaned.{Cleaned}
 use Rattle.gc_cycle.specs.Lower.{HasTraced}
 use Rattle.gc_cycle.specs.Moments.{at_some_moment, begins, finds_no_room, holds_one}
-use Rattle.gc_cycle.specs.Sorts.{clears_card, draws, pops, reads_root}
+use Rattle.gc_cycle.specs.Sorts.{clears_card, draws, pops, reads_root, takes_deferred}
 use Rattle.gc_cycle.specs.Standing.{is_at_rest}
-use Rattle.gc_cycle.proofs.CleaningSpares.{none-one, moved-untaken, moves-unpopped, moves-unrooted, scan-unpopped, scan-unrooted, Spares, untaken, unread-of}
+use Rattle.gc_cycle.proofs.CleaningSpares.{none-one, moved-untaken, moves-undeferred, moves-unpopped, moves-unrooted, scan-undeferred, scan-unpopped, scan-unrooted, Spares, untaken, unread-of}
 use Rattle.gc_cycle.proofs.Idling.{idle-of, rest-parts, traced-held, traces-of}
 use Rattle.gc_cycle.proofs.Ends.Rooted.{rest-room}
 use Rattle.gc_cycle.proofs.Sequences.{this-moment}
@@ -129,3 +129,10 @@ returns-in-Some-clause-unlooked c =
 
 pub returns-in-None-clause-unlooked : goal.returns-in-None-clause-unlooked
 returns-in-None-clause-unlooked c = moved-untaken output_pools looks_at_card (moves-unlooked output_pools) (events (view_of c.args.seat.now) (view_of c.clean_one.new.seat)) c.in-None.ensures.none.2
+
+pub returns-in-Some-clause-undeferred : goal.returns-in-Some-clause-undeferred
+returns-in-Some-clause-undeferred c =
+    none-one takes_deferred moves-undeferred scan-undeferred (λ k n. refl) (λ k n. refl) (λ k n. refl) (λ k n. refl) c.args.heap.now.shape c.args.card c.in-Some.cleaned (events (view_of c.args.seat.now) (view_of c.clean_one.new.seat)) c.in-Some.ensures.some.0
+
+pub returns-in-None-clause-undeferred : goal.returns-in-None-clause-undeferred
+returns-in-None-clause-undeferred c = moved-untaken output_pools takes_deferred moves-undeferred (events (view_of c.args.seat.now) (view_of c.clean_one.new.seat)) c.in-None.ensures.none.2

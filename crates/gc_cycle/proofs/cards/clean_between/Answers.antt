@@ -9,12 +9,12 @@ use Rattle.gc_table.specs.declared.view.View.{View}
 use Rattle.packet_pools.specs.OnlyTraced.{traces_cells}
 use Rattle.packet_pools.specs.Seeking.{output_pools}
 use Rattle.gc_cycle.specs.CardLooks.{PassesCards}
-use Rattle.gc_cycle.specs.Sorts.{draws, pops, reads_root}
+use Rattle.gc_cycle.specs.Sorts.{draws, pops, reads_root, takes_deferred}
 use Rattle.gc_cycle.specs.Standing.{is_at_rest}
 use Rattle.gc_cycle.proofs.CardLooks.{pass-spares, passed, passed-few}
 use Rattle.gc_cycle.proofs.Ends.Rooted.{rest-room}
 use Rattle.gc_cycle.proofs.Idling.{rest-parts, traced-held, traces-of}
-use Rattle.gc_cycle.proofs.CleaningSpares.{moves-unpopped, moves-unrooted, scan-unpopped, scan-unrooted, Spares, unread-of, untaken}
+use Rattle.gc_cycle.proofs.CleaningSpares.{moves-undeferred, moves-unpopped, moves-unrooted, scan-undeferred, scan-unpopped, scan-unrooted, Spares, unread-of, untaken}
 use Rattle.gc_cycle.proofs.cards.clean_between.Goals.{After-clean_some}
 use Rattle.gc_cycle.proofs.cards.clean_between.Goals as goal
 
@@ -63,3 +63,7 @@ returns-clause-unread c = unread-of (view_of c.args.seat.now) (view_of c.clean_s
 pub returns-clause-few : goal.returns-clause-few
 returns-clause-few c =
     passed-few c.args.heap.now.shape c.args.first c.args.end (view_of c.args.seat.now) (view_of c.clean_some.new.seat) c.clean_some.result c.clean_some.ensures.some c.clean_some.ensures.few
+
+pub returns-clause-undeferred : goal.returns-clause-undeferred
+returns-clause-undeferred c =
+    pass-spares takes_deferred moves-undeferred scan-undeferred (λ k n. refl) (λ k n. refl) (λ k n. refl) (λ k n. refl) (λ k n. refl) c.args.heap.now.shape c.args.first c.args.end (events (view_of c.args.seat.now) (view_of c.clean_some.new.seat)) (all-passed c)

@@ -3,7 +3,7 @@ use Rattle.std.specs.Prelude.{nat_le, nat_lt, if◌then◌else◌, ◌||◌, ◌
 use Rattle.std.proofs.lemmas.Bool.{false≢true, le-leb, ltb-false, ltb-true, or_left, or_right}
 use Rattle.mark_core.specs.Layout.{card_count}
 use Rattle.mark_core.specs.declared.kinds.Step.{Step}
-use Rattle.mark_core.specs.declared.kinds.Step.TheVariants.{ClearCard, NextOfCards, Pop, ReadField, ReadRoot, LoadSlot}
+use Rattle.mark_core.specs.declared.kinds.Step.TheVariants.{ClearCard, NextOfCards, Pop, ReadField, ReadRoot, LoadSlot, Take}
 use Rattle.mark_core.specs.Steps.WorldSteps.{has_nothing}
 use Rattle.mark_core.specs.declared.kinds.Shape.{Shape}
 use Rattle.mark_core.specs.declared.seat.SeatState.{SeatState}
@@ -20,7 +20,7 @@ use Rattle.packet_pools.specs.Seeking.{some_event}
 use Rattle.card_clean.specs.Passing.{card_floor, Draws, DrawsCard, draws_card, keeps_floor}
 use Rattle.gc_cycle.specs.Events.{never}
 use Rattle.gc_cycle.specs.Lower.{GivesCard, HasTraced, traces_or_cleans}
-use Rattle.gc_cycle.specs.Sorts.{clears, draws, gives_card, pops, reads_pace, reads_root, sees_last_card}
+use Rattle.gc_cycle.specs.Sorts.{clears, draws, gives_card, pops, reads_pace, reads_root, sees_last_card, takes_deferred}
 use Rattle.gc_cycle.specs.Standing.{is_at_rest}
 use Rattle.gc_cycle.proofs.Idling.{traces-of}
 use Rattle.gc_cycle.proofs.Sequences.{total-none}
@@ -76,6 +76,10 @@ unroots : Spares draws_card reads_root
 unroots (ReadRoot section v) n e = absurd (false≢true e)
 unroots (LoadSlot section k) n e = absurd (false≢true e)
 unroots step n e = refl
+
+undefers : Spares draws_card takes_deferred
+undefers (Take pool packet) n e = absurd (false≢true e)
+undefers step n e = refl
 
 by_test : (n : ℕ) (v w : View) → Draws n v w → (b : Bool) → nat_lt n (card_count v.shape) ≡ b → GivesCard (if b then Some n else None) v w
 by_test n v w d true h = (ltb-true n (card_count v.shape) h, ap (some_event (gives_card n)) d.events_are ∙ or_left (gives_card n NextOfCards n) false (eq-eqb n n refl))
@@ -142,3 +146,6 @@ returns-clause-once c = once-drawn c.next_card.result (view_of c.args.seat.now) 
 
 pub returns-clause-unlooked : goal.returns-clause-unlooked
 returns-clause-unlooked c = untaken draws_card looks_at_card draws-unlooked (events (view_of c.args.seat.now) (view_of c.next_card.new.seat)) c.next_card.ensures.only
+
+pub returns-clause-undeferred : goal.returns-clause-undeferred
+returns-clause-undeferred c = untaken draws_card takes_deferred undefers (events (view_of c.args.seat.now) (view_of c.next_card.new.seat)) c.next_card.ensures.only

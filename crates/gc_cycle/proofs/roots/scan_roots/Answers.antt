@@ -14,11 +14,11 @@ use Rattle.card_clean.specs.Leaving.{rescans}
 use Rattle.gc_cycle.specs.Events.{never, Sort}
 use Rattle.gc_cycle.specs.Moments.{total_of}
 use Rattle.gc_cycle.specs.Lower.{ScansRoots}
-use Rattle.gc_cycle.specs.Sorts.{reads_root, draws_or_clears, pops}
+use Rattle.gc_cycle.specs.Sorts.{reads_root, draws_or_clears, pops, takes_deferred}
 use Rattle.gc_cycle.specs.Standing.{is_at_rest}
 use Rattle.gc_cycle.proofs.Ends.NoRescans.{calm, roots-begin_none}
 use Rattle.gc_cycle.proofs.Idling.{idle-of, moves-quiet, rest-again, rest-parts, traced-of, traces-of}
-use Rattle.gc_cycle.proofs.CleaningSpares.{moved-untaken, moves-uncleaned, moves-unpopped, root-steps, roots-uncleaned, roots-unpopped, Spares, untaken, unread-of, moves-unrooted}
+use Rattle.gc_cycle.proofs.CleaningSpares.{moved-untaken, moves-uncleaned, moves-undeferred, moves-unpopped, root-steps, roots-uncleaned, roots-undeferred, roots-unpopped, Spares, untaken, unread-of, moves-unrooted}
 use Rattle.gc_cycle.specs.CardLooks.{looks_at_card}
 use Rattle.gc_cycle.proofs.CardLooks.{moves-unlooked, roots-unlooked}
 use Rattle.gc_cycle.proofs.roots.scan_roots.Goals as goal
@@ -73,3 +73,7 @@ returns-clause-scans c = scans-of c.args.section c.scan_roots.result (view_of c.
 pub returns-clause-unlooked : goal.returns-clause-unlooked
 returns-clause-unlooked c =
     never-in looks_at_card roots-unlooked (moves-unlooked output_pools) c.args.section c.scan_roots.result (view_of c.args.seat.now) (view_of c.scan_roots.new.seat) c.scan_roots.ensures.scanned
+
+pub returns-clause-undeferred : goal.returns-clause-undeferred
+returns-clause-undeferred c =
+    never-in takes_deferred roots-undeferred moves-undeferred c.args.section c.scan_roots.result (view_of c.args.seat.now) (view_of c.scan_roots.new.seat) c.scan_roots.ensures.scanned

@@ -1,35 +1,23 @@
-use Rattle.std.proofs.Common.{ap}
 use Rattle.mark_core.specs.declared.kinds.Phase.TheVariants.{Drain}
 use Rattle.gc_table.specs.Seats.{view_of}
-use Rattle.gc_table.specs.declared.view.View.{View}
-use Rattle.gc_table.proofs.History.Log.{events-none}
-use Rattle.card_clean.specs.Leaving.{rescanned_in}
-use Rattle.gc_cycle.proofs.Parts.{part-join, part-none}
+use Rattle.gc_cycle.proofs.Parts.{part-join}
 use Rattle.gc_cycle.proofs.Traced.{rescans-none}
 use Rattle.gc_cycle.proofs.roots.see_to_roots.Goals as goal
 
-pub loop-init : goal.loop-init
-loop-init g c =
-    let v : View = view_of c.args.seat.now in
-    record { next = tt; finite = tt; sits = c.requires.seat; part = part-none Drain v c.requires.alone.0; block = c.requires.alone.1; none = ap (rescanned_in v) (events-none v) }
+pub sees_to_all_roots-requires-2-clause-alone : goal.sees_to_all_roots-requires-2-clause-alone
+sees_to_all_roots-requires-2-clause-alone c = let e = c.sees_to_all_roots.ensures in (e.part.alone, e.next)
 
-pub sees_to_all_roots-requires-clause-alone : goal.sees_to_all_roots-requires-clause-alone
-sees_to_all_roots-requires-clause-alone g c = let i = c.loop.invariant in (i.part.alone, i.block)
+pub returns-then-sees_to_all_roots-clause-seat : goal.returns-then-sees_to_all_roots-clause-seat
+returns-then-sees_to_all_roots-clause-seat c = let e = c.sees_to_all_roots.ensures in (e.seat, e.rooted c.if-sees_to_all_roots.true)
 
-pub loop-preserved : goal.loop-preserved
-loop-preserved g c =
-    let v : View = view_of c.args.seat.now in
-    let w : View = view_of c.loop.seat in
-    let x : View = view_of c.sees_to_all_roots.new.seat in
-    let i = c.loop.invariant in
+pub returns-clause-seat : goal.returns-clause-seat
+returns-clause-seat c = let f = c.sees_to_all_roots-2.ensures in (f.seat, f.rooted (f.pooled (c.sees_to_all_roots.ensures.outside c.if-sees_to_all_roots.false)))
+
+pub returns-clause-part : goal.returns-clause-part
+returns-clause-part c = part-join Drain (view_of c.args.seat.now) (view_of c.sees_to_all_roots.new.seat) (view_of c.sees_to_all_roots-2.new.seat) c.sees_to_all_roots.ensures.part c.sees_to_all_roots-2.ensures.part
+
+pub returns-clause-rescanned : goal.returns-clause-rescanned
+returns-clause-rescanned c =
     let e = c.sees_to_all_roots.ensures in
-    record { next = tt; finite = tt; sits = e.seat; part = part-join Drain v w x i.part e.part; block = e.next; none = rescans-none v w x i.part.ran e.part.ran i.none e.rescanned }
-
-pub returns-then-sees_to_all_roots-clause-part : goal.returns-then-sees_to_all_roots-clause-part
-returns-then-sees_to_all_roots-clause-part g c = let i = c.loop.invariant in part-join Drain (view_of c.args.seat.now) (view_of c.loop.seat) (view_of c.sees_to_all_roots.new.seat) i.part c.sees_to_all_roots.ensures.part
-
-pub returns-then-sees_to_all_roots-clause-rescanned : goal.returns-then-sees_to_all_roots-clause-rescanned
-returns-then-sees_to_all_roots-clause-rescanned g c =
-    let i = c.loop.invariant in
-    let e = c.sees_to_all_roots.ensures in
-    rescans-none (view_of c.args.seat.now) (view_of c.loop.seat) (view_of c.sees_to_all_roots.new.seat) i.part.ran e.part.ran i.none e.rescanned
+    let f = c.sees_to_all_roots-2.ensures in
+    rescans-none (view_of c.args.seat.now) (view_of c.sees_to_all_roots.new.seat) (view_of c.sees_to_all_roots-2.new.seat) e.part.ran f.part.ran e.rescanned f.rescanned

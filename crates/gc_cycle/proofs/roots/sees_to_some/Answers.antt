@@ -33,6 +33,8 @@ use Rattle.gc_cycle.proofs.CleaningSpares.{moved-untaken, moves-unpopped, sees-u
 use Rattle.card_clean.specs.StepBounds.{see_to_steps}
 use Rattle.tracer.specs.StepBounds.{recycle_steps}
 use Rattle.gc_cycle.proofs.Few.{few-join}
+use Rattle.std.proofs.lemmas.Bool.{true≢false}
+use Rattle.mark_core.specs.Held.{holds_any}
 use Rattle.gc_cycle.proofs.roots.sees_to_some.Goals as goal
 
 rest-of : (v : View) → IsAloneIn Drain v → is_at_rest v.shape v.state ≡ true
@@ -172,3 +174,12 @@ returns-clause-few c =
     let e = c.see_to_some.ensures in
     let r = c.recycle_deferred.ensures in
     few-join (see_to_steps (c.args.end - c.args.from) sh) (recycle_steps sh) (view_of c.args.seat.now) (view_of c.see_to_some.new.seat) (view_of c.recycle_deferred.new.seat) e.only.ran r.only.ran e.few r.few
+
+pub returns-clause-outside : goal.returns-clause-outside
+returns-clause-outside c t = c.recycle_deferred.ensures.outside (ap (λ (s : SeatState). s.alone) c.see_to_some.ensures.only.rest ∙ c.requires.alone.0.rest.alone)
+
+pub returns-clause-pooled : goal.returns-clause-pooled
+returns-clause-pooled c none =
+    let v : View = view_of c.args.seat.now in
+    let held = ap holds_any (idle-of v c.args.seat.now.possible (rest-of v c.requires.alone.0)).held in
+    absurd (true≢false (sym (c.see_to_some.ensures.pooled held none) ∙ c.if-see_to_some.false))

@@ -1,0 +1,93 @@
+-- The traces of a payment, one after another.
+use Rattle.std.proofs.Common.{◌≡◌, List, [], ◌∷◌, ◌++◌, refl, sym, ap, ◌∙◌, subst, ℕ, Bool, true, false}
+use Rattle.std.specs.Prelude.{◌==◌, if◌then◌else◌}
+use Rattle.std.proofs.lemmas.Bool.{false≢true}
+use Rattle.mark_core.specs.declared.kinds.Shape.{Shape}
+use Rattle.mark_core.specs.declared.kinds.Step.TheVariants.{Pop, ReadCard, Take}
+use Rattle.gc_table.specs.Log.{events, Only}
+use Rattle.gc_table.specs.Running.{Ran}
+use Rattle.gc_table.specs.Taking.{after}
+use Rattle.gc_table.specs.declared.view.View.{View}
+use Rattle.gc_table.proofs.History.Log.{events-after, events-none}
+use Rattle.gc_table.proofs.Running.{ran-join, ran-refl}
+use Rattle.tracer.specs.Deferral.{Defers}
+use Rattle.tracer.specs.Recycling.{Recycled}
+use Rattle.tracer.specs.declared.traced.Stopped.{Stopped}
+use Rattle.tracer.specs.declared.traced.Stopped.TheVariants.{NoPacket, NoWork, Quota}
+use Rattle.gc_cycle.specs.Events.{never}
+use Rattle.gc_cycle.specs.Sorts.{pops, takes_deferred}
+use Rattle.gc_cycle.proofs.CleaningSpares.{Spares, untaken}
+use Rattle.cache_refills.specs.Pace.Deferring.{LeavesDeferred, RecyclesFor, TracesApart, TracesBy, TracesThenRecycles}
+use Rattle.cache_refills.specs.Pace.Payment.{reads_number, stop_of}
+use Rattle.cache_refills.proofs.Refills.Payment.{never-run}
+
+pub leaves-none : (v : View) → LeavesDeferred v v
+leaves-none v = record { ran = ran-refl v; unpopped = ap (never pops) (events-none v); untaken = ap (never takes_deferred) (events-none v) }
+
+pub leaves-join : (u v w : View) → LeavesDeferred u v → LeavesDeferred v w → LeavesDeferred u w
+leaves-join u v w a b =
+    record {
+      ran = ran-join u v w a.ran b.ran;
+      unpopped = never-run pops u v w a.ran b.ran a.unpopped b.unpopped;
+      untaken = never-run takes_deferred u v w a.ran b.ran a.untaken b.untaken;
+    }
+
+-- a look at a card, and the reading of numbers
+pub leaves-looked : (card n : ℕ) (v w : View) → Ran v w → w ≡ after (ReadCard card) n v → LeavesDeferred v w
+leaves-looked card n v w r e = let one = events-after v w (ReadCard card) n e in record { ran = r; unpopped = ap (never pops) one; untaken = ap (never takes_deferred) one }
+
+number-unpopped : Spares reads_number pops
+number-unpopped (Pop p) n e = absurd (false≢true e)
+number-unpopped step n e = refl
+
+number-untaken : Spares reads_number takes_deferred
+number-untaken (Take pool packet) n e = absurd (false≢true e)
+number-untaken step n e = refl
+
+pub leaves-read : (v w : View) → Ran v w → Only reads_number v w → LeavesDeferred v w
+leaves-read v w r o = record { ran = r; unpopped = untaken reads_number pops number-unpopped (events v w) o; untaken = untaken reads_number takes_deferred number-untaken (events v w) o }
+
+by-later : (xs : List (View × View)) (u v w : View) → TracesBy xs u v → LeavesDeferred v w → TracesBy xs u w
+by-later [] u v w a b = leaves-join u v w a b
+by-later (x ∷ xs) u v w a b = (a.0, a.1, a.2, leaves-join x.1 v w a.3 b)
+
+by-join : (xs ys : List (View × View)) (u v w : View) → TracesBy xs u v → TracesBy ys v w → TracesBy (ys ++ xs) u w
+by-join xs [] u v w a b = by-later xs u v w a b
+by-join xs (y ∷ ys) u v w a b = (by-join xs ys u v y.0 a b.0, b.1, b.2, b.3)
+
+by-one : (v w : View) → Ran v w → Defers v w → TracesBy ((v, w) ∷ []) v w
+by-one v w r d = (leaves-none v, r, d, leaves-none w)
+
+pub apart-none : (v w : View) → LeavesDeferred v w → TracesApart v w
+apart-none v w l = record { traces = []; by = l }
+
+pub apart-one : (v w : View) → Ran v w → Defers v w → TracesApart v w
+apart-one v w r d = record { traces = (v, w) ∷ []; by = by-one v w r d }
+
+pub apart-join : (u v w : View) → TracesApart u v → TracesApart v w → TracesApart u w
+apart-join u v w a b = record { traces = b.traces ++ a.traces; by = by-join a.traces b.traces u v w a.by b.by }
+
+pub apart-earlier : (u v w : View) → LeavesDeferred u v → TracesApart v w → TracesApart u w
+apart-earlier u v w a b = apart-join u v w (apart-none u v a) b
+
+pub recycles-work : (s : Stopped) (sh : Shape) (n : ℕ) (v w : View) → s ≡ NoWork → Recycled sh n (events v w) → RecyclesFor s sh v w
+recycles-work s sh n v w e r = subst (λ (t : Stopped). RecyclesFor t sh v w) (sym e) (n, r)
+
+pub recycles-none : (s : Stopped) (sh : Shape) (v : View) → (s ≡ NoWork → ⊥) → RecyclesFor s sh v v
+recycles-none NoWork sh v other = absurd (other refl)
+recycles-none s sh v other = refl
+
+abbrev is_out : Stopped → Bool
+is_out NoWork = true
+is_out s = false
+
+-- what had no packet to begin with didn't run out of work
+pub stops-other : (quota : ℕ) → stop_of quota ≡ NoWork → ⊥
+stops-other quota e = by_test (quota == 0) e
+  where
+    by_test : (b : Bool) → (if b then Quota else NoPacket) ≡ NoWork → ⊥
+    by_test true k = false≢true (ap is_out k)
+    by_test false k = false≢true (ap is_out k)
+
+pub traces-later : (sh : Shape) (s : Stopped) (u v w : View) → LeavesDeferred u v → TracesThenRecycles sh s v w → TracesThenRecycles sh s u w
+traces-later sh s u v w a b = record { traced = b.traced; traces = apart-earlier u v b.traced a b.traces; ran = b.ran; recycles = b.recycles }
