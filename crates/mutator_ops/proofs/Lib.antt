@@ -8,3 +8,4 @@ pub mod Storing
 pub mod Walking
 pub mod Upgraded
 pub mod WeakTaken
+pub mod Flushed

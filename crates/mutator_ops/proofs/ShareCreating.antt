@@ -1,6 +1,6 @@
 -- An object is made in a new cell of a shared heap, and a variable refers to it.
 use Rattle.std.proofs.Common.{ℕ, ◌≡◌, ◌+◌, ◌<◌, [], ◌∷◌, length, refl, sym, ap, ◌∙◌, Bool, true, ◌&&◌, ◌||◌, None, is_none, ◌-◌, List, ◌++◌, arith, false}
-use Rattle.std.specs.Prelude.{◌==◌, if◌then◌else◌, slice_set}
+use Rattle.std.specs.Prelude.{◌==◌, if◌then◌else◌}
 use Rattle.std.specs.List.{list_any}
 use Rattle.std.proofs.lemmas.Bool.{and_from, eq-eqb, lt-ltb, not_from_false, or_right, cond-false, cond-true, ne_eqb}
 use Rattle.std.proofs.lemmas.List.{length-append}
@@ -10,21 +10,21 @@ use Rattle.mark_core.specs.Seats.{free_in, has_making, may_mutate, work_in_hand}
 use Rattle.mark_core.specs.Steps.MutatorSteps.{names_last, seat_variable as word_in}
 use Rattle.mark_core.specs.declared.cell.Identity.{Identity}
 use Rattle.mark_core.specs.declared.kinds.Shape.{Shape}
-use Rattle.mark_core.specs.declared.kinds.Step.TheVariants.{StoreRoot, ReadCat, ReadOwn, ReadValue}
+use Rattle.mark_core.specs.declared.kinds.Step.TheVariants.{HoldRoot, StoreRoot, ReadCat, ReadOwn, ReadValue}
 use Rattle.mark_core.specs.declared.seat.SeatState.{SeatState}
 use Rattle.plain_heap.specs.PlainHeap.{Heap}
 use Rattle.plain_heap.specs.PlainStep.{assigned, heap_after, new_object, with_new}
 use Rattle.plain_heap.specs.declared.operation.Op.TheVariants as ops
 use Rattle.gc_table.specs.Seats.{Stored, Found}
 use Rattle.gc_table.specs.Sections.{named_by}
-use Rattle.gc_table.specs.Taking.{May}
+use Rattle.gc_table.specs.Taking.{May, after}
 use Rattle.gc_table.specs.Running.{Ran}
 use Rattle.gc_table.specs.declared.view.SectionState.{SectionState}
 use Rattle.gc_table.specs.declared.view.View.{View}
 use Rattle.gc_table.proofs.Running.{ran-join, ran-shape, ran-stored, ran-events, ran-found}
 use Rattle.alloc_cache.specs.Making.{Makes, identity_word, with_cell, making_steps}
 use Rattle.alloc_cache.proofs.Cells.{steps-after, steps-join as steps-two}
-use Rattle.mutator_ops.specs.Sharing.{ShareCreates, SharesReady, next_word}
+use Rattle.mutator_ops.specs.Sharing.{ShareCreates, SharesReady, holding, next_word}
 use Rattle.mutator_ops.proofs.Creating.{last_cell, whole_cell}
 use Rattle.mark_core.specs.declared.kinds.Step.{Step}
 use Rattle.gc_table.specs.Log.{event, events, steps_of}
@@ -85,7 +85,13 @@ creates-steps u n c r fields id v x w ran k is size ident e =
     steps-two v x w (making_steps v.shape.fields c n (identity_word id)) (StoreRoot u r ∷ []) ran (ran-stored x w (StoreRoot u r) refl e) k.steps (steps-after x w (StoreRoot u r) r e)
     ∙ (λ i. making_steps (size i) c n (ident i) ++ StoreRoot u (is i) ∷ [])
 
--- it is a new object that the store makes
+-- a new object was made, and held in a variable
+holds-steps : (u n c r m : ℕ) (id : Identity) (v x w : View) → Ran v x → Makes c n id v x → r ≡ c + 1 → identity_word id ≡ next_word v.state → Found (HoldRoot u r) m x w → steps_of (events v w) ≡ making_steps v.shape.fields c n (next_word v.state) ++ HoldRoot u (c + 1) ∷ []
+holds-steps u n c r m id v x w ran k is ident f =
+    steps-two v x w (making_steps v.shape.fields c n (identity_word id)) (HoldRoot u r ∷ []) ran (ran-found x w (HoldRoot u r) m refl f) k.steps (steps-after x w (HoldRoot u r) m f.0)
+    ∙ (λ i. making_steps v.shape.fields c n (ident i) ++ HoldRoot u (is i) ∷ [])
+
+-- it is a new object that the last step makes
 rooted_new : (b : Bool) (h k : Heap) → b ≡ true → (if b then h else k) ≡ h
 rooted_new b h k e = ap (λ (c : Bool). if c then h else k) e
 
@@ -93,7 +99,7 @@ module _ (u n c r : ℕ) (id : Identity) (v x : View) (ready : SharesReady v) (r
   named : names_last x.state.cache r ≡ true
   named = ap (λ (s : SeatState). names_last s.cache r) k.state ∙ last_cell v.state.cache c r free is
 
-  pub may-name : u < section_variables → May (StoreRoot u r) x
+  pub may-name : u < section_variables → May (HoldRoot u r) x
   may-name below y i st a = (
     and_from _ _ (lt-ltb u section_variables below) (ap may_mutate k.state ∙ ready.stores.turn),
     (
@@ -105,25 +111,24 @@ module _ (u n c r : ℕ) (id : Identity) (v x : View) (ready : SharesReady v) (r
   counted : length x.own.meaning.heap.objects + 1 ≡ x.state.made
   counted = ap (λ (y : SectionState). length y.meaning.heap.objects + 1) k.own ∙ ap (λ m. m + 1) ready.counted ∙ sym (ap (λ (s : SeatState). s.made) k.state)
 
-  made_heap : (w : View) → Stored (StoreRoot u r) x w → w.own.meaning.heap ≡ heap_after v.own.meaning.heap None (ops.New u n)
-  made_heap w e =
-      let m = x.own.meaning in
+  made_heap : (m : ℕ) (w : View) → w ≡ after (HoldRoot u r) m x → w.own.meaning.heap ≡ heap_after v.own.meaning.heap None (ops.New u n)
+  made_heap m w e =
+      let own = x.own.meaning in
       ap (λ (y : View). y.own.meaning.heap) e
-      ∙ rooted_new (names_last x.state.cache r && (length m.heap.objects + 1 == x.state.made)) (with_new m.heap u m.value) (assigned m.heap u (named_by x.state m r)) (and_from _ _ named (eq-eqb (length m.heap.objects + 1) x.state.made counted))
+      ∙ rooted_new (names_last x.state.cache r && (length own.heap.objects + 1 == x.state.made)) (with_new own.heap u own.value) (assigned own.heap u (named_by x.state own r)) (and_from _ _ named (eq-eqb (length own.heap.objects + 1) x.state.made counted))
       ∙ ap (λ (y : SectionState). with_new y.meaning.heap u y.meaning.value) k.own
 
-  pub share-creates : (w : View) → Stored (StoreRoot u r) x w → identity_word id ≡ next_word v.state → ShareCreates u n c v w
-  share-creates w e ident =
-      let two : Ran x w = ran-stored x w (StoreRoot u r) refl e in
+  pub share-creates : (m : ℕ) (w : View) → Found (HoldRoot u r) m x w → identity_word id ≡ next_word v.state → ShareCreates u n c v w
+  share-creates m w f ident =
       record {
-        ran = ran-join v x w ran two;
-        steps_are = creates-steps u n c r v.shape.fields id v x w ran k is refl ident e;
+        ran = ran-join v x w ran (ran-found x w (HoldRoot u r) m refl f);
+        steps_are = holds-steps u n c r m id v x w ran k is ident f;
         state =
-            ap (λ (y : View). y.state) e
-            ∙ (λ i. record (k.state i) { env = slice_set (k.state i).env u (reference_in (is i)); got = 0 })
-            ∙ (λ i. record (with_cell v.state c) { env = slice_set v.state.env u (reference_in (c + 1)); got = sym ready.register i });
-        heap = made_heap w e;
-        seasons = ap (λ (y : View). y.own.seasons) e ∙ ap (λ (y : SectionState). y.seasons) k.own;
+            ap (λ (y : View). y.state) f.0
+            ∙ (λ i. record (holding (k.state i) u (reference_in (is i))) { got = 0 })
+            ∙ (λ i. record (holding (with_cell v.state c) u (reference_in (c + 1))) { got = sym ready.register i });
+        heap = made_heap m w f.0;
+        seasons = ap (λ (y : View). y.own.seasons) f.0 ∙ ap (λ (y : SectionState). y.seasons) k.own;
       }
 
   pub share-ready : (w : View) → ShareCreates u n c v w → SharesReady w

@@ -1,12 +1,12 @@
 -- A command that stores in an object.
 use Rattle.std.proofs.Common.{ℕ, ◌≡◌, ◌≤◌, List, [], ◌∷◌, ◌++◌, arith, refl, sym, ap, ◌∙◌, Bool, true, false, not, ◌&&◌, ◌||◌, Some, None, Option, is_some, length, cond, ◌<◌, ◌+◌, is_none, subst}
-use Rattle.std.specs.Prelude.{◌==◌, if◌then◌else◌, slice_set}
+use Rattle.std.specs.Prelude.{◌==◌, if◌then◌else◌}
 use Rattle.std.specs.List.{list_all, list_any}
 use Rattle.std.proofs.lemmas.Bool.{false≢true, true≢false, and_from, and_parts, or_left, or_right, lt-ltb, eq-eqb, ne_eqb, not_from_false}
 use Rattle.mark_core.specs.Steps.ColourSteps.{dirty_card_effect, fresh_off, popped_off, redirty_off}
 use Rattle.mark_core.specs.Seats.{work_in_hand, cleaning_left, scan_left, is_the, used_in, has_making, may_mutate}
 use Rattle.mark_core.specs.declared.kinds.Step.{Step}
-use Rattle.mark_core.specs.declared.kinds.Step.TheVariants.{ReadIdent, StoreField, DirtyCard, ExchangeField, ExchangeValue, StoreRoot, ReadSlot, StoreSlot, CheckCard}
+use Rattle.mark_core.specs.declared.kinds.Step.TheVariants.{ReadIdent, StoreField, DirtyCard, ExchangeField, ExchangeValue, HoldRoot, ReadSlot, StoreSlot, CheckCard}
 use Rattle.mark_core.specs.declared.seat.Cleaning.{Cleaning}
 use Rattle.mark_core.specs.declared.seat.SeatState.{SeatState}
 use Rattle.plain_heap.specs.declared.operation.Op.{Op}
@@ -16,27 +16,27 @@ use Rattle.gc_table.specs.declared.view.SectionState.{SectionState}
 use Rattle.gc_table.specs.declared.view.View.{View}
 use Rattle.gc_table.specs.Log.{all_steps, steps_of, events, Only, event}
 use Rattle.gc_table.specs.Running.{Ran, after_all}
-use Rattle.gc_table.proofs.History.Log.{only-more}
-use Rattle.gc_table.proofs.Running.{ran-events, ran-join, ran-only, ran-shape}
+use Rattle.gc_table.proofs.History.Log.{events-after, only-more}
+use Rattle.gc_table.proofs.Running.{ran-events, ran-found, ran-join, ran-only, ran-shape}
 use Rattle.card_clean.specs.Barrier.{barrier_steps, card_events, card_steps, cell_in, finds_dirty, record_stored, was_dirty, Exchanged}
 use Rattle.mutator_ops.specs.Doing.{belongs, plain_steps, reads_ident, spares_plain, Does, IsOneStep, IsStepped, Looks}
 use Rattle.mutator_ops.proofs.Stepping.{once-last, once-none}
 use Rattle.mark_core.specs.Cards.{card_of}
 use Rattle.gc_table.specs.Taking.{after, May}
-use Rattle.mutator_ops.specs.Sharing.{SharesReady}
+use Rattle.mutator_ops.specs.Sharing.{SetsVariable, SharesReady, holding}
 use Rattle.std.proofs.lemmas.List.Folds.{list_any_at}
 use Rattle.mark_core.specs.Bits.{reference_in}
 use Rattle.mark_core.specs.Numbers.{section_variables}
 use Rattle.mark_core.specs.Steps.MutatorSteps.{names_last, seat_variable as word_in}
 use Rattle.plain_heap.specs.PlainHeap.{Heap}
 use Rattle.plain_heap.specs.PlainStep.{assigned, with_new}
-use Rattle.gc_table.specs.Seats.{Stored}
+use Rattle.gc_table.specs.Seats.{Found, Stored}
 use Rattle.gc_table.specs.Sections.{named_by}
 use Rattle.mark_core.specs.declared.kinds.Shape.{Shape}
 
--- A seat that shares objects is ready again after a call.
-pub shares-on : (v w : View) → SharesReady v → w.shape ≡ v.shape → w.state ≡ record v.state { env = w.state.env } → length w.own.meaning.heap.objects ≡ length v.own.meaning.heap.objects → SharesReady w
-shares-on v w r shape s objects =
+-- A seat that shares objects is ready again after a call that changes its variables, and which of their roots lag.
+pub shares-held : (v w : View) → SharesReady v → w.shape ≡ v.shape → w.state ≡ record v.state { env = w.state.env; lags = w.state.lags } → length w.own.meaning.heap.objects ≡ length v.own.meaning.heap.objects → SharesReady w
+shares-held v w r shape s objects =
     record {
       shared = ap (λ (sh : Shape). sh.sharing) shape ∙ r.shared;
       stores =
@@ -51,8 +51,15 @@ shares-on v w r shape s objects =
       counted = objects ∙ r.counted ∙ sym (ap (λ (t : SeatState). t.made) s);
     }
 
--- what was read into the register may be stored in a variable
-pub may-share_read : (u r : ℕ) (v x : View) → SharesReady v → x.state ≡ record v.state { got = x.state.got } → u < section_variables → r ≡ x.state.got → May (StoreRoot u r) x
+-- no root lags that didn't
+pub held-form : (v w : View) → w.state ≡ record v.state { env = w.state.env } → w.state ≡ record v.state { env = w.state.env; lags = w.state.lags }
+held-form v w s = s ∙ (λ i. record v.state { env = w.state.env; lags = sym (ap (λ (t : SeatState). t.lags) s) i })
+
+pub shares-on : (v w : View) → SharesReady v → w.shape ≡ v.shape → w.state ≡ record v.state { env = w.state.env } → length w.own.meaning.heap.objects ≡ length v.own.meaning.heap.objects → SharesReady w
+shares-on v w r shape s objects = shares-held v w r shape (held-form v w s) objects
+
+-- what was read into the register may be held in a variable
+pub may-share_read : (u r : ℕ) (v x : View) → SharesReady v → x.state ≡ record v.state { got = x.state.got } → u < section_variables → r ≡ x.state.got → May (HoldRoot u r) x
 may-share_read u r v x ready s below is y i st a = (
   and_from _ _ (lt-ltb u section_variables below) (ap may_mutate s ∙ ready.stores.turn),
   (
@@ -63,11 +70,20 @@ may-share_read u r v x ready s below is y i st a = (
 )
 
 -- what the record is after both
-pub state-read : (u r : ℕ) (v x w : View) → v.state.got ≡ 0 → x.state ≡ record v.state { got = x.state.got } → Stored (StoreRoot u r) x w → w.state ≡ record v.state { env = slice_set v.state.env u (reference_in r) }
-state-read u r v x w none s e =
+pub state-read : (u r n : ℕ) (v x w : View) → v.state.got ≡ 0 → x.state ≡ record v.state { got = x.state.got } → w ≡ after (HoldRoot u r) n x → w.state ≡ holding v.state u (reference_in r)
+state-read u r n v x w none s e =
     ap (λ (y : View). y.state) e
-    ∙ (λ i. record (s i) { env = slice_set (s i).env u (reference_in r); got = 0 })
-    ∙ (λ i. record v.state { env = slice_set v.state.env u (reference_in r); got = sym none i })
+    ∙ (λ i. record (holding (s i) u (reference_in r)) { got = 0 })
+    ∙ (λ i. record (holding v.state u (reference_in r)) { got = sym none i })
+
+-- and so is a seat that held a reference
+pub held-on : (u r : ℕ) (v w : View) → SharesReady v → w.shape ≡ v.shape → w.state ≡ holding v.state u r → length w.own.meaning.heap.objects ≡ length v.own.meaning.heap.objects → SharesReady w
+held-on u r v w q shape s objects = shares-held v w q shape (s ∙ ap (λ (t : SeatState). record v.state { env = t.env; lags = t.lags }) (sym s)) objects
+
+-- a variable was held
+pub sets-variable : (u r n : ℕ) (v w : View) → SharesReady v → Found (HoldRoot u r) n v w → SetsVariable u r v w
+sets-variable u r n v w ready f =
+    record { ran = ran-found v w (HoldRoot u r) n refl f; old = n; events_are = events-after v w (HoldRoot u r) n f.0; state = state-read u r n v v w ready.register refl f.0 }
 
 count-rooted : (b : Bool) (h k : Heap) → b ≡ false → length (if b then h else k).objects ≡ length k.objects
 count-rooted b h k e = ap (λ (c : Bool). length (if c then h else k).objects) e
@@ -76,8 +92,8 @@ none-last : (a b : Bool) → b ≡ false → (a && b) ≡ false
 none-last a b e = grind arith
 
 -- no object comes by it
-pub count-read : (u r : ℕ) (x w : View) → length x.own.meaning.heap.objects ≡ x.state.made → Stored (StoreRoot u r) x w → length w.own.meaning.heap.objects ≡ length x.own.meaning.heap.objects
-count-read u r x w counted e =
+pub count-read : (u r n : ℕ) (x w : View) → length x.own.meaning.heap.objects ≡ x.state.made → w ≡ after (HoldRoot u r) n x → length w.own.meaning.heap.objects ≡ length x.own.meaning.heap.objects
+count-read u r n x w counted e =
     let m = x.own.meaning in
     ap (λ (y : View). length y.own.meaning.heap.objects) e
     ∙ count-rooted (names_last x.state.cache r && (length m.heap.objects + 1 == x.state.made)) (with_new m.heap u m.value) (assigned m.heap u (named_by x.state m r))

@@ -2,19 +2,19 @@
 use Rattle.std.proofs.Common.{ℕ, ◌≡◌, ◌+◌, ◌-◌, ◌%◌, ◌<◌, arith, refl, sym, ap, ◌∙◌, subst, Bool, true, false, ◌||◌, length, cond, Option, Some, None, is_none, is_some}
 use Rattle.std.specs.Prelude.{IsFalse, slice_set}
 use Rattle.std.proofs.lemmas.Bool.{and_from, lt-ltb, not_from_false, false≢true}
-use Rattle.mark_core.specs.Bits.{cell_of, has_bit, reference_in}
+use Rattle.mark_core.specs.Bits.{cell_of, has_bit, reference_in, with_bit}
 use Rattle.mark_core.specs.Cards.{block_cells}
 use Rattle.mark_core.specs.Numbers.{section_variables}
 use Rattle.mark_core.specs.Seats.{may_mutate, has_making, used_in, work_in_hand}
 use Rattle.mark_core.specs.Steps.MutatorSteps.{seat_variable as word_in, without_used}
 use Rattle.mark_core.specs.declared.kinds.Shape.{Shape}
-use Rattle.mark_core.specs.declared.kinds.Step.TheVariants.{PublishCells, ReadIdent, ReadWeak, StoreRoot}
+use Rattle.mark_core.specs.declared.kinds.Step.TheVariants.{HoldRoot, PublishCells, ReadIdent, ReadWeak}
 use Rattle.mark_core.specs.declared.seat.CacheState.{CacheState}
 use Rattle.mark_core.specs.declared.seat.SeatState.{SeatState}
 use Rattle.mark_core.proofs.Used.UsedSeats.{published-none}
 use Rattle.gc_table.specs.declared.view.View.{View}
 use Rattle.gc_table.specs.Running.{Ran}
-use Rattle.gc_table.specs.Seats.{Across, Found, Stored, state_of, view_of}
+use Rattle.gc_table.specs.Seats.{Across, Found, state_of, view_of}
 use Rattle.gc_table.specs.declared.seat.HeapSeat.{HeapSeat}
 use Rattle.gc_table.proofs.Fitting.{possible-live}
 use Rattle.gc_table.specs.Taking.{May}
@@ -156,28 +156,28 @@ pub asks-low : (u c n : ℕ) (v w x : View) → Asks u c v w → Found (ReadWeak
 asks-low u c n v w x a f = known-low c n w x f a.live (asks-known u c v w a)
 
 -- variable u's object is published, and its identity was read
-takes : (u id n : ℕ) (v w x y z : View) → SharesReady w → PublishesOwn (cell_in v.state u) v w → used_in w.state.cache (cell_in v.state u) ≡ false → Found (ReadWeak (cell_in v.state u)) n w x
+takes : (u id n m : ℕ) (v w x y z : View) → SharesReady w → PublishesOwn (cell_in v.state u) v w → used_in w.state.cache (cell_in v.state u) ≡ false → Found (ReadWeak (cell_in v.state u)) n w x
     → cell_in v.state u < w.shape.cells → (x.state.got ≡ 0 → ⊥) → Found (ReadIdent (cell_in v.state u)) id x y → reference_in (word_in v.state u) ≡ word_in v.state u
-    → Stored (StoreRoot u (word_in v.state u)) y z → TakesWeak u id v z
-takes u id n v w x y z ready p none f low some g whole e =
+    → Found (HoldRoot u (word_in v.state u)) m y z → TakesWeak u id v z
+takes u id n m v w x y z ready p none f low some g whole e =
     record {
       own = w;
       publishes = p;
-      finds = finds-identity u (cell_in v.state u) n id (word_in v.state u) w x y z ready f low some g whole e;
+      finds = finds-identity u (cell_in v.state u) n id (word_in v.state u) m w x y z ready f low some g whole e;
       published =
-          ap (λ k. has_bit k (cell_in v.state u % block_cells)) (finds-bits u (cell_in v.state u) n id (word_in v.state u) w x y z ready f low some g whole e)
+          ap (λ k. has_bit k (cell_in v.state u % block_cells)) (finds-bits u (cell_in v.state u) n id (word_in v.state u) m w x y z ready f low some g whole e)
           ∙ bit-set (cell_in v.state u) n w x f none some;
     }
 
-pub takes-weak : (u c r id n : ℕ) (v w x y z : View) → Asks u c v w → Found (ReadWeak c) n w x → (x.state.got ≡ 0 → ⊥) → Found (ReadIdent c) id x y → r ≡ x.state.got → Stored (StoreRoot u r) y z → TakesWeak u id v z
-takes-weak u c r id n v w x y z a f some g is e =
+pub takes-weak : (u c r id n m : ℕ) (v w x y z : View) → Asks u c v w → Found (ReadWeak c) n w x → (x.state.got ≡ 0 → ⊥) → Found (ReadIdent c) id x y → r ≡ x.state.got → Found (HoldRoot u r) m y z → TakesWeak u id v z
+takes-weak u c r id n m v w x y z a f some g is e =
     let low = asks-low u c n v w x a f in
     let cell : c ≡ cell_in v.state u = cell-is u c n v w x a.word f low in
     let found : r ≡ c + 1 = is ∙ weak-got c n w x f ∙ weak-whole c n w x f low some in
     let word : r ≡ word_in v.state u = found ∙ sym a.word in
     let whole : reference_in r ≡ r = ap reference_in found ∙ weak-fits c n w x f low ∙ sym found in
-    takes u id n v w x y z a.ready (subst (λ k. PublishesOwn k v w) cell a.publishes) (subst (λ k. used_in w.state.cache k ≡ false) cell a.none) (subst (λ k. Found (ReadWeak k) n w x) cell f)
-    (subst (λ k. k < w.shape.cells) cell low) some (subst (λ k. Found (ReadIdent k) id x y) cell g) (subst (λ k. reference_in k ≡ k) word whole) (subst (λ k. Stored (StoreRoot u k) y z) word e)
+    takes u id n m v w x y z a.ready (subst (λ k. PublishesOwn k v w) cell a.publishes) (subst (λ k. used_in w.state.cache k ≡ false) cell a.none) (subst (λ k. Found (ReadWeak k) n w x) cell f)
+    (subst (λ k. k < w.shape.cells) cell low) some (subst (λ k. Found (ReadIdent k) id x y) cell g) (subst (λ k. reference_in k ≡ k) word whole) (subst (λ k. Found (HoldRoot u k) m y z) word e)
 
 -- it isn't published, and is another's
 pub finds-unpublished : (u c n : ℕ) (v w x : View) → Asks u c v w → Found (ReadWeak c) n w x → x.state.got ≡ 0 → FindsUnpublished u v x
@@ -186,21 +186,21 @@ finds-unpublished u c n v w x a f none =
     let g : Found (ReadWeak (cell_in v.state u)) n w x = subst (λ k. Found (ReadWeak k) n w x) cell f in
     record { own = w; publishes = subst (λ k. PublishesOwn k v w) cell a.publishes; bits = n; none = sym (weak-got (cell_in v.state u) n w x g) ∙ none; finds = g }
 
--- What the taking of a weak reference did, told to its callers: only the variables and the cache are others, and the cache is as whole as before.
+-- What the taking of a weak reference did, told to its callers: only the variables, which of their roots lag, and the cache are others, and the cache is as whole as before.
 pub record Rewrites (v x : View) : Type 0 where
   pub ran : Ran v x
-  pub state : x.state ≡ record v.state { cache = x.state.cache; env = x.state.env }
+  pub state : x.state ≡ record v.state { cache = x.state.cache; env = x.state.env; lags = x.state.lags }
   pub whole : is_whole x.state.cache ≡ is_whole v.state.cache
   pub few : AtMost 4 v x
 
 pub takes-rewrites : (u id : ℕ) (v x : View) → TakesWeak u id v x → Rewrites v x
 takes-rewrites u id v x e =
     let p : Publishes v e.own = publishes (cell_in v.state u) v e.own e.publishes in
-    let s : x.state ≡ record v.state { cache = e.own.state.cache; env = slice_set e.own.state.env u (word_in v.state u) } =
-    e.finds.state ∙ (λ i. record (p.state i) { env = slice_set e.own.state.env u (word_in v.state u) }) in
+    let s : x.state ≡ record v.state { cache = e.own.state.cache; env = slice_set e.own.state.env u (word_in v.state u); lags = with_bit e.own.state.lags u } =
+    e.finds.state ∙ (λ i. record (p.state i) { env = slice_set e.own.state.env u (word_in v.state u); lags = with_bit e.own.state.lags u }) in
     record {
       ran = ran-join v e.own x p.ran e.finds.ran;
-      state = s ∙ ap (λ (t : SeatState). record v.state { cache = t.cache; env = t.env }) (sym s);
+      state = s ∙ ap (λ (t : SeatState). record v.state { cache = t.cache; env = t.env; lags = t.lags }) (sym s);
       whole = ap (λ (t : SeatState). is_whole t.cache) s ∙ p.whole;
       few = at-most-join 1 3 v e.own x p.ran e.finds.ran p.few (at-most-events 3 e.own x _ e.finds.events_are (omega arith));
     }
@@ -214,7 +214,7 @@ unpublished-rewrites u v x ready e =
     let ran : Ran e.own x = ran-found e.own x (ReadWeak c) e.bits refl e.finds in
     record {
       ran = ran-join v e.own x p.ran ran;
-      state = s ∙ ap (λ (t : SeatState). record v.state { cache = t.cache; env = t.env }) (sym s);
+      state = s ∙ ap (λ (t : SeatState). record v.state { cache = t.cache; env = t.env; lags = t.lags }) (sym s);
       whole = ap (λ (t : SeatState). is_whole t.cache) s ∙ p.whole;
       few = at-most-more 2 4 v x (omega arith) (at-most-join 1 1 v e.own x p.ran ran p.few (at-most-after e.own x (ReadWeak c) e.bits e.finds.0));
     }

@@ -9,3 +9,4 @@ pub mod Listing
 pub mod Few
 pub mod Upgrading
 pub mod Weak
+pub mod Flushing

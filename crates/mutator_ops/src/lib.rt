@@ -8,11 +8,15 @@
 //! register, and goes from there into a variable. A command leaves the register empty: if the walk of `sum` doesn't end
 //! at nil, it stores its variable in itself.
 //!
+//! Where objects are shared, an assignment changes the variable in the record alone, by a load: its root lags. The roots
+//! that lag are stored by [`flush_roots`], at the latest before the seat leaves the world.
+//!
 //! A warehouse stores in no object of the catalogue. [`set`] and [`put`] read the object's identity first; if it is the
 //! catalogue's they drop the store, and answer true.
 #![tactic(auto)]
 
 mod commands;
+mod flushing;
 mod making;
 mod objects;
 mod placing;
@@ -23,6 +27,7 @@ mod variables;
 mod weak;
 
 pub use commands::{Done, command};
+pub use flushing::flush_roots;
 pub use making::create;
 pub use objects::{put, set};
 pub use placing::cell_of_variable;

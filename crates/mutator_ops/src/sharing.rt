@@ -43,7 +43,7 @@ pub fn share_follow(heap: &Heap, seat: &mut HeapSeat, v: u8, w: u8, i: u8)
     let word = word_of(seat, w);
     heap.read_own(seat, Cell::make(word - 1), i);
     let field = seat.state().got;
-    heap.store_root(seat, v, u64::from(field));
+    heap.hold_root(seat, v, u64::from(field));
 }
 
 /// If field i of variable v's object, which isn't nil, is what variable `expected` is, or nil, it becomes what variable
@@ -117,7 +117,7 @@ pub fn share_copy(heap: &Heap, seat: &mut HeapSeat, v: u8, w: u8)
     ensures sets { Across (SetsVariable v (word_in (state_of seat.old) w)) seat.old seat.new }
 {
     let word = word_of(seat, w);
-    heap.store_root(seat, v, u64::from(word));
+    heap.hold_root(seat, v, u64::from(word));
 }
 
 /// Variable v becomes nil.
@@ -127,7 +127,7 @@ pub fn share_forget(heap: &Heap, seat: &mut HeapSeat, v: u8)
     ensures seat { Sits heap.now seat.new × SharesReady (view_of seat.new) }
     ensures sets { Across (SetsVariable v 0) seat.old seat.new }
 {
-    heap.store_root(seat, v, 0);
+    heap.hold_root(seat, v, 0);
 }
 
 /// Variable v becomes what one read of variable c of section 0 finds. The seat is of another section.
@@ -140,7 +140,7 @@ pub fn share_lend(heap: &Heap, seat: &mut HeapSeat, v: u8, c: u8)
 {
     heap.read_cat(seat, c);
     let word = seat.state().got;
-    heap.store_root(seat, v, u64::from(word));
+    heap.hold_root(seat, v, u64::from(word));
 }
 
 /// Makes an object with value n and nil fields in a cell of the cache; variable v refers to it, by the last step. The
@@ -163,7 +163,7 @@ pub fn share_create(
 {
     let id = next_identity(seat);
     let cell = new_cell(heap, seat, cache, id, n)?;
-    heap.store_root(seat, v, u64::from(cell.number()) + 1);
+    heap.hold_root(seat, v, u64::from(cell.number()) + 1);
     Some(cell)
 }
 
@@ -187,5 +187,5 @@ pub fn share_fill(heap: &Heap, seat: &mut HeapSeat, v: u8, k: u16)
 {
     heap.read_slot(seat, k);
     let reference = seat.state().got;
-    heap.store_root(seat, v, u64::from(reference));
+    heap.hold_root(seat, v, u64::from(reference));
 }

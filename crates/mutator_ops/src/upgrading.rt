@@ -19,14 +19,14 @@ pub fn share_upgrade(heap: &Heap, seat: &mut HeapSeat, v: u8, c: Cell, identity:
     heap.read_weak(seat, c);
     let reference = seat.state().got;
     if reference == 0 {
-        heap.store_root(seat, v, 0);
+        heap.hold_root(seat, v, 0);
         return false;
     }
     if heap.read_ident(seat, c) == identity {
-        heap.store_root(seat, v, u64::from(reference));
+        heap.hold_root(seat, v, u64::from(reference));
         true
     } else {
-        heap.store_root(seat, v, 0);
+        heap.hold_root(seat, v, 0);
         false
     }
 }

@@ -44,6 +44,6 @@ pub fn share_weak(heap: &Heap, seat: &mut HeapSeat, v: u8) -> Option<u64>
         return None;
     }
     let identity = heap.read_ident(seat, cell);
-    heap.store_root(seat, v, u64::from(reference));
+    heap.hold_root(seat, v, u64::from(reference));
     Some(identity)
 }

@@ -1,5 +1,5 @@
 -- An operation leaves the mutator at its turn, and is the one of the plain heap.
-use Rattle.std.proofs.Common.{ℕ, ◌≡◌, ◌+◌, [], length, arith, ap, ◌∙◌, refl, sym, false, true, Option, None, Some, ◌-◌, ◌∷◌, ◌==◌, List, ◌++◌, map, Bool, ◌&&◌, subst}
+use Rattle.std.proofs.Common.{ℕ, ◌≡◌, ◌+◌, [], length, arith, ap, ◌∙◌, refl, sym, false, true, Option, None, Some, ◌-◌, ◌∷◌, ◌==◌, List, ◌++◌, map, Bool, ◌&&◌}
 use Rattle.mark_core.specs.Numbers.{section_variables}
 use Rattle.mark_core.specs.declared.kinds.Shape.{Shape}
 use Rattle.mark_core.specs.declared.seat.SeatState.{SeatState}
@@ -11,7 +11,7 @@ use Rattle.plain_heap.specs.declared.operation.Line.TheVariants as lines
 use Rattle.plain_heap.specs.declared.operation.Op.{Op}
 use Rattle.plain_heap.specs.declared.operation.Op.TheVariants as ops
 use Rattle.plain_heap.specs.Sections.{lends}
-use Rattle.gc_table.specs.Seats.{Answered, Found, Sits, view_of}
+use Rattle.gc_table.specs.Seats.{Answered, Sits, view_of}
 use Rattle.gc_table.specs.Taking.{won}
 use Rattle.gc_table.specs.declared.seat.Heap.{Heap}
 use Rattle.gc_table.specs.declared.seat.HeapSeat.{HeapSeat}
@@ -27,12 +27,11 @@ use Rattle.mutator_ops.specs.Few.{AtMost}
 use Rattle.mutator_ops.specs.Sharing.{LendsFound, SetsField, SetsVariable, SharesReady, TakesSteps as SharedSteps, next_word, putting_steps, setting_steps}
 use Rattle.mutator_ops.proofs.Few.{at-most-events, at-most-steps, putting-long, setting-long}
 use Rattle.gc_table.specs.Running.{Ran}
-use Rattle.gc_table.proofs.Running.{ran-found, ran-refl}
 use Rattle.seat_turns.proofs.Seats.{plays-made, plays-on, plays-turn, turn-plays}
 use Rattle.seat_turns.proofs.Uncatalogued.{after-none, object-none, objects_of, sees-none}
 use Rattle.std.proofs.lemmas.List.{length-map}
 use Rattle.mark_core.specs.Steps.MutatorSteps.{seat_variable as word_in}
-use Rattle.mark_core.specs.declared.kinds.Step.TheVariants.{StoreValue, DirtyCard, ExchangeValue, ReadValue, StoreNew, StoreRoot}
+use Rattle.mark_core.specs.declared.kinds.Step.TheVariants.{StoreValue, DirtyCard, ExchangeValue, StoreNew, StoreRoot}
 use Rattle.gc_table.specs.Log.{Only, events, steps_of, all_steps}
 use Rattle.gc_table.specs.declared.view.Entry.{Entry}
 use Rattle.card_clean.specs.Barrier.{Exchanged, barrier_steps, card_steps, cell_in, was_dirty}
@@ -42,9 +41,9 @@ use Rattle.seat_turns.specs.Operating.{TakesSteps}
 use Rattle.seat_turns.specs.Sharing.{spares_tracers}
 use Rattle.std.specs.Prelude.{if◌then◌else◌}
 use Rattle.std.specs.List.{range_with_len}
-use Rattle.std.proofs.lemmas.Bool.{and_from, and_parts, false≢true}
+use Rattle.std.proofs.lemmas.Bool.{and_from, and_parts}
 use Rattle.mark_core.specs.Cards.{card_of}
-use Rattle.mark_core.specs.Seats.{has_turn, used_in}
+use Rattle.mark_core.specs.Seats.{used_in}
 use Rattle.mark_core.specs.declared.kinds.Step.{Step}
 use Rattle.alloc_cache.specs.Making.{making_steps, nil_fields}
 use Rattle.mutator_ops.specs.Listing.{creating_steps, following_events, saying_steps, storing_steps}
@@ -108,9 +107,6 @@ operates-ready v k alone = record { owned = alone; stores = k.stores; idle = k.i
 pub ready-operates : (v : View) → IsReady v → MayOperate v
 ready-operates v k = record { stores = k.stores; idle = k.idle; whole = k.whole; register = k.register; counted = k.counted }
 
-pub shares-operates : (v : View) → SharesReady v → MayOperate v
-shares-operates v k = record { stores = k.stores; idle = k.idle; whole = k.whole; register = k.register; counted = k.counted }
-
 pub operates-shares : (h : Heap) (x : HeapSeat) → Sits h x → MayOperate (view_of x) → h.shape.sharing ≡ true → SharesReady (view_of x)
 operates-shares h x sits k shared = record { shared = ap (λ (sh : Shape). sh.sharing) sits.1 ∙ shared; stores = k.stores; idle = k.idle; whole = k.whole; register = k.register; counted = k.counted }
 
@@ -164,15 +160,6 @@ turn-does h op d x y t sits ready k =
 pub turn-ready : (h : Heap) (x : HeapSeat) → IsAtTurn h x → h.shape.sharing ≡ false → Sits h x × IsReady (view_of x)
 turn-ready h x t alone = (t.works.sits, operates-ready (view_of x) (turn-plays h x t).operates (alone-there h x t.works.sits alone))
 
--- a mutator at its turn may do what needs a seat that shares and is ready
-pub turn-shares : (h : Heap) (x : HeapSeat) → IsAtTurn h x → h.shape.sharing ≡ true → Sits h x × SharesReady (view_of x)
-turn-shares h x t shared = (t.works.sits, operates-shares h x t.works.sits (turn-plays h x t).operates shared)
-
--- an operation on shared objects leaves the mutator at its turn
-pub turn-shared : (h : Heap) (x y : HeapSeat) → IsAtTurn h x → Sits h y → SharesReady (view_of y) → Ran (view_of x) (view_of y) → (view_of y).state ≡ record (view_of x).state { env = (view_of y).state.env } → IsAtTurn h y
-turn-shared h x y t sits ready ran state =
-    plays-turn h y (plays-on h x y (turn-plays h x t) sits (shares-operates (view_of y) ready) ran state) (ap (λ (s : SeatState). is_whole s.cache) state ∙ t.cache)
-
 -- the value that a line says
 abbrev pub value_said : Line → Option ℕ
 value_said lines.Nil = None
@@ -225,24 +212,6 @@ events-long v w = sym (length-map (events v w) (λ (x : Entry). x.step))
 
 pub ruleset operating = (events-long)
 
--- What it says of shared objects: the mutator may do it at its turn, and is at its turn still, also told of a heap that is this one.
-pub shares-in : (a h : Heap) (x : HeapSeat) → h ≡ a → IsAtTurn a x → a.shape.sharing ≡ true → Sits h x × SharesReady (view_of x)
-shares-in a h x e t shared = subst (λ (k : Heap). Sits k x × SharesReady (view_of x)) (sym e) (turn-shares a x t shared)
-
-pub turn-in : (a h : Heap) (x y : HeapSeat) (env : List ℕ) → h ≡ a → IsAtTurn a x → Sits h y × SharesReady (view_of y) → Ran (view_of x) (view_of y) → (view_of y).state ≡ record (view_of x).state { env = env } → IsAtTurn a y
-turn-in a h x y env same t ready ran e =
-    let sits = subst (λ (k : Heap). Sits k y) same ready.0 in
-    turn-shared a x y t sits ready.1 ran (e ∙ ap (λ (s : SeatState). record (view_of x).state { env = s.env }) (sym e))
-
-pub turn-same : (a h : Heap) (x y : HeapSeat) → h ≡ a → IsAtTurn a x → Sits h y × SharesReady (view_of y) → Ran (view_of x) (view_of y) → (view_of y).state ≡ (view_of x).state → IsAtTurn a y
-turn-same a h x y same t ready ran e = turn-in a h x y (view_of x).state.env same t ready ran e
-
-pub turn-read : (a h : Heap) (x y : HeapSeat) (c n : ℕ) → h ≡ a → IsAtTurn a x → Sits h y × SharesReady (view_of y) → Found (ReadValue c) n (view_of x) (view_of y) → IsAtTurn a y
-turn-read a h x y c n same t ready f = turn-same a h x y same t ready (ran-found (view_of x) (view_of y) (ReadValue c) n refl f) (ap (λ (v : View). v.state) f.0)
-
-pub turn-still : (a h : Heap) (x y : HeapSeat) → h ≡ a → IsAtTurn a x → Sits h y × SharesReady (view_of y) → view_of y ≡ view_of x → IsAtTurn a y
-turn-still a h x y same t ready e = turn-same a h x y same t ready (subst (λ (v : View). Ran (view_of x) v) (sym e) (ran-refl (view_of x))) (ap (λ (v : View). v.state) e)
-
 -- what an exchange came to
 pub exchanges-field : (u i p q : ℕ) (b : Bool) (v w : View) → Ran v w → Exchanged u i (Some p) (Some q) b v w → w.state ≡ v.state → ExchangesField u i p q b v w
 exchanges-field u i p q b v w ran k e = record { ran = ran; exchanged = k; state = e }
@@ -262,7 +231,3 @@ setting-few u i x v w k = at-most-steps 3 v w (setting_steps v.state u i x (was_
 
 pub putting-few : (u n : ℕ) (v w : View) → SharedSteps (putting_steps v.state u n) v w → AtMost 1 v w
 putting-few u n v w k = at-most-steps 1 v w (putting_steps v.state u n) k.steps_are (putting-long v.state u n)
-
--- a mutator's section isn't the first one
-pub turn-other : (h : Heap) (x : HeapSeat) → IsAtTurn h x → (view_of x).state.section ≡ Some 0 → ⊥
-turn-other h x t e = false≢true (subst (λ (o : Option ℕ). has_turn o (Some 1) ≡ true) e t.works.mutator.section)

@@ -1,13 +1,13 @@
 mod Clearing
 mod Coming
 pub mod Done
+pub mod Held
 mod Fulls
 mod Passing
 pub mod Leaving
 mod Naming
 pub mod Seats
 mod Uncatalogued
-mod WeakTurns
 mod TurnSteps
 pub mod TracerStanding
 pub mod Tending

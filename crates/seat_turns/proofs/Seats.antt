@@ -57,13 +57,14 @@ going-seen v w g = by (last_phase (events v w)) refl g.read g.seen
     by (Some p) e b s = (p, s ∙ e, λ full. true≢false (sym (last_full (events v w) (e ∙ ap (λ q. Some q) full)) ∙ g.going))
 
 -- at rest, part by part
-record AtRest (sh : Shape) (s : SeatState) : Type 0 where
-  idle : work_in_hand sh.fields s ≡ false
-  owes : s.owes ≡ None
-  register : s.got ≡ 0
-  whole : has_making s.cache ≡ false
+pub record AtRest (sh : Shape) (s : SeatState) : Type 0 where
+  pub idle : work_in_hand sh.fields s ≡ false
+  pub owes : s.owes ≡ None
+  pub register : s.got ≡ 0
+  pub lags : s.lags ≡ 0
+  pub whole : has_making s.cache ≡ false
 
-at_rest : (sh : Shape) (s : SeatState) → is_at_rest sh s ≡ true → AtRest sh s
+pub at_rest : (sh : Shape) (s : SeatState) → is_at_rest sh s ≡ true → AtRest sh s
 at_rest sh s e =
     let p5 = and_parts (empty_handed s && not (work_in_hand sh.fields s) && is_none s.owes && is_none s.block && ((s.got == 0) && (s.lags == 0))) (not (has_making s.cache)) e in
     let p4 = and_parts (empty_handed s && not (work_in_hand sh.fields s) && is_none s.owes && is_none s.block) ((s.got == 0) && (s.lags == 0)) p5.0 in
@@ -74,6 +75,7 @@ at_rest sh s e =
       idle = not-true (work_in_hand sh.fields s) p1.1;
       owes = none_of s.owes p2.1;
       register = eqb-true s.got 0 (and_parts (s.got == 0) (s.lags == 0) p4.1).0;
+      lags = eqb-true s.lags 0 (and_parts (s.got == 0) (s.lags == 0) p4.1).1;
       whole = not-true (has_making s.cache) p5.1;
     }
   where

@@ -7,16 +7,17 @@ use Rattle.mark_core.specs.declared.kinds.Step.{Step}
 use Rattle.mark_core.specs.declared.kinds.Step.TheVariants.{LeaveStep, Observe, ReadPhase, ReadSeason, StorePosition}
 use Rattle.gc_table.specs.Log.{Only, event, events, steps_of}
 use Rattle.gc_table.specs.Running.{Ran}
+use Rattle.gc_table.specs.declared.view.Entry.{Entry}
 use Rattle.gc_table.specs.declared.view.View.{View}
 use Rattle.packet_pools.specs.Counts.{count_of}
 use Rattle.packet_pools.specs.Seeking.{some_event}
 use Rattle.alloc_cache.specs.declared.cache.Cache.{Cache}
 use Rattle.gc_cycle.specs.Answering.{CollectsTo, HasCache, retires}
 use Rattle.gc_cycle.specs.Cycles.{fills_with_cause, never_fills}
-use Rattle.gc_cycle.specs.Events.{never}
-use Rattle.gc_cycle.specs.Mutating.{HasEntered, pops_in_stops}
+use Rattle.gc_cycle.specs.Events.{each_after, never}
+use Rattle.gc_cycle.specs.Mutating.{HasEntered, is_in_stop, pops_in_stops}
 use Rattle.gc_cycle.specs.Polling.{offered_help}
-use Rattle.gc_cycle.specs.Sorts.{ends_cycle, polls, raises_flag, reads_phase, sees_flag, tries_marking}
+use Rattle.gc_cycle.specs.Sorts.{ends_cycle, polls, pops, raises_flag, reads_phase, sees_flag, tries_marking}
 use Rattle.gc_cycle.specs.Sparing.{fills_part}
 use Rattle.gc_cycle.specs.Statistics.{ChangesNumbers, GivesUp, RefillsNumbers, leaves_numbers}
 use Rattle.gc_cycle.specs.Turns.{HelpsInTurns}
@@ -30,18 +31,20 @@ use Rattle.cache_refills.specs.InStops.{FillsTo, begins_none}
 use Rattle.cache_refills.specs.Pace.Pacing.{begins_where_due}
 use Rattle.cache_refills.specs.Pace.Paying.{pops_where_paid}
 use Rattle.cache_refills.specs.Stops.{cycles_with_cause, stops_again_with_cause, stops_collect, stops_in_visit, stops_with_cause}
+use Rattle.mutator_ops.specs.Flushing.{Flushes}
 use Rattle.mutator_ops.specs.Listing.{creating_steps}
 use Rattle.seat_turns.specs.Standing.{LacksFree}
 use Rattle.seat_turns.specs.Sharing.{LeavesHeap, MakesShared}
 use Rattle.seat_turns.specs.declared.refused.Refused.{Refused}
 use Rattle.seat_turns.specs.declared.refused.Refused.TheVariants as refusals
 
--- the seat went in: it waited while a stop was under way, and helped; no number changed
+-- the seat went in: it waited while a stop was under way, and helped; no number changed, and it popped cells only while it was out
 pub record GoesIn (v w : View) : Type 0 where
   pub entered : HasEntered v w
   pub numbers : Only leaves_numbers v w
   pub offered : IsTrue (offered_help (events v w))
   pub helps : HelpsInTurns v w
+  pub away : (before : List Entry) → IsTrue (is_in_stop before) → IsTrue (each_after is_in_stop pops before (events v w))
 
 -- the seat stored its position, which is how many objects it has made, and left
 abbrev pub StepsOut : View → View → Type 0
@@ -186,8 +189,14 @@ pub record LeavesTurn (v w : View) : Type 0 where
   pub gives : WithOwn GivesCache v given
   pub leaves : StepsOut given w
 
--- a precise collection answered so: it stopped the world once at most and ended one cycle at most, began no cycle that marks beside the program, and changed no
--- number but those that its cycle set
+-- the roots that lagged were stored, and then this was done
+pub record FlushesFirst (R : View → View → Type 0) (v w : View) : Type 0 where
+  pub flushed : View
+  pub flushes : Flushes v flushed
+  pub later : R flushed w
+
+-- a precise collection answered so: it stopped the world once at most and ended one cycle at most, began no cycle that marks beside the program, popped cells only in
+-- stops, and changed no number but those that its cycle set
 pub record CollectsOnce (safe : Safe) (v w : View) : Type 0 where
   pub ran : Ran v w
   pub collects : CollectsTo safe v.state.made v w
@@ -196,6 +205,7 @@ pub record CollectsOnce (safe : Safe) (v w : View) : Type 0 where
   pub not_full : IsTrue (never_fills (events v w))
   pub unbegun : IsTrue (never tries_marking (events v w))
   pub numbers : ChangesNumbers [] v w
+  pub pops : IsTrue (pops_in_stops (events v w))
 
 -- the seat gave up its cache, collected, and came to its turn by safe points
 pub record CollectsAtTurn (v w : View) : Type 0 where

@@ -1,6 +1,7 @@
 -- Where a mutator's seat stands: outside the world, in it between two calls, and at its turn; and where a tracer's does between two turns.
 use Rattle.std.specs.Int.Count.{ones}
-use Rattle.std.specs.Prelude.{◌≡◌, [], length, Bool, true, false, Option, Some, None, IsTrue, IsFalse}
+use Rattle.std.specs.Prelude.{ℕ, ◌≡◌, ◌<◌, if◌then◌else◌, [], length, Bool, true, false, Option, Some, None, IsTrue, IsFalse}
+use Rattle.mark_core.specs.Numbers.{section_variables}
 use Rattle.mark_core.specs.Seats.{has_making, has_turn, work_in_hand}
 use Rattle.mark_core.specs.declared.kinds.Phase.{Phase}
 use Rattle.mark_core.specs.declared.kinds.Phase.TheVariants.{Full}
@@ -12,6 +13,7 @@ use Rattle.gc_table.specs.Seats.{Sits, view_of}
 use Rattle.alloc_cache.specs.Caching.{is_whole}
 use Rattle.alloc_cache.specs.declared.cache.Cache.{Cache}
 use Rattle.card_clean.specs.Barrier.{MayStore}
+use Rattle.mutator_ops.specs.Flushing.{flushing_steps, word_of_variables}
 use Rattle.gc_cycle.specs.Standing.{IsOut, Mutates}
 
 -- the plain heap of the seat's section
@@ -67,6 +69,29 @@ pub record IsAtTurn (h : Heap) (s : HeapSeat) : Type 0 where
   pub turn : IsTrue (has_turn (view_of s).state.section (view_of s).state.season_seen)
   pub phase : IsTrue (saw_going (view_of s).state.phase_seen)
   pub cache : IsTrue (is_whole (view_of s).state.cache)
+
+-- what the seat knows, as if no root lagged
+abbrev pub settled : View → View
+settled v = record v { state = record v.state { lags = 0 } }
+
+-- a mutator at its turn, with a cache or without, whose roots may lag; none does if objects aren't shared
+pub record HoldsWorld (h : Heap) (s : HeapSeat) : Type 0 where
+  pub sits : Sits h s
+  pub mutates : Mutates (settled (view_of s))
+  pub mutator : IsMutator (view_of s)
+  pub turn : IsTrue (has_turn (view_of s).state.section (view_of s).state.season_seen)
+  pub cache : IsTrue (is_whole (view_of s).state.cache)
+  pub few : (view_of s).state.lags < word_of_variables
+  pub own : IsFalse h.shape.sharing → (view_of s).state.lags ≡ 0
+
+-- the same with the phase read: it may do an operation
+pub record HoldsTurn (h : Heap) (s : HeapSeat) : Type 0 where
+  pub holds : HoldsWorld h s
+  pub phase : IsTrue (saw_going (view_of s).state.phase_seen)
+
+-- how many steps store the roots that lag: one for each, 32 at most; none if objects aren't shared
+abbrev pub flush_steps : View → ℕ
+flush_steps v = if v.shape.sharing then length (flushing_steps v.state.lags section_variables) else 0
 
 -- a seat outside the world
 pub record RestsOutside (h : Heap) (s : HeapSeat) : Type 0 where

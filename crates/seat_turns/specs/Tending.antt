@@ -9,6 +9,7 @@ use Rattle.gc_table.specs.declared.view.View.{View}
 use Rattle.packet_pools.specs.Counts.{count_of}
 use Rattle.packet_pools.specs.OnlyTraced.{traces_cells}
 use Rattle.tracer.specs.Causes.{FoundNoWork}
+use Rattle.tracer.specs.Deferral.{Defers}
 use Rattle.tracer.specs.Tally.{pops}
 
 -- how many objects a turn traces, if there are as many
@@ -33,10 +34,12 @@ pub record Tends (traced : ℕ) (v w : View) : Type 0 where
   pub done : count_of pops (events v w) ≡ traced
   pub own : w.own ≡ v.own
 
--- as many as a turn traces, or fewer, and then at some moment nothing was left in hand and no packet with a cell was found
+-- as many as a turn traces, or fewer, and then at some moment nothing was left in hand and no packet with a cell was found; no cell that it deferred was popped again
+-- (`Defers`)
 pub record TracesSome (traced : ℕ) (v w : View) : Type 0 where
   pub tends : Tends traced v w
   pub ends : (traced ≡ turn_quota) ⊎ ((traced < turn_quota) × FoundNoWork v w)
+  pub defers : Defers v w
 
 -- the seat traced this many objects, and then tended to cards and to what was deferred
 pub record MarksSome (traced : ℕ) (v w : View) : Type 0 where

@@ -16,6 +16,7 @@ use Rattle.gc_table.specs.declared.view.View.{View}
 use Rattle.packet_pools.specs.Counts.{count_of}
 use Rattle.stop_world.specs.Gates.{Enters, TurnsBack}
 use Rattle.tracer.specs.Causes.{FoundNoWork}
+use Rattle.tracer.specs.Deferral.{Defers}
 use Rattle.tracer.specs.Tally.{pops}
 use Rattle.gc_cycle.specs.Polling.{saw_resumed}
 use Rattle.gc_cycle.specs.Turns.{HelpsInTurns}
@@ -32,12 +33,13 @@ pub record Tended (v w : View) : Type 0 where
   pub none : count_of pops (events v w) ≡ 0
 
 -- the seat traced this many objects inside the world: as many as a turn traces; or fewer, and then at some moment nothing was left in hand
--- and no packet with a cell was found
+-- and no packet with a cell was found; no cell that it deferred was popped again (`Defers`)
 pub record TracesForTurn (traced : ℕ) (v w : View) : Type 0 where
   pub ran : Ran v w
   pub only : Only tends_inside v w
   pub done : count_of pops (events v w) ≡ traced
   pub ends : (traced ≡ turn_quota) ⊎ ((traced < turn_quota) × FoundNoWork v w)
+  pub defers : Defers v w
 
 -- the seat traced, then cleaned cards and brought deferred packets back, and told by one step how many objects it traced
 pub record HasMarked (v w : View) : Type 0 where

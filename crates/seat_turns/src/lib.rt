@@ -5,6 +5,10 @@
 //! Into the world and out of it, to its turn, to a cell, and one operation at a time. Each call takes a heap and a
 //! seat, and asks for the facts that the types above keep (`specs/Standing.antt`).
 //!
+//! Where objects are shared, an assignment of a variable leaves its root as it was: the root lags. [`flush_turn`] stores
+//! the roots that lag. It comes before each call that asks for a seat at rest: a collection, a safe point that waits, a
+//! refill, leaving.
+//!
 //! # A tracer
 //!
 //! A tracer enters the world, reads the phase ([`see_phase`]), marks if marking is under way ([`mark_some`]), and
@@ -20,6 +24,7 @@
 
 mod background;
 mod dismissing;
+mod flushing;
 mod gates;
 mod helping;
 mod operations;
@@ -34,14 +39,13 @@ mod weak;
 
 pub use background::{Tracer, Turn, rest};
 pub use dismissing::{tell_dismissed, try_dismiss};
+pub use flushing::{collect_flushed, flush_turn, leave_flushed, make_flushed, pass_flushed};
 pub use gates::{collect_turn, enter_turn, leave, leave_turn, pass_turn, retire_own_cache};
 pub use helping::TryHelp;
 pub use operations::{make_in, make_object, read_value, refer_to_one, refers_to_nothing};
 pub use own_turn::is_turn;
 pub use refused::{NotOpened, Refused};
-pub use sharing::{
-    clear_slots_shared, get_shared, identity_shared, make_shared, make_shared_in, word_of,
-};
+pub use sharing::{clear_slots_shared, get_shared, identity_shared, make_shared_in, word_of};
 pub use tracer_marking::{mark_some, see_phase};
 pub use try_turns::TryTurn;
 pub use turns::{TURN, keep_some, retire_some, with_free};

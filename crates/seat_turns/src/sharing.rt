@@ -12,7 +12,7 @@ ghost use Rattle.seat_turns.specs.Clearing.{clearing_steps};
 ghost use Rattle.seat_turns.specs.Coming.{MakesNoneAtTurn, MakesSharedAtTurn};
 ghost use Rattle.seat_turns.specs.Halting.{MadeNone};
 ghost use Rattle.seat_turns.specs.Sharing.{FollowsField, LeavesHeap, MakesShared, MakesSharedAfter};
-ghost use Rattle.seat_turns.specs.Standing.{IsAtTurn, Plays};
+ghost use Rattle.seat_turns.specs.Standing.{HoldsTurn, IsAtTurn};
 
 use crate::gates::leave_full;
 use crate::refused::Refused;
@@ -26,10 +26,10 @@ use std::sync::Wait;
 
 /// Variable w becomes reference i of variable v's object, or nil if v is.
 pub fn get_shared(heap: &Heap, seat: &mut HeapSeat, w: u8, v: u8, i: u8)
-    requires turn { IsAtTurn heap.now seat.old }
+    requires turn { HoldsTurn heap.now seat.old }
     requires shared { IsTrue heap.now.shape.sharing }
     requires range { (w < section_variables) × (v < section_variables) × (i < heap.now.shape.fields) }
-    ensures turn { IsAtTurn heap.now seat.new }
+    ensures turn { HoldsTurn heap.now seat.new }
     ensures follows { Across (FollowsField w v i) seat.old seat.new }
     ensures few { Across (AtMost 2) seat.old seat.new }
 {
@@ -50,13 +50,13 @@ pub fn word_of(seat: &HeapSeat, v: u8) -> u32
 
 /// Makes an object in variable v. The cache stays the seat's.
 pub fn make_shared_in(heap: &Heap, seat: &mut HeapSeat, cache: Cache, v: u8, value: u32)
-    requires plays { Plays heap.now seat.old }
+    requires turn { HoldsTurn heap.now seat.old }
     requires shared { IsTrue heap.now.shape.sharing }
     requires cache { IsCached cache (view_of seat.old) }
     requires free { 0 < ones cache.cells }
     requires room { (state_of seat.old).made < heap.now.shape.objects }
     requires range { v < section_variables }
-    ensures turn { IsAtTurn heap.now seat.new }
+    ensures turn { HoldsTurn heap.now seat.new }
     ensures makes { Across (MakesShared v value) seat.old seat.new }
     ensures few { Across (AtMost (heap.now.shape.fields + 3)) seat.old seat.new }
 {
@@ -79,7 +79,7 @@ pub fn make_shared<R: Wait, W: Watch>(
     requires turn { IsAtTurn heap.now seat.old }
     requires shared { IsTrue heap.now.shape.sharing }
     requires range { v < section_variables }
-    ensures ok { IfOk result (λ _. IsAtTurn heap.now seat.new × Across (MakesSharedAfter v value) seat.old seat.new) }
+    ensures ok { IfOk result (λ _. HoldsTurn heap.now seat.new × Across (MakesSharedAfter v value) seat.old seat.new) }
     ensures err { IfErr result (λ e. MadeNone e heap.now seat.new) }
     ensures leaves { IfErr result (λ _. Across LeavesHeap seat.old seat.new) }
     ensures made { IfOk result (λ _. Across (MakesSharedAtTurn heap.now.shape v value) seat.old seat.new) }
@@ -99,11 +99,11 @@ pub fn make_shared<R: Wait, W: Watch>(
 /// The identity of variable v's object, which isn't nil, by one read: 4,294,967,296 times its section, and its
 /// number there.
 pub fn identity_shared(heap: &Heap, seat: &mut HeapSeat, v: u8) -> u64
-    requires turn { IsAtTurn heap.now seat.old }
+    requires turn { HoldsTurn heap.now seat.old }
     requires shared { IsTrue heap.now.shape.sharing }
     requires range { v < section_variables }
     requires some { 0 < word_in (state_of seat.old) v }
-    ensures turn { IsAtTurn heap.now seat.new }
+    ensures turn { HoldsTurn heap.now seat.new }
     ensures found { Across (Found (ReadIdent (word_in (state_of seat.old) v - 1)) result) seat.old seat.new }
 {
     let word = word_of(seat, v);
@@ -111,10 +111,10 @@ pub fn identity_shared(heap: &Heap, seat: &mut HeapSeat, v: u8) -> u64
 }
 
 fn clear_slot(heap: &Heap, seat: &mut HeapSeat, k: u16)
-    requires turn { IsAtTurn heap.now seat.old }
+    requires turn { HoldsTurn heap.now seat.old }
     requires shared { IsTrue heap.now.shape.sharing }
     requires range { k < heap.now.shape.slots }
-    ensures turn { IsAtTurn heap.now seat.new }
+    ensures turn { HoldsTurn heap.now seat.new }
     ensures takes { Across (TakesSteps (StoreSlot k 0 ∷ [])) seat.old seat.new }
 {
     heap.store_slot(seat, k, 0);
@@ -122,10 +122,10 @@ fn clear_slot(heap: &Heap, seat: &mut HeapSeat, k: u16)
 
 /// The slots from `from` on and below `to` become nil.
 pub fn clear_slots_shared(heap: &Heap, seat: &mut HeapSeat, from: u32, to: u32)
-    requires turn { IsAtTurn heap.now seat.old }
+    requires turn { HoldsTurn heap.now seat.old }
     requires shared { IsTrue heap.now.shape.sharing }
     requires range { (from ≤ to) × (to ≤ heap.now.shape.slots) }
-    ensures turn { IsAtTurn heap.now seat.new }
+    ensures turn { HoldsTurn heap.now seat.new }
     ensures takes { Across (TakesSteps (clearing_steps from (to - from))) seat.old seat.new }
 {
     for k in from..to {

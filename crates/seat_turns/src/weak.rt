@@ -6,7 +6,7 @@ ghost use Rattle.gc_table.specs.Seats.{Across, state_of};
 ghost use Rattle.mutator_ops.specs.Few.{AtMost};
 ghost use Rattle.mutator_ops.specs.Upgrading.{Upgrades};
 ghost use Rattle.mutator_ops.specs.Weak.{FindsUnpublished};
-ghost use Rattle.seat_turns.specs.Standing.{IsAtTurn};
+ghost use Rattle.seat_turns.specs.Standing.{HoldsTurn};
 ghost use Rattle.seat_turns.specs.Weak.{TakesWeakIn, identity_of};
 
 use crate::sharing::word_of;
@@ -51,11 +51,11 @@ fn identity_in(weak: Weak) -> u64
 /// A weak reference to variable v's object, which isn't nil. What the mutator made itself it publishes first. None if
 /// another mutator made the object and hasn't published it yet.
 pub fn weak_shared(heap: &Heap, seat: &mut HeapSeat, world: u32, v: u8) -> Option<Weak>
-    requires turn { IsAtTurn heap.now seat.old }
+    requires turn { HoldsTurn heap.now seat.old }
     requires shared { IsTrue heap.now.shape.sharing }
     requires range { v < section_variables }
     requires some { 0 < word_in (state_of seat.old) v }
-    ensures turn { IsAtTurn heap.now seat.new }
+    ensures turn { HoldsTurn heap.now seat.new }
     ensures takes { IfSome result (λ weak. Across (TakesWeakIn world v weak) seat.old seat.new) }
     ensures none { IfNone result (Across (FindsUnpublished v) seat.old seat.new) }
     ensures few { Across (AtMost 4) seat.old seat.new }
@@ -72,10 +72,10 @@ pub fn weak_shared(heap: &Heap, seat: &mut HeapSeat, world: u32, v: u8) -> Optio
 
 /// Variable v becomes the weak reference's object if that is still in its cell: true. Else v is nil.
 pub fn upgrade_shared(heap: &Heap, seat: &mut HeapSeat, weak: Weak, v: u8) -> bool
-    requires turn { IsAtTurn heap.now seat.old }
+    requires turn { HoldsTurn heap.now seat.old }
     requires shared { IsTrue heap.now.shape.sharing }
     requires range { (v < section_variables) × (weak.place < heap.now.shape.cells) }
-    ensures turn { IsAtTurn heap.now seat.new }
+    ensures turn { HoldsTurn heap.now seat.new }
     ensures upgrades { Across (Upgrades v weak.place (identity_of weak) result) seat.old seat.new }
     ensures few { Across (AtMost 3) seat.old seat.new }
 {

@@ -1,63 +1,66 @@
 use Rattle.std.proofs.Common.{◌≡◌, ◌<◌, ◌%◌, ◌∙◌, [], ◌∷◌, ◌++◌, ap, arith, refl, sym, subst}
-use Rattle.std.specs.Prelude.{length, slice_set}
+use Rattle.std.specs.Prelude.{length}
 use Rattle.mark_core.specs.Bits.{reference_in}
 use Rattle.mark_core.specs.Numbers.{reference_bound}
 use Rattle.mark_core.specs.declared.kinds.Shape.{Shape}
-use Rattle.mark_core.specs.declared.kinds.Step.TheVariants.{ReadSlot, StoreRoot}
+use Rattle.mark_core.specs.declared.kinds.Step.TheVariants.{HoldRoot, ReadSlot}
 use Rattle.mark_core.specs.declared.seat.SeatState.{SeatState}
 use Rattle.gc_table.specs.Seats.{view_of}
 use Rattle.gc_table.specs.declared.view.View.{View}
 use Rattle.gc_table.specs.Log.{event}
 use Rattle.gc_table.proofs.History.Log.{events-after}
-use Rattle.gc_table.proofs.Running.{ran-events, ran-found, ran-join, ran-stored}
-use Rattle.mutator_ops.proofs.Storing.{count-read, may-read_slot, may-share_read, shares-on, state-read}
+use Rattle.gc_table.proofs.Running.{ran-events, ran-found, ran-join}
+use Rattle.mutator_ops.specs.Sharing.{holding}
+use Rattle.mutator_ops.proofs.Storing.{count-read, held-on, may-read_slot, may-share_read, state-read}
 use Rattle.mutator_ops.proofs.sharing.share_fill.Goals as goal
 
 pub read_slot-requires-clause-may : goal.read_slot-requires-clause-may
 read_slot-requires-clause-may c = may-read_slot c.args.k (view_of c.args.seat.now) c.requires.seat.1 (subst (λ (sh : Shape). c.args.k < sh.slots) (sym c.requires.seat.0.1) c.requires.range.1)
 
-pub store_root-requires-clause-may : goal.store_root-requires-clause-may
-store_root-requires-clause-may c =
+pub hold_root-requires-clause-may : goal.hold_root-requires-clause-may
+hold_root-requires-clause-may c =
     may-share_read c.args.v c.from.result (view_of c.args.seat.now) (view_of c.read_slot.new.seat) c.requires.seat.1 (let f = c.read_slot.ensures.view in ap (λ (y : View). y.state) f.0 ∙ ap (λ (y : View). record (view_of c.args.seat.now).state { got = y.state.got }) (sym f.0)) c.requires.range.0
     (c.from.ensures ∙ ap (λ (s : SeatState). s.got) c.state.ensures)
 
-read_state : (c : goal.After-store_root) → (view_of c.read_slot.new.seat).state ≡ record (view_of c.args.seat.now).state { got = (view_of c.read_slot.new.seat).state.got }
+read_state : (c : goal.After-hold_root) → (view_of c.read_slot.new.seat).state ≡ record (view_of c.args.seat.now).state { got = (view_of c.read_slot.new.seat).state.got }
 read_state c = let f = c.read_slot.ensures.view in ap (λ (y : View). y.state) f.0 ∙ ap (λ (y : View). record (view_of c.args.seat.now).state { got = y.state.got }) (sym f.0)
 
-stored_is : (c : goal.After-store_root) → (view_of c.store_root.new.seat).state ≡ record (view_of c.args.seat.now).state { env = slice_set (view_of c.args.seat.now).state.env c.args.v (reference_in c.from.result) }
-stored_is c = state-read c.args.v c.from.result (view_of c.args.seat.now) (view_of c.read_slot.new.seat) (view_of c.store_root.new.seat) c.requires.seat.1.register (read_state c) c.store_root.ensures.view
+held_is : (c : goal.After-hold_root) → (view_of c.hold_root.new.seat).state ≡ holding (view_of c.args.seat.now).state c.args.v (reference_in c.from.result)
+held_is c = state-read c.args.v c.from.result c.hold_root.result (view_of c.args.seat.now) (view_of c.read_slot.new.seat) (view_of c.hold_root.new.seat) c.requires.seat.1.register (read_state c) c.hold_root.ensures.view.0
 
 pub returns-clause-seat : goal.returns-clause-seat
 returns-clause-seat c =
     let v : View = view_of c.args.seat.now in
     let x : View = view_of c.read_slot.new.seat in
-    let w : View = view_of c.store_root.new.seat in
+    let w : View = view_of c.hold_root.new.seat in
     let q = c.requires.seat.1 in
     let f = c.read_slot.ensures.view in
-    let e = c.store_root.ensures.view in
-    let s = stored_is c in
+    let e = c.hold_root.ensures.view.0 in
+    let m = c.hold_root.result in
     let same : length x.own.meaning.heap.objects ≡ length v.own.meaning.heap.objects = ap (λ (y : View). length y.own.meaning.heap.objects) f.0 in
     let counted : length x.own.meaning.heap.objects ≡ x.state.made = same ∙ q.counted ∙ sym (ap (λ (t : SeatState). t.made) (read_state c)) in
-    (c.store_root.ensures.seat, shares-on v w q (ap (λ (y : View). y.shape) e ∙ ap (λ (y : View). y.shape) f.0) (s ∙ ap (λ (t : SeatState). record v.state { env = t.env }) (sym s)) (count-read c.args.v c.from.result x w counted e ∙ same))
+    (c.hold_root.ensures.seat, held-on c.args.v (reference_in c.from.result) v w q (ap (λ (y : View). y.shape) e ∙ ap (λ (y : View). y.shape) f.0) (held_is c) (count-read c.args.v c.from.result m x w counted e ∙ same))
 
 pub returns-clause-fills : goal.returns-clause-fills
 returns-clause-fills c =
     let v : View = view_of c.args.seat.now in
     let x : View = view_of c.read_slot.new.seat in
-    let w : View = view_of c.store_root.new.seat in
+    let w : View = view_of c.hold_root.new.seat in
     let n = c.read_slot.result in
+    let m = c.hold_root.result in
     let r = c.from.result in
     let f = c.read_slot.ensures.view in
-    let e = c.store_root.ensures.view in
+    let e = c.hold_root.ensures.view.0 in
     let one = ran-found v x (ReadSlot c.args.k) n refl f in
-    let two = ran-stored x w (StoreRoot c.args.v r) refl e in
+    let two = ran-found x w (HoldRoot c.args.v r) m refl c.hold_root.ensures.view in
     let word : r ≡ reference_in n = c.from.ensures ∙ ap (λ (t : SeatState). t.got) c.state.ensures ∙ ap (λ (y : View). y.state.got) f.0 in
     let whole : reference_in r ≡ reference_in n = ap reference_in word ∙ (let z : reference_in n % reference_bound ≡ reference_in n = omega arith in z) in
     record {
       ran = ran-join v x w one two;
       found = n;
+      old = m;
       events_are =
-          ran-events v x w one two ∙ (λ i. events-after v x (ReadSlot c.args.k) n f.0 i ++ events-after x w (StoreRoot c.args.v r) r e i)
-          ∙ (λ i. event (ReadSlot c.args.k) n ∷ event (StoreRoot c.args.v (word i)) (word i) ∷ []);
-      state = stored_is c ∙ ap (λ k. record v.state { env = slice_set v.state.env c.args.v k }) whole;
+          ran-events v x w one two ∙ (λ i. events-after v x (ReadSlot c.args.k) n f.0 i ++ events-after x w (HoldRoot c.args.v r) m e i)
+          ∙ (λ i. event (ReadSlot c.args.k) n ∷ event (HoldRoot c.args.v (word i)) m ∷ []);
+      state = held_is c ∙ ap (holding v.state c.args.v) whole;
     }

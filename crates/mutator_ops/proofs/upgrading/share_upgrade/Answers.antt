@@ -18,8 +18,8 @@ pub read_weak-requires-clause-asked : goal.read_weak-requires-clause-asked
 read_weak-requires-clause-asked c = c.requires.seat.1.shared
 
 -- nothing is there
-pub store_root-requires-clause-may : goal.store_root-requires-clause-may
-store_root-requires-clause-may c =
+pub hold_root-requires-clause-may : goal.hold_root-requires-clause-may
+hold_root-requires-clause-may c =
     let v : View = view_of c.args.seat.now in
     let x : View = view_of c.read_weak.new.seat in
     may-clear c.args.v v x c.requires.seat.1 (weak-read c.args.c c.read_weak.result v x c.read_weak.ensures.view) c.requires.range.0
@@ -28,12 +28,12 @@ pub returns-then-reference-eq0-clause-seat : goal.returns-then-reference-eq0-cla
 returns-then-reference-eq0-clause-seat c =
     let v : View = view_of c.args.seat.now in
     let x : View = view_of c.read_weak.new.seat in
-    (c.store_root.ensures.seat, ends-ready c.args.v 0 v x (view_of c.store_root.new.seat) c.requires.seat.1 (weak-read c.args.c c.read_weak.result v x c.read_weak.ensures.view) c.store_root.ensures.view)
+    (c.hold_root.ensures.seat, ends-ready c.args.v 0 c.hold_root.result v x (view_of c.hold_root.new.seat) c.requires.seat.1 (weak-read c.args.c c.read_weak.result v x c.read_weak.ensures.view) c.hold_root.ensures.view.0)
 
 pub returns-then-reference-eq0-clause-upgrades : goal.returns-then-reference-eq0-clause-upgrades
 returns-then-reference-eq0-clause-upgrades c =
     let none : (view_of c.read_weak.new.seat).state.got ≡ 0 = sym (ap (λ (s : SeatState). s.got) c.state.ensures) ∙ c.if-reference-eq0.true in
-    inl (finds-nothing c.args.v c.args.c c.read_weak.result (view_of c.args.seat.now) (view_of c.read_weak.new.seat) (view_of c.store_root.new.seat) c.requires.seat.1 c.read_weak.ensures.view none c.store_root.ensures.view)
+    inl (finds-nothing c.args.v c.args.c c.read_weak.result c.hold_root.result (view_of c.args.seat.now) (view_of c.read_weak.new.seat) (view_of c.hold_root.new.seat) c.requires.seat.1 c.read_weak.ensures.view none c.hold_root.ensures.view)
 
 -- an object is there
 pub read_ident-requires-clause-may : goal.read_ident-requires-clause-may
@@ -46,8 +46,8 @@ read_ident-requires-clause-may c =
     may-identify c.args.c v x (possible-live x c.read_weak.new.seat.possible) c.requires.seat.1 (weak-read c.args.c c.read_weak.result v x f) (weak-got c.args.c c.read_weak.result v x f ∙ weak-whole c.args.c c.read_weak.result v x f low some)
 
 -- it is the right one
-pub store_root-requires-then-read_ident-identity-clause-may : goal.store_root-requires-then-read_ident-identity-clause-may
-store_root-requires-then-read_ident-identity-clause-may c =
+pub hold_root-requires-then-read_ident-identity-clause-may : goal.hold_root-requires-then-read_ident-identity-clause-may
+hold_root-requires-then-read_ident-identity-clause-may c =
     let v : View = view_of c.args.seat.now in
     let x : View = view_of c.read_weak.new.seat in
     let y : View = view_of c.read_ident.new.seat in
@@ -61,14 +61,14 @@ returns-then-read_ident-identity-clause-seat c =
     let x : View = view_of c.read_weak.new.seat in
     let y : View = view_of c.read_ident.new.seat in
     let q : IsRead v y = ident-read c.args.c c.read_ident.result v x y (weak-read c.args.c c.read_weak.result v x c.read_weak.ensures.view) c.read_ident.ensures.view in
-    (c.store_root-then-read_ident-identity.ensures.seat, ends-ready c.args.v c.from.result v y (view_of c.store_root-then-read_ident-identity.new.seat) c.requires.seat.1 q c.store_root-then-read_ident-identity.ensures.view)
+    (c.hold_root-then-read_ident-identity.ensures.seat, ends-ready c.args.v c.from.result c.hold_root-then-read_ident-identity.result v y (view_of c.hold_root-then-read_ident-identity.new.seat) c.requires.seat.1 q c.hold_root-then-read_ident-identity.ensures.view.0)
 
 pub returns-then-read_ident-identity-clause-upgrades : goal.returns-then-read_ident-identity-clause-upgrades
 returns-then-read_ident-identity-clause-upgrades c =
     let v : View = view_of c.args.seat.now in
     let x : View = view_of c.read_weak.new.seat in
     let y : View = view_of c.read_ident.new.seat in
-    let w : View = view_of c.store_root-then-read_ident-identity.new.seat in
+    let w : View = view_of c.hold_root-then-read_ident-identity.new.seat in
     let f = c.read_weak.ensures.view in
     let some = λ (z : x.state.got ≡ 0). c.if-reference-eq0.false (ap (λ (s : SeatState). s.got) c.state.ensures ∙ z) in
     let low : c.args.c < v.shape.cells = subst (λ (sh : Shape). c.args.c < sh.cells) (sym c.requires.seat.0.1) c.requires.range.1 in
@@ -77,11 +77,11 @@ returns-then-read_ident-identity-clause-upgrades c =
     let kept : reference_in c.from.result ≡ c.from.result = ap reference_in word ∙ weak-fits c.args.c n v x f low ∙ sym word in
     subst (λ (k : ℕ). FindsIdentity c.args.v c.args.c k (c.args.c + 1) v w) c.if-read_ident-identity.true
     (subst (λ (k : ℕ). FindsIdentity c.args.v c.args.c c.read_ident.result k v w) word
-    (finds-identity c.args.v c.args.c n c.read_ident.result c.from.result v x y w c.requires.seat.1 f low some c.read_ident.ensures.view kept c.store_root-then-read_ident-identity.ensures.view))
+    (finds-identity c.args.v c.args.c n c.read_ident.result c.from.result c.hold_root-then-read_ident-identity.result v x y w c.requires.seat.1 f low some c.read_ident.ensures.view kept c.hold_root-then-read_ident-identity.ensures.view))
 
 -- it is another
-pub store_root-requires-else-read_ident-identity-clause-may : goal.store_root-requires-else-read_ident-identity-clause-may
-store_root-requires-else-read_ident-identity-clause-may c =
+pub hold_root-requires-else-read_ident-identity-clause-may : goal.hold_root-requires-else-read_ident-identity-clause-may
+hold_root-requires-else-read_ident-identity-clause-may c =
     let v : View = view_of c.args.seat.now in
     let x : View = view_of c.read_weak.new.seat in
     let y : View = view_of c.read_ident.new.seat in
@@ -93,7 +93,7 @@ returns-else-read_ident-identity-clause-seat c =
     let x : View = view_of c.read_weak.new.seat in
     let y : View = view_of c.read_ident.new.seat in
     let q : IsRead v y = ident-read c.args.c c.read_ident.result v x y (weak-read c.args.c c.read_weak.result v x c.read_weak.ensures.view) c.read_ident.ensures.view in
-    (c.store_root-else-read_ident-identity.ensures.seat, ends-ready c.args.v 0 v y (view_of c.store_root-else-read_ident-identity.new.seat) c.requires.seat.1 q c.store_root-else-read_ident-identity.ensures.view)
+    (c.hold_root-else-read_ident-identity.ensures.seat, ends-ready c.args.v 0 c.hold_root-else-read_ident-identity.result v y (view_of c.hold_root-else-read_ident-identity.new.seat) c.requires.seat.1 q c.hold_root-else-read_ident-identity.ensures.view.0)
 
 pub returns-else-read_ident-identity-clause-upgrades : goal.returns-else-read_ident-identity-clause-upgrades
 returns-else-read_ident-identity-clause-upgrades c =
@@ -103,4 +103,4 @@ returns-else-read_ident-identity-clause-upgrades c =
     let f = c.read_weak.ensures.view in
     let some = λ (z : x.state.got ≡ 0). c.if-reference-eq0.false (ap (λ (s : SeatState). s.got) c.state.ensures ∙ z) in
     let low : c.args.c < v.shape.cells = subst (λ (sh : Shape). c.args.c < sh.cells) (sym c.requires.seat.0.1) c.requires.range.1 in
-    inr (c.read_ident.result, c.if-read_ident-identity.false, finds-identity c.args.v c.args.c c.read_weak.result c.read_ident.result 0 v x y (view_of c.store_root-else-read_ident-identity.new.seat) c.requires.seat.1 f low some c.read_ident.ensures.view refl c.store_root-else-read_ident-identity.ensures.view)
+    inr (c.read_ident.result, c.if-read_ident-identity.false, finds-identity c.args.v c.args.c c.read_weak.result c.read_ident.result 0 c.hold_root-else-read_ident-identity.result v x y (view_of c.hold_root-else-read_ident-identity.new.seat) c.requires.seat.1 f low some c.read_ident.ensures.view refl c.hold_root-else-read_ident-identity.ensures.view)

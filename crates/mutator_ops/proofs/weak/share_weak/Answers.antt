@@ -61,8 +61,8 @@ read_ident-identity-requires-clause-may c =
     let some = λ (z : x.state.got ≡ 0). c.if-reference-eq0.false (ap (λ (s : SeatState). s.got) c.state.ensures ∙ z) in
     may-identify k w x (possible-live x c.read_weak.new.seat.possible) a.ready (weak-read k n w x f) (weak-got k n w x f ∙ weak-whole k n w x f (asks-low c.args.v k n v w x a f) some)
 
-pub store_root-requires-clause-may : goal.store_root-requires-clause-may
-store_root-requires-clause-may c =
+pub hold_root-requires-clause-may : goal.hold_root-requires-clause-may
+hold_root-requires-clause-may c =
     let w : View = view_of c.publish_own.new.seat in
     let x : View = view_of c.read_weak.new.seat in
     let y : View = view_of c.read_ident-identity.new.seat in
@@ -76,9 +76,9 @@ returns-clause-seat c =
     let x : View = view_of c.read_weak.new.seat in
     let y : View = view_of c.read_ident-identity.new.seat in
     let q : IsRead w y = ident-read c.make-cell.result c.read_ident-identity.result w x y (weak-read c.make-cell.result c.read_weak.result w x c.read_weak.ensures.view) c.read_ident-identity.ensures.view in
-    (c.store_root.ensures.seat, ends-ready c.args.v c.from.result w y (view_of c.store_root.new.seat) c.publish_own.ensures.seat.1 q c.store_root.ensures.view)
+    (c.hold_root.ensures.seat, ends-ready c.args.v c.from.result c.hold_root.result w y (view_of c.hold_root.new.seat) c.publish_own.ensures.seat.1 q c.hold_root.ensures.view.0)
 
-taken : (c : goal.After-store_root) → TakesWeak c.args.v c.read_ident-identity.result (view_of c.args.seat.now) (view_of c.store_root.new.seat)
+taken : (c : goal.After-hold_root) → TakesWeak c.args.v c.read_ident-identity.result (view_of c.args.seat.now) (view_of c.hold_root.new.seat)
 taken c =
     let v : View = view_of c.args.seat.now in
     let w : View = view_of c.publish_own.new.seat in
@@ -87,11 +87,11 @@ taken c =
     let a : Asks c.args.v c.make-cell.result (view_of c.args.seat.now) (view_of c.publish_own.new.seat) =
     asks c.args.seat.now c.publish_own.new.seat c.requires.range c.requires.some c.word_of-word.ensures c.make-cell.ensures c.publish_own.ensures.publishes c.publish_own.ensures.seat.1 c.publish_own.ensures.none in
     let some = λ (z : x.state.got ≡ 0). c.if-reference-eq0.false (ap (λ (s : SeatState). s.got) c.state.ensures ∙ z) in
-    takes-weak c.args.v c.make-cell.result c.from.result c.read_ident-identity.result c.read_weak.result v w x y (view_of c.store_root.new.seat) a c.read_weak.ensures.view some c.read_ident-identity.ensures.view
-    (c.from.ensures ∙ ap (λ (s : SeatState). s.got) c.state.ensures) c.store_root.ensures.view
+    takes-weak c.args.v c.make-cell.result c.from.result c.read_ident-identity.result c.read_weak.result c.hold_root.result v w x y (view_of c.hold_root.new.seat) a c.read_weak.ensures.view some c.read_ident-identity.ensures.view
+    (c.from.ensures ∙ ap (λ (s : SeatState). s.got) c.state.ensures) c.hold_root.ensures.view
 
 pub returns-clause-takes : goal.returns-clause-takes
 returns-clause-takes c = taken c
 
 pub returns-clause-few : goal.returns-clause-few
-returns-clause-few c = (takes-rewrites c.args.v c.read_ident-identity.result (view_of c.args.seat.now) (view_of c.store_root.new.seat) (taken c)).few
+returns-clause-few c = (takes-rewrites c.args.v c.read_ident-identity.result (view_of c.args.seat.now) (view_of c.hold_root.new.seat) (taken c)).few

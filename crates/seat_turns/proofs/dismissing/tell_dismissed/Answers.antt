@@ -7,7 +7,7 @@ returns-clause-dismisses g c =
     let e = c.go_in.ensures in
     record {
       entered = view_of c.go_in.new.seat;
-      enters = record { entered = e.entered; numbers = e.numbers; offered = e.offered; helps = e.helps };
+      enters = record { entered = e.entered; numbers = e.numbers; offered = e.offered; helps = e.helps; away = e.away };
       told = view_of c.add_stat.new.seat;
       tells = c.add_stat.ensures.view;
       left = c.go_out.ensures.left.0;

@@ -79,7 +79,7 @@ returns-in-Going-clause-collects g c =
     let gone = none-kept c.in-Going.cache _ y z r.collects in
     let made : c.state.result.now.made ≡ y.state.made = ap (λ (s : SeatState). s.made) c.state.ensures in
     let once : CollectsOnce (safes.Going None) y z =
-    record { ran = r.ran; collects = collects-none c.in-Going.cache _ y.state.made y z made r.collects; once = r.once; cycles = r.cycles; not_full = r.not_full; unbegun = r.unbegun; numbers = r.numbers } in
+    record { ran = r.ran; collects = collects-none c.in-Going.cache _ y.state.made y z made r.collects; once = r.once; cycles = r.cycles; not_full = r.not_full; unbegun = r.unbegun; numbers = r.numbers; pops = r.pops } in
     IfOk-weaker c.come_to_turn.result _ _ (λ _ polls. record { given = y; gives = c.retire_own_cache.ensures.gives; collected = z; collects = once; polls = subst (λ (o : Option Cache). PollsWith o z w) gone polls }) c.come_to_turn.ensures.polls
 
 pub returns-in-Going-clause-none : goal.returns-in-Going-clause-none
@@ -91,7 +91,7 @@ returns-in-Going-clause-none g c =
     let gone = none-kept c.in-Going.cache _ y z r.collects in
     let made : c.state.result.now.made ≡ y.state.made = ap (λ (s : SeatState). s.made) c.state.ensures in
     let once : CollectsOnce (safes.Going None) y z =
-    record { ran = r.ran; collects = collects-none c.in-Going.cache _ y.state.made y z made r.collects; once = r.once; cycles = r.cycles; not_full = r.not_full; unbegun = r.unbegun; numbers = r.numbers } in
+    record { ran = r.ran; collects = collects-none c.in-Going.cache _ y.state.made y z made r.collects; once = r.once; cycles = r.cycles; not_full = r.not_full; unbegun = r.unbegun; numbers = r.numbers; pops = r.pops } in
     IfErr-weaker c.come_to_turn.result _ _ (λ _ polls. record { given = y; gives = c.retire_own_cache.ensures.gives; collected = z; ends = inr (once, subst (λ (o : Option Cache). PollsOutWith o z w) gone polls) }) c.come_to_turn.ensures.full
 
 pub returns-in-Full-clause-none : goal.returns-in-Full-clause-none
@@ -104,5 +104,5 @@ returns-in-Full-clause-none g c =
       given = y;
       gives = c.retire_own_cache.ensures.gives;
       collected = z;
-      ends = inl (record { ran = r.ran; collects = subst (λ (n : ℕ). CollectsTo safes.Full n y z) made r.collects; once = r.once; cycles = r.cycles; not_full = r.not_full; unbegun = r.unbegun; numbers = r.numbers }, c.leave_full.ensures.out);
+      ends = inl (record { ran = r.ran; collects = subst (λ (n : ℕ). CollectsTo safes.Full n y z) made r.collects; once = r.once; cycles = r.cycles; not_full = r.not_full; unbegun = r.unbegun; numbers = r.numbers; pops = r.pops }, c.leave_full.ensures.out);
     }

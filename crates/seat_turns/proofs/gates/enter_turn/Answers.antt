@@ -36,11 +36,11 @@ returns-clause-leaves g c =
 pub returns-clause-enters : goal.returns-clause-enters
 returns-clause-enters g c =
     let e = c.go_in.ensures in
-    let goes : GoesIn (view_of c.args.seat.now) (view_of c.go_in.new.seat) = record { entered = e.entered; numbers = e.numbers; offered = e.offered; helps = e.helps } in
+    let goes : GoesIn (view_of c.args.seat.now) (view_of c.go_in.new.seat) = record { entered = e.entered; numbers = e.numbers; offered = e.offered; helps = e.helps; away = e.away } in
     IfOk-weaker c.come_to_turn.result _ _ (λ _ polls. record { inside = view_of c.go_in.new.seat; enters = goes; polls = polls }) c.come_to_turn.ensures.polls
 
 pub returns-clause-full : goal.returns-clause-full
 returns-clause-full g c =
     let e = c.go_in.ensures in
-    let goes : GoesIn (view_of c.args.seat.now) (view_of c.go_in.new.seat) = record { entered = e.entered; numbers = e.numbers; offered = e.offered; helps = e.helps } in
+    let goes : GoesIn (view_of c.args.seat.now) (view_of c.go_in.new.seat) = record { entered = e.entered; numbers = e.numbers; offered = e.offered; helps = e.helps; away = e.away } in
     IfErr-weaker c.come_to_turn.result _ _ (λ _ polls. record { inside = view_of c.go_in.new.seat; enters = goes; polls = polls }) c.come_to_turn.ensures.full

@@ -8,16 +8,16 @@ use Rattle.gc_table.proofs.Fitting.{possible-live}
 use Rattle.gc_table.proofs.Running.{ran-found}
 use Rattle.mutator_ops.proofs.Knowing.{knows-variable, may-read_ident}
 use Rattle.mutator_ops.proofs.Storing.{shares-on}
-use Rattle.seat_turns.proofs.Done.{turn-shares, turn-shared}
+use Rattle.seat_turns.proofs.Held.{held-same, holds-shares}
 use Rattle.seat_turns.proofs.sharing.identity_shared.Goals as goal
 
 pub read_ident-requires-clause-seat : goal.read_ident-requires-clause-seat
-read_ident-requires-clause-seat c = c.requires.turn.works.sits
+read_ident-requires-clause-seat c = c.requires.turn.holds.sits
 
 pub read_ident-requires-clause-may : goal.read_ident-requires-clause-may
 read_ident-requires-clause-may c =
     let v : View = view_of c.args.seat.now in
-    let q = turn-shares c.args.heap.now c.args.seat.now c.requires.turn c.requires.shared in
+    let q = holds-shares c.args.heap.now c.args.seat.now c.requires.turn c.requires.shared in
     let word : word_in v.state c.args.v ≡ c.make.result + 1 = let some = c.requires.some in omega (arith, some, c.make.ensures, c.word_of-word.ensures) in
     let live = possible-live v c.args.seat.now.possible in
     may-read_ident v c.make.result live q.1.stores.turn (knows-variable v c.args.v c.make.result live c.requires.range word)
@@ -26,9 +26,8 @@ pub returns-clause-turn : goal.returns-clause-turn
 returns-clause-turn c =
     let v : View = view_of c.args.seat.now in
     let w : View = view_of c.read_ident.new.seat in
-    let q = turn-shares c.args.heap.now c.args.seat.now c.requires.turn c.requires.shared in
+    let q = holds-shares c.args.heap.now c.args.seat.now c.requires.turn c.requires.shared in
     let e = c.read_ident.ensures.view in
     let same : w.state ≡ v.state = ap (λ (y : View). y.state) e.0 in
-    let s = same ∙ ap (λ (t : SeatState). record v.state { env = t.env }) (sym same) in
-    let ready = shares-on v w q.1 (ap (λ (y : View). y.shape) e.0) s (ap (λ (y : View). length y.own.meaning.heap.objects) e.0) in
-    turn-shared c.args.heap.now c.args.seat.now c.read_ident.new.seat c.requires.turn c.read_ident.ensures.seat ready (ran-found v w (ReadIdent c.make.result) c.read_ident.result refl e) s
+    let ready = shares-on v w q.1 (ap (λ (y : View). y.shape) e.0) (same ∙ ap (λ (t : SeatState). record v.state { env = t.env }) (sym same)) (ap (λ (y : View). length y.own.meaning.heap.objects) e.0) in
+    held-same c.args.heap.now c.args.seat.now c.read_ident.new.seat c.requires.turn (c.read_ident.ensures.seat, ready) (ran-found v w (ReadIdent c.make.result) c.read_ident.result refl e) same

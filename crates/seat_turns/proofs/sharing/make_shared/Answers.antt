@@ -1,10 +1,12 @@
-use Rattle.std.proofs.Common.{subst, sym, false}
+use Rattle.std.proofs.Common.{Some, subst, sym, false}
 use Rattle.seat_turns.specs.Coming.{ComesToNone, MakesNoneAtTurn}
 use Rattle.seat_turns.specs.declared.refused.Refused.{Refused}
 use Rattle.seat_turns.specs.declared.refused.Refused.TheVariants.{Full}
 use Rattle.gc_table.specs.Seats.{view_of}
 use Rattle.seat_turns.proofs.Coming.{own-cache}
+use Rattle.seat_turns.proofs.Held.{plays-holds}
 use Rattle.seat_turns.proofs.Leaving.{leaves-join}
+use Rattle.seat_turns.proofs.Seats.{whole-cache}
 use Rattle.seat_turns.proofs.sharing.make_shared.Goals as goal
 
 pub returns-in-Ok-clause-ok : goal.returns-in-Ok-clause-ok
@@ -35,3 +37,7 @@ returns-in-Err-Full-clause-none g c =
       leaves = c.come_to.ensures.leaves;
       ends = c.leave_full.ensures.out;
     })
+
+pub make_shared_in-requires-clause-turn : goal.make_shared_in-requires-clause-turn
+make_shared_in-requires-clause-turn g c =
+    let p = c.in-Ok.ensures.ok in plays-holds c.args.heap.now c.come_to.new.seat p.0 (whole-cache (Some c.in-Ok.free) (view_of c.come_to.new.seat) p.1)

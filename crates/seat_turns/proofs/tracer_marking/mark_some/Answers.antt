@@ -36,7 +36,7 @@ returns-clause-marks c =
     let e = c.trace-traced.ensures in
     record {
       between = u;
-      traces = record { tends = tends-by c.trace-traced.result.done v u e.only e.tally.done; ends = ⊎_elim (λ q. inl q.1) (λ q. inr (q.1, q.2)) e.stopped };
+      traces = record { tends = tends-by c.trace-traced.result.done v u e.only e.tally.done; ends = ⊎_elim (λ q. inl q.1) (λ q. inr (q.1, q.2)) e.stopped; defers = e.deferral };
       tends = c.tend.ensures.tends;
     }
 

@@ -3,28 +3,19 @@ use Rattle.mark_core.specs.Numbers.{section_span}
 use Rattle.gc_table.specs.Seats.{view_of}
 use Rattle.gc_table.specs.declared.view.View.{View}
 use Rattle.mutator_ops.specs.Weak.{TakesWeak}
-use Rattle.mutator_ops.proofs.WeakTaken.{takes-rewrites, unpublished-rewrites}
-use Rattle.seat_turns.proofs.Done.{turn-shares}
-use Rattle.seat_turns.proofs.WeakTurns.{turn-rewrites}
+use Rattle.seat_turns.proofs.Held.{held-taken, held-unpublished, holds-shares}
 use Rattle.seat_turns.proofs.weak.weak_shared.Goals as goal
 
 pub share_weak-requires-clause-seat : goal.share_weak-requires-clause-seat
-share_weak-requires-clause-seat c = turn-shares c.args.heap.now c.args.seat.now c.requires.turn c.requires.shared
+share_weak-requires-clause-seat c = holds-shares c.args.heap.now c.args.seat.now c.requires.turn c.requires.shared
 
 pub returns-in_err-identity-clause-turn : goal.returns-in_err-identity-clause-turn
 returns-in_err-identity-clause-turn c =
-    let h = c.args.heap.now in
-    let v : View = view_of c.args.seat.now in
-    let w : View = view_of c.share_weak.new.seat in
-    let q = turn-shares h c.args.seat.now c.requires.turn c.requires.shared in
-    let e = c.in_err-identity.ensures in
-    turn-rewrites h c.args.seat.now c.share_weak.new.seat c.requires.turn e.seat.0 e.seat.1 (unpublished-rewrites c.args.v v w q.1 e.none)
+    let e = c.in_err-identity.ensures in held-unpublished c.args.heap.now c.args.seat.now c.share_weak.new.seat c.args.v c.requires.turn e.seat e.none
 
 pub returns-clause-turn : goal.returns-clause-turn
 returns-clause-turn c =
-    let e = c.in_ok-identity.ensures in
-    turn-rewrites c.args.heap.now c.args.seat.now c.share_weak.new.seat c.requires.turn e.seat.0 e.seat.1
-    (takes-rewrites c.args.v c.in_ok-identity.identity (view_of c.args.seat.now) (view_of c.share_weak.new.seat) e.takes)
+    let e = c.in_ok-identity.ensures in held-taken c.args.heap.now c.args.seat.now c.share_weak.new.seat c.args.v c.in_ok-identity.identity c.requires.turn e.seat c.requires.range e.takes
 
 -- the numbers of the weak reference are the cell and the identity
 pub returns-clause-takes : goal.returns-clause-takes
