@@ -7,6 +7,7 @@ use Rattle.gc_table.specs.declared.view.View.{View}
 use Rattle.mutator_ops.specs.Few.{AtMost}
 use Rattle.mutator_ops.proofs.Few.{at-most-none}
 use Rattle.plain_heap.specs.declared.operation.Op.TheVariants as ops
+use Rattle.seat_turns.specs.Standing.{flush_steps}
 use Rattle.seat_steps.specs.Filling.{make_steps}
 use Rattle.seat_steps.specs.declared.came.Came.{Came}
 use Rattle.seat_steps.specs.declared.came.Came.TheVariants as cames
@@ -49,7 +50,7 @@ made-sets v value ns x z y made sets =
       made = z;
       makes = made;
       sets = sets;
-      few = then_more (make_steps (view_of x.seat).shape) (4 * length ns) (view_of x.seat) (view_of z.seat) (view_of y.seat) made.1.longest (sets_few (length ns) v ns z y sets);
+      few = then_more (make_steps (view_of x.seat).shape + flush_steps (view_of x.seat)) (4 * length ns) (view_of x.seat) (view_of z.seat) (view_of y.seat) made.1.longest (sets_few (length ns) v ns z y sets);
     }
 
 -- no object was made, and nothing else was done

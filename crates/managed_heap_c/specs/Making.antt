@@ -4,6 +4,7 @@ use Rattle.mark_core.specs.Numbers.{section_variables}
 use Rattle.plain_heap.specs.declared.operation.Op.TheVariants as ops
 use Rattle.gc_table.specs.Seats.{Across, view_of}
 use Rattle.mutator_ops.specs.Few.{AtMost}
+use Rattle.seat_turns.specs.Standing.{flush_steps}
 use Rattle.seat_steps.specs.Filling.{make_steps}
 use Rattle.seat_steps.specs.declared.came.Came.{Came}
 use Rattle.seat_steps.specs.declared.came.Came.TheVariants as cames
@@ -40,7 +41,7 @@ pub record MakesThenSets (v value : ℕ) (ns : List ℕ) (x y : Stepper) : Type 
   pub made : Stepper
   pub makes : StepperMakes cames.Done (ops.New v value) x made
   pub sets : SetsFirst (length ns) v ns made y
-  pub few : Across (AtMost (make_steps (view_of x.seat).shape + 4 * length ns)) x.seat y.seat
+  pub few : Across (AtMost (make_steps (view_of x.seat).shape + flush_steps (view_of x.seat) + 4 * length ns)) x.seat y.seat
 
 -- what it came to: all was done, or none of it
 abbrev pub MakesWith : ℕ → ℕ → List ℕ → Came → Stepper → Stepper → Type 0

@@ -1,10 +1,11 @@
 -- What a world comes to whose mutators share all objects.
-use Rattle.std.specs.Prelude.{◌≡◌, ◌<◌, ◌++◌, [], ◌∷◌, vec_len}
+use Rattle.std.specs.Prelude.{◌≡◌, ◌<◌, ◌+◌, ◌++◌, [], ◌∷◌, vec_len}
 use Rattle.std.specs.Arc.{arc_value}
 use Rattle.gc_table.specs.Seats.{Across, view_of}
 use Rattle.stop_world.specs.Gates.{TurnsBack}
 use Rattle.mutator_ops.specs.Few.{AtMost}
 use Rattle.seat_turns.specs.Sharing.{LeavesHeap}
+use Rattle.seat_turns.specs.Standing.{flush_steps}
 use Rattle.seat_turns.specs.TracerTries.{Dismisses}
 use Rattle.seat_turns.specs.declared.background.Tracer.{Tracer}
 use Rattle.seat_steps.specs.declared.stepper.Stepper.{Stepper}
@@ -45,13 +46,13 @@ StaysOut m t w x = Across LeavesHeap m.seat t.seat × (arc_value t.heap ≡ arc_
 abbrev pub TakesBack : Stepper → SharedWorld → SharedWorld → Type 0
 TakesBack s w x = (m : SharedMutator) × IsOfSteps s m × GoesBack m w x
 
--- the world doesn't take the mutator, which took no step that a plain heap sees, and five at most, and has all that it had
+-- the world doesn't take the mutator, which took no step that a plain heap sees, and five at most beside the stores of roots that lag, and has all that it had
 pub record Refuses (s t : Stepper) (w x : SharedWorld) : Type 0 where
   pub leaves : Across LeavesHeap s.seat t.seat
   pub of_world : (arc_value t.heap ≡ arc_value s.heap) × (t.name ≡ s.name)
   pub mutators : x.mutators.items ≡ w.mutators.items
   pub rest : KeepsAllButMutators w x
-  pub few : Across (AtMost 5) s.seat t.seat
+  pub few : Across (AtMost (flush_steps (view_of s.seat) + 5)) s.seat t.seat
 
 -- the world had this tracer, and has the others still
 abbrev pub LendsTracer : Tracer → SharedWorld → SharedWorld → Type 0

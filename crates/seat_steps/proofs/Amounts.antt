@@ -7,7 +7,7 @@ use Rattle.std.proofs.lemmas.List.{length-append}
 use Rattle.mark_core.specs.declared.kinds.Phase.{Phase}
 use Rattle.mark_core.specs.declared.kinds.Shape.{Shape}
 use Rattle.mark_core.specs.declared.kinds.Step.{Step}
-use Rattle.mark_core.specs.declared.kinds.Step.TheVariants.{AddStat, NextBlock, Pop, ReadCard, Reset, StorePhase}
+use Rattle.mark_core.specs.declared.kinds.Step.TheVariants.{AddStat, FlushRoot, NextBlock, Pop, ReadCard, Reset, StorePhase}
 use Rattle.gc_table.specs.Log.{event, events, Only}
 use Rattle.gc_table.specs.Running.{Ran, Alone}
 use Rattle.gc_table.specs.declared.view.Entry.{Entry}
@@ -31,7 +31,9 @@ use Rattle.gc_cycle.specs.declared.card_steps.Look.{Look}
 use Rattle.gc_cycle.specs.declared.card_steps.Look.TheVariants as looks
 use Rattle.gc_cycle.proofs.Sequences.{count-none as count-missing, none-of-steps}
 use Rattle.gc_cycle.proofs.Stops.Admitted.{count-none, count-run}
+use Rattle.mutator_ops.specs.Flushing.{Flushes}
 use Rattle.seat_turns.specs.Coming.{GivesCache, StepsOut, WithOwn}
+use Rattle.seat_turns.proofs.Held.{flushes-only}
 use Rattle.seat_steps.specs.Filling.{PopsNone}
 use Rattle.seat_steps.specs.Amounts.{DrawsNone, DoesFew, DoesNeither}
 use Rattle.std.proofs.Math.Nat.{mul-le-mul_left, mul-le-mul_right}
@@ -87,6 +89,29 @@ gives_neither v w g = (
   count-missing pops (events v w) (none-of-steps retires pops retires_popless (events v w) g.2.only),
   λ blocks. count-missing (draws_block blocks) (events v w) (none-of-steps retires (draws_block blocks) (retires_drawless blocks) (events v w) g.2.only),
 )
+
+-- storing the roots that lag
+abbrev is_flush : Step → Bool
+is_flush (FlushRoot u) = true
+is_flush step = false
+
+flush_popless : (step : Step) (n : ℕ) → is_flush step ≡ true → pops step n ≡ false
+flush_popless (FlushRoot u) n e = refl
+flush_popless step n e = absurd (false≢true e)
+
+flush_drawless : (blocks : ℕ) (step : Step) (n : ℕ) → is_flush step ≡ true → draws_block blocks step n ≡ false
+flush_drawless blocks (FlushRoot u) n e = refl
+flush_drawless blocks step n e = absurd (false≢true e)
+
+flushes_neither : (v w : View) → Flushes v w → DoesNeither v w
+flushes_neither v w f =
+    let only = flushes-only is_flush v w f (λ u. refl) in (
+      count-missing pops (events v w) (none-of-steps is_flush pops flush_popless (events v w) only),
+      λ blocks. count-missing (draws_block blocks) (events v w) (none-of-steps is_flush (draws_block blocks) (flush_drawless blocks) (events v w) only),
+    )
+
+pub flushes-do : (j k : ℕ) (u v w : View) → Flushes u v → AtMost j u v → Ran v w → DoesFew k v w → DoesFew (j + k) u w
+flushes-do j k u v w f few r d = (neither-join u v w f.ran r (flushes_neither u v f) d.0, at-most-join j k u v w f.ran r few d.1)
 
 pub asks-few : (done : ℕ) (yours : Bool) (u v w : View) → Ran u v → WithOwn GivesCache u v → AtMost 3 u v → Ran v w → AsksOnce done yours v w → DoesFew 6 u w
 asks-few done yours u v w r g few q a = (

@@ -1,5 +1,5 @@
 -- What a stepper's call answers, by where the stepper was.
-use Rattle.std.proofs.Common.{◌≡◌, refl, sym, subst, true}
+use Rattle.std.proofs.Common.{ℕ, Bool, ◌≡◌, ◌∙◌, ap, refl, sym, subst, true}
 use Rattle.plain_heap.specs.declared.operation.Op.{Op}
 use Rattle.gc_table.specs.Seats.{Across, view_of}
 use Rattle.gc_table.specs.declared.seat.Heap.{Heap}
@@ -10,19 +10,57 @@ use Rattle.seat_steps.specs.Causes.{EntersBy, EntersFreely, MakesBy, PassesBy}
 use Rattle.seat_steps.specs.Arriving.{Arrives, MakesOne}
 use Rattle.seat_steps.specs.declared.came.Came.{Came}
 use Rattle.seat_steps.specs.declared.came.Came.TheVariants as cames
-use Rattle.seat_steps.specs.Stepping.{Entered, EntersFrom, KeepsAll, KeepsHeap, KeepsPlace, Passed, StepperMakes, heap_of_stepper, is_collecting}
+use Rattle.seat_steps.specs.Stepping.{Entered, EntersFrom, KeepsAll, KeepsCycle, KeepsHeap, KeepsPlace, Passed, StepperMakes, heap_of_stepper, is_collecting}
 use Rattle.seat_steps.specs.declared.stepper.Stage.{Stage}
 use Rattle.seat_steps.specs.declared.stepper.Stage.TheVariants as stages
 use Rattle.seat_steps.specs.declared.stepper.Stepper.{Stepper}
 
+-- what a stepper tells of its last collection
+abbrev Told : Type 0
+Told = Bool × Bool × Bool × Bool × ℕ × ℕ × ℕ × ℕ × ℕ × ℕ
+
+abbrev told_of : Stepper → Told
+told_of x = (x.precise, x.exact, x.again, x.shared, x.freed, x.traced, x.cleaned, x.rescanned, x.counted, x.next)
+
+pub cycle-kept : (x y : Stepper) → told_of y ≡ told_of x → KeepsCycle x y
+cycle-kept x y e =
+    record {
+      precise = ap (λ (t : Told). t.0) e;
+      exact = ap (λ (t : Told). t.1) e;
+      again = ap (λ (t : Told). t.2) e;
+      shared = ap (λ (t : Told). t.3) e;
+      freed = ap (λ (t : Told). t.4) e;
+      traced = ap (λ (t : Told). t.5) e;
+      cleaned = ap (λ (t : Told). t.6) e;
+      rescanned = ap (λ (t : Told). t.7) e;
+      counted = ap (λ (t : Told). t.8) e;
+      next = ap (λ (t : Told). t.9) e;
+    }
+
 keeps-same : (x : Stepper) → KeepsAll x x
-keeps-same x = record { heap = refl; leaves = leaves-none (view_of x.seat); world = refl; name_is = refl; stops = refl; search = record { paid_is = refl; block = refl; seen = refl } }
+keeps-same x = record { heap = refl; leaves = leaves-none (view_of x.seat); world = refl; name_is = refl; stops = refl; search = record { paid_is = refl; block = refl; seen = refl }; cycle = cycle-kept x x refl }
 
 -- who is neither outside nor inside collects
 pub collects-now : (stage : Stage) → (stage ≡ stages.Outside → ⊥) → (stage ≡ stages.Inside → ⊥) → is_collecting stage ≡ true
 collects-now stages.Outside out in_world = absurd (out refl)
 collects-now stages.Inside out in_world = absurd (in_world refl)
 collects-now stage out in_world = refl
+
+-- and of the same one as it told before
+pub cycle-join : (x y z : Stepper) → KeepsCycle x y → KeepsCycle y z → KeepsCycle x z
+cycle-join x y z a b =
+    record {
+      precise = b.precise ∙ a.precise;
+      exact = b.exact ∙ a.exact;
+      again = b.again ∙ a.again;
+      shared = b.shared ∙ a.shared;
+      freed = b.freed ∙ a.freed;
+      traced = b.traced ∙ a.traced;
+      cleaned = b.cleaned ∙ a.cleaned;
+      rescanned = b.rescanned ∙ a.rescanned;
+      counted = b.counted ∙ a.counted;
+      next = b.next ∙ a.next;
+    }
 
 -- entering
 enters-inside : (x : Stepper) → x.stage ≡ stages.Inside → EntersFrom x.stage x x

@@ -1,5 +1,5 @@
 -- How many steps the calls of a mutator take.
-use Rattle.std.proofs.Common.{ℕ, suc, zero, ◌≤◌, ◌+◌, [], ◌∷◌, length, arith, refl, subst, sym, Bool, true, false}
+use Rattle.std.proofs.Common.{ℕ, suc, zero, ◌≤◌, ◌+◌, [], ◌∷◌, length, ap, arith, refl, subst, sym, Bool, true, false}
 use Rattle.std.specs.Prelude.{◌≡◌, ◌==◌, if◌then◌else◌}
 use Rattle.std.proofs.lemmas.List.{length-append}
 use Rattle.mark_core.specs.Cards.{card_of}
@@ -11,12 +11,15 @@ use Rattle.card_clean.specs.Barrier.{card_events, cell_in, seen_to}
 use Rattle.gc_table.specs.Log.{event}
 use Rattle.gc_table.specs.Seats.{Found}
 use Rattle.gc_table.specs.declared.view.Entry.{Entry}
+use Rattle.mark_core.specs.Numbers.{section_variables}
 use Rattle.gc_table.specs.declared.view.View.{View}
+use Rattle.mutator_ops.specs.Flushing.{flushing_steps}
 use Rattle.mutator_ops.specs.Few.{AtMost}
 use Rattle.mutator_ops.specs.Sharing.{FillsFound, TakesSteps}
 use Rattle.mutator_ops.proofs.Few.{at-most-after, at-most-events, at-most-none, at-most-steps}
 use Rattle.seat_turns.specs.Clearing.{clearing_steps}
 use Rattle.seat_turns.specs.Exchanging.{ExchangesField, ExchangesValue}
+use Rattle.seat_turns.specs.Standing.{flush_steps}
 use Rattle.seat_steps.specs.Handing.{StopsFrom}
 use Rattle.seat_steps.specs.declared.stepper.Stage.{Stage}
 use Rattle.seat_steps.specs.declared.stepper.Stage.TheVariants.{Inside, Outside}
@@ -64,8 +67,17 @@ cleared-few from n v w e = at-most-steps n v w (clearing_steps from n) e.steps_a
 pub still-few : (k : ℕ) (v w : View) → w ≡ v → AtMost k v w
 still-few k v w same = subst (λ (x : View). AtMost k v x) (sym same) (at-most-none k v)
 
+-- no root lags if objects aren't shared
+flush-own : (v : View) → v.shape.sharing ≡ false → flush_steps v ≡ 0
+flush-own v alone = ap (λ (b : Bool). if b then length (flushing_steps v.state.lags section_variables) else 0) alone
+
+pub stopped-own : (s : Stage) (v w : View) → (s ≡ Inside → v.shape.sharing ≡ false) → StopsFrom s v w → AtMost 5 v w
+stopped-own Outside v w alone same = still-few 5 v w same
+stopped-own Inside v w alone left = subst (λ (n : ℕ). AtMost (n + 5) v w) (flush-own v (alone refl)) left.1
+stopped-own s v w alone other = absurd other
+
 -- who is let go of has left
-pub stopped-few : (s : Stage) (v w : View) → StopsFrom s v w → AtMost 5 v w
-stopped-few Outside v w same = still-few 5 v w same
+pub stopped-few : (s : Stage) (v w : View) → StopsFrom s v w → AtMost (flush_steps v + 5) v w
+stopped-few Outside v w same = still-few (flush_steps v + 5) v w same
 stopped-few Inside v w left = left.1
 stopped-few s v w other = absurd other

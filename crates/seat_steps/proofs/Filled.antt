@@ -15,6 +15,7 @@ use Rattle.mutator_ops.specs.Few.{AtMost}
 use Rattle.mutator_ops.proofs.Few.{at-most-join, at-most-more}
 use Rattle.seat_steps.specs.Causes.{ArrivesBy, FillsBy, LacksBy, MakesBy, ComesFreely, MakesFreely, PassesBy}
 use Rattle.seat_steps.specs.Filling.{TriesOnce, TriesToFill, filling_steps, search_steps, TriesSome, make_steps}
+use Rattle.seat_turns.specs.Standing.{flush_steps}
 use Rattle.seat_steps.specs.Arriving.{LeavesWorld, Refills}
 use Rattle.seat_steps.specs.Pacing.{Paces}
 use Rattle.seat_steps.specs.declared.came.Came.{Came}
@@ -71,20 +72,20 @@ module _ (u v w x : View) (a : Ran u v) (few : AtMost 3 u v) (o : Option Refill)
   pub fills-on : (rest : AtMost 3 w x) → TriesOnce 3 3 o u x
   fills-on rest = once 3 rest
 
-  pub arrives-fills : (c : Came) (h : Heap) (s : HeapSeat) → LeavesWorld c h s → ArrivesBy c w x → FillsBy c u x
+  pub arrives-fills : (c : Came) (h : Heap) (s : HeapSeat) → LeavesWorld c h s → ArrivesBy c w x → FillsBy 3 c u x
   arrives-fills cames.Stopped h s l g = (found-right u w x (ran-join u v w a b) d g.0, (o, once 8 g.1))
   arrives-fills cames.Full h s l g = ((full-right u w x (ran-join u v w a b) d g.0.0, g.0.1), (o, once 8 g.1))
   arrives-fills c h s l g = absurd l
 
 -- no cell was found
-pub lacks-fills : (c : Came) (u v w x : View) → Ran u v → AtMost 3 u v → Ran v w → TriesToFill None v w → Ran w x → LacksBy c w x → FillsBy c u x
+pub lacks-fills : (c : Came) (u v w x : View) → Ran u v → AtMost 3 u v → Ran v w → TriesToFill None v w → Ran w x → LacksBy c w x → FillsBy 3 c u x
 lacks-fills cames.NoCell u v w x a few b t d g = fills-on u v w x a few None b t d g
 lacks-fills cames.Stopped u v w x a few b t d g = (found-right u w x (ran-join u v w a b) d g.0, (None, once u v w x a few None b t d 8 g.1))
 lacks-fills cames.Full u v w x a few b t d g = ((full-right u w x (ran-join u v w a b) d g.0.0, g.0.1), (None, once u v w x a few None b t d 8 g.1))
 lacks-fills c u v w x a few b t d g = g
 
 -- the try found the heap full
-pub full-fills : (u v w x : View) → Ran u v → AtMost 3 u v → Ran v w → (r : Refill) → r ≡ refills.Full → TriesToFill (Some r) v w → Ran w x → AtMost 2 w x → KnowsFull x → FillsBy cames.Full u x
+pub full-fills : (u v w x : View) → Ran u v → AtMost 3 u v → Ran v w → (r : Refill) → r ≡ refills.Full → TriesToFill (Some r) v w → Ran w x → AtMost 2 w x → KnowsFull x → FillsBy 3 cames.Full u x
 full-fills u v w x a few b r is t d rest known =
     let q = ran-join v w x b d in
     let ends : RefillsTo refills.Full v.state.made v w = subst (λ (z : Refill). RefillsTo z v.state.made v w) is t.0 in
@@ -96,22 +97,33 @@ full-refills r h s is p = (subst (λ (z : Refill). Refills z h s) is p).1
 -- and before it two looks
 pub passes-makes : (c : Came) (v w : View) → (c ≡ cames.Done → ⊥) → PassesBy c v w → Paces v w → MakesBy c v w
 passes-makes cames.Done v w n g p = absurd (n refl)
-passes-makes cames.Stopped v w n g p = ((g.0.0, at-most-more 6 (filling_steps v.shape + 13) v w (omega arith) g.0.1), inl (at-most-more 6 8 v w (omega arith) g.0.1), p)
-passes-makes cames.Full v w n g p = ((g.0.0, at-most-more 7 (filling_steps v.shape + 13) v w (omega arith) g.0.1), inl (at-most-more 7 8 v w (omega arith) g.0.1), p)
+passes-makes cames.Stopped v w n g p = ((g.0.0, at-most-more (flush_steps v + 6) (filling_steps v.shape + (flush_steps v + 13)) v w (omega arith) g.0.1), inl (at-most-more (flush_steps v + 6) (flush_steps v + 8) v w (omega arith) g.0.1), p)
+passes-makes cames.Full v w n g p = ((g.0.0, at-most-more (flush_steps v + 7) (filling_steps v.shape + (flush_steps v + 13)) v w (omega arith) g.0.1), inl (at-most-more (flush_steps v + 7) (flush_steps v + 8) v w (omega arith) g.0.1), p)
 passes-makes c v w n g p = absurd g
 
-in_thirteen : (o : Option Refill) (v w : View) → TriesOnce 5 8 o v w → AtMost (filling_steps v.shape + 13) v w
-in_thirteen o v w t = let all = tries-few 5 8 o v w t in omega (arith, all)
+in_thirteen : (o : Option Refill) (v w : View) → TriesOnce (flush_steps v + 5) 8 o v w → AtMost (filling_steps v.shape + (flush_steps v + 13)) v w
+in_thirteen o v w t = let all = tries-few (flush_steps v + 5) 8 o v w t in omega (arith, all)
 
-pub fills-makes : (c : Came) (u v w : View) → Ran u v → AtMost 2 u v → Ran v w → FillsBy c v w → Paces u w → MakesBy c u w
-fills-makes cames.Done u v w a few b g p = absurd g
-fills-makes cames.NoCell u v w a few b g p =
-    let t = tries-first 2 3 3 None u v w a few g in
-    let all = none-few 5 3 u w t in
+-- two looks, the roots that lagged, and a cache that is given up
+pub tries-looked : (later : ℕ) (o : Option Refill) (u v w : View) → Ran u v → AtMost 2 u v → flush_steps v ≡ flush_steps u → TriesOnce (flush_steps v + 3) later o v w → TriesOnce (flush_steps u + 5) later o u w
+tries-looked later o u v w a few same t = subst (λ (k : ℕ). TriesOnce k later o u w) (omega (arith, same)) (tries-first 2 (flush_steps v + 3) later o u v w a few t)
+
+pub fills-makes : (c : Came) (u v w : View) → Ran u v → AtMost 2 u v → flush_steps v ≡ flush_steps u → Ran v w → FillsBy (flush_steps v + 3) c v w → Paces u w → MakesBy c u w
+fills-makes cames.Done u v w a few same b g p = absurd g
+fills-makes cames.NoCell u v w a few same b g p =
+    let t = tries-looked 3 None u v w a few same g in
+    let all = none-few (flush_steps u + 5) 3 u w t in
     ((t, omega (arith, all)), p)
-fills-makes cames.Stopped u v w a few b g p = let t = tries-first 2 3 8 g.1.0 u v w a few g.1.1 in ((found-right u v w a b g.0, in_thirteen g.1.0 u w t), inr (g.1.0, t), p)
-fills-makes cames.Full u v w a few b g p = let t = tries-first 2 3 8 g.1.0 u v w a few g.1.1 in (((full-right u v w a b g.0.0, g.0.1), in_thirteen g.1.0 u w t), inr (g.1.0, t), p)
-fills-makes c u v w a few b g p = g
+fills-makes cames.Stopped u v w a few same b g p = let t = tries-looked 8 g.1.0 u v w a few same g.1.1 in ((found-right u v w a b g.0, in_thirteen g.1.0 u w t), inr (g.1.0, t), p)
+fills-makes cames.Full u v w a few same b g p = let t = tries-looked 8 g.1.0 u v w a few same g.1.1 in (((full-right u v w a b g.0.0, g.0.1), in_thirteen g.1.0 u w t), inr (g.1.0, t), p)
+fills-makes c u v w a few same b g p = g
+
+-- the roots that lagged were stored first
+pub fills-flushed : (before more : ℕ) (c : Came) (u v w : View) → Ran u v → AtMost more u v → Ran v w → FillsBy before c v w → FillsBy (more + before) c u w
+fills-flushed before more cames.NoCell u v w a few b g = tries-first more before 3 None u v w a few g
+fills-flushed before more cames.Stopped u v w a few b g = (found-right u v w a b g.0, (g.1.0, tries-first more before 8 g.1.0 u v w a few g.1.1))
+fills-flushed before more cames.Full u v w a few b g = ((full-right u v w a b g.0.0, g.0.1), (g.1.0, tries-first more before 8 g.1.0 u v w a few g.1.1))
+fills-flushed before more c u v w a few b g = g
 
 -- How many steps are taken until an object is made.
 -- more steps are allowed after a try
@@ -145,14 +157,14 @@ made-free h x v w sits a b c m paces =
       besides =
           ⊎_elim
           (λ (few : AtMost 2 u v). inl (in_all few))
-          (λ (t : TriesSome 5 3 u v).
-          inr (tries_more 5 (3 + (h.shape.fields + 3)) (u.shape.fields + 6) u w (omega (arith, same)) (t.0, tries-last 5 3 (h.shape.fields + 3) t.0 u v w b m t.1)))
+          (λ (t : TriesSome (flush_steps u + 5) 3 u v).
+          inr (tries_more (flush_steps u + 5) (3 + (h.shape.fields + 3)) (u.shape.fields + 6) u w (omega (arith, same)) (t.0, tries-last (flush_steps u + 5) 3 (h.shape.fields + 3) t.0 u v w b m t.1)))
           c.besides;
       longest =
           ⊎_elim
-          (λ (few : AtMost 2 u v). at-most-more (u.shape.fields + 5) (make_steps u.shape) u w (omega arith) (in_all few))
-          (λ (t : TriesSome 5 3 u v).
-          at-most-more (5 + (filling_steps u.shape + (3 + (h.shape.fields + 3)))) (make_steps u.shape) u w (omega (arith, same))
-          (tries-few 5 (3 + (h.shape.fields + 3)) t.0 u w (tries-last 5 3 (h.shape.fields + 3) t.0 u v w b m t.1)))
+          (λ (few : AtMost 2 u v). at-most-more (u.shape.fields + 5) (make_steps u.shape + flush_steps u) u w (omega arith) (in_all few))
+          (λ (t : TriesSome (flush_steps u + 5) 3 u v).
+          at-most-more (flush_steps u + 5 + (filling_steps u.shape + (3 + (h.shape.fields + 3)))) (make_steps u.shape + flush_steps u) u w (omega (arith, same))
+          (tries-few (flush_steps u + 5) (3 + (h.shape.fields + 3)) t.0 u w (tries-last (flush_steps u + 5) 3 (h.shape.fields + 3) t.0 u v w b m t.1)))
           c.besides;
     }

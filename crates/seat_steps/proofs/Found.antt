@@ -1,5 +1,5 @@
 -- What a mutator found, in one call after another.
-use Rattle.std.proofs.Common.{ℕ, ◌≡◌, ◌<◌, List, [], ◌∷◌, refl, sym, ap, ◌∙◌, subst, Bool, true, false, ◌||◌, Option, Some, None, ⊎_elim, inl, inr, arith}
+use Rattle.std.proofs.Common.{ℕ, ◌≡◌, ◌<◌, List, [], ◌∷◌, refl, sym, ap, ◌∙◌, subst, Bool, true, false, ◌||◌, Option, Some, None, ⊎_elim, inl, inr, arith, ◌+◌}
 use Rattle.std.specs.Prelude.{if◌then◌else◌, is_some, Result, Ok, Err, IfErr, IfNone, IfSome}
 use Rattle.std.specs.Int.Count.{ones}
 use Rattle.std.proofs.lemmas.Bool.{false≢true, or_left, or_right}
@@ -15,7 +15,7 @@ use Rattle.gc_table.specs.declared.seat.Heap.{Heap}
 use Rattle.gc_table.specs.declared.seat.HeapSeat.{HeapSeat}
 use Rattle.gc_table.specs.declared.view.Entry.{Entry}
 use Rattle.gc_table.specs.declared.view.View.{View}
-use Rattle.gc_table.proofs.Running.{ran-events, ran-join, ran-refl, ran-took}
+use Rattle.gc_table.proofs.Running.{ran-events, ran-join, ran-refl, ran-shape, ran-took}
 use Rattle.packet_pools.specs.Seeking.{some_event}
 use Rattle.packet_pools.proofs.Searches.{some-left, some-right}
 use Rattle.alloc_cache.specs.Caching.{IsCached}
@@ -29,9 +29,10 @@ use Rattle.gc_cycle.specs.Sorts.{polls, reads_phase, sees_flag}
 use Rattle.cache_refills.specs.Trying.{EntersOnce, PassesTo}
 use Rattle.cache_refills.specs.declared.trying.Pass.{Pass}
 use Rattle.cache_refills.specs.declared.trying.Pass.TheVariants as passes
-use Rattle.seat_turns.specs.Coming.{LeavesTurn}
+use Rattle.seat_turns.specs.Coming.{FlushesFirst, LeavesTurn}
 use Rattle.seat_turns.specs.SeasonLooks.{LooksAtSeason, SeesOther}
-use Rattle.seat_turns.specs.Standing.{LacksFree}
+use Rattle.seat_turns.specs.Standing.{LacksFree, flush_steps}
+use Rattle.seat_turns.proofs.Held.{flush-same}
 use Rattle.seat_turns.proofs.Seats.{looks-ran}
 use Rattle.seat_steps.specs.Causes.{ArrivesBy, ComesFreely, EntersBy, FoundStop, GoesFreely, HasFree, LacksBy, LooksBy, LooksFreely, LooksTo, PassesBy, PassesFreely, SawOther, finds_flag}
 use Rattle.seat_steps.specs.Filling.{TriesSome}
@@ -107,23 +108,29 @@ goes-freely u v w r l s k =
       known = λ i. subst (λ (x : View). AtMost 2 u x) (sym (k (ap (λ (o : Option ℕ). is_some o) (season_kept u v r l) ∙ i))) (two-few u v l);
     }
 
+-- as many roots lag after it as before
+pub lags-passed : (v w : View) → PassesFreely v w → flush_steps w ≡ flush_steps v
+lags-passed v w p = flush-same v w (ran-shape v w p.ran) (ap (λ (x : View). x.state.lags) (p.ran.steps ∙ ap (λ (es : List Entry). after_all es v) p.looks.3))
+
 -- what a safe point did at which nothing hindered the mutator
 pub cache-kept : (v w : View) → PassesFreely v w → w.state.cache ≡ v.state.cache
 cache-kept v w p = ap (λ (x : View). x.state.cache) (p.ran.steps ∙ ap (λ (es : List Entry). after_all es v) p.looks.3)
 
 -- and one at which something did
-pub hindered-by : (c : Came) (u v w : View) → (c ≡ cames.Done → ⊥) → LooksTo c u v → Ran u v → LeavesTurn v w → Ran v w → AtMost 5 v w → (KnowsFull v → KnowsFull w) → PassesBy c u w
-hindered-by cames.Done u v w n l a t b few k = absurd (n refl)
-hindered-by cames.Stopped u v w n l a t b few k =
+pub hindered-by : (c : Came) (u v w : View) → (c ≡ cames.Done → ⊥) → LooksTo c u v → Ran u v → FlushesFirst LeavesTurn v w → Ran v w → flush_steps v ≡ flush_steps u → AtMost (flush_steps v + 5) v w → (KnowsFull v → KnowsFull w) → PassesBy c u w
+hindered-by cames.Done u v w n l a t b same few k = absurd (n refl)
+hindered-by cames.Stopped u v w n l a t b same few k =
     let found : FoundStop u v = inl (ap (some_event finds_flag) l.2 ∙ or_left (has_flag l.0) _ l.1) in
-    ((found-left u v w a b found, at-most-join 1 5 u v w a b (at-most-events 1 u v _ l.2 (omega arith)) few), record { looked = v; looks = l; leaves = t })
-hindered-by cames.Full u v w n l a t b few k = (((full-left u v w a b l.1.0, k l.1.1), at-most-join 2 5 u v w a b (two-few u v l.0) few), record { looked = v; looks = l; leaves = t })
-hindered-by c u v w n l a t b few k = absurd l
+    let all = at-most-join 1 (flush_steps v + 5) u v w a b (at-most-events 1 u v _ l.2 (omega arith)) few in
+    ((found-left u v w a b found, omega (arith, all, same)), record { looked = v; looks = l; leaves = t })
+hindered-by cames.Full u v w n l a t b same few k =
+    let all = at-most-join 2 (flush_steps v + 5) u v w a b (two-few u v l.0) few in (((full-left u v w a b l.1.0, k l.1.1), omega (arith, all, same)), record { looked = v; looks = l; leaves = t })
+hindered-by c u v w n l a t b same few k = absurd l
 
-pub hindered-few : (c : Came) (v w : View) → (c ≡ cames.Done → ⊥) → PassesBy c v w → AtMost 8 v w
+pub hindered-few : (c : Came) (v w : View) → (c ≡ cames.Done → ⊥) → PassesBy c v w → AtMost (flush_steps v + 8) v w
 hindered-few cames.Done v w n g = absurd (n refl)
-hindered-few cames.Stopped v w n g = at-most-more 6 8 v w (omega arith) g.0.1
-hindered-few cames.Full v w n g = at-most-more 7 8 v w (omega arith) g.0.1
+hindered-few cames.Stopped v w n g = at-most-more (flush_steps v + 6) (flush_steps v + 8) v w (omega arith) g.0.1
+hindered-few cames.Full v w n g = at-most-more (flush_steps v + 7) (flush_steps v + 8) v w (omega arith) g.0.1
 hindered-few c v w n g = absurd g
 
 -- on the way in
@@ -197,7 +204,7 @@ pub lacked-before : (o none : Option Cache) (u v : View) → PassesFreely u v �
 lacked-before o none u v p some bare e l f = lacking_none o none v some bare e l (subst HasFree (sym (cache-kept u v p)) f)
 
 pub comes-filled :
-    (o none : Option Cache) (u v w : View) → PassesFreely u v → Ran v w → IfSome o (λ h. IsCached h v) → IfNone o (v.state.cache ≡ None) → none ≡ o → LacksFree none → TriesSome 5 3 u w → ComesFreely u w
+    (o none : Option Cache) (u v w : View) → PassesFreely u v → Ran v w → IfSome o (λ h. IsCached h v) → IfNone o (v.state.cache ≡ None) → none ≡ o → LacksFree none → TriesSome (flush_steps u + 5) 3 u w → ComesFreely u w
 comes-filled o none u v w p b some bare e l t =
     record {
       passed = v;

@@ -23,3 +23,6 @@ pub mod Searched
 pub mod Stamped
 pub mod Taken
 mod Known
+mod Entered
+mod Received
+pub mod Whoever

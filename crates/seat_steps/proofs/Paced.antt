@@ -4,8 +4,9 @@ use Rattle.std.specs.List.{range_with_len}
 use Rattle.std.proofs.lemmas.Bool.{and_from, and_parts, false≢true}
 use Rattle.std.specs.Prelude.{◌⊎◌, IfNone, IfSome}
 use Rattle.mark_core.specs.declared.kinds.Step.{Step}
-use Rattle.mark_core.specs.declared.kinds.Step.TheVariants.{AddStat, LeaveStep, Observe, ReadPhase, ReadSeason, Reset, StoreNew, StorePhase, StorePosition, StoreRoot}
+use Rattle.mark_core.specs.declared.kinds.Step.TheVariants.{AddStat, LeaveStep, Observe, ReadPhase, ReadSeason, Reset, StoreNew, StorePhase, StorePosition}
 use Rattle.mark_core.specs.declared.seat.CacheState.{CacheState}
+use Rattle.mark_core.specs.declared.seat.SeatState.{SeatState}
 use Rattle.gc_table.specs.Log.{Only, all_steps, event, events, steps_of}
 use Rattle.gc_table.specs.Running.{Ran, after_all}
 use Rattle.gc_table.specs.Seats.{Found, view_of}
@@ -36,7 +37,9 @@ use Rattle.cache_refills.specs.Pace.Pacing.{begins_where_due}
 use Rattle.cache_refills.specs.Trying.{EntersTo, PassesTo}
 use Rattle.cache_refills.specs.declared.trying.Pass.{Pass}
 use Rattle.cache_refills.specs.declared.trying.Pass.TheVariants as passes
+use Rattle.mutator_ops.specs.Flushing.{Flushes}
 use Rattle.seat_turns.specs.Coming.{GivesCache, LeavesTurn, StepsOut}
+use Rattle.seat_turns.proofs.Held.{flushes-only}
 use Rattle.seat_turns.specs.SeasonLooks.{LooksAtSeason}
 use Rattle.seat_steps.specs.Arriving.{Passes, Tries}
 use Rattle.seat_steps.specs.Causes.{LooksBy, LooksFreely, LooksTo}
@@ -153,6 +156,15 @@ carries-season v w r looks =
     (λ (read : (n : ℕ) × Found ReadSeason n v w). carries-events v w (event ReadSeason read.0 ∷ []) r (events-after v w ReadSeason read.0 read.1.0) refl refl refl)
     looks
 
+-- the roots that lag were stored
+pub carries-flushed : (v w : View) → Flushes v w → CarriesPace v w
+carries-flushed v w f =
+    record {
+      ran = f.ran;
+      unbegun = calm-unbegun v w (flushes-only stays_calm v w f (λ u. refl));
+      numbers = inl (ap (λ (s : SeatState). s.cache) f.state, only-changes v w f.ran (flushes-only leaves_numbers v w f (λ u. refl)));
+    }
+
 pub carries-out : (v w : View) → Ran v w → StepsOut v w → CarriesPace v w
 carries-out v w r o = carries-events v w (event (StorePosition v.state.made) v.state.made ∷ event LeaveStep o.0 ∷ []) r o.1 refl refl refl
 
@@ -172,13 +184,6 @@ given-back handed kept v w h e none n g =
 pub carries-given : (handed : Option Cache) (v w : View) → HasCache handed v → w.state.cache ≡ None → GivesCache handed v w → CarriesPace v w
 carries-given handed v w h none g =
     given-back handed None v w h refl none (calm-unbegun v w (only-more retires stays_calm (λ step e. answers-calm step (retires-answer step e)) v w g.only)) g.numbers
-
-own-cache : (o : Option Cache) (v : View) → IfSome o (λ h. IsCached h v) → IfNone o (v.state.cache ≡ None) → HasCache o v
-own-cache None v some none = none
-own-cache (Some h) v some none = some
-
-pub carries-own : (o handed : Option Cache) (v w : View) → IfSome o (λ h. IsCached h v) → IfNone o (v.state.cache ≡ None) → handed ≡ o → w.state.cache ≡ None → GivesCache handed v w → CarriesPace v w
-carries-own o handed v w some bare e none g = carries-given handed v w (subst (λ k. HasCache k v) (sym e) (own-cache o v some bare)) none g
 
 -- who is outside has no cache
 out-none : (w : View) → IsOut w → w.state.cache ≡ None
@@ -208,7 +213,7 @@ paces-none v = inl (carries-keeps v v (carries-none v))
 
 -- an object is made by steps that change nothing of this
 
-abbrev quiet : Step → Bool
+abbrev pub quiet : Step → Bool
 quiet (StorePhase to) = false
 quiet (AddStat which by down) = false
 quiet (Reset which) = false
@@ -230,10 +235,10 @@ fields-quiet : (c : ℕ) (ns : List ℕ) → each_quiet (map (λ i. StoreNew c i
 fields-quiet c [] = refl
 fields-quiet c (n ∷ ns) = fields-quiet c ns
 
-creating-quiet : (fields cell n word u : ℕ) → each_quiet (making_steps fields cell n word ++ StoreRoot u (cell + 1) ∷ []) ≡ true
-creating-quiet fields cell n word u =
-    quiet-join (making_steps fields cell n word) (StoreRoot u (cell + 1) ∷ [])
-    (quiet-join (nil_fields cell fields) (StoreNew cell fields n ∷ StoreNew cell (fields + 1) word ∷ []) (fields-quiet cell (range_with_len 0 fields)) refl) refl
+creating-quiet : (fields cell n word : ℕ) (last : Step) → quiet last ≡ true → each_quiet (making_steps fields cell n word ++ last ∷ []) ≡ true
+creating-quiet fields cell n word last e =
+    quiet-join (making_steps fields cell n word) (last ∷ [])
+    (quiet-join (nil_fields cell fields) (StoreNew cell fields n ∷ StoreNew cell (fields + 1) word ∷ []) (fields-quiet cell (range_with_len 0 fields)) refl) (and_from (quiet last) true e refl)
 
 quiet-numbers : (step : Step) → quiet step ≡ true → leaves_numbers step ≡ true
 quiet-numbers (AddStat which by down) e = absurd (false≢true e)
@@ -248,7 +253,7 @@ quiet-unbegun step n e = refl
 abbrev pub IsQuiet : View → View → Type 0
 IsQuiet v w = (never tries_marking (events v w) ≡ true) × ChangesBy [] v w
 
-pub creates-quiet : (fields cell n word u : ℕ) (v w : View) → Ran v w → steps_of (events v w) ≡ making_steps fields cell n word ++ StoreRoot u (cell + 1) ∷ [] → IsQuiet v w
-creates-quiet fields cell n word u v w r s =
-    let only : Only quiet v w = only-quiet (events v w) (ap each_quiet s ∙ creating-quiet fields cell n word u) in
+pub creates-quiet : (fields cell n word : ℕ) (last : Step) (v w : View) → quiet last ≡ true → Ran v w → steps_of (events v w) ≡ making_steps fields cell n word ++ last ∷ [] → IsQuiet v w
+creates-quiet fields cell n word last v w e r s =
+    let only : Only quiet v w = only-quiet (events v w) (ap each_quiet s ∙ creating-quiet fields cell n word last e) in
     (ap not (none-of-steps quiet tries_marking quiet-unbegun (events v w) only), only-changes v w r (only-more quiet leaves_numbers quiet-numbers v w only))

@@ -13,13 +13,14 @@ use Rattle.gc_cycle.specs.declared.counts.Refill.{Refill}
 use Rattle.gc_cycle.specs.declared.counts.Refill.TheVariants as refills
 use Rattle.mutator_ops.specs.Few.{AtMost}
 use Rattle.mutator_ops.proofs.Few.{at-most-join, at-most-more}
+use Rattle.seat_turns.specs.Standing.{flush_steps}
 use Rattle.seat_steps.specs.Pacing.{CarriesPace}
 use Rattle.seat_steps.specs.Causes.{ArrivesBy, GoesFreely, LacksBy}
 use Rattle.seat_steps.specs.Filling.{TriesOnce}
-use Rattle.seat_steps.specs.PaidTries.{CountsBeside, CountsMaking, CountsPiece, CountsTry, counts_after, counts_more}
+use Rattle.seat_steps.specs.PaidTries.{CountsComing, CountsMaking, CountsPiece, CountsTry, counts_after, counts_more}
 use Rattle.seat_steps.specs.declared.came.Came.{Came}
 use Rattle.seat_steps.specs.declared.came.Came.TheVariants as cames
-use Rattle.seat_steps.proofs.Filled.{tries-first, tries-last}
+use Rattle.seat_steps.proofs.Filled.{tries-first, tries-last, tries-looked}
 use Rattle.seat_steps.proofs.Found.{arrives-few}
 use Rattle.seat_steps.proofs.Searched.{seeks-first}
 
@@ -46,6 +47,9 @@ either-few (Err came) v w p q = arrives-few came v w q
 pub counts-first : (more earlier later a b : ℕ) (u v w : View) → Ran u v → AtMost more u v → CountsTry earlier later a b v w → CountsTry (more + earlier) later a b u w
 counts-first more earlier later a b u v w r few t = record { tried = t.tried; tries = tries-first more earlier later t.tried u v w r few t.tries; counts = t.counts }
 
+pub counts-looked : (later a b : ℕ) (u v w : View) → Ran u v → AtMost 2 u v → flush_steps v ≡ flush_steps u → CountsTry (flush_steps v + 3) later a b v w → CountsTry (flush_steps u + 5) later a b u w
+counts-looked later a b u v w r few same t = record { tried = t.tried; tries = tries-looked later t.tried u v w r few same t.tries; counts = t.counts }
+
 pub pieces-first : (more earlier later from most a b : ℕ) (u v w : View) → Ran u v → AtMost more u v → CarriesPace u v → CountsPiece earlier later from most a b v w → CountsPiece (more + earlier) later from most a b u w
 pieces-first more earlier later from most a b u v w r few e t =
     record { piece = t.piece; seeks = seeks-first more earlier from most (AtMost later) t.piece u v w r few e t.seeks; counts = t.counts }
@@ -55,34 +59,34 @@ module _ (h : Heap) (x : HeapSeat) (v w : View) (sits : Sits h x) (a : Ran (view
   known : (view_of x).shape.fields ≡ h.shape.fields
   known = ap (λ (sh : Shape). sh.fields) sits.1
 
-  after_try : (n m : ℕ) → CountsTry 5 8 n m (view_of x) v → CountsTry 5 ((view_of x).shape.fields + 11) n m (view_of x) w
+  after_try : (n m : ℕ) → CountsTry (flush_steps (view_of x) + 5) 8 n m (view_of x) v → CountsTry (flush_steps (view_of x) + 5) ((view_of x).shape.fields + 11) n m (view_of x) w
   after_try n m t =
       record {
         tried = t.tried;
         tries =
-            subst (λ (k : ℕ). TriesOnce 5 k t.tried (view_of x) w) (let same = known in omega (arith, same))
-            (tries-last 5 8 (h.shape.fields + 3) t.tried (view_of x) v w b few t.tries);
+            subst (λ (k : ℕ). TriesOnce (flush_steps (view_of x) + 5) k t.tried (view_of x) w) (let same = known in omega (arith, same))
+            (tries-last (flush_steps (view_of x) + 5) 8 (h.shape.fields + 3) t.tried (view_of x) v w b few t.tries);
         counts = t.counts;
       }
 
-  pub makes-counts : (n m : ℕ) → CountsBeside 8 5 8 n m (view_of x) v → CountsMaking n m (view_of x) w
+  pub makes-counts : (n m : ℕ) → CountsComing n m (view_of x) v → CountsMaking n m (view_of x) w
   makes-counts n m c =
       ⊎_elim
-      (λ (s : AtMost 8 (view_of x) v × (m ≡ n)).
+      (λ (s : AtMost (flush_steps (view_of x) + 8) (view_of x) v × (m ≡ n)).
       inl (
-        at-most-more (8 + (h.shape.fields + 3)) ((view_of x).shape.fields + 11) (view_of x) w (let same = known in omega (arith, same))
-            (at-most-join 8 (h.shape.fields + 3) (view_of x) v w a b s.0 few),
+        at-most-more (flush_steps (view_of x) + 8 + (h.shape.fields + 3)) (flush_steps (view_of x) + ((view_of x).shape.fields + 11)) (view_of x) w (let same = known in omega (arith, same))
+            (at-most-join (flush_steps (view_of x) + 8) (h.shape.fields + 3) (view_of x) v w a b s.0 few),
         s.1,
       ))
-      (λ (t : CountsTry 5 8 n m (view_of x) v). inr (after_try n m t))
+      (λ (t : CountsTry (flush_steps (view_of x) + 5) 8 n m (view_of x) v). inr (after_try n m t))
       c
 
 -- none was
-pub misses-counts : (n m : ℕ) (v w : View) → CountsBeside 8 5 8 n m v w → CountsMaking n m v w
+pub misses-counts : (n m : ℕ) (v w : View) → CountsComing n m v w → CountsMaking n m v w
 misses-counts n m v w c =
     ⊎_elim
-    (λ (s : AtMost 8 v w × (m ≡ n)). inl (at-most-more 8 (v.shape.fields + 11) v w (omega arith) s.0, s.1))
-    (λ (t : CountsTry 5 8 n m v w).
+    (λ (s : AtMost (flush_steps v + 8) v w × (m ≡ n)). inl (at-most-more (flush_steps v + 8) (flush_steps v + (v.shape.fields + 11)) v w (omega arith) s.0, s.1))
+    (λ (t : CountsTry (flush_steps v + 5) 8 n m v w).
     inr (record {
       tried = t.tried;
       tries =

@@ -29,14 +29,14 @@ use Rattle.cache_refills.specs.declared.pieces.Piece.TheVariants as pieces
 use Rattle.gc_cycle.specs.declared.counts.Refill.TheVariants as refills
 use Rattle.mutator_ops.specs.Few.{AtMost}
 use Rattle.mutator_ops.proofs.Few.{at-most-join, at-most-more, at-most-none}
-use Rattle.seat_turns.specs.Standing.{Works, plain_of, Halts, IsMutatorOutside}
+use Rattle.seat_turns.specs.Standing.{Works, plain_of, Halts, IsMutatorOutside, flush_steps}
 use Rattle.seat_turns.proofs.Seats.{kept-works, going-seen, mutator-kept}
 use Rattle.gc_cycle.specs.Statistics.{RoundNumbers}
 use Rattle.cache_refills.specs.Pace.Pacing.{begins_where_due}
 use Rattle.seat_steps.specs.Pacing.{CarriesPace, KeepsPace}
 use Rattle.seat_steps.proofs.Paced.{carries-none, paces-first, paces-try}
 use Rattle.seat_steps.specs.Causes.{ArrivesBy, GoesFreely, HasFree, PassesBy, PassesFreely}
-use Rattle.seat_steps.specs.Seeking.{CachedBy, FailsBy, MakesHere, MakesOwn, RefillsBy, SeeksOnce, SoughtBy, StandsAfter, TriesPiece}
+use Rattle.seat_steps.specs.Seeking.{CachedBy, FailsBy, RefillFailsBy, MakesHere, MakesOwn, RefillsBy, SeeksOnce, SoughtBy, StandsAfter, TriesPiece}
 use Rattle.seat_steps.specs.Arriving.{Arrives, LeavesWorld, Passes, Refills, Tries}
 use Rattle.seat_steps.specs.declared.seeking.Sought.{Sought}
 use Rattle.seat_steps.specs.declared.seeking.Sought.TheVariants as soughts
@@ -140,16 +140,19 @@ seeks-first more before from most Later p u v w r few e t =
     }
 
 -- the cache was given up first
-module _ (from most : ℕ) (u v w : View) (r : Ran u v) (few : AtMost 3 u v) (e : CarriesPace u v) where
-  pub given-up : (s : Sought) → SoughtBy 0 from most s v w → RefillsBy from most s u w
-  given-up soughts.Free k = (k.0, inr (k.1.0, k.1.1, seeks-first 3 0 from most GoesFreely (pieces.Cache k.1.0 k.1.1) u v w r few e k.1.2))
-  given-up (soughts.Next n) k = seeks-first 3 0 from most GoesFreely (pieces.Next n) u v w r few e k
-  given-up soughts.Ended k = seeks-first 3 0 from most GoesFreely pieces.Ended u v w r few e k
-  given-up soughts.MarkingDone k = seeks-first 3 0 from most GoesFreely pieces.MarkingDone u v w r few e k
+module _ (from most : ℕ) (u v w : View) (r : Ran u v) (few : AtMost (flush_steps u + 3) u v) (e : CarriesPace u v) where
+  before : (Later : View → View → Type 0) (p : Piece) → SeeksOnce 0 Later from most p v w → SeeksOnce (flush_steps u + 3) Later from most p u w
+  before Later p k = subst (λ (n : ℕ). SeeksOnce n Later from most p u w) (let z : flush_steps u + 3 + 0 ≡ flush_steps u + 3 = omega arith in z) (seeks-first (flush_steps u + 3) 0 from most Later p u v w r few e k)
 
-  pub fails-first : (c : Came) → Ran v w → FailsBy 0 from most c v w → FailsBy 3 from most c u w
-  fails-first cames.Stopped q k = (found-right u v w r q k.0, (k.1.0, seeks-first 3 0 from most (AtMost 8) k.1.0 u v w r few e k.1.1))
-  fails-first cames.Full q k = ((full-right u v w r q k.0.0, k.0.1), (k.1.0, seeks-first 3 0 from most (AtMost 8) k.1.0 u v w r few e k.1.1))
+  pub given-up : (s : Sought) → SoughtBy 0 from most s v w → RefillsBy from most s u w
+  given-up soughts.Free k = (k.0, inr (k.1.0, k.1.1, before GoesFreely (pieces.Cache k.1.0 k.1.1) k.1.2))
+  given-up (soughts.Next n) k = before GoesFreely (pieces.Next n) k
+  given-up soughts.Ended k = before GoesFreely pieces.Ended k
+  given-up soughts.MarkingDone k = before GoesFreely pieces.MarkingDone k
+
+  pub fails-first : (c : Came) → Ran v w → FailsBy 0 from most c v w → RefillFailsBy from most c u w
+  fails-first cames.Stopped q k = (found-right u v w r q k.0, (k.1.0, before (AtMost 8) k.1.0 k.1.1))
+  fails-first cames.Full q k = ((full-right u v w r q k.0.0, k.0.1), (k.1.0, before (AtMost 8) k.1.0 k.1.1))
   fails-first c q k = k
 
 -- who tried to come to its turn and hasn't left the world

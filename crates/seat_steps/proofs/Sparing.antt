@@ -23,7 +23,7 @@ use Rattle.gc_table.specs.declared.seat.HeapSeat.{HeapSeat}
 use Rattle.seat_turns.specs.Standing.{Halts, IsMutator, plain_of}
 use Rattle.seat_turns.proofs.Seats.{kept-heap, mutator-kept}
 use Rattle.seat_steps.specs.Collecting.{Collects}
-use Rattle.seat_steps.specs.Stepping.{KeepsAll}
+use Rattle.seat_steps.specs.Stepping.{KeepsAll, KeepsCycle, KeepsRest}
 use Rattle.seat_steps.specs.declared.stepper.Stepper.{Stepper}
 
 goes_fills : (step : Step) → goes_on step ≡ true → fills_part step ≡ true
@@ -106,12 +106,12 @@ sits-in g h s e sits = subst (λ (i : Heap). Sits i s) (sym e) sits
 pub sits-on : (g h : Heap) (s : HeapSeat) → g ≡ h → Sits g s → Sits h s
 sits-on g h s e sits = subst (λ (i : Heap). Sits i s) e sits
 
--- so a stepper keeps all
+-- so a stepper keeps the rest
 abbrev rest_of : Stepper → ℕ × Bool × ℕ × ℕ × ℕ
 rest_of x = (x.name, x.in_stops, x.paid, x.block, x.seen)
 
-pub keeps-all : (x y : Stepper) → Kept x.seat y.seat → arc_value y.heap ≡ arc_value x.heap → rest_of y ≡ rest_of x → KeepsAll x y
-keeps-all x y k world rest =
+pub keeps-rest : (x y : Stepper) → Kept x.seat y.seat → arc_value y.heap ≡ arc_value x.heap → rest_of y ≡ rest_of x → KeepsRest x y
+keeps-rest x y k world rest =
     record {
       heap = k.same;
       leaves = k.leaves;
@@ -125,6 +125,10 @@ keeps-all x y k world rest =
             seen = ap (λ (t : ℕ × Bool × ℕ × ℕ × ℕ). t.4) rest;
           };
     }
+
+-- and all, if it tells of the same collection
+pub keeps-all : (x y : Stepper) → KeepsRest x y → KeepsCycle x y → KeepsAll x y
+keeps-all x y k cycle = record { heap = k.heap; leaves = k.leaves; world = k.world; name_is = k.name_is; stops = k.stops; search = k.search; cycle = cycle }
 
 -- and its collection goes on
 pub goes-on : {Stands Since : View → Type 0} (g h : Heap) (x y : HeapSeat) → g ≡ h → IsMutator (view_of x) → Kept x y → Sits g y → Stands (view_of y) → Since (view_of y) → Collects Stands Since h y

@@ -10,7 +10,7 @@ use Rattle.mark_core.specs.Steps.MutatorSteps.{seat_variable as word_in, weak_re
 use Rattle.mark_core.specs.Weak.{IsGone, IsWeak}
 use Rattle.mark_core.specs.declared.kinds.Event.{Event}
 use Rattle.mark_core.specs.declared.kinds.Step.{Step}
-use Rattle.mark_core.specs.declared.kinds.Step.TheVariants.{ReadIdent, ReadWeak, StoreRoot}
+use Rattle.mark_core.specs.declared.kinds.Step.TheVariants.{HoldRoot, ReadIdent, ReadWeak}
 use Rattle.mark_core.specs.declared.seat.SeatState.{SeatState}
 use Rattle.mark_core.proofs.Blocks.BlocksStopped.{in-place}
 use Rattle.mark_core.proofs.Known.{Acted, acts}
@@ -40,7 +40,7 @@ use Rattle.seat_steps.specs.Deaths.{AsksFor}
 use Rattle.seat_steps.specs.Taken.{FindsDeath, FindsLost, TakenStays}
 
 -- what a call did stands behind what was there
-log_is : (v w : View) → Ran v w → w.log ≡ v.log ++ events v w
+pub log_is : (v w : View) → Ran v w → w.log ≡ v.log ++ events v w
 log_is v w ran = let g = ran-grows v w ran in g.1 ∙ ap (λ (l : List Entry). v.log ++ l) (sym (events-of v w g.0 g.1))
 
 pub taken-stays : TakenStays
@@ -53,12 +53,12 @@ takes-it name u weak v x t =
     let finds = t.takes.finds in
     let own : View = t.takes.own in
     let word : ℕ = word_in v.state u in
-    let reads : events own x ≡ event (ReadWeak weak.place) finds.bits ∷ event (ReadIdent weak.place) (identity_of weak) ∷ event (StoreRoot u word) word ∷ [] =
-    subst (λ (c : ℕ). events own x ≡ event (ReadWeak c) finds.bits ∷ event (ReadIdent c) (identity_of weak) ∷ event (StoreRoot u word) word ∷ []) (sym t.place_is) finds.events_are in
+    let reads : events own x ≡ event (ReadWeak weak.place) finds.bits ∷ event (ReadIdent weak.place) (identity_of weak) ∷ event (HoldRoot u word) finds.old ∷ [] =
+    subst (λ (c : ℕ). events own x ≡ event (ReadWeak c) finds.bits ∷ event (ReadIdent c) (identity_of weak) ∷ event (HoldRoot u word) finds.old ∷ []) (sym t.place_is) finds.events_are in
     record {
       bits = finds.bits;
       before = own.log;
-      later = event (StoreRoot u word) word ∷ [];
+      later = event (HoldRoot u word) finds.old ∷ [];
       published = subst (λ (c : ℕ). has_bit finds.bits (c % block_cells) ≡ true) (sym t.place_is) t.takes.published;
       reads = log_is own x finds.ran ∙ ap (λ (l : List Entry). own.log ++ l) reads;
     }
@@ -102,21 +102,21 @@ other-lost c id other bits v f h differs =
     })
 
 -- the words of the events of a call
-seen-are : (v x : View) (es : List Entry) → Ran v x → events v x ≡ es → AllSeen es v
+pub seen-are : (v x : View) (es : List Entry) → Ran v x → events v x ≡ es → AllSeen es v
 seen-are v x es ran e = subst (λ (fs : List Entry). AllSeen fs v) e ran.seen
 
 other-found :
-    (u c id other bits : ℕ) (v x : View) → Ran v x → events v x ≡ event (ReadWeak c) bits ∷ event (ReadIdent c) other ∷ event (StoreRoot u 0) 0 ∷ [] → HasWeak c id v.log → other ≢ id
+    (u c id other bits old : ℕ) (v x : View) → Ran v x → events v x ≡ event (ReadWeak c) bits ∷ event (ReadIdent c) other ∷ event (HoldRoot u 0) old ∷ [] → HasWeak c id v.log → other ≢ id
     → FindsLost id (ReadIdent c) other (after (ReadWeak c) bits v)
-other-found u c id other bits v x ran are h differs = other-lost c id other bits v ((seen-are v x (event (ReadWeak c) bits ∷ event (ReadIdent c) other ∷ event (StoreRoot u 0) 0 ∷ []) ran are).1.0.found refl) h differs
+other-found u c id other bits old v x ran are h differs = other-lost c id other bits v ((seen-are v x (event (ReadWeak c) bits ∷ event (ReadIdent c) other ∷ event (HoldRoot u 0) old ∷ []) ran are).1.0.found refl) h differs
 
 none-found : (more : List Entry) (c id bits : ℕ) (v x : View) → Ran v x → events v x ≡ event (ReadWeak c) bits ∷ more → HasWeak c id v.log → weak_reference v.state c bits ≡ 0 → FindsLost id (ReadWeak c) bits v
 none-found more c id bits v x ran are h none = none-lost c id bits v ((seen-are v x (event (ReadWeak c) bits ∷ more) ran are).0.found refl) h none
 
-pub upgrade-told : (u c id : ℕ) (v x : View) → HasWeak c id v.log → Upgrades u c id false v x → FindsDeath (event (StoreRoot u 0) 0 ∷ []) u c id v x
-upgrade-told u c id v x h (inl e) = inl (e.bits, e.events_are, none-found (event (StoreRoot u 0) 0 ∷ []) c id e.bits v x e.ran e.events_are h e.none)
-upgrade-told u c id v x h (inr (other, differs, e)) = inr (e.bits, other, e.events_are, other-found u c id other e.bits v x e.ran e.events_are h differs)
+pub upgrade-told : (u c id : ℕ) (v x : View) → HasWeak c id v.log → Upgrades u c id false v x → FindsDeath (λ old. event (HoldRoot u 0) old ∷ []) u c id v x
+upgrade-told u c id v x h (inl e) = inl (e.bits, e.old, e.events_are, none-found (event (HoldRoot u 0) e.old ∷ []) c id e.bits v x e.ran e.events_are h e.none)
+upgrade-told u c id v x h (inr (other, differs, e)) = inr (e.bits, other, e.old, e.events_are, other-found u c id other e.bits e.old v x e.ran e.events_are h differs)
 
-pub asking-told : (u c id : ℕ) (v x : View) → HasWeak c id v.log → AsksFor u c id false v x → FindsDeath [] u c id v x
-asking-told u c id v x h (inl e) = inl (e.bits, e.events_are, none-found [] c id e.bits v x e.ran e.events_are h e.none)
-asking-told u c id v x h (inr (other, differs, e)) = inr (e.bits, other, e.events_are, other-found u c id other e.bits v x e.ran e.events_are h differs)
+pub asking-told : (u c id : ℕ) (v x : View) → HasWeak c id v.log → AsksFor u c id false v x → FindsDeath (λ old. []) u c id v x
+asking-told u c id v x h (inl e) = inl (e.bits, 0, e.events_are, none-found [] c id e.bits v x e.ran e.events_are h e.none)
+asking-told u c id v x h (inr (other, differs, e)) = inr (e.bits, other, e.old, e.events_are, other-found u c id other e.bits e.old v x e.ran e.events_are h differs)

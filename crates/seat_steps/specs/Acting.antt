@@ -9,7 +9,7 @@ use Rattle.mutator_ops.specs.Few.{AtMost}
 use Rattle.mutator_ops.specs.Sharing.{LendsFound}
 use Rattle.seat_steps.specs.declared.came.Came.{Came}
 use Rattle.seat_steps.specs.declared.came.Came.TheVariants as cames
-use Rattle.seat_steps.specs.Stepping.{KeepsSearch, fields_in, is_collecting, shares}
+use Rattle.seat_steps.specs.Stepping.{KeepsCycle, KeepsSearch, fields_in, is_collecting, shares}
 use Rattle.seat_steps.specs.declared.stepper.Stage.TheVariants.{Inside, Outside}
 use Rattle.seat_steps.specs.declared.stepper.Stepper.{Stepper}
 
@@ -46,6 +46,7 @@ pub record StepperActs (range : Type 0) (k : ℕ) (P : View → View → Type 0)
   pub name_is : y.name ≡ x.name
   pub stops : y.in_stops ≡ x.in_stops
   pub search : KeepsSearch x y
+  pub cycle : KeepsCycle x y
 
 -- why a call isn't done: objects aren't shared, a number is out of range, or the stepper is outside or collects; it is as it was
 abbrev pub DeclinesToAct : Came → Type 0 → Stepper → Stepper → Type 0

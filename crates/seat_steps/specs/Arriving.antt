@@ -5,7 +5,7 @@ use Rattle.plain_heap.specs.declared.operation.Op.{Op}
 use Rattle.gc_table.specs.PlainSteps.{HasSeenPhase}
 use Rattle.gc_table.specs.Rule.{KnowsFull}
 use Rattle.gc_table.specs.Seats.{view_of}
-use Rattle.alloc_cache.specs.Caching.{IsCached, is_whole}
+use Rattle.alloc_cache.specs.Caching.{IsCached}
 use Rattle.alloc_cache.specs.declared.cache.Cache.{Cache}
 use Rattle.gc_cycle.specs.Answering.{HasCache}
 use Rattle.gc_cycle.specs.declared.counts.Refill.{Refill}
@@ -14,7 +14,7 @@ use Rattle.cache_refills.specs.declared.trying.Pass.{Pass}
 use Rattle.cache_refills.specs.declared.trying.Pass.TheVariants as passes
 use Rattle.gc_table.specs.declared.seat.Heap.{Heap}
 use Rattle.gc_table.specs.declared.seat.HeapSeat.{HeapSeat}
-use Rattle.seat_turns.specs.Standing.{Halts, IsAtTurn, IsMutatorOutside, Works, plain_of}
+use Rattle.seat_turns.specs.Standing.{Halts, HoldsTurn, HoldsWorld, IsMutatorOutside, Works, plain_of}
 use Rattle.seat_steps.specs.Doing.{Does}
 use Rattle.seat_steps.specs.declared.came.Came.{Came}
 use Rattle.seat_steps.specs.declared.came.Came.TheVariants as cames
@@ -37,9 +37,9 @@ HasPassed h s = (kept : Option Cache) × Passes passes.Going h s kept
 
 -- where it is after it looked at its turn whether anything hinders it
 abbrev pub HasLooked : Came → Heap → HeapSeat → Type 0
-HasLooked cames.Done h s = IsAtTurn h s
-HasLooked cames.Stopped h s = Works h s × IsTrue (is_whole (view_of s).state.cache)
-HasLooked cames.Full h s = Works h s × IsTrue (is_whole (view_of s).state.cache) × KnowsFull (view_of s)
+HasLooked cames.Done h s = HoldsTurn h s
+HasLooked cames.Stopped h s = HoldsWorld h s
+HasLooked cames.Full h s = HoldsWorld h s × KnowsFull (view_of s)
 HasLooked c h s = ⊥
 
 -- where it is after it asked for a cache
@@ -55,19 +55,19 @@ LeavesWorld c h s = ⊥
 
 -- where it is after it tried to come to its turn
 abbrev pub Arrives : Came → Heap → HeapSeat → Type 0
-Arrives cames.Done h s = IsAtTurn h s
+Arrives cames.Done h s = HoldsTurn h s
 Arrives cames.Stopped h s = IsMutatorOutside h s
 Arrives cames.Full h s = IsMutatorOutside h s × KnowsFull (view_of s)
 Arrives c h s = ⊥
 
 -- where it is after it came to no cell
 abbrev pub LacksCell : Came → Heap → HeapSeat → Type 0
-LacksCell cames.NoCell h s = IsAtTurn h s
+LacksCell cames.NoCell h s = HoldsTurn h s
 LacksCell cames.Stopped h s = IsMutatorOutside h s
 LacksCell cames.Full h s = IsMutatorOutside h s × KnowsFull (view_of s)
 LacksCell c h s = ⊥
 
 -- what making an object came to, if the section may make one
 abbrev pub MakesOne : Came → Op → Heap → HeapSeat → HeapSeat → Type 0
-MakesOne cames.Done op h x y = IsAtTurn h y × Does op h x y
+MakesOne cames.Done op h x y = HoldsTurn h y × Does op h x y
 MakesOne c op h x y = LacksCell c h y × (plain_of y ≡ plain_of x)

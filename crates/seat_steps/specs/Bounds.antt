@@ -4,12 +4,13 @@
 -- not on the number of cells, cards or roots.
 use Rattle.std.specs.Prelude.{ℕ, ◌≡◌, ◌≤◌, ◌+◌, ◌*◌, Bool}
 use Rattle.gc_table.specs.Running.{Ran}
-use Rattle.gc_table.specs.Seats.{Across}
+use Rattle.gc_table.specs.Seats.{Across, view_of}
 use Rattle.gc_table.specs.declared.view.View.{View}
 use Rattle.mark_core.specs.Cards.{card_cells}
 use Rattle.tracer.specs.StepBounds.{recycle_steps, trace_steps}
 use Rattle.card_clean.specs.StepBounds.{clean_some_steps, see_to_steps}
 use Rattle.mutator_ops.specs.Few.{AtMost}
+use Rattle.seat_turns.specs.Standing.{flush_steps}
 use Rattle.seat_steps.specs.Amounts.{DoesFew, DrawsNone, PassesFew}
 use Rattle.seat_steps.specs.Passes.{CleansFewCards, SeesFewRoots}
 use Rattle.seat_steps.specs.declared.came.Came.{Came}
@@ -51,8 +52,8 @@ pub record EndsInFew (v w : View) : Type 0 where
 -- how much is done at most from one stage to another
 abbrev pub IsBounded : Stage → Stage → ℕ → Stepper → Stepper → Type 0
 IsBounded stages.Outside stages.Outside most x y = Across (AtMost 0) x.seat y.seat
-IsBounded stages.Inside stages.Stopping most x y = Across (DoesFew 6) x.seat y.seat
-IsBounded stages.Inside stages.Outside most x y = Across (DoesFew 6) x.seat y.seat
+IsBounded stages.Inside stages.Stopping most x y = Across (DoesFew (flush_steps (view_of x.seat) + 6)) x.seat y.seat
+IsBounded stages.Inside stages.Outside most x y = Across (DoesFew (flush_steps (view_of x.seat) + 6)) x.seat y.seat
 IsBounded stages.Stopping stages.Stopping most x y = Across (DoesFew 1) x.seat y.seat
 IsBounded stages.Stopping stages.Rooting most x y = Across (DoesFew 5) x.seat y.seat
 IsBounded stages.Stopping stages.Outside most x y = Across (DoesFew 5) x.seat y.seat

@@ -16,8 +16,9 @@ use Rattle.gc_cycle.specs.Polling.{saw_full}
 use Rattle.cache_refills.specs.Trying.{EntersOnce}
 use Rattle.cache_refills.specs.declared.trying.Pass.{Pass}
 use Rattle.cache_refills.specs.declared.trying.Pass.TheVariants as passes
-use Rattle.seat_turns.specs.Coming.{LeavesTurn}
+use Rattle.seat_turns.specs.Coming.{FlushesFirst, LeavesTurn}
 use Rattle.seat_turns.specs.SeasonLooks.{LooksAtSeason, SeesOther}
+use Rattle.seat_turns.specs.Standing.{flush_steps}
 use Rattle.seat_steps.specs.Filling.{FewBesides, TriesOnce, TriesSome, filling_steps, make_steps, search_steps}
 use Rattle.seat_steps.specs.Pacing.{CarriesPace, Paces}
 use Rattle.seat_steps.specs.declared.came.Came.{Came}
@@ -53,9 +54,9 @@ FoundFull v w = IsTrue (saw_full (events v w)) × KnowsFull w
 abbrev pub FoundFullIn : ℕ → View → View → Type 0
 FoundFullIn most v w = FoundFull v w × AtMost most v w
 
--- a try to get a cell found none, or marking done: 5 steps before it at most, and 3 after it, and this many in all
+-- a try to get a cell found none, or marking done: before it 5 steps at most and those that store the roots that lag, and 3 after it, and this many in all
 abbrev pub FoundNoCell : View → View → Type 0
-FoundNoCell v w = TriesOnce 5 3 None v w × AtMost (search_steps v.shape + 8) v w
+FoundNoCell v w = TriesOnce (flush_steps v + 5) 3 None v w × AtMost (search_steps v.shape + (flush_steps v + 8)) v w
 
 -- one look at the world found no stop, and one at the phase followed, and nothing else was done
 abbrev pub LooksFreely : View → View → Type 0
@@ -83,11 +84,11 @@ LooksTo cames.Stopped v w = (found : ℕ) × IsTrue (has_flag found) × (events 
 LooksTo cames.Full v w = LooksFreely v w × FoundFull v w
 LooksTo c v w = ⊥
 
--- so it looked, and then it gave up the cache that it had, stored its position, and left
+-- so it looked, and then it stored the roots that lagged, gave up the cache that it had, stored its position, and left
 pub record LeavesAfterLook (c : Came) (v w : View) : Type 0 where
   pub looked : View
   pub looks : LooksTo c v looked
-  pub leaves : LeavesTurn looked w
+  pub leaves : FlushesFirst LeavesTurn looked w
 
 -- one look at the world found no stop, and one at the phase followed, and nothing else was done
 pub record PassesFreely (v w : View) : Type 0 where
@@ -114,7 +115,7 @@ pub record ComesFreely (v w : View) : Type 0 where
   pub passes : PassesFreely v passed
   pub ran : Ran passed w
   pub few : HasFree v.state.cache → AtMost 2 v w
-  pub besides : FewBesides 2 5 3 v w
+  pub besides : FewBesides 2 (flush_steps v + 5) 3 v w
 
 -- a safe point found no stop; if the seat had a cache with a free cell, an object was made by this many steps; else by this many, and a try to get a cell; and by
 -- this many in all
@@ -123,8 +124,8 @@ pub record MakesFreely (v w : View) : Type 0 where
   pub passes : PassesFreely v passed
   pub ran : Ran passed w
   pub few : HasFree v.state.cache → AtMost (v.shape.fields + 5) v w
-  pub besides : FewBesides (v.shape.fields + 5) 5 (v.shape.fields + 6) v w
-  pub longest : AtMost (make_steps v.shape) v w
+  pub besides : FewBesides (v.shape.fields + 5) (flush_steps v + 5) (v.shape.fields + 6) v w
+  pub longest : AtMost (make_steps v.shape + flush_steps v) v w
   pub paces : Paces v w
 
 -- what a mutator found that came to its turn, or left
@@ -137,8 +138,8 @@ ArrivesBy c v w = ⊥
 -- what it found at a safe point
 abbrev pub PassesBy : Came → View → View → Type 0
 PassesBy cames.Done v w = PassesFreely v w
-PassesBy cames.Stopped v w = FoundStopIn 6 v w × LeavesAfterLook cames.Stopped v w
-PassesBy cames.Full v w = FoundFullIn 7 v w × LeavesAfterLook cames.Full v w
+PassesBy cames.Stopped v w = FoundStopIn (flush_steps v + 6) v w × LeavesAfterLook cames.Stopped v w
+PassesBy cames.Full v w = FoundFullIn (flush_steps v + 7) v w × LeavesAfterLook cames.Full v w
 PassesBy c v w = ⊥
 
 -- what it found on its way in
@@ -155,17 +156,17 @@ LacksBy cames.Stopped v w = FoundStopIn 8 v w
 LacksBy cames.Full v w = FoundFullIn 8 v w
 LacksBy c v w = ⊥
 
--- what it found that gave up a cache without a free cell, and tried to get another
-abbrev pub FillsBy : Came → View → View → Type 0
-FillsBy cames.NoCell v w = TriesOnce 3 3 None v w
-FillsBy cames.Stopped v w = FoundStop v w × TriesSome 3 8 v w
-FillsBy cames.Full v w = FoundFull v w × TriesSome 3 8 v w
-FillsBy c v w = ⊥
+-- what it found that gave up a cache without a free cell, by this many steps at most, and tried to get another
+abbrev pub FillsBy : ℕ → Came → View → View → Type 0
+FillsBy before cames.NoCell v w = TriesOnce before 3 None v w
+FillsBy before cames.Stopped v w = FoundStop v w × TriesSome before 8 v w
+FillsBy before cames.Full v w = FoundFull v w × TriesSome before 8 v w
+FillsBy before c v w = ⊥
 
 -- what it found that was to make an object
 abbrev pub MakesBy : Came → View → View → Type 0
 MakesBy cames.Done v w = MakesFreely v w
 MakesBy cames.NoCell v w = FoundNoCell v w × Paces v w
-MakesBy cames.Stopped v w = FoundStopIn (filling_steps v.shape + 13) v w × FewBesides 8 5 8 v w × Paces v w
-MakesBy cames.Full v w = FoundFullIn (filling_steps v.shape + 13) v w × FewBesides 8 5 8 v w × Paces v w
+MakesBy cames.Stopped v w = FoundStopIn (filling_steps v.shape + (flush_steps v + 13)) v w × FewBesides (flush_steps v + 8) (flush_steps v + 5) 8 v w × Paces v w
+MakesBy cames.Full v w = FoundFullIn (filling_steps v.shape + (flush_steps v + 13)) v w × FewBesides (flush_steps v + 8) (flush_steps v + 5) 8 v w × Paces v w
 MakesBy c v w = ⊥

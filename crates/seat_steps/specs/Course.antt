@@ -12,6 +12,7 @@ use Rattle.gc_cycle.specs.Cycles.{collects_exactly}
 use Rattle.gc_cycle.specs.Moments.{begins}
 use Rattle.gc_cycle.specs.Stepping.{AsksOnce, EndsCollection, FindsStopped}
 use Rattle.gc_cycle.specs.declared.counts.Counts.{Counts}
+use Rattle.mutator_ops.specs.Flushing.{Flushes}
 use Rattle.seat_turns.specs.Coming.{GivesCache, StepsOut, WithOwn}
 use Rattle.seat_steps.specs.Asked.{HasAsked}
 use Rattle.seat_steps.specs.Causes.{ArrivesBy, FoundFull}
@@ -25,10 +26,12 @@ pub record CollectsSinceAsked (exact : Bool) (w : View) : Type 0 where
   pub frees : FreesBetween asked.asked w
   pub collects : IsTrue exact → IsTrue (collects_exactly w.shape (begins start) (events start w))
 
--- the seat gave up its cache, if it had one, stored its position, left, and asked for the flag: it is the seat's own if it was down
+-- the seat stored the roots that lagged, gave up its cache, if it had one, stored its position, left, and asked for the flag: it is the seat's own if it was down
 pub record AsksForStop (yours : Bool) (v w : View) : Type 0 where
+  pub flushed : View
+  pub flushes : Flushes v flushed
   pub retired : View
-  pub gives : WithOwn GivesCache v retired
+  pub gives : WithOwn GivesCache flushed retired
   pub asks : AsksOnce retired.state.made yours retired w
 
 -- the world was found stopped and the phase read; then the drain began. A precise collection is to mark once more if a cycle was marking. It is exact if it is

@@ -1,11 +1,11 @@
 -- How a stepper is made of a resting seat, and comes apart into one.
-use Rattle.std.specs.Prelude.{◌≡◌, IsTrue}
+use Rattle.std.specs.Prelude.{◌≡◌, ◌+◌, IsTrue}
 use Rattle.gc_table.specs.Seats.{Across}
 use Rattle.gc_table.specs.declared.view.View.{View}
 use Rattle.mutator_ops.specs.Few.{AtMost}
-use Rattle.seat_turns.specs.Coming.{LeavesTurn}
+use Rattle.seat_turns.specs.Coming.{FlushesFirst, LeavesTurn}
 use Rattle.seat_turns.specs.Sharing.{LeavesHeap}
-use Rattle.seat_turns.specs.Standing.{plain_of}
+use Rattle.seat_turns.specs.Standing.{flush_steps, plain_of}
 use Rattle.seat_steps.specs.Stepping.{heap_of_stepper, is_collecting}
 use Rattle.seat_steps.specs.declared.resting.RestingSeat.{RestingSeat}
 use Rattle.seat_steps.specs.declared.stepper.Stage.{Stage}
@@ -27,10 +27,11 @@ pub record IsSteppedBy (r : RestingSeat) (s : Stepper) : Type 0 where
   pub stops : s.in_stops ≡ r.in_stops
   pub new : IsNewStepper s
 
--- what letting go of it did, by where the stepper was: nothing; or the cache was given up, the position stored, and the world left, by 5 steps at most
+-- what letting go of it did, by where the stepper was: nothing; or the roots that lagged were stored, the cache was given up, the position
+-- stored, and the world left, by 5 steps at most beside those roots
 abbrev pub StopsFrom : Stage → View → View → Type 0
 StopsFrom Outside v w = w ≡ v
-StopsFrom Inside v w = LeavesTurn v w × AtMost 5 v w
+StopsFrom Inside v w = FlushesFirst LeavesTurn v w × AtMost (flush_steps v + 5) v w
 StopsFrom stage v w = ⊥
 
 -- the seat is this stepper's, which has left: neither the objects nor the variables changed

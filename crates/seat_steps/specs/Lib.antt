@@ -24,3 +24,4 @@ pub mod Pacing
 pub mod PaidTries
 pub mod Seeking
 pub mod Helping
+pub mod Received

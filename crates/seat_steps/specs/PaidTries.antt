@@ -6,6 +6,7 @@ use Rattle.gc_cycle.specs.declared.counts.Refill.TheVariants as refills
 use Rattle.cache_refills.specs.Pieces.{refill_of}
 use Rattle.cache_refills.specs.declared.pieces.Piece.{Piece}
 use Rattle.mutator_ops.specs.Few.{AtMost}
+use Rattle.seat_turns.specs.Standing.{flush_steps}
 use Rattle.seat_steps.specs.Filling.{TriesOnce}
 use Rattle.seat_steps.specs.Seeking.{SeeksOnce}
 
@@ -30,7 +31,11 @@ CountsBeside most earlier later before after v w = (AtMost most v w × (after �
 
 -- so on the way to a new object
 abbrev pub CountsMaking : ℕ → ℕ → View → View → Type 0
-CountsMaking before after v w = CountsBeside (v.shape.fields + 11) 5 (v.shape.fields + 11) before after v w
+CountsMaking before after v w = CountsBeside (flush_steps v + (v.shape.fields + 11)) (flush_steps v + 5) (v.shape.fields + 11) before after v w
+
+-- and on the way to a free cell
+abbrev pub CountsComing : ℕ → ℕ → View → View → Type 0
+CountsComing before after v w = CountsBeside (flush_steps v + 8) (flush_steps v + 5) 8 before after v w
 
 -- a piece of a search for a cell was made, and what it paid was counted
 pub record CountsPiece (earlier later from most before after : ℕ) (v w : View) : Type 0 where
@@ -40,4 +45,4 @@ pub record CountsPiece (earlier later from most before after : ℕ) (v w : View)
 
 -- nothing was done, or a piece was made
 abbrev pub CountsRefill : ℕ → ℕ → ℕ → ℕ → View → View → Type 0
-CountsRefill from most before after v w = ((w ≡ v) × (after ≡ before)) ⊎ CountsPiece 3 8 from most before after v w
+CountsRefill from most before after v w = ((w ≡ v) × (after ≡ before)) ⊎ CountsPiece (flush_steps v + 3) 8 from most before after v w

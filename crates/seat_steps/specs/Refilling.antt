@@ -12,12 +12,13 @@ use Rattle.cache_refills.specs.Pace.StepBounds.{payment_steps}
 use Rattle.cache_refills.specs.Pieces.{SeesBlocks}
 use Rattle.cache_refills.specs.declared.pieces.Piece.{Piece}
 use Rattle.cache_refills.specs.declared.pieces.Piece.TheVariants as pieces
+use Rattle.seat_turns.specs.Standing.{flush_steps}
 use Rattle.seat_steps.specs.Causes.{GoesFreely}
-use Rattle.seat_steps.specs.Seeking.{CachedBy, FailsBy, RefillsBy, SeeksOnce}
+use Rattle.seat_steps.specs.Seeking.{CachedBy, RefillFailsBy, RefillsBy, SeeksOnce}
 use Rattle.seat_steps.specs.declared.seeking.Sought.TheVariants as soughts
 use Rattle.seat_steps.specs.declared.came.Came.{Came}
 use Rattle.seat_steps.specs.declared.came.Came.TheVariants as cames
-use Rattle.seat_steps.specs.Stepping.{KeepsAll, KeepsHeap, KeepsPlace, KeepsSearch, StepperDoes, fields_in, heap_of_stepper, is_collecting}
+use Rattle.seat_steps.specs.Stepping.{KeepsAll, KeepsCycle, KeepsHeap, KeepsPlace, KeepsSearch, StepperDoes, fields_in, heap_of_stepper, is_collecting}
 use Rattle.seat_steps.specs.Steps.{shape_of}
 use Rattle.seat_steps.specs.declared.stepper.Stage.TheVariants.{Inside, Outside}
 use Rattle.seat_steps.specs.declared.stepper.Stepper.{Stepper}
@@ -59,6 +60,7 @@ pub record NotesSeen (number next : ℕ) (came : Came) (x y : Stepper) : Type 0 
   pub name_is : y.name ≡ x.name
   pub stops : y.in_stops ≡ x.in_stops
   pub paid_is : y.paid ≡ x.paid
+  pub cycle : KeepsCycle x y
   pub block : y.block ≡ next
   pub seen : SeenTo came number x y
 
@@ -79,38 +81,40 @@ pub record BeginsSearch (x y : Stepper) : Type 0 where
   pub name_is : y.name ≡ x.name
   pub stops : y.in_stops ≡ x.in_stops
   pub paid_is : y.paid ≡ x.paid
+  pub cycle : KeepsCycle x y
   pub search : IsToSearch y
 
 -- from the block on where the search stood, this many blocks were looked at, in their order, and no other, and each was seen without a free cell; then a look at the
 -- world found no stop; the search goes on behind these blocks, or at block 0; this many steps were taken at most
 pub record LooksOn (most : ℕ) (x y : Stepper) : Type 0 where
   pub piece : Piece
-  pub seeks : Across (SeeksOnce 3 GoesFreely x.block (reach most x) piece) x.seat y.seat
+  pub seeks : Across (SeeksOnce (flush_steps (view_of x.seat) + 3) GoesFreely x.block (reach most x) piece) x.seat y.seat
   pub sees : SeesBlocks x.block (x.block + looked most x) seeks.asked seeks.got
-  pub few : Across (AtMost (3 * reach most x + 11)) x.seat y.seat
+  pub few : Across (AtMost (3 * reach most x + (flush_steps (view_of x.seat) + 11))) x.seat y.seat
   pub next : (y.block ≡ x.block + looked most x) ⊎ ((y.block ≡ 0) × (x.block + looked most x ≡ blocks_of x))
 
 -- marking was done, and no block was looked at; then a look at the world found no stop; the search stands where it stood
 pub record FindsMarked (most : ℕ) (x y : Stepper) : Type 0 where
-  pub seeks : Across (SeeksOnce 3 GoesFreely x.block (reach most x) pieces.MarkingDone) x.seat y.seat
-  pub few : Across (AtMost 11) x.seat y.seat
+  pub seeks : Across (SeeksOnce (flush_steps (view_of x.seat) + 3) GoesFreely x.block (reach most x) pieces.MarkingDone) x.seat y.seat
+  pub few : Across (AtMost (flush_steps (view_of x.seat) + 11)) x.seat y.seat
   pub place : KeepsPlace x y
 
 -- why a collection is called for: as many blocks were seen as there are, in this step and those before it, or marking was done
 abbrev pub LacksAll : ℕ → Stepper → Stepper → Type 0
 LacksAll most x y = (LooksOn most x y × SeenTo cames.NoCell (looked most x) x y) ⊎ FindsMarked most x y
 
--- how many steps a step of a refill takes at most, whatever it comes to: three for each block that it looks at, and those of a payment
+-- how many steps a step of a refill takes at most, whatever it comes to: three for each block that it looks at, those of a payment, and those that
+-- store the roots that lag
 abbrev pub refill_steps : ℕ → Stepper → ℕ
-refill_steps most x = 3 * reach most x + payment_steps 1024 card_looks (shape_of x) + 17
+refill_steps most x = 3 * reach most x + payment_steps 1024 card_looks (shape_of x) + (flush_steps (view_of x.seat) + 17)
 
 -- what a step of a refill came to
 abbrev pub StepperRefills : ℕ → Came → Stepper → Stepper → Type 0
 StepperRefills most cames.Done x y = RefillsBy x.block (reach most x) soughts.Free (view_of x.seat) (view_of y.seat) × Across (AtMost (refill_steps most x)) x.seat y.seat × IsToSearch y × (x.stage ≡ Inside) × (y.stage ≡ Inside) × KeepsHeap x y
 StepperRefills most cames.NotYet x y = LooksOn most x y × SeenTo cames.NotYet (looked most x) x y × (x.stage ≡ Inside) × (y.stage ≡ Inside) × KeepsHeap x y
 StepperRefills most cames.NoCell x y = LacksAll most x y × (x.stage ≡ Inside) × (y.stage ≡ Inside) × KeepsHeap x y
-StepperRefills most cames.Stopped x y = Across (FailsBy 3 x.block (reach most x) cames.Stopped) x.seat y.seat × Across (AtMost (refill_steps most x)) x.seat y.seat × (x.stage ≡ Inside) × (y.stage ≡ Outside) × KeepsHeap x y × KeepsPlace x y
-StepperRefills most cames.Full x y = Across (FailsBy 3 x.block (reach most x) cames.Full) x.seat y.seat × Across (AtMost (refill_steps most x)) x.seat y.seat × (x.stage ≡ Inside) × (y.stage ≡ Outside) × KeepsHeap x y × KeepsPlace x y
+StepperRefills most cames.Stopped x y = Across (RefillFailsBy x.block (reach most x) cames.Stopped) x.seat y.seat × Across (AtMost (refill_steps most x)) x.seat y.seat × (x.stage ≡ Inside) × (y.stage ≡ Outside) × KeepsHeap x y × KeepsPlace x y
+StepperRefills most cames.Full x y = Across (RefillFailsBy x.block (reach most x) cames.Full) x.seat y.seat × Across (AtMost (refill_steps most x)) x.seat y.seat × (x.stage ≡ Inside) × (y.stage ≡ Outside) × KeepsHeap x y × KeepsPlace x y
 StepperRefills most cames.OutOfRange x y = (most ≡ 0) × (y ≡ x)
 StepperRefills most cames.Outside x y = (x.stage ≡ Outside) × (y ≡ x)
 StepperRefills most cames.Collecting x y = IsTrue (is_collecting x.stage) × (y ≡ x)

@@ -20,7 +20,7 @@ use Rattle.cache_refills.specs.Pace.StepBounds.{payment_steps}
 use Rattle.cache_refills.specs.Pieces.{IsShort, SeesTo, refill_of}
 use Rattle.cache_refills.specs.declared.pieces.Piece.{Piece}
 use Rattle.cache_refills.specs.declared.pieces.Piece.TheVariants as pieces
-use Rattle.seat_turns.specs.Standing.{Halts, IsAtTurn, Works, plain_of}
+use Rattle.seat_turns.specs.Standing.{Halts, HoldsTurn, Works, flush_steps, plain_of}
 use Rattle.seat_steps.specs.Causes.{FoundFull, FoundStop, GoesFreely, HasFree, PassesBy, PassesFreely}
 use Rattle.seat_steps.specs.Doing.{Does}
 use Rattle.seat_steps.specs.Pacing.{KeepsPace, Paces}
@@ -76,8 +76,12 @@ FailsBy before from most c v w = ⊥
 
 -- what a step of a refill came to: the cache had a free cell, and nothing was done, or a cache without one was given up first
 abbrev pub RefillsBy : ℕ → ℕ → Sought → View → View → Type 0
-RefillsBy from most soughts.Free v w = HasFree w.state.cache × ((w ≡ v) ⊎ ((h : Cache) × (paid : Paid) × SeeksOnce 3 GoesFreely from most (pieces.Cache h paid) v w))
-RefillsBy from most sought v w = SoughtBy 3 from most sought v w
+RefillsBy from most soughts.Free v w = HasFree w.state.cache × ((w ≡ v) ⊎ ((h : Cache) × (paid : Paid) × SeeksOnce (flush_steps v + 3) GoesFreely from most (pieces.Cache h paid) v w))
+RefillsBy from most sought v w = SoughtBy (flush_steps v + 3) from most sought v w
+
+-- why the mutator left instead, which stored the roots that lagged, and gave up its cache first
+abbrev pub RefillFailsBy : ℕ → ℕ → Came → View → View → Type 0
+RefillFailsBy from most c v w = FailsBy (flush_steps v + 3) from most c v w
 
 -- a safe point found no stop, and an object was made of a cell that was free in the seat's cache, by this many steps at most
 pub record MakesOwn (v w : View) : Type 0 where
@@ -98,6 +102,6 @@ CachedBy c v w = ⊥
 
 -- where it is then
 abbrev pub MakesHere : Came → Op → Heap → HeapSeat → HeapSeat → Type 0
-MakesHere cames.Done op h x y = IsAtTurn h y × Does op h x y
-MakesHere cames.NoCache op h x y = IsAtTurn h y × (plain_of y ≡ plain_of x)
+MakesHere cames.Done op h x y = HoldsTurn h y × Does op h x y
+MakesHere cames.NoCache op h x y = HoldsTurn h y × (plain_of y ≡ plain_of x)
 MakesHere c op h x y = LeavesWorld c h y × (plain_of y ≡ plain_of x)

@@ -7,7 +7,7 @@ use Rattle.gc_table.specs.Past.{log_of}
 use Rattle.gc_table.specs.Seats.{seen_of, state_of, view_of}
 use Rattle.gc_table.specs.Seen.{Begins}
 use Rattle.gc_table.specs.Stamps.{IsSameStamp, IsStampOf, SeesAll, StampFits, seen_by_stamp, stamp_view}
-use Rattle.seat_steps.specs.Stepping.{KeepsSearch, is_collecting}
+use Rattle.seat_steps.specs.Stepping.{KeepsCycle, KeepsSearch, is_collecting}
 use Rattle.seat_steps.specs.declared.came.Came.{Came}
 use Rattle.seat_steps.specs.declared.came.Came.TheVariants as cames
 use Rattle.seat_steps.specs.declared.stamping.Stamp.{Stamp}
@@ -28,6 +28,7 @@ pub record StandsStill (x y : Stepper) : Type 0 where
   pub name_is : y.name ≡ x.name
   pub stops : y.in_stops ≡ x.in_stops
   pub search : KeepsSearch x y
+  pub cycle : KeepsCycle x y
 
 -- the stepper collects, and is as it was
 abbrev pub CollectsNow : Came → Stepper → Stepper → Type 0

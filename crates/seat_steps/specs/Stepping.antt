@@ -1,16 +1,16 @@
 -- What a mutator is told that doesn't wait.
-use Rattle.std.specs.Prelude.{ℕ, ◌≡◌, ◌≤◌, ◌<◌, length, Bool, true, false, IsTrue}
+use Rattle.std.specs.Prelude.{ℕ, ◌+◌, ◌≡◌, ◌≤◌, ◌<◌, length, Bool, true, false, IsTrue}
 use Rattle.std.specs.Arc.{arc_value}
 use Rattle.mark_core.specs.Numbers.{section_variables}
 use Rattle.plain_heap.specs.PlainHeap.{Heap as PlainHeap}
 use Rattle.plain_heap.specs.PlainStep.{IsInRange}
 use Rattle.plain_heap.specs.declared.operation.Op.{Op}
 use Rattle.plain_heap.specs.declared.operation.Op.TheVariants as ops
-use Rattle.gc_table.specs.Seats.{Across}
+use Rattle.gc_table.specs.Seats.{Across, view_of}
 use Rattle.mutator_ops.specs.Few.{AtMost, most_steps}
-use Rattle.seat_turns.specs.Coming.{LeavesTurn}
+use Rattle.seat_turns.specs.Coming.{FlushesFirst, LeavesTurn}
 use Rattle.seat_turns.specs.Sharing.{LeavesHeap}
-use Rattle.seat_turns.specs.Standing.{plain_of}
+use Rattle.seat_turns.specs.Standing.{flush_steps, plain_of}
 use Rattle.seat_steps.specs.Doing.{Does, FindsNone, FindsSome}
 use Rattle.seat_steps.specs.Causes.{EntersBy, EntersFreely, MakesBy, MakesFreely, PassesBy, PassesFreely}
 use Rattle.seat_steps.specs.declared.came.Came.{Came}
@@ -37,13 +37,27 @@ is_collecting Inside = false
 is_collecting Outside = false
 is_collecting stage = true
 
--- neither the objects nor the variables changed, no step was taken that a plain heap sees, and the stepper is of the same world
+-- what its last collection was to be, and what that has counted, is as it was
+pub record KeepsCycle (x y : Stepper) : Type 0 where
+  pub precise : y.precise ≡ x.precise
+  pub exact : y.exact ≡ x.exact
+  pub again : y.again ≡ x.again
+  pub shared : y.shared ≡ x.shared
+  pub freed : y.freed ≡ x.freed
+  pub traced : y.traced ≡ x.traced
+  pub cleaned : y.cleaned ≡ x.cleaned
+  pub rescanned : y.rescanned ≡ x.rescanned
+  pub counted : y.counted ≡ x.counted
+  pub next : y.next ≡ x.next
+
+-- neither the objects nor the variables changed, no step was taken that a plain heap sees, and the stepper is of the same world and tells of the same collection
 pub record KeepsHeap (x y : Stepper) : Type 0 where
   pub heap : heap_of_stepper y ≡ heap_of_stepper x
   pub leaves : Across LeavesHeap x.seat y.seat
   pub world : arc_value y.heap ≡ arc_value x.heap
   pub name_is : y.name ≡ x.name
   pub stops : y.in_stops ≡ x.in_stops
+  pub cycle : KeepsCycle x y
 
 -- its search for a free cell stands where it stood
 pub record KeepsPlace (x y : Stepper) : Type 0 where
@@ -56,6 +70,15 @@ pub record KeepsSearch (x y : Stepper) : Type 0 where
   pub block : y.block ≡ x.block
   pub seen : y.seen ≡ x.seen
 
+-- all is kept but what it tells of its collection
+pub record KeepsRest (x y : Stepper) : Type 0 where
+  pub heap : heap_of_stepper y ≡ heap_of_stepper x
+  pub leaves : Across LeavesHeap x.seat y.seat
+  pub world : arc_value y.heap ≡ arc_value x.heap
+  pub name_is : y.name ≡ x.name
+  pub stops : y.in_stops ≡ x.in_stops
+  pub search : KeepsSearch x y
+
 -- all of it is kept
 pub record KeepsAll (x y : Stepper) : Type 0 where
   pub heap : heap_of_stepper y ≡ heap_of_stepper x
@@ -64,6 +87,7 @@ pub record KeepsAll (x y : Stepper) : Type 0 where
   pub name_is : y.name ≡ x.name
   pub stops : y.in_stops ≡ x.in_stops
   pub search : KeepsSearch x y
+  pub cycle : KeepsCycle x y
 
 -- one operation was done by a stepper inside the world, and nothing else
 pub record StepperDoes (op : Op) (x y : Stepper) : Type 0 where
@@ -74,6 +98,7 @@ pub record StepperDoes (op : Op) (x y : Stepper) : Type 0 where
   pub world : arc_value y.heap ≡ arc_value x.heap
   pub name_is : y.name ≡ x.name
   pub stops : y.in_stops ≡ x.in_stops
+  pub cycle : KeepsCycle x y
 
 -- the call took this many steps at most as the operation may
 abbrev pub TakesFew : Op → Stepper → Stepper → Type 0
@@ -115,7 +140,7 @@ Entered c x y = ⊥
 
 -- what leaving did, by where the stepper was
 abbrev pub LeavesFrom : Stage → Stepper → Stepper → Type 0
-LeavesFrom Inside x y = Across LeavesTurn x.seat y.seat × Across (AtMost 5) x.seat y.seat
+LeavesFrom Inside x y = Across (FlushesFirst LeavesTurn) x.seat y.seat × Across (AtMost (flush_steps (view_of x.seat) + 5)) x.seat y.seat
 LeavesFrom Outside x y = y ≡ x
 LeavesFrom stage x y = ⊥
 
@@ -142,6 +167,7 @@ pub record StaysInside (x y : Stepper) : Type 0 where
   pub name_is : y.name ≡ x.name
   pub stops : y.in_stops ≡ x.in_stops
   pub search : KeepsSearch x y
+  pub cycle : KeepsCycle x y
 
 -- what reading a value came to: it was read, or what is to hold it is as it was
 abbrev pub ReadsValue : Came → ℕ → Stepper → Stepper → ℕ → ℕ → Type 0

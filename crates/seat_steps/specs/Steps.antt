@@ -22,7 +22,7 @@ use Rattle.seat_steps.specs.Course.{AsksForStop, BeginsMarking, EndsBy, FindsHea
 use Rattle.seat_steps.specs.Passes.{BeginsAgain, BeginsClear, BeginsSharing, BeginsSweep, DrainsAlone, EndsAlone, EndsSharing, EndsSweep, FindsHelpers, FindsPacketLeft, LeavesPacket, SeesRoots, SharesFor, TracesFor}
 use Rattle.seat_steps.specs.declared.came.Came.{Came}
 use Rattle.seat_steps.specs.declared.came.Came.TheVariants as cames
-use Rattle.seat_steps.specs.Stepping.{KeepsAll}
+use Rattle.seat_steps.specs.Stepping.{KeepsCycle, KeepsRest}
 use Rattle.seat_steps.specs.declared.stepper.Stage.{Stage}
 use Rattle.seat_steps.specs.declared.stepper.Stage.TheVariants as stages
 use Rattle.seat_steps.specs.declared.stepper.Stepper.{Stepper}
@@ -149,15 +149,19 @@ StepsOn precise s t most x y = ⊥
 abbrev pub counts_of : Stepper → Counts
 counts_of x = record { marked = x.counted; freed = x.freed; rescanned = x.rescanned }
 
--- what the last step did
+-- what the last step did; the stepper goes on telling what its collection was and what it counted
 abbrev pub Finishes : Came → Stepper → Stepper → Type 0
-Finishes came x y = (x.stage ≡ stages.Ending) × Across (EndsBy x.exact (counts_of x) came) x.seat y.seat
+Finishes came x y = (x.stage ≡ stages.Ending) × Across (EndsBy x.exact (counts_of x) came) x.seat y.seat × KeepsCycle x y
+
+-- another seat's stop was under way: the stepper left, and tells of the same collection as before
+abbrev pub FindsAnother : Stepper → Stepper → Type 0
+FindsAnother x y = (x.stage ≡ stages.Inside) × Across (AsksForStop false) x.seat y.seat × KeepsCycle x y
 
 -- what a step of a collection came to, of this many roots, objects, cards or blocks
 abbrev pub StepsCollection : Bool → ℕ → Came → Stepper → Stepper → Type 0
-StepsCollection precise most cames.NotYet x y = StepsOn precise x.stage y.stage most x y × KeepsAll x y
-StepsCollection precise most cames.Done x y = Finishes cames.Done x y × (y.stage ≡ stages.Inside) × KeepsAll x y
-StepsCollection precise most cames.Stopped x y = (((x.stage ≡ stages.Inside) × Across (AsksForStop false) x.seat y.seat) ⊎ Finishes cames.Stopped x y) × (y.stage ≡ stages.Outside) × KeepsAll x y
-StepsCollection precise most cames.Full x y = (((x.stage ≡ stages.Stopping) × Across FindsHeapFull x.seat y.seat) ⊎ Finishes cames.Full x y) × KnowsFull (view_of y.seat) × (y.stage ≡ stages.Outside) × KeepsAll x y
+StepsCollection precise most cames.NotYet x y = StepsOn precise x.stage y.stage most x y × KeepsRest x y
+StepsCollection precise most cames.Done x y = Finishes cames.Done x y × (y.stage ≡ stages.Inside) × KeepsRest x y
+StepsCollection precise most cames.Stopped x y = (FindsAnother x y ⊎ Finishes cames.Stopped x y) × (y.stage ≡ stages.Outside) × KeepsRest x y
+StepsCollection precise most cames.Full x y = (((x.stage ≡ stages.Stopping) × Across FindsHeapFull x.seat y.seat) ⊎ Finishes cames.Full x y) × KnowsFull (view_of y.seat) × (y.stage ≡ stages.Outside) × KeepsRest x y
 StepsCollection precise most cames.Outside x y = (x.stage ≡ stages.Outside) × (y ≡ x)
 StepsCollection precise most c x y = ⊥

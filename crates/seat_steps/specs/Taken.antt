@@ -1,7 +1,7 @@
 -- What a stepper is told of the death of an object to which it once took a weak reference.
 use Rattle.std.specs.Prelude.{ℕ, ◌≡◌, ◌⊎◌, List, [], ◌∷◌}
 use Rattle.mark_core.specs.declared.kinds.Step.{Step}
-use Rattle.mark_core.specs.declared.kinds.Step.TheVariants.{ReadIdent, ReadWeak, StoreRoot}
+use Rattle.mark_core.specs.declared.kinds.Step.TheVariants.{HoldRoot, ReadIdent, ReadWeak}
 use Rattle.gc_table.specs.Agreement.{AgreesWith}
 use Rattle.gc_table.specs.Finding.{heap_found}
 use Rattle.gc_table.specs.Log.{event, events}
@@ -31,18 +31,18 @@ pub record FindsLost (id : ℕ) (step : Step) (n : ℕ) (v : View) : Type 0 wher
   pub agrees : AgreesWith finds.state.core (heap_found step n v finds)
   pub lost : IsLostForGood finds.state.core (heap_found step n v finds) id
 
--- a call with variable u found so: the cell has no object, after which it did no more than this, or another
-abbrev pub FindsDeath : List Entry → ℕ → ℕ → ℕ → View → View → Type 0
+-- a call with variable u found so: the cell has no object, after which it did no more than this, by what the root of the variable has, or another
+abbrev pub FindsDeath : (ℕ → List Entry) → ℕ → ℕ → ℕ → View → View → Type 0
 FindsDeath more u c id v x =
-    ((bits : ℕ) × (events v x ≡ event (ReadWeak c) bits ∷ more) × FindsLost id (ReadWeak c) bits v)
-    ⊎ ((bits other : ℕ) × (events v x ≡ event (ReadWeak c) bits ∷ event (ReadIdent c) other ∷ event (StoreRoot u 0) 0 ∷ []) × FindsLost id (ReadIdent c) other (after (ReadWeak c) bits v))
+    ((bits old : ℕ) × (events v x ≡ event (ReadWeak c) bits ∷ more old) × FindsLost id (ReadWeak c) bits v)
+    ⊎ ((bits other old : ℕ) × (events v x ≡ event (ReadWeak c) bits ∷ event (ReadIdent c) other ∷ event (HoldRoot u 0) old ∷ []) × FindsLost id (ReadIdent c) other (after (ReadWeak c) bits v))
 
 -- a stepper whose upgrade is answered `Dead`, and that took the weak reference itself, has found the object lost
 abbrev pub UpgradeTellsDeath : Came → Weak → ℕ → Stepper → Stepper → Type 0
-UpgradeTellsDeath cames.Dead weak u x y = HasTaken weak x → Across (FindsDeath (event (StoreRoot u 0) 0 ∷ []) u weak.place (identity_of weak)) x.seat y.seat
+UpgradeTellsDeath cames.Dead weak u x y = HasTaken weak x → Across (FindsDeath (λ old. event (HoldRoot u 0) old ∷ []) u weak.place (identity_of weak)) x.seat y.seat
 UpgradeTellsDeath came weak u x y = Unit {0}
 
 -- so has one that only asked
 abbrev pub AskingTellsDeath : Came → Weak → ℕ → Stepper → Stepper → Type 0
-AskingTellsDeath cames.Dead weak u x y = HasTaken weak x → Across (FindsDeath [] u weak.place (identity_of weak)) x.seat y.seat
+AskingTellsDeath cames.Dead weak u x y = HasTaken weak x → Across (FindsDeath (λ old. []) u weak.place (identity_of weak)) x.seat y.seat
 AskingTellsDeath came weak u x y = Unit {0}

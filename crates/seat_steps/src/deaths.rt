@@ -4,10 +4,11 @@ ghost use Rattle.std.specs.Prelude.{◌≡◌, ◌<◌, IfErr, IfOk, IsTrue};
 ghost use Rattle.mark_core.specs.Numbers.{section_variables};
 ghost use Rattle.gc_table.specs.Seats.{Across};
 ghost use Rattle.mutator_ops.specs.Few.{AtMost};
-ghost use Rattle.seat_turns.specs.Standing.{IsAtTurn};
+ghost use Rattle.seat_turns.specs.Standing.{HoldsTurn};
 ghost use Rattle.seat_turns.specs.Weak.{identity_of};
 ghost use Rattle.seat_steps.specs.Acting.{DeclinesToAct, StepperActs};
 ghost use Rattle.seat_steps.specs.Deaths.{AsksFor, AsksTo};
+ghost use Rattle.seat_steps.specs.Received.{DeadWhoeverTook};
 ghost use Rattle.seat_steps.specs.Taken.{AskingTellsDeath};
 ghost use Rattle.seat_steps.specs.Weak.{CanUpgrade};
 
@@ -27,10 +28,10 @@ fn identity_in(weak: Weak) -> u64
 }
 
 fn asks_for(heap: &Heap, seat: &mut HeapSeat, v: u8, c: Cell, identity: u64) -> bool
-    requires turn { IsAtTurn heap.now seat.old }
+    requires turn { HoldsTurn heap.now seat.old }
     requires shared { IsTrue heap.now.shape.sharing }
     requires range { (v < section_variables) × (c < heap.now.shape.cells) }
-    ensures turn { IsAtTurn heap.now seat.new }
+    ensures turn { HoldsTurn heap.now seat.new }
     ensures asks { Across (AsksFor v c identity result) seat.old seat.new }
     ensures few { Across (AtMost 3) seat.old seat.new }
 {
@@ -40,7 +41,7 @@ fn asks_for(heap: &Heap, seat: &mut HeapSeat, v: u8, c: Cell, identity: u64) -> 
         return false;
     }
     let found = heap.read_ident(seat, c);
-    heap.store_root(seat, v, 0);
+    heap.hold_root(seat, v, 0);
     found == identity
 }
 
@@ -74,11 +75,12 @@ impl Stepper {
     }
 
     /// `Done` if the weak reference's object is alive, and `Dead` if no path leads to it any more. Variable v refers to
-    /// nothing afterwards, or to what it did if the object's cell is free. If this mutator took the weak reference, `Dead`
-    /// says that no path leads to the object from any mutator's variables or slots, nor ever will.
+    /// nothing afterwards, or to what it did if the object's cell is free. `Dead` says the same, and
+    /// to the same mutators, as that of [`upgrade`](Stepper::upgrade).
     pub fn death(&mut self, weak: Weak, v: u8) -> Came
         ensures asks { AsksTo result weak v self.old self.new }
         ensures told { AskingTellsDeath result weak v self.old self.new }
+        ensures whoever { DeadWhoeverTook result weak self.old self.new }
     {
         if weak.world != self.name {
             return Came::OtherWorld;

@@ -5,7 +5,7 @@ ghost use Rattle.seat_steps.specs.Stepping.{fields_in, shares as is_shared};
 
 use crate::resting::RestingSeat;
 use crate::stepper::{Stage, Stepper};
-use seat_turns::leave_turn;
+use seat_turns::leave_flushed;
 
 impl Stepper {
     /// A stepper with this seat, outside the world.
@@ -48,7 +48,7 @@ impl Stepper {
             }),
             Stage::Inside => {
                 let mut seat = self.seat;
-                leave_turn(&self.heap, &mut seat);
+                leave_flushed(&self.heap, &mut seat);
                 Ok(RestingSeat {
                     heap: self.heap,
                     seat,

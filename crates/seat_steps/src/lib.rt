@@ -8,6 +8,7 @@
 //! they do with the heap and the seat is in `tries`, `operations`, `getting` and `seeking`.
 #![tactic(auto)]
 
+ghost use Rattle.seat_steps.specs.Received.{DeathKnown, DeathReceived, DeathsTold, TakingsSeen};
 ghost use Rattle.seat_steps.specs.Stamping.{SteppersInOrder};
 ghost use Rattle.seat_steps.specs.Taken.{TakenStays};
 
@@ -39,6 +40,7 @@ pub use came::Came;
 pub use resting::RestingSeat;
 pub use stamping::Stamp;
 pub use stepper::{Stage, Stepper};
+pub use tries::pass_once;
 
 /// What a stepper does after it came [`after`](Stepper::after) a stamp stands behind all that the stamp's mutator had done,
 /// in each later run, and in that of the closed world.
@@ -50,4 +52,28 @@ pub fn steppers_in_order()
 /// [`death`](Stepper::death) tell it the object's death however many calls lie between.
 pub fn taken_stays()
     ensures { TakenStays }
+{}
+
+/// Whoever took a weak reference: once a mutator has found the object's cell free, or another object there, no path leads
+/// to the object, nor ever will, at the end of each history that has all this.
+pub fn death_known()
+    ensures { DeathKnown }
+{}
+
+/// Who came [`after`](Stepper::after) a stamp of whoever had taken a weak reference, or had seen somebody take it, has seen
+/// so too. In each history that goes on from there it was taken before what the mutator does next.
+pub fn takings_seen()
+    ensures { TakingsSeen }
+{}
+
+/// So a stepper that came after a stamp of the one that took the weak reference is told the object's death as that one is,
+/// however many calls lie between.
+pub fn death_received()
+    ensures { DeathReceived }
+{}
+
+/// What [`weak`](Stepper::weak), [`upgrade`](Stepper::upgrade) and [`death`](Stepper::death) answer tells all this by itself,
+/// so it does where a call of another library says no more than that.
+pub fn deaths_told()
+    ensures { DeathsTold }
 {}

@@ -11,7 +11,7 @@ ghost use Rattle.gc_cycle.specs.Events.{never};
 ghost use Rattle.gc_cycle.specs.Sorts.{tries_marking};
 ghost use Rattle.gc_cycle.specs.Statistics.{ChangesBy};
 ghost use Rattle.mutator_ops.specs.Few.{AtMost};
-ghost use Rattle.seat_turns.specs.Standing.{IsAtTurn, Plays};
+ghost use Rattle.seat_turns.specs.Standing.{HoldsTurn};
 ghost use Rattle.seat_steps.specs.Doing.{Does, FindsNone, FindsSome, MakesNow, RefersToNothing, RefersToOne};
 
 use alloc_cache::Cache;
@@ -25,12 +25,12 @@ use seat_turns::{
 
 /// Makes an object in variable v. The cache stays the seat's.
 pub fn makes(heap: &Heap, seat: &mut HeapSeat, cache: Cache, v: u8, value: u32)
-    requires plays { Plays heap.now seat.old }
+    requires turn { HoldsTurn heap.now seat.old }
     requires cache { IsCached cache (view_of seat.old) }
     requires free { 0 < ones cache.cells }
     requires room { (state_of seat.old).made < heap.now.shape.objects }
     requires range { v < section_variables }
-    ensures turn { IsAtTurn heap.now seat.new }
+    ensures turn { HoldsTurn heap.now seat.new }
     ensures made { MakesNow v value heap.now seat.old seat.new }
     ensures ran { Across Ran seat.old seat.new }
     ensures few { Across (AtMost (heap.now.shape.fields + 3)) seat.old seat.new }
@@ -46,9 +46,9 @@ pub fn makes(heap: &Heap, seat: &mut HeapSeat, cache: Cache, v: u8, value: u32)
 
 #[tactic(auto, using(seat_turns::proofs::Done::operating))]
 pub fn sets(heap: &Heap, seat: &mut HeapSeat, v: u8, i: u8, w: u8)
-    requires turn { IsAtTurn heap.now seat.old }
+    requires turn { HoldsTurn heap.now seat.old }
     requires range { (v < section_variables) × (i < heap.now.shape.fields) × (w < section_variables) }
-    ensures turn { IsAtTurn heap.now seat.new }
+    ensures turn { HoldsTurn heap.now seat.new }
     ensures does { Does (ops.Set v i w) heap.now seat.old seat.new }
     ensures few { Across (AtMost 4) seat.old seat.new }
 {
@@ -61,9 +61,9 @@ pub fn sets(heap: &Heap, seat: &mut HeapSeat, v: u8, i: u8, w: u8)
 
 #[tactic(auto, using(seat_turns::proofs::Done::operating))]
 pub fn gets(heap: &Heap, seat: &mut HeapSeat, w: u8, v: u8, i: u8)
-    requires turn { IsAtTurn heap.now seat.old }
+    requires turn { HoldsTurn heap.now seat.old }
     requires range { (w < section_variables) × (v < section_variables) × (i < heap.now.shape.fields) }
-    ensures turn { IsAtTurn heap.now seat.new }
+    ensures turn { HoldsTurn heap.now seat.new }
     ensures does { Does (ops.Get w v i) heap.now seat.old seat.new }
     ensures few { Across (AtMost 2) seat.old seat.new }
 {
@@ -76,9 +76,9 @@ pub fn gets(heap: &Heap, seat: &mut HeapSeat, w: u8, v: u8, i: u8)
 
 #[tactic(auto, using(seat_turns::proofs::Done::operating))]
 pub fn copies(heap: &Heap, seat: &mut HeapSeat, w: u8, v: u8)
-    requires turn { IsAtTurn heap.now seat.old }
+    requires turn { HoldsTurn heap.now seat.old }
     requires range { (w < section_variables) × (v < section_variables) }
-    ensures turn { IsAtTurn heap.now seat.new }
+    ensures turn { HoldsTurn heap.now seat.new }
     ensures does { Does (ops.Let w v) heap.now seat.old seat.new }
     ensures few { Across (AtMost 1) seat.old seat.new }
 {
@@ -91,9 +91,9 @@ pub fn copies(heap: &Heap, seat: &mut HeapSeat, w: u8, v: u8)
 
 #[tactic(auto, using(seat_turns::proofs::Done::operating))]
 pub fn forgets(heap: &Heap, seat: &mut HeapSeat, v: u8)
-    requires turn { IsAtTurn heap.now seat.old }
+    requires turn { HoldsTurn heap.now seat.old }
     requires range { v < section_variables }
-    ensures turn { IsAtTurn heap.now seat.new }
+    ensures turn { HoldsTurn heap.now seat.new }
     ensures does { Does (ops.Nil v) heap.now seat.old seat.new }
     ensures few { Across (AtMost 1) seat.old seat.new }
 {
@@ -106,9 +106,9 @@ pub fn forgets(heap: &Heap, seat: &mut HeapSeat, v: u8)
 
 #[tactic(auto, using(seat_turns::proofs::Done::operating))]
 pub fn puts(heap: &Heap, seat: &mut HeapSeat, v: u8, value: u32)
-    requires turn { IsAtTurn heap.now seat.old }
+    requires turn { HoldsTurn heap.now seat.old }
     requires range { v < section_variables }
-    ensures turn { IsAtTurn heap.now seat.new }
+    ensures turn { HoldsTurn heap.now seat.new }
     ensures does { Does (ops.Put v value) heap.now seat.old seat.new }
     ensures few { Across (AtMost 2) seat.old seat.new }
 {
@@ -120,10 +120,10 @@ pub fn puts(heap: &Heap, seat: &mut HeapSeat, v: u8, value: u32)
 }
 
 fn finds_low(heap: &Heap, seat: &mut HeapSeat, v: u8) -> Option<u32>
-    requires turn { IsAtTurn heap.now seat.old }
+    requires turn { HoldsTurn heap.now seat.old }
     requires shared { IsTrue heap.now.shape.sharing }
     requires range { v < section_variables }
-    ensures turn { IsAtTurn heap.now seat.new }
+    ensures turn { HoldsTurn heap.now seat.new }
     ensures some { IfSome result (λ n. FindsSome v n heap.now seat.old seat.new) }
     ensures none { IfNone result (FindsNone v heap.now seat.old seat.new) }
     ensures few { Across (AtMost 1) seat.old seat.new }
@@ -135,9 +135,9 @@ fn finds_low(heap: &Heap, seat: &mut HeapSeat, v: u8) -> Option<u32>
 }
 
 pub fn finds(heap: &Heap, seat: &mut HeapSeat, v: u8) -> Option<u32>
-    requires turn { IsAtTurn heap.now seat.old }
+    requires turn { HoldsTurn heap.now seat.old }
     requires range { v < section_variables }
-    ensures turn { IsAtTurn heap.now seat.new }
+    ensures turn { HoldsTurn heap.now seat.new }
     ensures some { IfSome result (λ n. FindsSome v n heap.now seat.old seat.new) }
     ensures none { IfNone result (FindsNone v heap.now seat.old seat.new) }
     ensures few { Across (AtMost 1) seat.old seat.new }
@@ -150,7 +150,7 @@ pub fn finds(heap: &Heap, seat: &mut HeapSeat, v: u8) -> Option<u32>
 }
 
 pub fn is_nothing(heap: &Heap, seat: &HeapSeat, v: u8) -> bool
-    requires turn { IsAtTurn heap.now seat.now }
+    requires turn { HoldsTurn heap.now seat.now }
     requires range { v < section_variables }
     ensures nil { OnTrue result (RefersToNothing heap.now.shape.sharing v seat.now) }
     ensures some { OnFalse result (RefersToNothing heap.now.shape.sharing v seat.now → ⊥) }
@@ -163,7 +163,7 @@ pub fn is_nothing(heap: &Heap, seat: &HeapSeat, v: u8) -> bool
 }
 
 pub fn are_one(heap: &Heap, seat: &HeapSeat, v: u8, w: u8) -> bool
-    requires turn { IsAtTurn heap.now seat.now }
+    requires turn { HoldsTurn heap.now seat.now }
     requires range { (v < section_variables) × (w < section_variables) }
     ensures one { OnTrue result (RefersToOne heap.now.shape.sharing v w seat.now) }
     ensures two { OnFalse result (RefersToOne heap.now.shape.sharing v w seat.now → ⊥) }

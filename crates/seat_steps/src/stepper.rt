@@ -8,7 +8,7 @@ ghost use Rattle.gc_cycle.specs.SharedSteps.{HasSweptShared, IsClosing, IsShared
 ghost use Rattle.gc_cycle.specs.Stepping.{AwaitsStop, Drains};
 ghost use Rattle.seat_steps.specs.Asked.{CountsSinceAsked, MarksSinceAsked, SweepsSinceAsked, WaitsSinceAsked};
 ghost use Rattle.seat_steps.specs.Collecting.{Collects};
-ghost use Rattle.seat_turns.specs.Standing.{IsAtTurn, IsMutatorOutside};
+ghost use Rattle.seat_turns.specs.Standing.{HoldsTurn, IsMutatorOutside};
 ghost use Rattle.seat_steps.specs.declared.stepper.Stage.TheVariants as stages;
 
 use gc_table::{Heap, HeapSeat};
@@ -87,7 +87,7 @@ pub struct Stepper {
     pub(crate) seen: u32,
     ghost within: { block ≤ block_count (arc_value heap).shape },
     ghost outside: { stage ≡ stages.Outside → IsMutatorOutside (arc_value heap) seat },
-    ghost inside: { stage ≡ stages.Inside → IsAtTurn (arc_value heap) seat },
+    ghost inside: { stage ≡ stages.Inside → HoldsTurn (arc_value heap) seat },
     ghost stopping: { stage ≡ stages.Stopping → Collects AwaitsStop WaitsSinceAsked (arc_value heap) seat },
     ghost rooting: { stage ≡ stages.Rooting → Collects (SeesRootsFrom next) (MarksSinceAsked exact again) (arc_value heap) seat },
     ghost draining: { stage ≡ stages.Draining → Collects Drains (MarksSinceAsked exact again) (arc_value heap) seat },

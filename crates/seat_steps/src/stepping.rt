@@ -12,7 +12,7 @@ use crate::operations::{copies, finds, forgets, gets, puts, sets};
 use crate::stepper::{Stage, Stepper};
 use crate::tries::{enter_once, pass_once};
 use mark_core::VARIABLES;
-use seat_turns::leave_turn;
+use seat_turns::leave_flushed;
 
 impl Stepper {
     /// Enters the world, if no stop is under way.
@@ -46,7 +46,7 @@ impl Stepper {
         match self.stage {
             Stage::Outside => Came::Done,
             Stage::Inside => {
-                leave_turn(&self.heap, &mut self.seat);
+                leave_flushed(&self.heap, &mut self.seat);
                 self.stage = Stage::Outside;
                 Came::Done
             }

@@ -24,7 +24,7 @@ use gc_cycle::{
     start_sweep, stretches_of, trace_step,
 };
 use gc_table::{Heap, HeapSeat};
-use seat_turns::{leave, retire_own_cache};
+use seat_turns::{flush_turn, leave, retire_own_cache};
 
 const STEP: u32 = 4_096;
 
@@ -132,6 +132,7 @@ impl Stepper {
         ensures collects { (most : ℕ) → StepsCollection precise most result self.old self.new }
         ensures bounded { (most : ℕ) → IsBoundedStep most self.old self.new }
     {
+        flush_turn(&self.heap, &mut self.seat);
         retire_own_cache(&self.heap, &mut self.seat);
         if asks(&self.heap, &mut self.seat) {
             self.precise = precise;

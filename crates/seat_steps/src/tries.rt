@@ -1,17 +1,18 @@
 //! Into the world, to the mutator's turn, and past a safe point, each as one try.
-ghost use Rattle.std.specs.Prelude.{◌≡◌, ◌<◌, IfErr, IfOk, IsTrue, is_some, None};
+ghost use Rattle.std.specs.Prelude.{◌≡◌, ◌+◌, ◌<◌, IfErr, IfOk, IsTrue, is_some, None};
 ghost use Rattle.std.specs.Bool.{OnFalse, OnTrue};
-ghost use Rattle.alloc_cache.specs.Caching.{is_whole};
 ghost use Rattle.gc_cycle.specs.Answering.{HasCache};
 ghost use Rattle.cache_refills.specs.Trying.{EntersTo};
 ghost use Rattle.gc_table.specs.Rule.{KnowsFull};
 ghost use Rattle.gc_table.specs.Running.{Ran};
-ghost use Rattle.gc_table.specs.Seats.{Across, state_of, view_of};
+ghost use Rattle.gc_table.specs.Seats.{Across, Took, did, state_of, view_of};
+ghost use Rattle.mark_core.specs.declared.kinds.Step.TheVariants.{ReadPhase};
+ghost use Rattle.gc_cycle.specs.Polling.{saw_full};
 ghost use Rattle.mutator_ops.specs.Few.{AtMost};
-ghost use Rattle.seat_turns.specs.Coming.{LeavesTurn};
+ghost use Rattle.seat_turns.specs.Coming.{FlushesFirst, LeavesTurn};
 ghost use Rattle.seat_turns.specs.SeasonLooks.{LooksAtSeason, SeesOther};
 ghost use Rattle.seat_turns.specs.Sharing.{LeavesHeap};
-ghost use Rattle.seat_turns.specs.Standing.{Halts, IsAtTurn, Plays, IsMutatorOutside, Works, plain_of};
+ghost use Rattle.seat_turns.specs.Standing.{Halts, HoldsTurn, HoldsWorld, IsMutatorOutside, Plays, Works, flush_steps, plain_of, saw_going};
 ghost use Rattle.seat_steps.specs.Causes.{ArrivesBy, EntersBy, GoesFreely, LooksBy, LooksTo, PassesBy};
 ghost use Rattle.seat_steps.specs.Pacing.{CarriesPace};
 ghost use Rattle.seat_steps.specs.Arriving.{Arrives, HasLooked, HasPassed, LeavesWorld, Passes, Tries};
@@ -19,9 +20,10 @@ ghost use Rattle.seat_steps.specs.Arriving.{Arrives, HasLooked, HasPassed, Leave
 use crate::came::Came;
 use alloc_cache::{Cache, cache_of};
 use cache_refills::{Pass, try_enter, try_safe_point};
-use gc_cycle::{reads_full, spend_none};
+use gc_cycle::spend_none;
 use gc_table::{Heap, HeapSeat};
-use seat_turns::{TURN, is_turn, keep_some, leave, retire_some};
+use mark_core::Phase;
+use seat_turns::{TURN, flush_turn, is_turn, keep_some, leave, retire_some};
 use stop_world::poll;
 
 #[tactic(auto, using(seat_turns::proofs::Leaving::leaving, crate::proofs::Searched::trying))]
@@ -57,7 +59,7 @@ fn try_pass(heap: &Heap, seat: &mut HeapSeat, cache: &mut Option<Cache>) -> Pass
 fn comes_to_turn(heap: &Heap, seat: &mut HeapSeat) -> bool
     requires going { HasPassed heap.now seat.old }
     ensures plays { OnTrue result (Plays heap.now seat.new) }
-    ensures turn { OnTrue result (IsAtTurn heap.now seat.new) }
+    ensures turn { OnTrue result (HoldsTurn heap.now seat.new) }
     ensures works { Works heap.now seat.new }
     ensures same { plain_of seat.new ≡ plain_of seat.old }
     ensures leaves { Across LeavesHeap seat.old seat.new }
@@ -85,21 +87,37 @@ fn leave_with(heap: &Heap, seat: &mut HeapSeat, cache: Option<Cache>)
     leave(heap, seat);
 }
 
+/// Whether the phase is Full.
+#[inline(always)]
+fn finds_full(heap: &Heap, seat: &mut HeapSeat) -> bool
+    requires holds { HoldsWorld heap.now seat.old }
+    ensures holds { HoldsWorld heap.now seat.new }
+    ensures read { Across (Took ReadPhase) seat.old seat.new }
+    ensures full { OnTrue result (IsTrue (saw_full (did seat.old seat.new))) }
+    ensures going { OnFalse result (IsTrue (saw_going (state_of seat.new).phase_seen)) }
+{
+    match heap.read_phase(seat) {
+        Phase::Full => true,
+        _ => false,
+    }
+}
+
 /// Looks at the world and at the phase. Done: nothing hinders the mutator, which is at its turn still. It has only
 /// looked, whatever it found.
 #[inline(always)]
 fn look(heap: &Heap, seat: &mut HeapSeat) -> Came
-    requires turn { IsAtTurn heap.now seat.old }
+    requires turn { HoldsTurn heap.now seat.old }
     ensures looked { HasLooked result heap.now seat.new }
     ensures same { plain_of seat.new ≡ plain_of seat.old }
     ensures leaves { Across LeavesHeap seat.old seat.new }
     ensures ran { Across Ran seat.old seat.new }
     ensures looks { Across (LooksTo result) seat.old seat.new }
+    ensures lags { flush_steps (view_of seat.new) ≡ flush_steps (view_of seat.old) }
 {
     if poll(heap, seat) {
         return Came::Stopped;
     }
-    if reads_full(heap, seat) {
+    if finds_full(heap, seat) {
         return Came::Full;
     }
     Came::Done
@@ -108,17 +126,17 @@ fn look(heap: &Heap, seat: &mut HeapSeat) -> Came
 #[cold]
 #[inline(never)]
 fn leave_hindered(heap: &Heap, seat: &mut HeapSeat)
-    requires works { Works heap.now seat.old }
-    requires whole { IsTrue (is_whole (state_of seat.old).cache) }
+    requires holds { HoldsWorld heap.now seat.old }
     ensures waits { IsMutatorOutside heap.now seat.new }
     ensures same { plain_of seat.new ≡ plain_of seat.old }
     ensures leaves { Across LeavesHeap seat.old seat.new }
     ensures ran { Across Ran seat.old seat.new }
     ensures full { KnowsFull (view_of seat.old) → KnowsFull (view_of seat.new) }
-    ensures out { Across LeavesTurn seat.old seat.new }
-    ensures few { Across (AtMost 5) seat.old seat.new }
+    ensures out { Across (FlushesFirst LeavesTurn) seat.old seat.new }
+    ensures few { Across (AtMost (flush_steps (view_of seat.old) + 5)) seat.old seat.new }
     ensures paces { Across CarriesPace seat.old seat.new }
 {
+    flush_turn(heap, seat);
     let cache = cache_of(seat);
     leave_with(heap, seat, cache);
 }
@@ -127,7 +145,7 @@ pub fn point(heap: &Heap, seat: &mut HeapSeat, cache: Option<Cache>) -> Result<O
     requires works { Works heap.now seat.old }
     requires cache { HasCache cache (view_of seat.old) }
     ensures ok { IfOk result (λ kept. Plays heap.now seat.new × HasCache kept (view_of seat.new)) }
-    ensures turn { IfOk result (λ _. IsAtTurn heap.now seat.new) }
+    ensures turn { IfOk result (λ _. HoldsTurn heap.now seat.new) }
     ensures err { IfErr result (λ came. LeavesWorld came heap.now seat.new) }
     ensures same { plain_of seat.new ≡ plain_of seat.old }
     ensures leaves { Across LeavesHeap seat.old seat.new }
@@ -196,7 +214,7 @@ pub fn enter_once(heap: &Heap, seat: &mut HeapSeat) -> Came
 /// A safe point at its turn.
 #[inline(always)]
 pub fn pass_once(heap: &Heap, seat: &mut HeapSeat) -> Came
-    requires turn { IsAtTurn heap.now seat.old }
+    requires turn { HoldsTurn heap.now seat.old }
     ensures arrives { Arrives result heap.now seat.new }
     ensures same { plain_of seat.new ≡ plain_of seat.old }
     ensures leaves { Across LeavesHeap seat.old seat.new }

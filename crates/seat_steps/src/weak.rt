@@ -3,6 +3,7 @@ ghost use Rattle.std.specs.Prelude.{IfErr, IfOk};
 ghost use Rattle.mutator_ops.specs.Upgrading.{Upgrades};
 ghost use Rattle.seat_turns.specs.Weak.{TakesWeakIn, identity_of};
 ghost use Rattle.seat_steps.specs.Acting.{DeclinesToAct, IsVariable, StepperActs};
+ghost use Rattle.seat_steps.specs.Received.{DeadWhoeverTook};
 ghost use Rattle.seat_steps.specs.Taken.{HasTaken, UpgradeTellsDeath};
 ghost use Rattle.seat_steps.specs.Weak.{CanUpgrade, HasNoWeak, UpgradesTo};
 
@@ -63,11 +64,13 @@ impl Stepper {
     }
 
     /// Variable v refers to the weak reference's object, which keeps it, if the object is alive. `Dead` if no path leads
-    /// to it any more; then variable v refers to nothing. If this mutator took the weak reference, `Dead` says that no
-    /// path leads to the object from any mutator's variables or slots, nor ever will.
+    /// to it any more; then variable v refers to nothing. To the mutator that took the weak reference `Dead` says that no
+    /// path leads to the object from any mutator's variables or slots, nor ever will. In each later run it says so to all
+    /// that came [`after`](Stepper::after) a stamp of that one ([`death_received`](crate::death_received)).
     pub fn upgrade(&mut self, weak: Weak, v: u8) -> Came
         ensures upgrades { UpgradesTo result weak v self.old self.new }
         ensures told { UpgradeTellsDeath result weak v self.old self.new }
+        ensures whoever { DeadWhoeverTook result weak self.old self.new }
     {
         if weak.world != self.name {
             return Came::OtherWorld;

@@ -4,7 +4,7 @@ use Rattle.std.specs.Prelude.{IsFalse}
 use Rattle.mark_core.specs.Bits.{reference_in}
 use Rattle.mark_core.specs.Steps.MutatorSteps.{seat_variable as word_in}
 use Rattle.mark_core.specs.declared.kinds.Step.{Step}
-use Rattle.mark_core.specs.declared.kinds.Step.TheVariants.{ReadOwn, ReadValue, StoreRoot}
+use Rattle.mark_core.specs.declared.kinds.Step.TheVariants.{HoldRoot, ReadOwn, ReadValue}
 use Rattle.gc_table.specs.Entries.{event, is_store}
 use Rattle.gc_table.specs.Running.{AllSeen}
 use Rattle.gc_table.specs.Seats.{did, state_of, view_of}
@@ -43,7 +43,7 @@ pub field-found : FieldFound
 field-found w v i x y f =
     let step : Step = ReadOwn (word_in (state_of x.seat) v - 1) i in
     let h : FindsHeap step f.found (view_of x.seat) =
-    first-found (event step f.found) (event (StoreRoot w (reference_in f.found)) (reference_in f.found) ∷ []) (view_of x.seat)
+    first-found (event step f.found) (event (HoldRoot w (reference_in f.found)) f.old ∷ []) (view_of x.seat)
     (subst (λ (es : List Entry). AllFindHeap es (view_of x.seat)) f.events_are (calls-find x y f.ran)) refl in
     (h, λ below some. h.reads v below (omega (arith, some)))
 

@@ -5,7 +5,7 @@ use Rattle.std.specs.List.{range_with_len}
 use Rattle.std.proofs.lemmas.Bool.{and_from, and_parts, eq-eqb, false≢true, le-ltb, lt-ltb, ne_eqb}
 use Rattle.mark_core.specs.declared.kinds.Shape.{Shape}
 use Rattle.mark_core.specs.declared.kinds.Step.{Step}
-use Rattle.mark_core.specs.declared.kinds.Step.TheVariants.{ExchangeValue, NextSeason, StoreNew, StoreRoot, StoreValue}
+use Rattle.mark_core.specs.declared.kinds.Step.TheVariants.{ExchangeValue, HoldRoot, NextSeason, StoreNew, StoreValue}
 use Rattle.mark_core.specs.declared.seat.SeatState.{SeatState}
 use Rattle.plain_heap.specs.declared.operation.Op.{Op}
 use Rattle.alloc_cache.specs.Making.{making_steps, nil_fields}
@@ -92,7 +92,7 @@ root_first : (start w : View) → start.log ≡ [] → MakesRoot start w → fil
 root_first start w empty m =
     ap (fills_first 0) (root-log start w empty m)
     ∙ first_before (events start m.before) (events m.before m.made ++ events m.made w) m.comes.only
-    (first_made (events m.before m.made) (events m.made w) _ (StoreRoot 0 (m.cell + 1)) m.creates.steps_are (making_quiet _ _ _ _) refl (some_cell m.cell))
+    (first_made (events m.before m.made) (events m.made w) _ (HoldRoot 0 (m.cell + 1)) m.creates.steps_are (making_quiet _ _ _ _) refl (some_cell m.cell))
 
 -- what is stored first stays so
 first_by : (b m f g h : Bool) → (f ≡ true → g ≡ true) → (if b then m && f else h) ≡ true → (if b then m && g else h) ≡ true
@@ -208,7 +208,7 @@ fields_made fields c a (suc n) ss le =
     omega (arith, none, rest)
 
 abbrev last_steps : ℕ → ℕ → ℕ → ℕ → List Step
-last_steps fields c identity r = StoreNew c fields 0 ∷ StoreNew c (fields + 1) identity ∷ StoreRoot 0 r ∷ []
+last_steps fields c identity r = StoreNew c fields 0 ∷ StoreNew c (fields + 1) identity ∷ HoldRoot 0 r ∷ []
 
 last_spare : (fields c identity r : ℕ) → AllSpare fields (last_steps fields c identity r)
 last_spare fields c identity r = (or_true (not (fields == fields)), (ap (λ (b : Bool). not b || (identity == 0)) (ne_eqb (fields + 1) fields (λ e. omega (arith, e))), (refl, tt)))
@@ -222,9 +222,9 @@ last_made fields c identity r =
     omega (arith, value, named)
 
 -- a new cell's words make one object
-making_makes : (fields c identity r : ℕ) (es : List Entry) → steps_of es ≡ making_steps fields c 0 identity ++ StoreRoot 0 r ∷ [] → Makes fields 1 es
+making_makes : (fields c identity r : ℕ) (es : List Entry) → steps_of es ≡ making_steps fields c 0 identity ++ HoldRoot 0 r ∷ [] → Makes fields 1 es
 making_makes fields c identity r es e =
-    let same : making_steps fields c 0 identity ++ StoreRoot 0 r ∷ [] ≡ nil_fields c fields ++ last_steps fields c identity r = append_assoc (nil_fields c fields) (StoreNew c fields 0 ∷ StoreNew c (fields + 1) identity ∷ []) (StoreRoot 0 r ∷ []) in
+    let same : making_steps fields c 0 identity ++ HoldRoot 0 r ∷ [] ≡ nil_fields c fields ++ last_steps fields c identity r = append_assoc (nil_fields c fields) (StoreNew c fields 0 ∷ StoreNew c (fields + 1) identity ∷ []) (HoldRoot 0 r ∷ []) in
     let makes = have_makes fields es (nil_fields c fields ++ last_steps fields c identity r) (e ∙ same) (fields_spare fields c (range_with_len 0 fields) (last_steps fields c identity r) (last_spare fields c identity r)) in
     record { values = makes.values; made = makes.made ∙ (fields_made fields c 0 fields (last_steps fields c identity r) (omega arith) ∙ last_made fields c identity r) }
 
@@ -237,7 +237,7 @@ root_one start w empty m =
     let back = makes_none spares_heap fields (spared_one fields) (events m.made w) m.rest.only in
     let mids : Makes fields 1 (events m.before m.made) =
     making_makes fields m.cell (next_word m.before.state) (m.cell + 1) (events m.before m.made)
-    (m.creates.steps_are ∙ ap (λ (n : ℕ). making_steps n m.cell 0 (next_word m.before.state) ++ StoreRoot 0 (m.cell + 1) ∷ []) same) in
+    (m.creates.steps_are ∙ ap (λ (n : ℕ). making_steps n m.cell 0 (next_word m.before.state) ++ HoldRoot 0 (m.cell + 1) ∷ []) same) in
     let all = makes_join fields 0 1 (events start m.before) (events m.before m.made ++ events m.made w) front (makes_join fields 1 0 (events m.before m.made) (events m.made w) mids back) in
     subst (MakesOne fields) (sym (root-log start w empty m)) (record { made = let n = all.made in omega (arith, n); values = all.values })
 

@@ -12,3 +12,4 @@ mod Rooted
 mod Rooting
 pub mod Stamped
 mod Telling
+mod Passed

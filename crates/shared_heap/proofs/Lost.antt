@@ -6,7 +6,7 @@ use Rattle.mark_core.specs.Layout.{Words, words_of, region_sizes}
 use Rattle.mark_core.specs.Steps.{Core}
 use Rattle.mark_core.specs.Weak.{IsAt}
 use Rattle.mark_core.specs.declared.kinds.Event.{Event}
-use Rattle.mark_core.specs.declared.kinds.Step.TheVariants.{ReadIdent, ReadWeak, StoreRoot}
+use Rattle.mark_core.specs.declared.kinds.Step.TheVariants.{HoldRoot, ReadIdent, ReadWeak}
 use Rattle.mark_core.specs.declared.seat.SeatState.{SeatState}
 use Rattle.mark_core.proofs.Blocks.BlocksStopped.{in-place}
 use Rattle.mark_core.proofs.Known.{Acted, acts}
@@ -53,10 +53,10 @@ another-lost x id other v q differs at =
 
 pub found-two :
     (u c id word : ℕ) (x y : SharedMutator) (e : FindsIdentity u c id word (view_of x.seat) (view_of y.seat))
-    → AllFindHeap (event (ReadWeak c) e.bits ∷ event (ReadIdent c) id ∷ event (StoreRoot u word) word ∷ []) (view_of x.seat)
+    → AllFindHeap (event (ReadWeak c) e.bits ∷ event (ReadIdent c) id ∷ event (HoldRoot u word) e.old ∷ []) (view_of x.seat)
 found-two u c id word x y e = subst (λ (es : List Entry). AllFindHeap es (view_of x.seat)) e.events_are (calls-find x y e.ran)
 
-pub found-one : (u c : ℕ) (x y : SharedMutator) (e : FindsNothing u c (view_of x.seat) (view_of y.seat)) → AllFindHeap (event (ReadWeak c) e.bits ∷ event (StoreRoot u 0) 0 ∷ []) (view_of x.seat)
+pub found-one : (u c : ℕ) (x y : SharedMutator) (e : FindsNothing u c (view_of x.seat) (view_of y.seat)) → AllFindHeap (event (ReadWeak c) e.bits ∷ event (HoldRoot u 0) e.old ∷ []) (view_of x.seat)
 found-one u c x y e = subst (λ (es : List Entry). AllFindHeap es (view_of x.seat)) e.events_are (calls-find x y e.ran)
 
 pub upgrade-found : UpgradeFound

@@ -3,7 +3,7 @@ use Rattle.std.proofs.Common.{ℕ, ◌≡◌, ◌∙◌, ◌+◌, List, [], ◌�
 use Rattle.std.specs.List.{range_with_len}
 use Rattle.std.proofs.lemmas.Bool.{and_from, false≢true}
 use Rattle.mark_core.specs.declared.kinds.Step.{Step}
-use Rattle.mark_core.specs.declared.kinds.Step.TheVariants.{ExchangeField, StoreField, StoreNew, StoreRoot}
+use Rattle.mark_core.specs.declared.kinds.Step.TheVariants.{ExchangeField, HoldRoot, StoreField, StoreNew}
 use Rattle.alloc_cache.specs.Making.{making_steps, nil_fields}
 use Rattle.gc_table.specs.Log.{all_steps, events, steps_of}
 use Rattle.gc_table.specs.declared.view.Entry.{Entry}
@@ -36,9 +36,9 @@ new_spared : (c : ℕ) (ns : List ℕ) → AllSpare (map (λ i. StoreNew c i 0) 
 new_spared c [] = tt
 new_spared c (n ∷ ns) = (refl, new_spared c ns)
 
-made_spared : (fields c value identity r : ℕ) → AllSpare (making_steps fields c value identity ++ StoreRoot 0 r ∷ [])
+made_spared : (fields c value identity r : ℕ) → AllSpare (making_steps fields c value identity ++ HoldRoot 0 r ∷ [])
 made_spared fields c value identity r =
-    spare_join (making_steps fields c value identity) (StoreRoot 0 r ∷ [])
+    spare_join (making_steps fields c value identity) (HoldRoot 0 r ∷ [])
     (spare_join (nil_fields c fields) (StoreNew c fields value ∷ StoreNew c (fields + 1) identity ∷ []) (new_spared c (range_with_len 0 fields)) (refl, (refl, tt)))
     (refl, tt)
 

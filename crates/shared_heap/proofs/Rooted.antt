@@ -16,7 +16,9 @@ use Rattle.gc_table.proofs.Running.{ran-found, ran-join, ran-only, ran-refl}
 use Rattle.gc_cycle.specs.Answering.{retires}
 use Rattle.gc_cycle.specs.Sparing.{spares_part}
 use Rattle.gc_cycle.proofs.Refills.Retired.{retired-only}
+use Rattle.mutator_ops.specs.Flushing.{Flushes}
 use Rattle.mutator_ops.specs.Sharing.{ShareCreates}
+use Rattle.seat_turns.proofs.Held.{flushes-leave}
 use Rattle.seat_turns.specs.Sharing.{spares_heap}
 use Rattle.seat_turns.specs.SeasonLooks.{LooksAtSeason}
 use Rattle.shared_heap.specs.Rooting.{MakesRoot, Spares, SparesSeason, spares_season}
@@ -92,9 +94,9 @@ season-claimed h v w ran k =
     let f = k.events_are in
     record { ran = ran; only = ap (all_steps spares_season) f.3 ∙ all-join spares_season f.0 (claimed_by h f.1 f.2) (all-more seeks_block spares_season sought f.0 f.5) refl }
 
--- the root was made, and then the cache given up
-pub makes-retired : (h : Cache) (used cell : ℕ) (v w x : View) → cell < v.shape.cells → ShareCreates 0 0 cell v w → Ran w x → steps_of (events w x) ≡ retiring_steps h used → MakesRoot v x
-makes-retired h used cell v w x inside creates ran steps =
+-- the root was made and stored, and then the cache given up
+pub makes-retired : (h : Cache) (used cell : ℕ) (v w x y : View) → cell < v.shape.cells → ShareCreates 0 0 cell v w → Flushes w x → Ran x y → steps_of (events x y) ≡ retiring_steps h used → MakesRoot v y
+makes-retired h used cell v w x y inside creates flush ran steps =
     record {
       before = v;
       comes = season_none v;
@@ -102,7 +104,7 @@ makes-retired h used cell v w x inside creates ran steps =
       inside = inside;
       made = w;
       creates = creates;
-      rest = record { ran = ran; only = only-more retires spares_heap retired w x (retired-only w x h used steps) };
+      rest = spares-join w x y (record { ran = flush.ran; only = (flushes-leave w x flush).only }) (record { ran = ran; only = only-more retires spares_heap retired x y (retired-only x y h used steps) });
     }
 
 -- after what no plain heap sees

@@ -1,6 +1,6 @@
 -- The seat of section 0 makes the root, and then the season moves on.
-use Rattle.std.proofs.Common.{ℕ, ◌≡◌, ◌+◌, ◌<◌, ◌∙◌, length, ap, refl, sym, subst, true, Option, None, eqb-true, ⊎_elim}
-use Rattle.std.specs.Prelude.{is_some}
+use Rattle.std.proofs.Common.{ℕ, ◌≡◌, ◌+◌, ◌<◌, ◌∙◌, length, ap, arith, refl, sym, subst, true, Option, None, eqb-true, ⊎_elim}
+use Rattle.std.specs.Prelude.{is_some, slice_set}
 use Rattle.std.proofs.lemmas.Bool.{and_from}
 use Rattle.mark_core.specs.Seats.{has_making, has_turn, may_mutate, work_in_hand}
 use Rattle.mark_core.specs.Steps.WorldSteps.{has_nothing}
@@ -24,7 +24,11 @@ use Rattle.gc_table.specs.declared.view.View.{View}
 use Rattle.gc_table.proofs.Running.{ran-join, ran-plan, ran-shape}
 use Rattle.gc_cycle.proofs.Idling.{rest-parts}
 use Rattle.gc_cycle.specs.Standing.{KeepsSeat, KeepsSection, Mutates, is_at_rest}
+use Rattle.alloc_cache.specs.Making.{with_cell}
+use Rattle.mark_core.specs.Bits.{reference_in}
+use Rattle.mutator_ops.specs.Flushing.{Flushes, word_of_variables}
 use Rattle.mutator_ops.specs.Sharing.{ShareCreates}
+use Rattle.mutator_ops.proofs.Flushed.{flush-with}
 use Rattle.seat_turns.specs.SeasonLooks.{LooksAtSeason}
 use Rattle.managed_heap.proofs.FirstSeason.{alone-turn}
 use Rattle.managed_heap.proofs.Starting.{own-section}
@@ -114,14 +118,33 @@ first-cached h cache x y t shared sits ran k =
           };
     }
 
--- the root was made, and the cache given up
-pub rooted : (h : Heap) (cache : Cache) (cell : ℕ) (x y z : HeapSeat) → HasFirstCache h cache x → Sits h z → Ran (view_of y) (view_of z) → ShareCreates 0 0 cell (view_of x) (view_of y) → (view_of z).state ≡ record (view_of y).state { cache = None } → (view_of z).own ≡ (view_of y).own → HasRoot h z
-rooted h cache cell x y z t sits later d state own =
+-- no root lags yet
+first-lags : (h : Heap) (cache : Cache) (x : HeapSeat) → HasFirstCache h cache x → (view_of x).state.lags ≡ 0
+first-lags h cache x t =
     let v : View = view_of x in
-    let w : View = view_of z in
+    let bare : View = record v { state = record v.state { cache = None } } in
+    eqb-true v.state.lags 0 (rest-parts bare.shape bare.state (t.mutates bare refl refl).rest).lags
+
+-- and one does, once the root was made
+pub few-lag : (h : Heap) (cache : Cache) (cell : ℕ) (x y : HeapSeat) → HasFirstCache h cache x → ShareCreates 0 0 cell (view_of x) (view_of y) → (view_of y).state.lags < word_of_variables
+few-lag h cache cell x y t d =
+    let none = first-lags h cache x t in
+    subst (λ (n : ℕ). n < word_of_variables) (sym (ap (λ (s : SeatState). s.lags) d.state)) (flush-with (view_of x).state.lags 0 (omega (arith, none)) (omega arith))
+
+-- the root was made and stored, and the cache given up
+pub rooted : (h : Heap) (cache : Cache) (cell : ℕ) (x y z w : HeapSeat) → HasFirstCache h cache x → Sits h w → ShareCreates 0 0 cell (view_of x) (view_of y) → Flushes (view_of y) (view_of z) → Ran (view_of z) (view_of w) → (view_of w).state ≡ record (view_of z).state { cache = None } → (view_of w).own ≡ (view_of z).own → HasRoot h w
+rooted h cache cell x y z last t sits d flush later state same =
+    let v : View = view_of x in
+    let w : View = view_of last in
     let f = t.first in
-    let ran : Ran v w = ran-join v (view_of y) w d.ran later in
-    let s = state ∙ ap (λ (q : SeatState). record q { cache = None }) d.state in
+    let own = same ∙ flush.own in
+    let ran : Ran v w = ran-join v (view_of y) w d.ran (ran-join (view_of y) (view_of z) w flush.ran later) in
+    let none = first-lags h cache x t in
+    let s : w.state ≡ record (with_cell v.state cell) { cache = None; env = slice_set v.state.env 0 (reference_in (cell + 1)) } =
+    state
+    ∙ ap (λ (q : SeatState). record q { cache = None }) flush.state
+    ∙ ap (λ (q : SeatState). record q { cache = None; lags = 0 }) d.state
+    ∙ (λ i. record (with_cell v.state cell) { cache = None; env = slice_set v.state.env 0 (reference_in (cell + 1)); lags = sym none i }) in
     record {
       sits = sits;
       first =

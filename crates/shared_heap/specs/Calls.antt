@@ -13,7 +13,7 @@ use Rattle.gc_table.specs.declared.seat.HeapSeat.{HeapSeat}
 use Rattle.gc_table.specs.declared.view.View.{View}
 use Rattle.gc_cycle.specs.Cycles.{collects}
 use Rattle.mutator_ops.specs.Sharing.{LendsFound}
-use Rattle.seat_turns.specs.Coming.{EntersTurn, LeavesTurn}
+use Rattle.seat_turns.specs.Coming.{EntersTurn, FlushesFirst, LeavesTurn}
 use Rattle.seat_turns.specs.Sharing.{LeavesHeap}
 use Rattle.seat_turns.specs.declared.refused.Refused.{Refused}
 use Rattle.seat_turns.specs.declared.refused.Refused.TheVariants as refusals
@@ -97,10 +97,10 @@ abbrev pub CantEnter : Refused → SharedMutator → SharedMutator → Type 0
 CantEnter refusals.Full x y = IsFull y × (x.place ≡ Outside) × (y.place ≡ Outside) × IsSame x y
 CantEnter e x y = ⊥
 
--- the seat gave up its cache and left; or nothing was done, if it was outside already
+-- the seat stored the roots that lagged, gave up its cache and left; or nothing was done, if it was outside already
 abbrev pub LeavesFrom : Place → HeapSeat → HeapSeat → Type 0
 LeavesFrom Outside s t = t ≡ s
-LeavesFrom Inside s t = Across LeavesTurn s t
+LeavesFrom Inside s t = Across (FlushesFirst LeavesTurn) s t
 
 -- the mutator is outside
 pub record SharerLeft (x y : SharedMutator) : Type 0 where

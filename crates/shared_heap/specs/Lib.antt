@@ -14,3 +14,4 @@ pub mod Stamping
 pub mod Threads
 pub mod Wanting
 pub mod Weak
+pub mod Passing

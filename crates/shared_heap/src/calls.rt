@@ -6,17 +6,16 @@ ghost use Rattle.plain_heap.specs.declared.operation.Op.TheVariants as ops;
 ghost use Rattle.gc_table.specs.Seats.{Across, state_of};
 ghost use Rattle.mutator_ops.specs.Few.{AtMost};
 ghost use Rattle.mutator_ops.specs.Sharing.{LendsFound, SetsField, SetsVariable, TakesSteps, putting_steps};
-ghost use Rattle.seat_turns.specs.Coming.{CollectsAtTurn, CollectsNone, EntersFull, MakesNoneAtTurn, MakesSharedAtTurn, PollsOutWith, PollsWith, WithOwn};
+ghost use Rattle.seat_turns.specs.Coming.{CollectsAtTurn, CollectsNone, EntersFull, FlushesFirst};
+ghost use Rattle.shared_heap.specs.Passing.{FindsFull, MakesAfter, MakesNoneAfter, Passes};
 ghost use Rattle.seat_turns.specs.Sharing.{FollowsField, MakesSharedAfter};
 ghost use Rattle.shared_heap.specs.Calls.{CantEnter, FindsValue, HasNoRoot, HasPassed, MakesNone, ReadsNone, RefusedBy, SharerCollected, SharerDoes, SharerEntered, SharerLeft, SharerRefused, StaysOut};
 
 use crate::mutator::{Place, SharedMutator};
-use cache_refills::Unwatched;
+use crate::passing::{make, pass};
 use mark_core::VARIABLES;
 use mutator_ops::{share_copy, share_forget, share_lend, share_put, share_set, share_value_of};
-use seat_turns::{
-    Refused, collect_turn, enter_turn, get_shared, leave_turn, make_shared, pass_turn, word_of,
-};
+use seat_turns::{Refused, collect_flushed, enter_turn, get_shared, leave_flushed, word_of};
 use std::sync::Wait;
 
 /// The variable of section 0 that refers to the root.
@@ -51,7 +50,7 @@ impl SharedMutator {
         match self.place {
             Place::Outside => {}
             Place::Inside => {
-                leave_turn(&self.heap, &mut self.seat);
+                leave_flushed(&self.heap, &mut self.seat);
                 self.place = Place::Outside;
             }
         }
@@ -59,16 +58,17 @@ impl SharedMutator {
 
     /// A safe point: if a collection is under way the mutator helps. Refused if the mutator is outside, or the heap
     /// is full: then it is outside afterwards.
+    #[tactic(auto, using(crate::proofs::Passed::standing))]
     pub fn safe_point<R: Wait>(&mut self, rt: &R) -> Result<(), Refused>
         ensures passed { IfOk result (λ _. HasPassed self.old self.new) }
         ensures refused { IfErr result (λ e. StaysOut e self.old self.new) }
-        ensures polls { IfOk result (λ _. Across (WithOwn PollsWith) self.old.seat self.new.seat) }
-        ensures full { IfErr result (λ e. RefusedBy (WithOwn PollsOutWith) e self.old self.new) }
+        ensures polls { IfOk result (λ _. Across Passes self.old.seat self.new.seat) }
+        ensures full { IfErr result (λ e. RefusedBy FindsFull e self.old self.new) }
         ensures world { arc_value self.new.heap ≡ arc_value self.old.heap }
     {
         match self.place {
             Place::Outside => Err(Refused::Outside),
-            Place::Inside => match pass_turn(rt, &self.heap, &mut self.seat) {
+            Place::Inside => match pass(rt, &self.heap, &mut self.seat) {
                 Ok(()) => Ok(()),
                 Err(full) => {
                     self.place = Place::Outside;
@@ -84,13 +84,13 @@ impl SharedMutator {
         ensures passed { IfOk result (λ _. HasPassed self.old self.new) }
         ensures collected { IfOk result (λ _. SharerCollected self.old self.new) }
         ensures refused { IfErr result (λ e. StaysOut e self.old self.new) }
-        ensures collects { IfOk result (λ _. Across CollectsAtTurn self.old.seat self.new.seat) }
-        ensures full { IfErr result (λ e. RefusedBy CollectsNone e self.old self.new) }
+        ensures collects { IfOk result (λ _. Across (FlushesFirst CollectsAtTurn) self.old.seat self.new.seat) }
+        ensures full { IfErr result (λ e. RefusedBy (FlushesFirst CollectsNone) e self.old self.new) }
         ensures world { arc_value self.new.heap ≡ arc_value self.old.heap }
     {
         match self.place {
             Place::Outside => Err(Refused::Outside),
-            Place::Inside => match collect_turn(rt, &self.heap, &mut self.seat) {
+            Place::Inside => match collect_flushed(rt, &self.heap, &mut self.seat) {
                 Ok(()) => Ok(()),
                 Err(full) => {
                     self.place = Place::Outside;
@@ -107,8 +107,8 @@ impl SharedMutator {
         ensures made { IfOk result (λ c. SharerDoes (MakesSharedAfter v value) (ops.New v value) self.old self.new) }
         ensures place { IfOk result (λ c. word_in (state_of self.new.seat) v ≡ c + 1) }
         ensures refused { IfErr result (λ e. MakesNone e (ops.New v value) self.old self.new) }
-        ensures makes { IfOk result (λ _. Across (MakesSharedAtTurn (arc_value self.old.heap).shape v value) self.old.seat self.new.seat) }
-        ensures none { IfErr result (λ e. RefusedBy (MakesNoneAtTurn e false (arc_value self.old.heap).shape) e self.old self.new) }
+        ensures makes { IfOk result (λ _. Across (MakesAfter (arc_value self.old.heap).shape v value) self.old.seat self.new.seat) }
+        ensures none { IfErr result (λ e. RefusedBy (MakesNoneAfter e (arc_value self.old.heap).shape) e self.old self.new) }
         ensures world { arc_value self.new.heap ≡ arc_value self.old.heap }
     {
         if v >= VARIABLES {
@@ -116,14 +116,7 @@ impl SharedMutator {
         }
         match self.place {
             Place::Outside => Err(Refused::Outside),
-            Place::Inside => match make_shared(
-                rt,
-                &self.heap,
-                &mut self.seat,
-                v,
-                value,
-                &mut Unwatched,
-            ) {
+            Place::Inside => match make(rt, &self.heap, &mut self.seat, v, value) {
                 Ok(()) => Ok(word_of(&self.seat, v) - 1),
                 Err(Refused::Full) => {
                     self.place = Place::Outside;

@@ -23,7 +23,7 @@
 #![tactic(auto)]
 
 ghost use Rattle.shared_heap.specs.Counting.{CounterClosed, CounterRead, LockClosed};
-ghost use Rattle.shared_heap.specs.Deaths.{TakenStays};
+ghost use Rattle.shared_heap.specs.Deaths.{DeathReceived, TakenStays};
 ghost use Rattle.shared_heap.specs.Finding.{CallsFind, FieldFound, SteppersFind, UpgradeFound, ValueFound};
 ghost use Rattle.shared_heap.specs.Stamping.{CallsInOrder};
 ghost use Rattle.shared_heap.specs.Threads.{ThreadsRun};
@@ -38,6 +38,7 @@ mod identity;
 mod lending;
 mod mutator;
 mod opening;
+mod passing;
 mod planning;
 mod reading;
 mod slots;
@@ -98,6 +99,12 @@ pub fn upgrade_found()
 /// object's death however many calls lie between.
 pub fn taken_stays()
     ensures { TakenStays }
+{}
+
+/// Whoever came [`after`](SharedMutator::after) a stamp of the mutator that took a weak reference is told the object's
+/// death as that one is, however many calls lie between.
+pub fn death_received()
+    ensures { DeathReceived }
 {}
 
 /// What a mutator does after it came [`after`](SharedMutator::after) a stamp stands behind all that the stamp's mutator had

@@ -1,7 +1,7 @@
 //! A mutator of a shared world in the hand of one thread.
 ghost use Rattle.std.specs.Arc.{arc_value};
 ghost use Rattle.std.specs.Prelude.{◌≡◌, IsTrue};
-ghost use Rattle.seat_turns.specs.Standing.{IsAtTurn, IsMutatorOutside};
+ghost use Rattle.seat_turns.specs.Standing.{HoldsTurn, IsMutatorOutside};
 ghost use Rattle.shared_heap.specs.declared.mutator.Place.TheVariants as places;
 
 use gc_table::{Heap, HeapSeat};
@@ -27,5 +27,5 @@ pub struct SharedMutator {
     pub(crate) name: u32,
     ghost shared: { IsTrue (arc_value heap).shape.sharing },
     ghost outside: { place ≡ places.Outside → IsMutatorOutside (arc_value heap) seat },
-    ghost inside: { place ≡ places.Inside → IsAtTurn (arc_value heap) seat },
+    ghost inside: { place ≡ places.Inside → HoldsTurn (arc_value heap) seat },
 }

@@ -17,7 +17,7 @@ use gc_cycle::{ask_to_stop, finds_stopped};
 use gc_table::{Heap, HeapSeat};
 use managed_heap::Sizes;
 use mark_core::{Phase, Shape, usual_stretch};
-use mutator_ops::share_create;
+use mutator_ops::{flush_roots, share_create};
 use seat_turns::{NotOpened, is_turn};
 use std::alloc::Global;
 use stop_world::{leave, resume};
@@ -81,6 +81,7 @@ fn makes_in(heap: &Heap, seat: &mut HeapSeat, cache: Cache) -> bool
             false
         }
         Some(_) => {
+            flush_roots(heap, seat);
             retire(heap, seat, cache);
             true
         }

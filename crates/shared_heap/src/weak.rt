@@ -6,7 +6,7 @@ ghost use Rattle.mutator_ops.specs.Few.{AtMost};
 ghost use Rattle.mutator_ops.specs.Upgrading.{Upgrades};
 ghost use Rattle.seat_turns.specs.Weak.{identity_of};
 ghost use Rattle.shared_heap.specs.Calls.{ActRefused, SharerActs};
-ghost use Rattle.shared_heap.specs.Deaths.{HasTaken, IsToldDeath};
+ghost use Rattle.shared_heap.specs.Deaths.{HasTaken, IsDeadToAll, IsToldDeath};
 ghost use Rattle.shared_heap.specs.Wanting.{IsVariable, WantsObject};
 ghost use Rattle.shared_heap.specs.Weak.{AsksForWeak, CanUpgrade, UpgradesTo};
 
@@ -18,7 +18,6 @@ impl SharedMutator {
     /// A weak reference to variable v's object. What the mutator made itself it publishes first, so that others may
     /// find it. None if another mutator made the object and hasn't published it yet, which it does at the next stop at
     /// the latest: then nothing tells the object's death. Refused as Nil if the variable refers to nothing.
-    #[tactic(auto, using(crate::proofs::Deaths::taking))]
     pub fn weak(&mut self, v: u8) -> Result<Option<Weak>, Refused>
         ensures asks { IfOk result (λ weak. AsksForWeak v weak self.old self.new) }
         ensures taken { IfOk result (λ weak. IfSome weak (λ w. HasTaken w self.new)) }
@@ -60,12 +59,14 @@ impl SharedMutator {
         }
     }
 
-    /// Variable v refers to the weak reference's object, which keeps it, if the object is alive; else to nothing. If
-    /// this mutator took the weak reference, `Dead` says that no path leads to the object from any mutator's variables
-    /// or slots, nor ever will. So an object to which a path leads is never found dead.
+    /// Variable v refers to the weak reference's object, which keeps it, if the object is alive; else to nothing. To
+    /// the mutator that took the weak reference `Dead` says that no path leads to the object from any mutator's variables
+    /// or slots, nor ever will. In each later run it says so to all that came [`after`](SharedMutator::after) a stamp of
+    /// that one ([`death_received`](crate::death_received)). So it never finds an object dead to which a path leads.
     pub fn upgrade(&mut self, weak: Weak, v: u8) -> Result<Upgraded, Refused>
         ensures upgrades { IfOk result (λ upgraded. UpgradesTo upgraded weak v self.old self.new) }
         ensures death { IfOk result (λ upgraded. IsToldDeath upgraded weak v self.old self.new) }
+        ensures whoever { IfOk result (λ upgraded. IsDeadToAll upgraded weak self.old self.new) }
         ensures refused { IfErr result (λ e. ActRefused e (CanUpgrade self.old weak v) self.old self.new) }
         ensures world { arc_value self.new.heap ≡ arc_value self.old.heap }
         ensures few { IfOk result (λ _. Across (AtMost 3) self.old.seat self.new.seat) }

@@ -7,7 +7,7 @@ use super::checks::{is_out, may_call};
 use super::hiding::passes;
 use super::opening::begun;
 use super::seasons::{joins, marks};
-use super::sharers::{makes, may_share, refills_sharer, takes_block};
+use super::sharers::{flushes, makes, may_share, refills_sharer, takes_block};
 use alloc_cache::{Cache, retire};
 use gc_cycle::{go_in, go_out};
 use gc_table::{Heap, HeapSeat};
@@ -73,7 +73,7 @@ fn makes_three(heap: &Heap, seat: &mut HeapSeat) -> bool
     };
     let made = make_three(heap, seat, &mut cache);
     retire(heap, seat, cache);
-    made
+    flushes(heap, seat) && made
 }
 
 fn scans(heap: &Heap, seat: &mut HeapSeat) -> bool
@@ -108,7 +108,7 @@ fn move_reference(heap: &Heap, seat: &mut HeapSeat) -> bool
     share_set(heap, seat, B, 0, C);
     share_set(heap, seat, A, 0, NIL);
     share_forget(heap, seat, C);
-    true
+    flushes(heap, seat)
 }
 
 fn stores(heap: &Heap, seat: &mut HeapSeat, done: &AtomicU64) -> bool
@@ -150,7 +150,7 @@ fn ends_cycle<R: Wait>(rt: &R, heap: &Heap, seat: &mut HeapSeat) -> Option<u32>
     let mut cache = refills_sharer(rt, heap, seat)?;
     let made = fill(heap, seat, &mut cache);
     retire(heap, seat, cache);
-    if heap.read_phase(seat) == Phase::Idle {
+    if flushes(heap, seat) && heap.read_phase(seat) == Phase::Idle {
         Some(made)
     } else {
         None

@@ -11,7 +11,7 @@ use alloc_cache::{Cache, claim, retire};
 use cache_refills::refill;
 use gc_cycle::Refill;
 use gc_table::{Heap, HeapSeat};
-use mutator_ops::share_create;
+use mutator_ops::{flush_roots, share_create};
 use std::sync::Wait;
 use test_heaps::{has_making, has_seen_phase, may_mutate, work_in_hand};
 
@@ -82,4 +82,16 @@ pub fn makes(heap: &Heap, seat: &mut HeapSeat, cache: &mut Cache, v: u8, n: u32)
     ensures { IsSharerWithCache heap.now seat.new cache.new }
 {
     seat.state().made < heap.shape().objects && share_create(heap, seat, cache, v, n).is_some()
+}
+
+/// Stores the roots that lag, if the seat may act on shared objects.
+pub fn flushes(heap: &Heap, seat: &mut HeapSeat) -> bool
+    requires { HasEachObject heap.now seat.old }
+    ensures { HasEachObject heap.now seat.new }
+{
+    if !may_share(heap, seat) || seat.state().lags >= 4_294_967_296 {
+        return false;
+    }
+    flush_roots(heap, seat);
+    true
 }

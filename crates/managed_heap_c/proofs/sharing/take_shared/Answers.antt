@@ -1,9 +1,10 @@
-use Rattle.std.proofs.Common.{◌∙◌, ap, refl, subst, sym}
+use Rattle.std.proofs.Common.{◌+◌, ◌∙◌, ap, refl, subst, sym}
 use Rattle.std.specs.Arc.{arc_value}
 use Rattle.gc_table.specs.Seats.{view_of}
 use Rattle.gc_table.specs.declared.seat.HeapSeat.{HeapSeat}
 use Rattle.mutator_ops.specs.Few.{AtMost}
 use Rattle.seat_turns.specs.Sharing.{LeavesHeap}
+use Rattle.seat_turns.specs.Standing.{flush_steps}
 use Rattle.seat_turns.proofs.Leaving.{leaves-join, leaves-none}
 use Rattle.seat_steps.specs.declared.stepper.Stepper.{Stepper}
 use Rattle.managed_heap_c.specs.Sharing.{Refuses, StaysOut}
@@ -22,7 +23,7 @@ returns-in-Ok-clause-refused c =
     let x = c.give_shared.new.world in
     let ok = c.in-Ok.ensures.ok in
     on-err (λ (t : Stepper). StaysOut m t w x) (λ (t : Stepper). Refuses s t w x) c.give_shared.result
-    (λ t a. record { leaves = leaves-join (view_of s.seat) (view_of m.seat) (view_of t.seat) ok.leaves a.0; of_world = (a.1 ∙ ok.world, a.2 ∙ ok.name_is); mutators = a.3; rest = a.4; few = subst (λ (y : HeapSeat). AtMost 5 (view_of s.seat) (view_of y)) (sym (a.5 ok.outside)) ok.few })
+    (λ t a. record { leaves = leaves-join (view_of s.seat) (view_of m.seat) (view_of t.seat) ok.leaves a.0; of_world = (a.1 ∙ ok.world, a.2 ∙ ok.name_is); mutators = a.3; rest = a.4; few = subst (λ (y : HeapSeat). AtMost (flush_steps (view_of s.seat) + 5) (view_of s.seat) (view_of y)) (sym (a.5 ok.outside)) ok.few })
     c.give_shared.ensures.refused
 
 pub returns-in-Err-clause-refused : goal.returns-in-Err-clause-refused
@@ -34,5 +35,5 @@ returns-in-Err-clause-refused c =
       of_world = (ap (λ (t : Stepper). arc_value t.heap) same, ap (λ (t : Stepper). t.name) same);
       mutators = refl;
       rest = (record { heap = refl; zero = refl; sizes_are = refl }, refl);
-      few = none-taken 5 s c.in-Err.stepper same;
+      few = none-taken (flush_steps (view_of s.seat) + 5) s c.in-Err.stepper same;
     }

@@ -14,12 +14,12 @@ returns-in-Ok-clause-leaves c = λ other. absurd (other refl)
 
 pub returns-in-Ok-clause-found : goal.returns-in-Ok-clause-found
 returns-in-Ok-clause-found c =
-    made-free c.args.heap.now c.args.seat.now (view_of c.come_once.new.seat) (view_of c.makes.new.seat) c.requires.turn.works.sits c.come_once.ensures.ran c.makes.ensures.ran c.in-Ok.ensures.freely c.makes.ensures.few
+    made-free c.args.heap.now c.args.seat.now (view_of c.come_once.new.seat) (view_of c.makes.new.seat) c.requires.turn.holds.sits c.come_once.ensures.ran c.makes.ensures.ran c.in-Ok.ensures.freely c.makes.ensures.few
     (paces-last (view_of c.args.seat.now) (view_of c.come_once.new.seat) (view_of c.makes.new.seat) c.come_once.ensures.paces c.makes.ensures.quiet c.makes.ensures.numbers)
 
 pub returns-in-Ok-clause-pays : goal.returns-in-Ok-clause-pays
 returns-in-Ok-clause-pays c =
-    makes-counts c.args.heap.now c.args.seat.now (view_of c.come_once.new.seat) (view_of c.makes.new.seat) c.requires.turn.works.sits c.come_once.ensures.ran c.makes.ensures.ran c.makes.ensures.few c.args.paid.now c.come_once.new.paid c.come_once.ensures.pays
+    makes-counts c.args.heap.now c.args.seat.now (view_of c.come_once.new.seat) (view_of c.makes.new.seat) c.requires.turn.holds.sits c.come_once.ensures.ran c.makes.ensures.ran c.makes.ensures.few c.args.paid.now c.come_once.new.paid c.come_once.ensures.pays
 
 pub returns-in-Err-clause-pays : goal.returns-in-Err-clause-pays
 returns-in-Err-clause-pays c = misses-counts c.args.paid.now c.come_once.new.paid (view_of c.args.seat.now) (view_of c.come_once.new.seat) c.come_once.ensures.pays

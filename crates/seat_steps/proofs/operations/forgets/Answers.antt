@@ -1,27 +1,28 @@
 use Rattle.std.proofs.Common.{refl}
 use Rattle.gc_table.specs.Seats.{view_of}
 use Rattle.plain_heap.specs.declared.operation.Op.TheVariants as ops
-use Rattle.seat_turns.proofs.Done.{turn-ready, operated, turn-in, turn-shares, sets-few}
+use Rattle.seat_turns.proofs.Done.{turn-ready, operated, sets-few}
+use Rattle.seat_turns.proofs.Held.{held-turn, holds-own, holds-shares, turn-holds}
 use Rattle.seat_steps.proofs.Doing.{alone-of, does-own, shared-of}
 use Rattle.seat_steps.proofs.operations.forgets.Goals as goal
 
 pub clear-requires-clause-seat : goal.clear-requires-clause-seat
-clear-requires-clause-seat c = turn-ready c.args.heap.now c.args.seat.now c.requires.turn (alone-of c.args.heap.now c.shape.result c.shape.ensures c.if-shape.false)
+clear-requires-clause-seat c = turn-ready c.args.heap.now c.args.seat.now (holds-own c.args.heap.now c.args.seat.now c.requires.turn (alone-of c.args.heap.now c.shape.result c.shape.ensures c.if-shape.false)) (alone-of c.args.heap.now c.shape.result c.shape.ensures c.if-shape.false)
 
 pub returns-else-shape-clause-turn : goal.returns-else-shape-clause-turn
-returns-else-shape-clause-turn c = (operated (ops.Nil c.args.v) 0 c.args.heap.now c.args.seat.now c.clear.new.seat refl c.requires.turn (alone-of c.args.heap.now c.shape.result c.shape.ensures c.if-shape.false) c.clear.ensures.seat c.clear.ensures.does).turn
+returns-else-shape-clause-turn c = turn-holds c.args.heap.now c.clear.new.seat ((operated (ops.Nil c.args.v) 0 c.args.heap.now c.args.seat.now c.clear.new.seat refl (holds-own c.args.heap.now c.args.seat.now c.requires.turn (alone-of c.args.heap.now c.shape.result c.shape.ensures c.if-shape.false)) (alone-of c.args.heap.now c.shape.result c.shape.ensures c.if-shape.false) c.clear.ensures.seat c.clear.ensures.does).turn)
 
 pub returns-else-shape-clause-does : goal.returns-else-shape-clause-does
 returns-else-shape-clause-does c =
     does-own c.args.heap.now c.args.seat.now c.clear.new.seat (ops.Nil c.args.v) (alone-of c.args.heap.now c.shape.result c.shape.ensures c.if-shape.false)
-    (operated (ops.Nil c.args.v) 0 c.args.heap.now c.args.seat.now c.clear.new.seat refl c.requires.turn (alone-of c.args.heap.now c.shape.result c.shape.ensures c.if-shape.false) c.clear.ensures.seat c.clear.ensures.does).steps
+    (operated (ops.Nil c.args.v) 0 c.args.heap.now c.args.seat.now c.clear.new.seat refl (holds-own c.args.heap.now c.args.seat.now c.requires.turn (alone-of c.args.heap.now c.shape.result c.shape.ensures c.if-shape.false)) (alone-of c.args.heap.now c.shape.result c.shape.ensures c.if-shape.false) c.clear.ensures.seat c.clear.ensures.does).steps
     c.clear.ensures.steps
 
 pub share_forget-requires-clause-seat : goal.share_forget-requires-clause-seat
-share_forget-requires-clause-seat c = turn-shares c.args.heap.now c.args.seat.now c.requires.turn (shared-of c.args.heap.now c.shape.result c.shape.ensures c.if-shape.true)
+share_forget-requires-clause-seat c = holds-shares c.args.heap.now c.args.seat.now c.requires.turn (shared-of c.args.heap.now c.shape.result c.shape.ensures c.if-shape.true)
 
 pub returns-then-shape-clause-turn : goal.returns-then-shape-clause-turn
-returns-then-shape-clause-turn c = let e = c.share_forget.ensures in turn-in c.args.heap.now c.args.heap.now c.args.seat.now c.share_forget.new.seat _ refl c.requires.turn e.seat e.sets.ran e.sets.state
+returns-then-shape-clause-turn c = let e = c.share_forget.ensures in held-turn c.args.heap.now c.args.seat.now c.share_forget.new.seat c.args.v _ c.requires.turn e.seat e.sets.ran c.requires.range e.sets.state
 
 pub returns-then-shape-clause-few : goal.returns-then-shape-clause-few
 returns-then-shape-clause-few c = sets-few c.args.v 0 (view_of c.args.seat.now) (view_of c.share_forget.new.seat) c.share_forget.ensures.sets

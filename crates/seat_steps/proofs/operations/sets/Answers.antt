@@ -1,27 +1,28 @@
 use Rattle.std.proofs.Common.{arith, refl}
 use Rattle.gc_table.specs.Seats.{view_of}
 use Rattle.plain_heap.specs.declared.operation.Op.TheVariants as ops
-use Rattle.seat_turns.proofs.Done.{turn-ready, operated, turn-same, turn-shares, setting-few}
+use Rattle.seat_turns.proofs.Done.{turn-ready, operated, setting-few}
+use Rattle.seat_turns.proofs.Held.{held-same, holds-own, holds-shares, turn-holds}
 use Rattle.seat_steps.proofs.Doing.{alone-of, does-own, shared-of}
 use Rattle.seat_steps.proofs.operations.sets.Goals as goal
 
 pub set-requires-clause-seat : goal.set-requires-clause-seat
-set-requires-clause-seat c = turn-ready c.args.heap.now c.args.seat.now c.requires.turn (alone-of c.args.heap.now c.shape.result c.shape.ensures c.if-shape.false)
+set-requires-clause-seat c = turn-ready c.args.heap.now c.args.seat.now (holds-own c.args.heap.now c.args.seat.now c.requires.turn (alone-of c.args.heap.now c.shape.result c.shape.ensures c.if-shape.false)) (alone-of c.args.heap.now c.shape.result c.shape.ensures c.if-shape.false)
 
 pub returns-else-shape-clause-turn : goal.returns-else-shape-clause-turn
-returns-else-shape-clause-turn c = (operated (ops.Set c.args.v c.args.i c.args.w) _ c.args.heap.now c.args.seat.now c.set.new.seat refl c.requires.turn (alone-of c.args.heap.now c.shape.result c.shape.ensures c.if-shape.false) c.set.ensures.seat c.set.ensures.does).turn
+returns-else-shape-clause-turn c = turn-holds c.args.heap.now c.set.new.seat ((operated (ops.Set c.args.v c.args.i c.args.w) _ c.args.heap.now c.args.seat.now c.set.new.seat refl (holds-own c.args.heap.now c.args.seat.now c.requires.turn (alone-of c.args.heap.now c.shape.result c.shape.ensures c.if-shape.false)) (alone-of c.args.heap.now c.shape.result c.shape.ensures c.if-shape.false) c.set.ensures.seat c.set.ensures.does).turn)
 
 pub returns-else-shape-clause-does : goal.returns-else-shape-clause-does
 returns-else-shape-clause-does c =
     does-own c.args.heap.now c.args.seat.now c.set.new.seat (ops.Set c.args.v c.args.i c.args.w) (alone-of c.args.heap.now c.shape.result c.shape.ensures c.if-shape.false)
-    (operated (ops.Set c.args.v c.args.i c.args.w) _ c.args.heap.now c.args.seat.now c.set.new.seat refl c.requires.turn (alone-of c.args.heap.now c.shape.result c.shape.ensures c.if-shape.false) c.set.ensures.seat c.set.ensures.does).steps
+    (operated (ops.Set c.args.v c.args.i c.args.w) _ c.args.heap.now c.args.seat.now c.set.new.seat refl (holds-own c.args.heap.now c.args.seat.now c.requires.turn (alone-of c.args.heap.now c.shape.result c.shape.ensures c.if-shape.false)) (alone-of c.args.heap.now c.shape.result c.shape.ensures c.if-shape.false) c.set.ensures.seat c.set.ensures.does).steps
     c.set.ensures.steps
 
 pub share_set-requires-clause-seat : goal.share_set-requires-clause-seat
-share_set-requires-clause-seat c = turn-shares c.args.heap.now c.args.seat.now c.requires.turn (shared-of c.args.heap.now c.shape.result c.shape.ensures c.if-shape.true)
+share_set-requires-clause-seat c = holds-shares c.args.heap.now c.args.seat.now c.requires.turn (shared-of c.args.heap.now c.shape.result c.shape.ensures c.if-shape.true)
 
 pub returns-then-shape-clause-turn : goal.returns-then-shape-clause-turn
-returns-then-shape-clause-turn c = let e = c.share_set.ensures in turn-same c.args.heap.now c.args.heap.now c.args.seat.now c.share_set.new.seat refl c.requires.turn e.seat e.takes.ran e.takes.state
+returns-then-shape-clause-turn c = let e = c.share_set.ensures in held-same c.args.heap.now c.args.seat.now c.share_set.new.seat c.requires.turn e.seat e.takes.ran e.takes.state
 
 pub returns-then-shape-clause-few : goal.returns-then-shape-clause-few
 returns-then-shape-clause-few c = let few = setting-few c.args.v c.args.i c.args.w (view_of c.args.seat.now) (view_of c.share_set.new.seat) c.share_set.ensures.takes in omega (arith, few)

@@ -1,19 +1,19 @@
 use Rattle.std.proofs.Common.{◌∙◌, sym}
+use Rattle.std.proofs.lemmas.Bool.{OnFalse_at, OnTrue_at}
 use Rattle.mark_core.specs.declared.kinds.Step.TheVariants.{Observe}
 use Rattle.gc_table.specs.Seats.{view_of}
 use Rattle.gc_table.specs.declared.view.View.{View}
 use Rattle.gc_table.proofs.History.Log.{events-after}
-use Rattle.gc_table.proofs.Running.{ran-refl}
-use Rattle.gc_cycle.proofs.Refills.Answered.{polled-mutates}
-use Rattle.gc_cycle.proofs.Refills.KnownFull.{tells-none}
-use Rattle.seat_turns.proofs.Seats.{going-seen, kept-heap, seen-saw}
-use Rattle.seat_steps.proofs.AtTurn.{looked-events, looked-full, looked-out, looked-turn, looked-whole, out-leaves, out-works, polled-out, polled-whole}
+use Rattle.seat_turns.proofs.Seats.{kept-heap}
+use Rattle.seat_steps.proofs.AtTurn.{holds-polled, looked-events, looked-full, looked-lags, looked-out, out-leaves, polled-lags, polled-out}
 use Rattle.seat_steps.proofs.tries.look.Goals as goal
 
-pub reads_full-requires : goal.reads_full-requires
-reads_full-requires c =
-    let t = c.poll.ensures.step in
-    record { seat = (c.poll.ensures.seat, polled-mutates (view_of c.args.seat.now) (view_of c.poll.new.seat) t.0 t.1 c.requires.turn.works.mutates) }
+pub poll-requires : goal.poll-requires
+poll-requires c = record { seat = c.requires.turn.holds.sits }
+
+pub finds_full-requires : goal.finds_full-requires
+finds_full-requires c =
+    let p = c.poll.ensures in record { holds = holds-polled c.args.heap.now c.args.seat.now c.poll.new.seat c.requires.turn.holds p.seat p.step.0 p.step.1 }
 
 pub returns-then-poll : goal.returns-then-poll
 returns-then-poll c =
@@ -21,56 +21,49 @@ returns-then-poll c =
     let v : View = view_of c.poll.new.seat in
     let p = c.poll.ensures in
     let t = p.step in
-    let k = c.requires.turn in
     let out = polled-out u v t.0 p.ran t.1 in
     record {
-      looked = (out-works c.args.heap.now c.args.seat.now c.poll.new.seat k.works p.seat (polled-mutates u v t.0 t.1 k.works.mutates) out, polled-whole u v t.0 p.ran t.1 k.cache);
+      looked = holds-polled c.args.heap.now c.args.seat.now c.poll.new.seat c.requires.turn.holds p.seat t.0 t.1;
       same = kept-heap u v out.section;
       leaves = out-leaves u v out;
       ran = p.ran;
       looks = (t.0, sym t.3 ∙ c.if-poll.true, events-after u v Observe t.0 t.1);
+      lags = polled-lags u v t.0 t.1;
     }
 
-pub returns-then-reads_full : goal.returns-then-reads_full
-returns-then-reads_full c =
+pub returns-then-finds_full : goal.returns-then-finds_full
+returns-then-finds_full c =
     let u : View = view_of c.args.seat.now in
     let v : View = view_of c.poll.new.seat in
-    let w : View = view_of c.reads_full.new.seat in
+    let w : View = view_of c.finds_full.new.seat in
     let p = c.poll.ensures in
     let t = p.step in
-    let k = c.requires.turn in
-    let r = c.reads_full.ensures in
+    let r = c.finds_full.ensures in
     let out = looked-out u v w t.0 p.ran t.1 r.read in
-    let full = looked-full u v w t.0 p.ran t.1 r.read c.if-reads_full.ensures.full.1 in
+    let full = looked-full u v w t.0 p.ran t.1 r.read (OnTrue_at c.if-finds_full.true r.full) in
     record {
-      looked = (out-works c.args.heap.now c.args.seat.now c.reads_full.new.seat k.works r.seat.0 r.seat.1 out, looked-whole u v w t.0 p.ran t.1 r.read k.cache, full.1);
+      looked = (r.holds, full.1);
       same = kept-heap u w out.section;
       leaves = out-leaves u w out;
       ran = out.ran;
       looks = ((t.0, r.read.0, sym t.3 ∙ c.if-poll.false, looked-events u v w t.0 p.ran t.1 r.read), full);
+      lags = looked-lags u v w t.0 r.read.0 t.1 r.read.1.0;
     }
 
 pub returns : goal.returns
 returns c =
     let u : View = view_of c.args.seat.now in
     let v : View = view_of c.poll.new.seat in
-    let w : View = view_of c.reads_full.new.seat in
+    let w : View = view_of c.finds_full.new.seat in
     let p = c.poll.ensures in
     let t = p.step in
-    let k = c.requires.turn in
-    let r = c.reads_full.ensures in
+    let r = c.finds_full.ensures in
     let out = looked-out u v w t.0 p.ran t.1 r.read in
-    let on = c.if-reads_full.ensures.going v (ran-refl v) (tells-none v) in
     record {
-      looked =
-          record {
-            works = out-works c.args.heap.now c.args.seat.now c.reads_full.new.seat k.works r.seat.0 r.seat.1 out;
-            turn = looked-turn u v w t.0 p.ran t.1 r.read k.turn;
-            phase = seen-saw w.state (going-seen v w on);
-            cache = looked-whole u v w t.0 p.ran t.1 r.read k.cache;
-          };
+      looked = record { holds = r.holds; phase = OnFalse_at c.if-finds_full.false r.going };
       same = kept-heap u w out.section;
       leaves = out-leaves u w out;
       ran = out.ran;
       looks = (t.0, r.read.0, sym t.3 ∙ c.if-poll.false, looked-events u v w t.0 p.ran t.1 r.read);
+      lags = looked-lags u v w t.0 r.read.0 t.1 r.read.1.0;
     }

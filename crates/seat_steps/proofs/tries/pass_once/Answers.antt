@@ -2,7 +2,7 @@ use Rattle.gc_table.specs.Seats.{view_of}
 use Rattle.gc_table.specs.declared.view.View.{View}
 use Rattle.gc_table.proofs.Running.{ran-join}
 use Rattle.seat_turns.proofs.Leaving.{leaves-join}
-use Rattle.seat_steps.proofs.AtTurn.{hindered-out, hindered-whole, hindered-works}
+use Rattle.seat_steps.proofs.AtTurn.{hindered-holds, hindered-out}
 use Rattle.seat_steps.proofs.Found.{hindered-by, two-few}
 use Rattle.seat_steps.proofs.Paced.{carries-join, carries-looked, carries-looks}
 use Rattle.seat_steps.proofs.tries.pass_once.Goals as goal
@@ -11,12 +11,7 @@ pub returns-in-Done-clause-found : goal.returns-in-Done-clause-found
 returns-in-Done-clause-found c = let looks = c.in-Done.ensures.looks in record { ran = c.look.ensures.ran; looks = looks; few = two-few (view_of c.args.seat.now) (view_of c.look.new.seat) looks }
 
 pub leave_hindered-requires : goal.leave_hindered-requires
-leave_hindered-requires c =
-    let l = c.look in
-    record {
-      works = hindered-works l.result c.args.heap.now l.new.seat c.in_default.not-Done l.ensures.looked;
-      whole = hindered-whole l.result c.args.heap.now l.new.seat c.in_default.not-Done l.ensures.looked;
-    }
+leave_hindered-requires c = let l = c.look in record { holds = hindered-holds l.result c.args.heap.now l.new.seat c.in_default.not-Done l.ensures.looked }
 
 pub returns-in_default-clause-arrives : goal.returns-in_default-clause-arrives
 returns-in_default-clause-arrives c =
@@ -35,7 +30,7 @@ returns-in_default-clause-found c =
     let v : View = view_of c.look.new.seat in
     let w : View = view_of c.leave_hindered.new.seat in
     let l = c.leave_hindered.ensures in
-    hindered-by c.look.result u v w c.in_default.not-Done c.look.ensures.looks c.look.ensures.ran l.out l.ran l.few l.full
+    hindered-by c.look.result u v w c.in_default.not-Done c.look.ensures.looks c.look.ensures.ran l.out l.ran c.look.ensures.lags l.few l.full
 
 pub returns-in-Done-clause-paces : goal.returns-in-Done-clause-paces
 returns-in-Done-clause-paces c = carries-looks (view_of c.args.seat.now) (view_of c.look.new.seat) c.look.ensures.ran c.in-Done.ensures.looks

@@ -9,7 +9,7 @@ use Rattle.seat_turns.proofs.Leaving.{leaves-join}
 use Rattle.seat_steps.specs.Asked.{MarksSinceAsked, WaitsSinceAsked}
 use Rattle.seat_steps.specs.declared.stepper.Stage.TheVariants as stages
 use Rattle.seat_steps.proofs.Amounts.{few-join, looks-once, out-few, stopped-few, course-few, sees-first}
-use Rattle.seat_steps.proofs.Sparing.{Kept, course-kept, goes-on, keeps-all, kept-join, looks-kept, runs-again, sits-in, sits-on}
+use Rattle.seat_steps.proofs.Sparing.{Kept, course-kept, goes-on, keeps-rest, kept-join, looks-kept, runs-again, sits-in, sits-on}
 use Rattle.seat_steps.proofs.ReadFull.{begins-full}
 use Rattle.seat_steps.proofs.SinceAsked.{marks-begun, waits-looked}
 use Rattle.seat_steps.proofs.Stages.{bounded-on, step-on}
@@ -35,7 +35,7 @@ returns-then-not-finds_stopped c =
     let x = c.args.self.now in
     let running = c.if-not-finds_stopped.ensures.not_yet.1 in
     record {
-      collects = λ precise most. step-on precise most x _ stages.Stopping stages.Stopping c.requires.stopping c.requires.stopping (running, refl) (keeps-all x _ (kept (goal.at.returns-then-not-finds_stopped c).After-finds_stopped) refl refl);
+      collects = λ precise most. step-on precise most x _ stages.Stopping stages.Stopping c.requires.stopping c.requires.stopping (running, refl) (keeps-rest x _ (kept (goal.at.returns-then-not-finds_stopped c).After-finds_stopped) refl refl);
       bounded = λ most. bounded-on most x _ stages.Stopping stages.Stopping c.requires.stopping c.requires.stopping (looks-once (view_of x.seat) (view_of c.finds_stopped.new.seat) running);
     }
 
@@ -61,7 +61,7 @@ returns-then-begin_collection c =
       collects = λ precise most.
           step-on precise most x _ stages.Stopping stages.Rooting c.requires.stopping refl
           (record { stopped = v; finds = stopped.1; course = course; once_more = c.marks_again-self.ensures.again ∙ ap (λ (m : Bool). x.precise && m) read; exactly = c.leaves_none-self.ensures.exact ∙ ap (λ (m : Bool). x.precise || not m) read }, refl, refl, (refl, refl, refl), refl)
-          (keeps-all x _ (kept-join x.seat c.finds_stopped.new.seat c.begin_collection.new.seat found begun) refl refl);
+          (keeps-rest x _ (kept-join x.seat c.finds_stopped.new.seat c.begin_collection.new.seat found begun) refl refl);
       bounded = λ most.
           bounded-on most x _ stages.Stopping stages.Rooting c.requires.stopping refl
           (few-join 2 3 u v w found.leaves.ran b.ran (stopped-few u v stopped.1) (course-few 3 _ _ v w refl course (holds-apart v stopped.0) (subst (λ (is : Bool). AtMost (if is then 3 else 1) v w) c.if-begin_collection.true b.few)));

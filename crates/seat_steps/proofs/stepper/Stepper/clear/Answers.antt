@@ -17,7 +17,7 @@ use Rattle.seat_steps.specs.Bounds.{clearing_steps}
 use Rattle.seat_steps.specs.Steps.{draws_for, shape_of}
 use Rattle.seat_steps.specs.declared.stepper.Stage.TheVariants as stages
 use Rattle.seat_steps.proofs.Amounts.{all-told, pops-join, unpopped, fewer-of, sees-first}
-use Rattle.seat_steps.proofs.Sparing.{Kept, course-kept, goes-on, keeps-all, kept-join, part-kept, sits-in}
+use Rattle.seat_steps.proofs.Sparing.{Kept, course-kept, goes-on, keeps-rest, kept-join, part-kept, sits-in}
 use Rattle.seat_steps.proofs.SinceAsked.{clears-on, marks-again}
 use Rattle.seat_steps.proofs.Stages.{bounded-on, step-on}
 use Rattle.seat_steps.proofs.stepper.Stepper.clear.Goals as goal
@@ -50,7 +50,7 @@ returns-then-clear_step-draws c =
     let here = (goal.at.returns-then-clear_step-draws c).After-clear_step in
     let all = drawn here ∙ (c.if-clear_step-draws.true ∙ draws here) in
     record {
-      collects = λ precise. step-on precise c.args.most x _ stages.Clearing stages.Clearing c.requires.clearing c.requires.clearing (all, c.clear_step.ensures.part, ((refl, refl), refl, refl), (refl, refl, refl)) (keeps-all x _ (kept here) refl refl);
+      collects = λ precise. step-on precise c.args.most x _ stages.Clearing stages.Clearing c.requires.clearing c.requires.clearing (all, c.clear_step.ensures.part, ((refl, refl), refl, refl), (refl, refl, refl)) (keeps-rest x _ (kept here) refl refl);
       bounded = bounded-on c.args.most x _ stages.Clearing stages.Clearing c.requires.clearing c.requires.clearing (omega (arith, all), few here);
     }
 
@@ -86,7 +86,7 @@ returns-clause-collects c =
       (refl, refl, refl),
       refl,
     )
-    (keeps-all x _ (kept-join x.seat y z (kept here) (course-kept y z b.ran b.course.only b.keeps)) refl refl)
+    (keeps-rest x _ (kept-join x.seat y z (kept here) (course-kept y z b.ran b.course.only b.keeps)) refl refl)
 
 pub returns-clause-bounded : goal.returns-clause-bounded
 returns-clause-bounded c =

@@ -11,7 +11,7 @@ use Rattle.seat_steps.specs.Asked.{MarksSinceAsked}
 use Rattle.seat_steps.specs.declared.stepper.Stage.TheVariants as stages
 use Rattle.seat_steps.proofs.Amounts.{drain-few, few-join, sees-first}
 use Rattle.seat_steps.proofs.Gates.{Gates, gate-few, gate-kept, gate-stays, looks}
-use Rattle.seat_steps.proofs.Sparing.{Kept, goes-on, keeps-all, kept-join, part-kept, sits-in}
+use Rattle.seat_steps.proofs.Sparing.{Kept, goes-on, keeps-rest, kept-join, part-kept, sits-in}
 use Rattle.seat_steps.proofs.SinceAsked.{marks-on}
 use Rattle.seat_steps.proofs.Stages.{bounded-on, step-on}
 use Rattle.seat_steps.proofs.stepper.Stepper.close.Goals as goal
@@ -46,7 +46,7 @@ returns-then-not-finds_helpers_gone-clause-collects c =
       ((refl, refl), refl, refl),
       (refl, refl, refl),
     )
-    (keeps-all x _ (kept here) refl refl)
+    (keeps-rest x _ (kept here) refl refl)
 
 pub returns-then-not-finds_helpers_gone-clause-bounded : goal.returns-then-not-finds_helpers_gone-clause-bounded
 returns-then-not-finds_helpers_gone-clause-bounded c =
@@ -87,7 +87,7 @@ returns-clause-collects c =
       ((refl, refl), refl, refl),
       (refl, refl, refl),
     )
-    (keeps-all x _ (kept-join x.seat y z (kept here) (part-kept Drain y z b.part b.keeps)) refl refl)
+    (keeps-rest x _ (kept-join x.seat y z (kept here) (part-kept Drain y z b.part b.keeps)) refl refl)
 
 pub returns-clause-bounded : goal.returns-clause-bounded
 returns-clause-bounded c =

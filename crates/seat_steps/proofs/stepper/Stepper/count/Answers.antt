@@ -13,7 +13,7 @@ use Rattle.seat_steps.specs.Asked.{CountsSinceAsked}
 use Rattle.seat_steps.specs.Collecting.{Collects}
 use Rattle.seat_steps.specs.Steps.{blocks_left}
 use Rattle.seat_steps.specs.declared.stepper.Stage.TheVariants as stages
-use Rattle.seat_steps.proofs.Sparing.{Kept, goes-on, keeps-all, part-kept, sits-in}
+use Rattle.seat_steps.proofs.Sparing.{Kept, goes-on, keeps-rest, part-kept, sits-in}
 use Rattle.seat_steps.proofs.Amounts.{all-left, as-many, blocks-small, count-few}
 use Rattle.seat_steps.proofs.SinceAsked.{counts-on}
 use Rattle.seat_steps.proofs.Stages.{bounded-on, step-on}
@@ -48,7 +48,7 @@ returns-then-step-most-clause-collects c =
     let count : n ≡ min c.args.most (blocks_left x) = subst (λ (h : Heap). n ≡ min c.args.most (block_count h.shape - x.next)) c.deref.ensures e.blocks in
     λ precise. step-on precise c.args.most x _ stages.Counting stages.Counting c.requires.counting c.requires.counting
     (as-many n c.args.most (blocks_left x) count is, subst (λ k. steps_of (did x.seat c.count_step-step.new.seat) ≡ alloc_reads x.next k) is e.reads, ap (λ k. x.next + k) is, refl, ((refl, refl), refl, refl), (refl, refl, refl))
-    (keeps-all x _ (kept (goal.at.returns-then-step-most-clause-collects c).After-count_step-step) refl refl)
+    (keeps-rest x _ (kept (goal.at.returns-then-step-most-clause-collects c).After-count_step-step) refl refl)
 
 pub returns-then-step-most-clause-bounded : goal.returns-then-step-most-clause-bounded
 returns-then-step-most-clause-bounded c =
@@ -66,7 +66,7 @@ returns-clause-collects c =
     let all = all-left n c.args.most (blocks_left x) count c.if-step-most.false in
     λ precise. step-on precise c.args.most x _ stages.Counting stages.Ending c.requires.counting refl
     (all.0, subst (λ k. steps_of (did x.seat c.count_step-step.new.seat) ≡ alloc_reads x.next k) all.1 e.reads, refl, ((refl, refl), refl, refl), (refl, refl, refl))
-    (keeps-all x _ (kept (goal.at.returns-clause-collects c).After-count_step-step) refl refl)
+    (keeps-rest x _ (kept (goal.at.returns-clause-collects c).After-count_step-step) refl refl)
 
 pub returns-clause-bounded : goal.returns-clause-bounded
 returns-clause-bounded c = bounded-on c.args.most c.args.self.now _ stages.Counting stages.Ending c.requires.counting refl (few (goal.at.returns-clause-bounded c).After-count_step-step)

@@ -28,7 +28,7 @@ use Rattle.seat_steps.specs.Collecting.{Collects}
 use Rattle.seat_steps.specs.Passes.{SharesFor}
 use Rattle.seat_steps.specs.declared.stepper.Stage.TheVariants as stages
 use Rattle.seat_steps.proofs.Gates.{gate-few, gate-kept, gate-stays, shuts}
-use Rattle.seat_steps.proofs.Sparing.{Kept, goes-on, keeps-all, kept-join, sits-in, stays-kept}
+use Rattle.seat_steps.proofs.Sparing.{Kept, goes-on, keeps-rest, kept-join, sits-in, stays-kept}
 use Rattle.seat_steps.proofs.Amounts.{draws-join, few-join, shared-draws-none, traced-more}
 use Rattle.seat_steps.proofs.SinceAsked.{marks-on}
 use Rattle.seat_steps.proofs.Stages.{bounded-on, step-on}
@@ -84,7 +84,7 @@ returns-then-popped-most-clause-collects c =
     let popped : count_of pops (did x.seat c.trace_shared-popped.new.seat) ≡ c.args.most = omega (arith, count, all) in
     let sum = c.saturating_add-self.ensures in
     let traced : c.saturating_add-self.result ≡ min (x.traced + count_of pops (did x.seat c.trace_shared-popped.new.seat)) greatest = omega (arith, sum, count) in
-    λ precise. step-on precise c.args.most x _ stages.Emptying stages.Emptying c.requires.emptying c.requires.emptying (inl (popped, traces here), ((refl, refl), refl, refl), (traced, refl, refl)) (keeps-all x _ (kept here) refl refl)
+    λ precise. step-on precise c.args.most x _ stages.Emptying stages.Emptying c.requires.emptying c.requires.emptying (inl (popped, traces here), ((refl, refl), refl, refl), (traced, refl, refl)) (keeps-rest x _ (kept here) refl refl)
 
 pub returns-then-popped-most-clause-bounded : goal.returns-then-popped-most-clause-bounded
 returns-then-popped-most-clause-bounded c =
@@ -135,7 +135,7 @@ returns-then-not-finds_no_work_shared-clause-collects c =
       ((refl, refl), refl, refl),
       (traced, refl, refl),
     )
-    (keeps-all x _ (kept-join x.seat y z (kept here) (look-kept _ y z a f.keeps)) refl refl)
+    (keeps-rest x _ (kept-join x.seat y z (kept here) (look-kept _ y z a f.keeps)) refl refl)
 
 pub returns-then-not-finds_no_work_shared-clause-bounded : goal.returns-then-not-finds_no_work_shared-clause-bounded
 returns-then-not-finds_no_work_shared-clause-bounded c =
@@ -211,7 +211,7 @@ returns-clause-collects c =
       ((refl, refl), refl, refl),
       (traced, refl, refl),
     )
-    (keeps-all x _ (kept-join x.seat z q (kept-join x.seat y z (kept here) (look-kept _ y z a f.keeps)) (gate-kept Drain z q g h.keeps)) refl refl)
+    (keeps-rest x _ (kept-join x.seat z q (kept-join x.seat y z (kept here) (look-kept _ y z a f.keeps)) (gate-kept Drain z q g h.keeps)) refl refl)
 
 pub returns-clause-bounded : goal.returns-clause-bounded
 returns-clause-bounded c =

@@ -1,8 +1,9 @@
-use Rattle.std.proofs.Common.{◌∙◌, arith, refl, rules}
+use Rattle.mark_core.specs.Numbers.{section_variables}
+use Rattle.std.proofs.Common.{◌<◌, ◌∙◌, arith, refl, rules}
 use Rattle.seat_steps.specs.contracts.stepper.Stepper.{the_type}
 use Rattle.seat_steps.proofs.Answered.{collects-now}
 use Rattle.std.specs.Prelude.{IsTrue}
-use Rattle.seat_turns.proofs.Done.{shares-in, turn-in}
+use Rattle.seat_turns.proofs.Held.{held-in, holds-in}
 use Rattle.seat_steps.specs.Stepping.{shares}
 use Rattle.seat_steps.proofs.stepper.Stepper.fill.Goals.{then-v-ge-VARIABLES-via-then-v-ge-VARIABLES, then-v-ge-VARIABLES-via-else-v-ge-VARIABLES+then-from-shape}
 use Rattle.seat_steps.proofs.stepper.Stepper.fill.Goals as goal
@@ -18,7 +19,7 @@ pub returns-in_default : goal.returns-in_default
 returns-in_default c = record { fills = (collects-now c.args.self.now.stage c.in_default.not-Outside c.in_default.not-Inside, the_type.to_one _ c.args.self.now refl) }
 
 pub share_fill-requires-clause-seat : goal.share_fill-requires-clause-seat
-share_fill-requires-clause-seat c = let s = c.args.self.now in let shared : IsTrue (shares s) = search rules in shares-in _ _ s.seat c.deref-in-Inside.ensures (s.inside c.in-Inside.is) shared
+share_fill-requires-clause-seat c = let s = c.args.self.now in let shared : IsTrue (shares s) = search rules in holds-in _ _ s.seat c.deref-in-Inside.ensures (s.inside c.in-Inside.is) shared
 
 pub invariant_of-self-in-Inside-clause-inside : goal.invariant_of-self-in-Inside-clause-inside
-invariant_of-self-in-Inside-clause-inside c = λ _. let s = c.args.self.now in let e = c.share_fill.ensures in turn-in _ _ s.seat c.share_fill.new.seat _ c.deref-in-Inside.ensures (s.inside c.in-Inside.is) e.seat e.fills.ran e.fills.state
+invariant_of-self-in-Inside-clause-inside c = λ _. let s = c.args.self.now in let e = c.share_fill.ensures in let low : c.args.v < section_variables = search rules in held-in _ _ s.seat c.share_fill.new.seat c.args.v _ c.deref-in-Inside.ensures (s.inside c.in-Inside.is) e.seat e.fills.ran low e.fills.state

@@ -1,7 +1,7 @@
 use Rattle.std.proofs.Common.{◌-◌, ◌∙◌, arith, refl, rules}
 use Rattle.gc_table.specs.Seats.{view_of}
 use Rattle.seat_steps.specs.contracts.stepper.Stepper.{the_type}
-use Rattle.seat_steps.proofs.Answered.{collects-now}
+use Rattle.seat_steps.proofs.Answered.{collects-now, cycle-kept}
 use Rattle.seat_steps.proofs.Few.{cleared-few}
 use Rattle.seat_steps.proofs.stepper.Stepper.forget_slots.Goals.{then-from-to-via-then-from-to, then-from-to-via-else-from-to+then-to-shape}
 use Rattle.seat_steps.proofs.stepper.Stepper.forget_slots.Goals as goal
@@ -27,6 +27,7 @@ returns-in-Inside c =
         name_is = refl;
         stops = refl;
         search = record { paid_is = refl; block = refl; seen = refl };
+        cycle = cycle-kept c.args.self.now _ refl;
       };
     }
 

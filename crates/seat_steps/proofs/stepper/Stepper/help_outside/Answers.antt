@@ -7,7 +7,8 @@ use Rattle.mutator_ops.specs.Few.{AtMost}
 use Rattle.seat_steps.specs.Helping.{help_steps}
 use Rattle.seat_steps.specs.Steps.{draws_for, shape_of}
 use Rattle.seat_steps.proofs.Helped.{few-in, helped-kept, helped-outside, turn-in}
-use Rattle.seat_steps.proofs.Sparing.{keeps-all, sits-in}
+use Rattle.seat_steps.proofs.Answered.{cycle-kept}
+use Rattle.seat_steps.proofs.Sparing.{keeps-all, keeps-rest, sits-in}
 use Rattle.seat_steps.proofs.stepper.Stepper.help_outside.Goals as goal
 use Rattle.seat_steps.proofs.stepper.Stepper.help_outside.Goals.{After-help_turn}
 
@@ -29,7 +30,7 @@ returns-in-None c =
     let x = c.args.self.now in
     let here = (goal.at.returns-in-None c).After-help_turn in
     let e = c.help_turn.ensures in
-    record { helps = (inl c.in-None.ensures.closed, record { was = c.requires.outside; stays = c.requires.outside; few = few here; keeps = keeps-all x _ (helped-kept x.seat c.help_turn.new.seat e.out) refl refl }) }
+    record { helps = (inl c.in-None.ensures.closed, record { was = c.requires.outside; stays = c.requires.outside; few = few here; keeps = keeps-all x _ (keeps-rest x _ (helped-kept x.seat c.help_turn.new.seat e.out) refl refl) (cycle-kept x _ refl) }) }
 
 pub returns-then-done-eq0 : goal.returns-then-done-eq0
 returns-then-done-eq0 c =
@@ -40,7 +41,7 @@ returns-then-done-eq0 c =
     record {
       helps = (
         inr (subst (λ k. Across (TakesShortTurn c.args.most (draws_for c.args.most x) k) x.seat y) c.if-done-eq0.true turn),
-        record { was = c.requires.outside; stays = c.requires.outside; few = few here; keeps = keeps-all x _ (helped-kept x.seat y c.help_turn.ensures.out) refl refl },
+        record { was = c.requires.outside; stays = c.requires.outside; few = few here; keeps = keeps-all x _ (keeps-rest x _ (helped-kept x.seat y c.help_turn.ensures.out) refl refl) (cycle-kept x _ refl) },
       );
     }
 
@@ -51,7 +52,7 @@ returns-else-done-eq0 c =
     record {
       helps = (
         (c.in-Some.done, omega (arith, c.if-done-eq0.false), turned here c.in-Some.done c.in-Some.ensures.helped),
-        record { was = c.requires.outside; stays = c.requires.outside; few = few here; keeps = keeps-all x _ (helped-kept x.seat c.help_turn.new.seat c.help_turn.ensures.out) refl refl },
+        record { was = c.requires.outside; stays = c.requires.outside; few = few here; keeps = keeps-all x _ (keeps-rest x _ (helped-kept x.seat c.help_turn.new.seat c.help_turn.ensures.out) refl refl) (cycle-kept x _ refl) },
       );
     }
 

@@ -19,7 +19,7 @@ use Rattle.seat_steps.specs.Collecting.{Collects}
 use Rattle.seat_steps.specs.declared.stepper.Stage.TheVariants as stages
 use Rattle.seat_steps.proofs.Amounts.{few-join, looks-neither, move-few, reads-few, cards-small}
 use Rattle.seat_steps.proofs.Gates.{gate-few, gate-kept, gate-stays, opens}
-use Rattle.seat_steps.proofs.Sparing.{Kept, goes-on, keeps-all, kept-join, move-kept, part-kept, sits-in}
+use Rattle.seat_steps.proofs.Sparing.{Kept, goes-on, keeps-rest, kept-join, move-kept, part-kept, sits-in}
 use Rattle.seat_steps.proofs.LookedAt.{all-empty, cards-left, packet-left}
 use Rattle.seat_steps.proofs.SinceAsked.{clears-begun, marks-on, sweeps-begun, sweeps-on}
 use Rattle.seat_steps.proofs.Stages.{bounded-on, step-on}
@@ -50,7 +50,7 @@ returns-in-Dirty-clause-collects c =
     let x = c.args.self.now in
     λ precise. step-on precise c.args.most x _ stages.Looking stages.Cleaning c.requires.looking refl
     (subst (λ (h : Heap). LooksAt h.shape x.next c.args.most (looks.Dirty c.in-Dirty.card) (did x.seat c.look_step.new.seat)) c.deref.ensures c.in-Dirty.ensures.looked, ((refl, refl), refl, refl), (refl, refl, refl))
-    (keeps-all x _ (kept (goal.at.returns-in-Dirty-clause-collects c).After-look_step) refl refl)
+    (keeps-rest x _ (kept (goal.at.returns-in-Dirty-clause-collects c).After-look_step) refl refl)
 
 pub returns-in-Dirty-clause-bounded : goal.returns-in-Dirty-clause-bounded
 returns-in-Dirty-clause-bounded c = bounded-on c.args.most c.args.self.now _ stages.Looking stages.Cleaning c.requires.looking refl (few (goal.at.returns-in-Dirty-clause-bounded c).After-look_step)
@@ -69,7 +69,7 @@ returns-then-number-most-clause-collects c =
       ((refl, refl), refl, refl),
       (refl, refl, refl),
     )
-    (keeps-all x _ (kept (goal.at.returns-then-number-most-clause-collects c).After-look_step) refl refl)
+    (keeps-rest x _ (kept (goal.at.returns-then-number-most-clause-collects c).After-look_step) refl refl)
 
 pub returns-then-number-most-clause-bounded : goal.returns-then-number-most-clause-bounded
 returns-then-number-most-clause-bounded c = bounded-on c.args.most c.args.self.now _ stages.Looking stages.Looking c.requires.looking c.requires.looking (few (goal.at.returns-then-number-most-clause-bounded c).After-look_step)
@@ -116,7 +116,7 @@ returns-then-not-finds_all_marked-clause-collects c =
       ((refl, refl), refl, refl),
       (refl, refl, refl),
     )
-    (keeps-all x _ (read here) refl refl)
+    (keeps-rest x _ (read here) refl refl)
 
 fewer : (c : After-finds_all_marked) → Across (DoesFew (c.args.most + 1)) c.args.self.now.seat c.finds_all_marked.new.seat
 fewer c =
@@ -156,7 +156,7 @@ returns-then-self-clause-collects c =
       ((refl, refl), refl, refl),
       (refl, refl, refl),
     )
-    (keeps-all x _ (kept-join x.seat c.finds_all_marked.new.seat c.start_clear.new.seat (read here) (move-kept Drain Clear c.finds_all_marked.new.seat c.start_clear.new.seat b.moved b.keeps)) refl refl)
+    (keeps-rest x _ (kept-join x.seat c.finds_all_marked.new.seat c.start_clear.new.seat (read here) (move-kept Drain Clear c.finds_all_marked.new.seat c.start_clear.new.seat b.moved b.keeps)) refl refl)
 
 pub returns-then-self-clause-bounded : goal.returns-then-self-clause-bounded
 returns-then-self-clause-bounded c =
@@ -211,7 +211,7 @@ returns-clause-collects c =
       ((refl, refl), refl, refl),
       (refl, refl, refl),
     )
-    (keeps-all x _ (begun x.seat c.finds_all_marked.new.seat c.start_sweep.new.seat c.open_stop.new.seat (read here) b.moved b.keeps o.step o.keeps) refl refl)
+    (keeps-rest x _ (begun x.seat c.finds_all_marked.new.seat c.start_sweep.new.seat c.open_stop.new.seat (read here) b.moved b.keeps o.step o.keeps) refl refl)
 
 pub returns-clause-bounded : goal.returns-clause-bounded
 returns-clause-bounded c =

@@ -13,7 +13,7 @@ use Rattle.seat_steps.specs.Asked.{SweepsSinceAsked}
 use Rattle.seat_steps.specs.declared.stepper.Stage.TheVariants as stages
 use Rattle.seat_steps.proofs.Amounts.{few-join, move-few}
 use Rattle.seat_steps.proofs.Gates.{Gates, gate-few, gate-kept, gate-stays, looks}
-use Rattle.seat_steps.proofs.Sparing.{Kept, goes-on, keeps-all, kept-join, move-kept, sits-in}
+use Rattle.seat_steps.proofs.Sparing.{Kept, goes-on, keeps-rest, kept-join, move-kept, sits-in}
 use Rattle.seat_steps.proofs.SinceAsked.{counts-begun, sweeps-on}
 use Rattle.seat_steps.proofs.Stages.{bounded-on, step-on}
 use Rattle.seat_steps.proofs.stepper.Stepper.part.Goals as goal
@@ -58,7 +58,7 @@ returns-then-not-finds_helpers_gone-clause-collects c =
       ((refl, refl), refl, refl),
       (refl, refl, refl),
     )
-    (keeps-all x _ (kept here) refl refl)
+    (keeps-rest x _ (kept here) refl refl)
 
 pub returns-then-not-finds_helpers_gone-clause-bounded : goal.returns-then-not-finds_helpers_gone-clause-bounded
 returns-then-not-finds_helpers_gone-clause-bounded c =
@@ -97,7 +97,7 @@ returns-clause-collects c =
       ((refl, refl), refl, refl),
       (refl, refl, refl),
     )
-    (keeps-all x _ (kept-join x.seat y z (kept here) (move-kept Sweep Idle y z m.moved m.keeps)) refl refl)
+    (keeps-rest x _ (kept-join x.seat y z (kept here) (move-kept Sweep Idle y z m.moved m.keeps)) refl refl)
 
 pub returns-clause-bounded : goal.returns-clause-bounded
 returns-clause-bounded c =

@@ -9,4 +9,4 @@ pub returns-else-word-eq0-clause-inside : goal.returns-else-word-eq0-clause-insi
 returns-else-word-eq0-clause-inside c =
     let s = c.args.self.now in
     let at : word_in (state_of s.seat) c.args.v ≡ c.word_of-word.result - 1 + 1 = omega (arith, c.if-word-eq0.false, c.word_of-word.ensures) in
-    seat-inside (arc_value s.heap) s.seat c.args.v (c.word_of-word.result - 1) (s.inside c.in-Inside.is).works.sits (omega (arith, c.if-v-ge-VARIABLES.false)) at
+    seat-inside (arc_value s.heap) s.seat c.args.v (c.word_of-word.result - 1) (s.inside c.in-Inside.is).holds.sits (omega (arith, c.if-v-ge-VARIABLES.false)) at

@@ -20,7 +20,7 @@ use Rattle.seat_steps.specs.Steps.{roots_left}
 use Rattle.seat_steps.specs.declared.stepper.Stage.TheVariants as stages
 use Rattle.gc_cycle.specs.Stepping.{Keeps}
 use Rattle.seat_steps.proofs.Gates.{gate-few, gate-kept, gate-stays, opens}
-use Rattle.seat_steps.proofs.Sparing.{Kept, goes-on, keeps-all, kept-join, part-kept, sits-in}
+use Rattle.seat_steps.proofs.Sparing.{Kept, goes-on, keeps-rest, kept-join, part-kept, sits-in}
 use Rattle.seat_steps.proofs.Amounts.{all-left, as-many, drain-few, few-join, few-of, roots-small, sees-so}
 use Rattle.seat_steps.proofs.SinceAsked.{marks-on}
 use Rattle.seat_steps.proofs.Stages.{bounded-on, step-on}
@@ -55,7 +55,7 @@ returns-in_default c =
     let here = (goal.at.returns-in_default c).After-root_piece in
     let lacks = c.in_default.ensures.not_yet.1 in
     record {
-      collects = λ precise. step-on precise c.args.most x _ stages.Rooting stages.Rooting c.requires.rooting c.requires.rooting (inr (refl, lacks), ((refl, refl), refl, refl), (refl, refl, refl)) (keeps-all x _ (kept here) refl refl);
+      collects = λ precise. step-on precise c.args.most x _ stages.Rooting stages.Rooting c.requires.rooting c.requires.rooting (inr (refl, lacks), ((refl, refl), refl, refl), (refl, refl, refl)) (keeps-rest x _ (kept here) refl refl);
       bounded = bounded-on c.args.most x _ stages.Rooting stages.Rooting c.requires.rooting c.requires.rooting (inr lacks, few here);
     }
 
@@ -78,7 +78,7 @@ returns-then-number-most-clause-collects c =
     let count : n ≡ min c.args.most (roots_left x) = subst (λ (h : Heap). n ≡ min c.args.most (root_count h.shape - x.next)) c.deref.ensures c.in-Some.ensures.some.1 in
     λ precise. step-on precise c.args.most x _ stages.Rooting stages.Rooting c.requires.rooting c.requires.rooting
     (inl (as-many n c.args.most (roots_left x) count is, ap (λ k. x.next + k) is, subst (λ k. Across (SeesRoots x.next k) x.seat c.root_piece.new.seat) is (sees here.In-Some)), ((refl, refl), refl, refl), (refl, refl, refl))
-    (keeps-all x _ (kept here.After-root_piece) refl refl)
+    (keeps-rest x _ (kept here.After-root_piece) refl refl)
 
 pub returns-then-number-most-clause-bounded : goal.returns-then-number-most-clause-bounded
 returns-then-number-most-clause-bounded c =
@@ -95,7 +95,7 @@ returns-then-self-clause-collects c =
     let n : ℕ = c.in-Some.number in
     let count : n ≡ min c.args.most (roots_left x) = subst (λ (h : Heap). n ≡ min c.args.most (root_count h.shape - x.next)) c.deref.ensures c.in-Some.ensures.some.1 in
     let all = all-left n c.args.most (roots_left x) count c.if-number-most.false in
-    λ precise. step-on precise c.args.most x _ stages.Rooting stages.Draining c.requires.rooting refl (all.0, subst (λ k. Across (SeesRoots x.next k) x.seat c.root_piece.new.seat) all.1 (sees here.In-Some), ((refl, refl), refl, refl), (refl, refl, refl)) (keeps-all x _ (kept here.After-root_piece) refl refl)
+    λ precise. step-on precise c.args.most x _ stages.Rooting stages.Draining c.requires.rooting refl (all.0, subst (λ k. Across (SeesRoots x.next k) x.seat c.root_piece.new.seat) all.1 (sees here.In-Some), ((refl, refl), refl, refl), (refl, refl, refl)) (keeps-rest x _ (kept here.After-root_piece) refl refl)
 
 pub returns-then-self-clause-bounded : goal.returns-then-self-clause-bounded
 returns-then-self-clause-bounded c =
@@ -135,7 +135,7 @@ returns-clause-collects c =
       refl,
       (refl, refl, refl),
     )
-    (keeps-all x _ (opened x.seat y z (kept here.After-root_piece) o.step o.keeps) refl refl)
+    (keeps-rest x _ (opened x.seat y z (kept here.After-root_piece) o.step o.keeps) refl refl)
 
 pub returns-clause-bounded : goal.returns-clause-bounded
 returns-clause-bounded c =

@@ -1,13 +1,14 @@
 use Rattle.gc_table.specs.Seats.{view_of}
-use Rattle.seat_turns.proofs.Done.{exchanges-field, shares-in, turn-same}
+use Rattle.seat_turns.proofs.Done.{exchanges-field}
+use Rattle.seat_turns.proofs.Held.{held-same-in, holds-in}
 use Rattle.seat_steps.proofs.Few.{exchanged-few}
 use Rattle.shared_heap.proofs.mutator.SharedMutator.exchange.Goals as goal
 
 pub share_exchange-requires-clause-seat : goal.share_exchange-requires-clause-seat
-share_exchange-requires-clause-seat c = let m = c.args.self.now in shares-in _ _ m.seat c.deref-in-Inside.ensures (m.inside c.in-Inside.is) m.shared
+share_exchange-requires-clause-seat c = let m = c.args.self.now in holds-in _ _ m.seat c.deref-in-Inside.ensures (m.inside c.in-Inside.is) m.shared
 
 pub invariant_of-self-in-Inside-clause-inside : goal.invariant_of-self-in-Inside-clause-inside
-invariant_of-self-in-Inside-clause-inside c = λ _. let m = c.args.self.now in let e = c.share_exchange.ensures in turn-same _ _ m.seat c.share_exchange.new.seat c.deref-in-Inside.ensures (m.inside c.in-Inside.is) e.seat e.ran e.state
+invariant_of-self-in-Inside-clause-inside c = λ _. let m = c.args.self.now in let e = c.share_exchange.ensures in held-same-in _ _ m.seat c.share_exchange.new.seat c.deref-in-Inside.ensures (m.inside c.in-Inside.is) e.seat e.ran e.state
 
 pub returns-else-word_of-eq0-clause-few : goal.returns-else-word_of-eq0-clause-few
 returns-else-word_of-eq0-clause-few c =

@@ -1,15 +1,16 @@
 use Rattle.std.proofs.Common.{ap, arith, refl}
 use Rattle.gc_table.specs.Seats.{view_of}
 use Rattle.gc_table.specs.declared.view.View.{View}
-use Rattle.seat_turns.proofs.Done.{exchanges-value, shares-in, turn-same}
+use Rattle.seat_turns.proofs.Done.{exchanges-value}
+use Rattle.seat_turns.proofs.Held.{held-same-in, holds-in}
 use Rattle.seat_steps.proofs.Few.{exchanged-one}
 use Rattle.shared_heap.proofs.mutator.SharedMutator.exchange_value.Goals as goal
 
 pub share_count-requires-clause-seat : goal.share_count-requires-clause-seat
-share_count-requires-clause-seat c = let m = c.args.self.now in shares-in _ _ m.seat c.deref.ensures (m.inside c.in-Inside.is) m.shared
+share_count-requires-clause-seat c = let m = c.args.self.now in holds-in _ _ m.seat c.deref.ensures (m.inside c.in-Inside.is) m.shared
 
 pub invariant_of-self-in-Inside-clause-inside : goal.invariant_of-self-in-Inside-clause-inside
-invariant_of-self-in-Inside-clause-inside c = λ _. let m = c.args.self.now in let e = c.share_count.ensures in turn-same _ _ m.seat c.share_count.new.seat c.deref.ensures (m.inside c.in-Inside.is) e.seat e.ran (ap (λ (z : View). z.state) e.view.1)
+invariant_of-self-in-Inside-clause-inside c = λ _. let m = c.args.self.now in let e = c.share_count.ensures in held-same-in _ _ m.seat c.share_count.new.seat c.deref.ensures (m.inside c.in-Inside.is) e.seat e.ran (ap (λ (z : View). z.state) e.view.1)
 
 pub returns-else-word_of-eq0-clause-done : goal.returns-else-word_of-eq0-clause-done
 returns-else-word_of-eq0-clause-done c =

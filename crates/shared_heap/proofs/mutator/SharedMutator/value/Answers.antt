@@ -5,19 +5,19 @@ use Rattle.gc_table.specs.Seats.{Found, Sits, view_of}
 use Rattle.gc_table.specs.declared.seat.Heap.{Heap}
 use Rattle.gc_table.specs.declared.seat.HeapSeat.{HeapSeat}
 use Rattle.mutator_ops.specs.Sharing.{SharesReady}
-use Rattle.seat_turns.specs.Standing.{IsAtTurn}
-use Rattle.seat_turns.proofs.Done.{shares-in, turn-read, turn-still}
+use Rattle.seat_turns.specs.Standing.{HoldsTurn}
+use Rattle.seat_turns.proofs.Held.{held-read-in, held-still-in, holds-in}
 use Rattle.seat_steps.proofs.Few.{found-one}
 use Rattle.shared_heap.proofs.mutator.SharedMutator.value.Goals as goal
 
 -- a read of a value leaves the mutator at its turn, and so does none
-still-there : (a h : Heap) (x y : HeapSeat) (word : ℕ) (r : Option ℕ) → h ≡ a → IsAtTurn a x → Sits h y × SharesReady (view_of y)
-    → IfSome r (λ n. (0 < word) × Found (ReadValue (word - 1)) n (view_of x) (view_of y)) → IfNone r ((word ≡ 0) × (view_of y ≡ view_of x)) → IsAtTurn a y
-still-there a h x y word (Some n) same t ready found none = turn-read a h x y (word - 1) n same t ready found.1
-still-there a h x y word None same t ready found none = turn-still a h x y same t ready none.1
+still-there : (a h : Heap) (x y : HeapSeat) (word : ℕ) (r : Option ℕ) → h ≡ a → HoldsTurn a x → Sits h y × SharesReady (view_of y)
+    → IfSome r (λ n. (0 < word) × Found (ReadValue (word - 1)) n (view_of x) (view_of y)) → IfNone r ((word ≡ 0) × (view_of y ≡ view_of x)) → HoldsTurn a y
+still-there a h x y word (Some n) same t ready found none = held-read-in a h x y (word - 1) n same t ready found.1
+still-there a h x y word None same t ready found none = held-still-in a h x y same t ready none.1
 
 pub share_value_of-requires-clause-seat : goal.share_value_of-requires-clause-seat
-share_value_of-requires-clause-seat c = let m = c.args.self.now in shares-in _ _ m.seat c.deref.ensures (m.inside c.in-Inside.is) m.shared
+share_value_of-requires-clause-seat c = let m = c.args.self.now in holds-in _ _ m.seat c.deref.ensures (m.inside c.in-Inside.is) m.shared
 
 pub invariant_of-self-clause-inside : goal.invariant_of-self-clause-inside
 invariant_of-self-clause-inside c = λ _.
