@@ -29,10 +29,10 @@ found_some : (env : List ℕ) (word : ℕ) → 0 < slice_index (slice_set env 0 
 found_some [] word h = let none : 0 < 0 = h in absurd (omega (arith, none))
 found_some (x ∷ env) word h = h
 
-abbrev AsksWord : ℕ → List Entry → Type 0
-AsksWord word es = (es ≡ asking word []) × (0 < reference_in word)
+abbrev AsksWord : ℕ → ℕ → List Entry → Type 0
+AsksWord word old es = (es ≡ asking word old []) × (0 < reference_in word)
 
-asked : (range : Type 0) (x y : SharedMutator) (s : SharerActs range (LendsFound 0 0) x y) → 0 < word_in (state_of y.seat) 0 → Adds (AsksWord s.does.found) x y
+asked : (range : Type 0) (x y : SharedMutator) (s : SharerActs range (LendsFound 0 0) x y) → 0 < word_in (state_of y.seat) 0 → Adds (AsksWord s.does.found s.does.old) x y
 asked range x y s some =
     let v : View = view_of x.seat in
     let w : View = view_of y.seat in
@@ -48,7 +48,7 @@ module _ (v w x y z : SharedMutator) where
   whole-visits range n enters root some visits leaves =
       let f : ℕ = field_count_of v in
       let word : ℕ = root.does.found in
-      let one : Adds Asks v x = adds-join AreSpared (AsksWord word) Asks (asks-first word) v w x (spared v w enters) (asked range w x root some) in
+      let one : Adds Asks v x = adds-join AreSpared (AsksWord word root.does.old) Asks (asks-first word root.does.old) v w x (spared v w enters) (asked range w x root some) in
       let own : Adds (Visits f false false None None n) x y = same_fields (λ k. Visits k false false None None n) v x y one.heap visits in
       let two : Adds (VisitsRoot f n) v y = adds-join Asks (Visits f false false None None n) (VisitsRoot f n) (visits-asked f n) v x y one own in
       adds-join (VisitsRoot f n) AreSpared (VisitsRoot f n) (visits-more f n) v y z two (spared y z leaves)

@@ -9,7 +9,7 @@ use Rattle.mark_core.specs.Seats.{used_in}
 use Rattle.mark_core.specs.Steps.MutatorSteps.{seat_variable as word_in}
 use Rattle.mark_core.specs.declared.kinds.Shape.{Shape}
 use Rattle.mark_core.specs.declared.kinds.Step.{Step}
-use Rattle.mark_core.specs.declared.kinds.Step.TheVariants.{DirtyCard, ExchangeValue, StoreField, StoreNew, StoreRoot}
+use Rattle.mark_core.specs.declared.kinds.Step.TheVariants.{DirtyCard, ExchangeValue, HoldRoot, StoreField, StoreNew}
 use Rattle.mark_core.specs.declared.seat.SeatState.{SeatState}
 use Rattle.alloc_cache.specs.Making.{making_steps, nil_fields}
 use Rattle.card_clean.specs.Barrier.{barrier_steps, card_steps, cell_in, was_dirty}
@@ -191,15 +191,15 @@ each_field : (P : Step → Bool) (cell : ℕ) (ns : List ℕ) → ((n : ℕ) →
 each_field P cell [] h = refl
 each_field P cell (n ∷ ns) h = and_from (P (StoreNew cell n 0)) (all_of P (map (λ i. StoreNew cell i 0) ns)) (h n) (each_field P cell ns h)
 
-made_steps : (P : Step → Bool) (fields cell identity u : ℕ) → ((n : ℕ) → P (StoreNew cell n 0) ≡ true) → P (StoreNew cell (fields + 1) identity) ≡ true → P (StoreRoot u (cell + 1)) ≡ true
-    → all_of P (making_steps fields cell 0 identity ++ StoreRoot u (cell + 1) ∷ []) ≡ true
+made_steps : (P : Step → Bool) (fields cell identity u : ℕ) → ((n : ℕ) → P (StoreNew cell n 0) ≡ true) → P (StoreNew cell (fields + 1) identity) ≡ true → P (HoldRoot u (cell + 1)) ≡ true
+    → all_of P (making_steps fields cell 0 identity ++ HoldRoot u (cell + 1) ∷ []) ≡ true
 made_steps P fields cell identity u zeros last root =
-    all_more P (making_steps fields cell 0 identity) (StoreRoot u (cell + 1) ∷ [])
+    all_more P (making_steps fields cell 0 identity) (HoldRoot u (cell + 1) ∷ [])
     (all_more P (nil_fields cell fields) (StoreNew cell fields 0 ∷ StoreNew cell (fields + 1) identity ∷ []) (each_field P cell (range_with_len 0 fields) zeros)
     (and_from (P (StoreNew cell fields 0)) (P (StoreNew cell (fields + 1) identity) && true) (zeros fields) (and_from (P (StoreNew cell (fields + 1) identity)) true last refl)))
-    (and_from (P (StoreRoot u (cell + 1))) true root refl)
+    (and_from (P (HoldRoot u (cell + 1))) true root refl)
 
-made_spares : (fields cell identity u : ℕ) (es : List Entry) → not (u == 0) ≡ true → steps_of es ≡ making_steps fields cell 0 identity ++ StoreRoot u (cell + 1) ∷ [] → Spares fields es
+made_spares : (fields cell identity u : ℕ) (es : List Entry) → not (u == 0) ≡ true → steps_of es ≡ making_steps fields cell 0 identity ++ HoldRoot u (cell + 1) ∷ [] → Spares fields es
 made_spares fields cell identity u es other e =
     record {
       root = steps_all spares_root es ∙ (ap (all_of spares_root) e ∙ made_steps spares_root fields cell identity u (λ n. refl) refl other);
@@ -235,4 +235,4 @@ make-spares range x y u other s =
     creates = s.does.makes.creates
 
     same : came.shape.fields ≡ fields
-    same = ap (λ (sh : Shape). sh.fields) (ran-shape v came s.does.leaves.ran ∙ (x.inside s.was).works.sits.1)
+    same = ap (λ (sh : Shape). sh.fields) (ran-shape v came s.does.leaves.ran ∙ (x.inside s.was).holds.sits.1)

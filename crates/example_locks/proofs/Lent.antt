@@ -93,11 +93,11 @@ uses_back r (x ∷ xs) a =
 lent_word : (x : ℕ) → 0 < x → is_lent (if not (x == 0) then Some x else None) x ≡ true
 lent_word x some = ap (λ (b : Bool). is_lent (if not b then Some x else None) x) (ne_eqb x 0 (λ e. omega (arith, e, some))) ∙ eq-eqb x x refl
 
-abbrev pub asking : ℕ → List Entry → List Entry
-asking word es = event (ReadCat 0) word ∷ event (StoreRoot 0 (reference_in word)) (reference_in word) ∷ es
+abbrev pub asking : ℕ → ℕ → List Entry → List Entry
+asking word old es = event (ReadCat 0) word ∷ event (HoldRoot 0 (reference_in word)) old ∷ es
 
-uses_asking : (q : Option ℕ) (word : ℕ) (es : List Entry) → 0 < reference_in word → all_steps keeps_root es ≡ true → uses_lent q false (asking word es) ≡ true
-uses_asking q word es some a = ap (λ (b : Bool). uses_lent None b es) (lent_word (reference_in word) some) ∙ uses_back None es a
+uses_asking : (q : Option ℕ) (word old : ℕ) (es : List Entry) → 0 < reference_in word → all_steps keeps_root es ≡ true → uses_lent q false (asking word old es) ≡ true
+uses_asking q word old es some a = ap (λ (b : Bool). uses_lent None b es) (lent_word (reference_in word) some) ∙ uses_back None es a
 
 -- What the whole log is like.
 pub record Told (fields n : ℕ) (log : List Entry) : Type 0 where
@@ -113,10 +113,10 @@ pub told : (fields n : ℕ) (log : List Entry) → VisitsRoot fields n log → T
 told fields n log v = subst (Told fields n) (sym v.log) whole
   where
     rest : List Entry
-    rest = asking v.word v.visits
+    rest = asking v.word v.old v.visits
 
     uses : uses_lent None false (v.before ++ rest) ≡ true
-    uses = uses_front None v.before rest v.quiet (λ q. uses_asking q v.word v.visits v.some v.visited.through)
+    uses = uses_front None v.before rest v.quiet (λ q. uses_asking q v.word v.old v.visits v.some v.visited.through)
 
     front : Visits fields false false None None 0 v.before
     front = spared-visits fields false None v.before v.quiet
@@ -133,9 +133,9 @@ told fields n log v = subst (Told fields n) (sym v.log) whole
           won = let both = won_join v.before rest in let none = front.won in let some = v.visited.won in let same : won_count rest ≡ 0 + (0 + won_count v.visits) = refl in omega (arith, both, none, some, same);
         }
 
-longer : (before : List Entry) (word : ℕ) (es more : List Entry) → (before ++ asking word es) ++ more ≡ before ++ asking word (es ++ more)
-longer [] word es more = refl
-longer (x ∷ before) word es more = ap (λ (l : List Entry). x ∷ l) (longer before word es more)
+longer : (before : List Entry) (word old : ℕ) (es more : List Entry) → (before ++ asking word old es) ++ more ≡ before ++ asking word old (es ++ more)
+longer [] word old es more = refl
+longer (x ∷ before) word old es more = ap (λ (l : List Entry). x ∷ l) (longer before word old es more)
 
 -- what no plain heap sees may follow
 pub visits-more : (fields n : ℕ) (xs ys : List Entry) → VisitsRoot fields n xs → all_steps spares_heap ys ≡ true → VisitsRoot fields n (xs ++ ys)
@@ -143,8 +143,9 @@ visits-more fields n xs ys v a =
     record {
       before = v.before;
       word = v.word;
+      old = v.old;
       visits = v.visits ++ ys;
-      log = ap (λ (l : List Entry). l ++ ys) v.log ∙ longer v.before v.word v.visits ys;
+      log = ap (λ (l : List Entry). l ++ ys) v.log ∙ longer v.before v.word v.old v.visits ys;
       quiet = v.quiet;
       some = v.some;
       visited = let sum : n + 0 ≡ n = omega arith in subst (λ (k : ℕ). Visits fields false false None None k (v.visits ++ ys)) sum (visits-join fields false false false None None None n 0 v.visits ys v.visited (spared-visits fields false None ys a));
@@ -154,16 +155,17 @@ visits-more fields n xs ys v a =
 pub record Asks (es : List Entry) : Type 0 where
   pub before : List Entry
   pub word : ℕ
-  pub log : es ≡ before ++ asking word []
+  pub old : ℕ
+  pub log : es ≡ before ++ asking word old []
   pub quiet : all_steps spares_heap before ≡ true
   pub some : 0 < reference_in word
 
-pub asks-first : (word : ℕ) (xs ys : List Entry) → all_steps spares_heap xs ≡ true → (ys ≡ asking word []) × (0 < reference_in word) → Asks (xs ++ ys)
-asks-first word xs ys a b = record { before = xs; word = word; log = ap (λ (l : List Entry). xs ++ l) b.0; quiet = a; some = b.1 }
+pub asks-first : (word old : ℕ) (xs ys : List Entry) → all_steps spares_heap xs ≡ true → (ys ≡ asking word old []) × (0 < reference_in word) → Asks (xs ++ ys)
+asks-first word old xs ys a b = record { before = xs; word = word; old = old; log = ap (λ (l : List Entry). xs ++ l) b.0; quiet = a; some = b.1 }
 
 pub visits-asked : (fields n : ℕ) (xs ys : List Entry) → Asks xs → Visits fields false false None None n ys → VisitsRoot fields n (xs ++ ys)
 visits-asked fields n xs ys a v =
-    record { before = a.before; word = a.word; visits = ys; log = ap (λ (l : List Entry). l ++ ys) a.log ∙ longer a.before a.word [] ys; quiet = a.quiet; some = a.some; visited = v }
+    record { before = a.before; word = a.word; old = a.old; visits = ys; log = ap (λ (l : List Entry). l ++ ys) a.log ∙ longer a.before a.word a.old [] ys; quiet = a.quiet; some = a.some; visited = v }
 
 -- The seat of section 0, which changes no value.
 zero_steps : (fields : ℕ) (step : Step) → spares_values fields step ≡ true → (stores_none step ≡ true) × (makes_zero fields step ≡ true) × ((b : Bool) → takes_turn b step ≡ true) × ((b won : Bool) → turned b step won ≡ b)

@@ -63,7 +63,8 @@ pub record VisitsRoot (fields n : ℕ) (es : List Entry) : Type 0 where
   pub before : List Entry
   pub word : ℕ
   pub visits : List Entry
-  pub log : es ≡ before ++ event (ReadCat 0) word ∷ event (StoreRoot 0 (reference_in word)) (reference_in word) ∷ visits
+  pub old : ℕ
+  pub log : es ≡ before ++ event (ReadCat 0) word ∷ event (HoldRoot 0 (reference_in word)) old ∷ visits
   pub quiet : IsTrue (all_steps spares_heap before)
   pub some : 0 < reference_in word
   pub visited : Visits fields false false None None n visits

@@ -12,7 +12,7 @@ use Rattle.mark_core.specs.Numbers.{section_variables}
 use Rattle.mark_core.specs.Seats.{used_in}
 use Rattle.mark_core.specs.Steps.MutatorSteps.{seat_variable as word_in}
 use Rattle.mark_core.specs.declared.kinds.Step.{Step}
-use Rattle.mark_core.specs.declared.kinds.Step.TheVariants.{CheckCard, DirtyCard, ExchangeField, StoreField, StoreNew, StoreRoot}
+use Rattle.mark_core.specs.declared.kinds.Step.TheVariants.{CheckCard, DirtyCard, ExchangeField, HoldRoot, StoreField, StoreNew}
 use Rattle.mark_core.specs.declared.seat.SeatState.{SeatState}
 use Rattle.alloc_cache.specs.Making.{making_steps, nil_fields}
 use Rattle.gc_table.specs.Log.{all_steps, event, events, steps_of}
@@ -33,21 +33,21 @@ use Rattle.example_structures.specs.Changes.{Change, ChangesNone, IsTold, change
 use Rattle.example_structures.proofs.Changed.{all-join, all-more, all-of-join, all_of, changed-join, changed-spared, changed-stored, heap-objects, heap-variable, spares_objects, spares_variable, steps-all, words-join, words-spared}
 
 -- what was done, as the log has it
-ran_log : (v w : View) → Ran v w → w.log ≡ v.log ++ events v w
-ran_log v w ran = let g = ran-grows v w ran in g.1 ∙ ap (λ (l : List Entry). v.log ++ l) (sym (events-of v w g.0 g.1))
+pub ran-log : (v w : View) → Ran v w → w.log ≡ v.log ++ events v w
+ran-log v w ran = let g = ran-grows v w ran in g.1 ∙ ap (λ (l : List Entry). v.log ++ l) (sym (events-of v w g.0 g.1))
 
-env_long : (v : View) → ∥ IsPossible v ∥₁ → length v.state.env ≡ section_variables
-env_long v p = ∥∥₁_elim p (Prim.hlevel props) (λ (q : IsPossible v). (q.whole.core.formed.seats q.index v.state q.agrees.seat).env)
+pub env-long : (v : View) → ∥ IsPossible v ∥₁ → length v.state.env ≡ section_variables
+env-long v p = ∥∥₁_elim p (Prim.hlevel props) (λ (q : IsPossible v). (q.whole.core.formed.seats q.index v.state q.agrees.seat).env)
 
 module _ (x y : SharedMutator) where
   -- what these steps changed comes behind what was changed before
   pub changes-ran : Ran (view_of x.seat) (view_of y.seat) → changes_of y ≡ changes_of x ++ changed_in (told_of x) (did x.seat y.seat)
   unfolding changes_of told_of
-  changes-ran r = ap (changed_in no_words) (ran_log (view_of x.seat) (view_of y.seat) r) ∙ changed-join no_words (view_of x.seat).log (did x.seat y.seat)
+  changes-ran r = ap (changed_in no_words) (ran-log (view_of x.seat) (view_of y.seat) r) ∙ changed-join no_words (view_of x.seat).log (did x.seat y.seat)
 
   told_ran : Ran (view_of x.seat) (view_of y.seat) → told_of y ≡ words_by (told_of x) (did x.seat y.seat)
   unfolding told_of
-  told_ran r = ap (words_by no_words) (ran_log (view_of x.seat) (view_of y.seat) r) ∙ words-join no_words (view_of x.seat).log (did x.seat y.seat)
+  told_ran r = ap (words_by no_words) (ran-log (view_of x.seat) (view_of y.seat) r) ∙ words-join no_words (view_of x.seat).log (did x.seat y.seat)
 
   none_spared : Ran (view_of x.seat) (view_of y.seat) → all_steps spares_objects (did x.seat y.seat) ≡ true → ChangesNone x y
   none_spared r a = changes-ran r ∙ (ap (λ (l : List Change). changes_of x ++ l) (changed-spared (told_of x) (did x.seat y.seat) a) ∙ append-nil (changes_of x))
@@ -117,15 +117,15 @@ module _ (x y : SharedMutator) where
       ∙ (here u (reference_in t.1.found) (told_of x) ∙ sym (ap (λ (z : SeatState). word_in z u) t.1.state ∙ get_or-set_same (state_of x.seat).env u (reference_in t.1.found) 0 (inside u below)))))
     where
       inside : (u : ℕ) → u < section_variables → u < length (state_of x.seat).env
-      inside u below = let long = env_long (view_of x.seat) x.seat.possible in omega (arith, below, long)
+      inside u below = let long = env-long (view_of x.seat) x.seat.possible in omega (arith, below, long)
 
   -- an object was made
   pub made-ran : (w n : ℕ) → MakesSharedAfter w n (view_of x.seat) (view_of y.seat) → Ran (view_of x.seat) (view_of y.seat)
   made-ran w n k = ran-join (view_of x.seat) k.came (view_of y.seat) k.leaves.ran k.makes.creates.ran
 
-  makings : (P : Step → Bool) (w n fields cell identity : ℕ) → ((c part word : ℕ) → P (StoreNew c part word) ≡ true) → P (StoreRoot w (cell + 1)) ≡ true → all_of P (making_steps fields cell n identity ++ StoreRoot w (cell + 1) ∷ []) ≡ true
+  makings : (P : Step → Bool) (w n fields cell identity : ℕ) → ((c part word : ℕ) → P (StoreNew c part word) ≡ true) → P (HoldRoot w (cell + 1)) ≡ true → all_of P (making_steps fields cell n identity ++ HoldRoot w (cell + 1) ∷ []) ≡ true
   makings P w n fields cell identity new root =
-      all-of-join P (making_steps fields cell n identity) (StoreRoot w (cell + 1) ∷ [])
+      all-of-join P (making_steps fields cell n identity) (HoldRoot w (cell + 1) ∷ [])
       (all-of-join P (nil_fields cell fields) (StoreNew cell fields n ∷ StoreNew cell (fields + 1) identity ∷ []) (nil_all (range_with_len 0 fields)) (and_from _ _ (new cell fields n) (and_from _ true (new cell (fields + 1) identity) refl)))
       (and_from _ true root refl)
     where
@@ -133,17 +133,14 @@ module _ (x y : SharedMutator) where
       nil_all [] = refl
       nil_all (i ∷ is) = and_from (P (StoreNew cell i 0)) (all_of P (map (λ (i : ℕ). StoreNew cell i 0) is)) (new cell i 0) (nil_all is)
 
-  made_all : (P : Step → Bool) (w n : ℕ) (k : MakesSharedAfter w n (view_of x.seat) (view_of y.seat)) → ((step : Step) → spares_heap step ≡ true → P step ≡ true) → ((c part word : ℕ) → P (StoreNew c part word) ≡ true) → P (StoreRoot w (k.makes.cell + 1)) ≡ true → all_steps P (did x.seat y.seat) ≡ true
-  made_all P w n k spared new root =
+  pub made-all : (P : Step → Bool) (w n : ℕ) (k : MakesSharedAfter w n (view_of x.seat) (view_of y.seat)) → ((step : Step) → spares_heap step ≡ true → P step ≡ true) → ((c part word : ℕ) → P (StoreNew c part word) ≡ true) → P (HoldRoot w (k.makes.cell + 1)) ≡ true → all_steps P (did x.seat y.seat) ≡ true
+  made-all P w n k spared new root =
       subst (λ (es : List Entry). all_steps P es ≡ true) (sym (ran-events (view_of x.seat) k.came (view_of y.seat) k.leaves.ran k.makes.creates.ran))
       (all-join P (events (view_of x.seat) k.came) (events k.came (view_of y.seat)) (all-more spares_heap P spared (events (view_of x.seat) k.came) k.leaves.only)
       (steps-all P (events k.came (view_of y.seat)) ∙ (ap (all_of P) k.makes.creates.steps_are ∙ makings P w n k.came.shape.fields k.makes.cell (next_word k.came.state) new root)))
 
-  made_ran : (w n : ℕ) → MakesSharedAfter w n (view_of x.seat) (view_of y.seat) → Ran (view_of x.seat) (view_of y.seat)
-  made_ran w n k = ran-join (view_of x.seat) k.came (view_of y.seat) k.leaves.ran k.makes.creates.ran
-
   pub made-none : (w n : ℕ) → MakesSharedAfter w n (view_of x.seat) (view_of y.seat) → ChangesNone x y
-  made-none w n k = none_spared (made_ran w n k) (made_all spares_objects w n k heap-objects (λ c part word. refl) refl)
+  made-none w n k = none_spared (made-ran w n k) (made-all spares_objects w n k heap-objects (λ c part word. refl) refl)
 
   pub made-other : (u w n : ℕ) → u ≢ w → MakesSharedAfter w n (view_of x.seat) (view_of y.seat) → word_in (state_of y.seat) u ≡ word_in (state_of x.seat) u
   made-other u w n ne k =
@@ -152,7 +149,7 @@ module _ (x y : SharedMutator) where
 
   pub made-told : (u w n : ℕ) → u ≢ w → MakesSharedAfter w n (view_of x.seat) (view_of y.seat) → IsTold u x → IsTold u y
   made-told u w n ne k =
-      told_spared u (made_ran w n k) (made_all (spares_variable u) w n k (heap-variable u) (λ c part word. refl) (ap not (ne_eqb u w ne))) (made-other u w n ne k)
+      told_spared u (made-ran w n k) (made-all (spares_variable u) w n k (heap-variable u) (λ c part word. refl) (ap not (ne_eqb u w ne))) (made-other u w n ne k)
 
   -- a field was exchanged
   exchanged_rest : (words : ℕ → ℕ) (u word : ℕ) (won : Bool) → changed_in words (if won then seen_to (state_of x.seat) u word else []) ≡ []

@@ -51,13 +51,13 @@ changed-spared words (x ∷ xs) a =
     let p = and_parts (spares_objects x.step) (all_steps spares_objects xs) a in
     ap (λ (l : List Change). l ++ changed_in (words_after words x.step) xs) (changed_none words x.step x.found p.0) ∙ changed-spared (words_after words x.step) xs p.1
 
-by_other : (b : Bool) (r n : ℕ) → not b ≡ true → (if b then r else n) ≡ n
-by_other true r n e = absurd (false≢true e)
-by_other false r n e = refl
+pub by-other : (b : Bool) (r n : ℕ) → not b ≡ true → (if b then r else n) ≡ n
+by-other true r n e = absurd (false≢true e)
+by-other false r n e = refl
 
 word_spared : (words : ℕ → ℕ) (u : ℕ) (step : Step) → spares_variable u step ≡ true → words_after words step u ≡ words u
-word_spared words u (StoreRoot v r) e = by_other (u == v) r (words u) e
-word_spared words u (HoldRoot v r) e = by_other (u == v) r (words u) e
+word_spared words u (StoreRoot v r) e = by-other (u == v) r (words u) e
+word_spared words u (HoldRoot v r) e = by-other (u == v) r (words u) e
 word_spared words u step e = refl
 
 pub words-spared : (words : ℕ → ℕ) (u : ℕ) (es : List Entry) → all_steps (spares_variable u) es ≡ true → words_by words es u ≡ words u

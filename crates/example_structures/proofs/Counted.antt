@@ -11,6 +11,28 @@ use Rattle.example_structures.specs.Maps.{Renews, is_renewed, is_unlike}
 use Rattle.example_structures.specs.Queues.{Moves, is_other, is_put, is_taking}
 use Rattle.example_structures.proofs.Changed.{count-join}
 
+-- one call after another
+pub moves-join : (x y z : SharedMutator) (q a b c d : ℕ) → Moves q a b x y → Moves q c d y z → Moves q (a + c) (b + d) x z
+moves-join x y z q a b c d k l =
+    record {
+      put = let one = k.put in let two = l.put in omega (arith, one, two);
+      taken = let one = k.taken in let two = l.taken in omega (arith, one, two);
+      others = l.others ∙ k.others;
+    }
+
+-- the first one did nothing that counts
+pub moves-later : (x y z : SharedMutator) (q c d : ℕ) → changes_of y ≡ changes_of x → Moves q c d y z → Moves q c d x z
+moves-later x y z q c d e l =
+    record {
+      put = l.put ∙ ap (λ n. n + c) (ap (count_of is_put) e);
+      taken = l.taken ∙ ap (λ n. n + d) (ap (count_of (is_taking q)) e);
+      others = l.others ∙ ap (count_of (is_other q)) e;
+    }
+
+-- the second one
+pub moves-before : (x y z : SharedMutator) (q a b : ℕ) → Moves q a b x y → changes_of z ≡ changes_of y → Moves q a b x z
+moves-before x y z q a b k e = record { put = ap (count_of is_put) e ∙ k.put; taken = ap (count_of (is_taking q)) e ∙ k.taken; others = ap (count_of (is_other q)) e ∙ k.others }
+
 module _ (x y : SharedMutator) where
   -- one change more
   one_more : (P : Step → Bool → Bool) (step : Step) (won b : Bool) → P step won ≡ b → changes_of y ≡ changes_of x ++ record { step = step; won = won } ∷ [] → count_of P (changes_of y) ≡ count_of P (changes_of x) + (if b then 1 else 0)

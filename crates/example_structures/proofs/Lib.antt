@@ -1,4 +1,10 @@
+pub mod ByCalls
 pub mod Called
 pub mod Changed
 pub mod Counted
+pub mod FitCalls
+pub mod FitChanges
+pub mod FitLogs
+pub mod FitLooks
+pub mod FitQueue
 pub mod Refused

@@ -120,6 +120,13 @@ module _ (x y : SharedMutator) where
   want-none refusals.Full range v k = absurd k
   want-none refusals.Spent range v k = absurd k
 
+  pub want-same : (e : Refused) (range : Type 0) (v : ℕ) → WantsObject e range v x y → y ≡ x
+  want-same refusals.OutOfRange range v k = k.1
+  want-same refusals.Outside range v k = k.1
+  want-same refusals.Nil range v k = k.3
+  want-same refusals.Full range v k = absurd k
+  want-same refusals.Spent range v k = absurd k
+
   pub want-inside : (e : Refused) (range : Type 0) (v : ℕ) → x.place ≡ Inside → range → WantsObject e range v x y → (y.place ≡ Inside) × GivenUp e y
   want-inside refusals.OutOfRange range v i r k = absurd (k.0 r)
   want-inside refusals.Outside range v i r k = absurd (not_outside x.place i k.0)

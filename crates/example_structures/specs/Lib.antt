@@ -1,4 +1,6 @@
 pub mod Changes
+pub mod FitLaws
+pub mod Fitting
 pub mod Looks
 pub mod Making
 pub mod Maps

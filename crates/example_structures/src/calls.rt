@@ -1,13 +1,15 @@
 //! What the structures do with a mutator that is inside.
 //!
-//! Variables and fields are in range, so most of it can't be refused. Each call says that it changed no object, and
-//! that the mutator's log still tells what variable `SEEN` refers to: by this an exchange that expects it says whether
-//! it was won.
+//! Variables and fields are in range, so most of it can't be refused. Each call says by which events it did what it
+//! did, that it changed no object, and that the mutator's log still tells what variable `SEEN` refers to: by this an
+//! exchange that expects it says whether it was won.
 ghost use Rattle.std.specs.Arc.{arc_value};
 ghost use Rattle.std.specs.Prelude.{◌≡◌, ℕ, ◌<◌, ◌≢◌, IfErr, IfOk, IsFalse, IsTrue};
 ghost use Rattle.mark_core.specs.Steps.MutatorSteps.{seat_variable as word_in};
-ghost use Rattle.gc_table.specs.Seats.{state_of};
-ghost use Rattle.shared_heap.specs.Calls.{field_count_of};
+ghost use Rattle.gc_table.specs.Seats.{Across, state_of};
+ghost use Rattle.mutator_ops.specs.Sharing.{SetsVariable};
+ghost use Rattle.seat_turns.specs.Sharing.{FollowsField, MakesSharedAfter};
+ghost use Rattle.shared_heap.specs.Calls.{FindsValue, IsSame, field_count_of};
 ghost use Rattle.shared_heap.specs.declared.mutator.Place.TheVariants.{Inside};
 ghost use Rattle.example_structures.specs.Changes.{ChangesNone, IsTold};
 ghost use Rattle.example_structures.specs.Making.{Lays};
@@ -25,6 +27,7 @@ pub(crate) fn get(m: &mut SharedMutator, w: u8, v: u8, i: u8)
     ensures inside { m.new.place ≡ Inside }
     ensures none { ChangesNone m.old m.new }
     ensures told { IsTold 21 m.old → IsTold 21 m.new }
+    ensures follows { Across (FollowsField w v i) m.old.seat m.new.seat }
     ensures world { arc_value m.new.heap ≡ arc_value m.old.heap }
 {
     let _done = m.get(w, v, i);
@@ -37,6 +40,7 @@ pub(crate) fn see(m: &mut SharedMutator, v: u8, i: u8)
     ensures inside { m.new.place ≡ Inside }
     ensures none { ChangesNone m.old m.new }
     ensures told { IsTold 21 m.new }
+    ensures follows { Across (FollowsField 21 v i) m.old.seat m.new.seat }
     ensures world { arc_value m.new.heap ≡ arc_value m.old.heap }
 {
     let _done = m.get(SEEN, v, i);
@@ -49,6 +53,7 @@ pub(crate) fn copy(m: &mut SharedMutator, w: u8, v: u8)
     ensures inside { m.new.place ≡ Inside }
     ensures none { ChangesNone m.old m.new }
     ensures told { IsTold 21 m.old → IsTold 21 m.new }
+    ensures sets { Across (SetsVariable w (word_in (state_of m.old.seat) v)) m.old.seat m.new.seat }
     ensures world { arc_value m.new.heap ≡ arc_value m.old.heap }
 {
     let _done = m.copy(w, v);
@@ -60,6 +65,7 @@ pub(crate) fn forget(m: &mut SharedMutator, v: u8)
     ensures inside { m.new.place ≡ Inside }
     ensures none { ChangesNone m.old m.new }
     ensures told { v ≢ 21 → IsTold 21 m.old → IsTold 21 m.new }
+    ensures sets { Across (SetsVariable v 0) m.old.seat m.new.seat }
     ensures world { arc_value m.new.heap ≡ arc_value m.old.heap }
 {
     let _done = m.forget(v);
@@ -76,6 +82,8 @@ pub(crate) fn make<R: Wait>(rt: &R, m: &mut SharedMutator, v: u8, value: u32) ->
     ensures told { IfOk result (λ _. IsTold 21 m.old → IsTold 21 m.new) }
     ensures some { IfOk result (λ _. 0 < word_in (state_of m.new.seat) v) }
     ensures others { IfOk result (λ _. (u : ℕ) → u ≢ v → word_in (state_of m.new.seat) u ≡ word_in (state_of m.old.seat) u) }
+    ensures makes { IfOk result (λ _. Across (MakesSharedAfter v value) m.old.seat m.new.seat) }
+    ensures same { IfErr result (λ _. IsSame m.old m.new) }
     ensures world { arc_value m.new.heap ≡ arc_value m.old.heap }
 {
     match m.make(rt, v, value) {
@@ -90,6 +98,7 @@ pub(crate) fn pass<R: Wait>(rt: &R, m: &mut SharedMutator) -> Result<(), Refused
     ensures inside { IfOk result (λ _. m.new.place ≡ Inside) }
     ensures refused { IfErr result (λ e. GivenUp e m.new) }
     ensures none { ChangesNone m.old m.new }
+    ensures same { IsSame m.old m.new }
     ensures world { arc_value m.new.heap ≡ arc_value m.old.heap }
 {
     m.safe_point(rt)
@@ -103,6 +112,8 @@ pub(crate) fn value(m: &mut SharedMutator, v: u8) -> Result<u64, Refused>
     ensures refused { IfErr result (λ e. GivenUp e m.new) }
     ensures none { ChangesNone m.old m.new }
     ensures told { IsTold 21 m.old → IsTold 21 m.new }
+    ensures finds { IfOk result (λ n. Across (FindsValue v n) m.old.seat m.new.seat) }
+    ensures same { IfErr result (λ _. IsSame m.old m.new) }
     ensures world { arc_value m.new.heap ≡ arc_value m.old.heap }
 {
     m.value(v)

@@ -1,5 +1,7 @@
 ghost use Rattle.std.specs.Arc.{arc_value};
-ghost use Rattle.std.specs.Prelude.{◌≡◌, ◌<◌, IfErr, IfOk};
+ghost use Rattle.std.specs.Prelude.{◌≡◌, ◌<◌, ◌-◌, IfErr, IfOk};
+ghost use Rattle.gc_table.specs.Seats.{Across};
+ghost use Rattle.seat_turns.specs.Sharing.{FollowsField};
 ghost use Rattle.shared_heap.specs.declared.mutator.Place.TheVariants.{Inside};
 ghost use Rattle.example_structures.specs.Changes.{ChangesNone};
 ghost use Rattle.example_structures.specs.Refusing.{IsFor, NotBegun};
@@ -23,6 +25,7 @@ pub(crate) fn begin(m: &mut SharedMutator, v: u8, least: u8) -> Result<(), Refus
     ensures begun { IfOk result (λ _. (m.old.place ≡ Inside) × (m.new.place ≡ Inside) × IsFor v least m.new) }
     ensures refused { IfErr result (λ e. NotBegun e (IsFor v least m.old) m.old m.new) }
     ensures none { ChangesNone m.old m.new }
+    ensures follows { IfOk result (λ _. Across (FollowsField 20 20 (least - 1)) m.old.seat m.new.seat) }
     ensures world { arc_value m.new.heap ≡ arc_value m.old.heap }
 {
     if v >= CALLERS {

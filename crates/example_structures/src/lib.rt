@@ -11,9 +11,11 @@
 mod calls;
 mod chain;
 mod hands;
+mod laws;
 mod map;
 mod queue;
 
 pub use hands::CALLERS;
+pub use laws::fits_by_calls;
 pub use map::SharedMap;
 pub use queue::SharedQueue;

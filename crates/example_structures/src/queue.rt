@@ -8,10 +8,12 @@
 //! the queue's first. If the queue's last lags behind, whoever finds it so moves it on. What a taken node had is read
 //! before the exchange: until that is won no other changes it.
 ghost use Rattle.std.specs.Arc.{arc_value};
-ghost use Rattle.std.specs.Prelude.{◌≡◌, ◌<◌, ◌≤◌, IfErr, IfNone, IfOk, IfSome, ◌⊎◌, if◌then◌else◌};
+ghost use Rattle.std.specs.Prelude.{◌≡◌, ◌≢◌, ◌<◌, ◌≤◌, IfErr, IfNone, IfOk, IfSome, IsTrue, ◌⊎◌, if◌then◌else◌};
+ghost use Rattle.queue_laws.specs.QueueLogs.{has_read};
 ghost use Rattle.shared_heap.specs.Calls.{field_count_of};
 ghost use Rattle.shared_heap.specs.declared.mutator.Place.TheVariants.{Inside};
 ghost use Rattle.example_structures.specs.Changes.{IsTold};
+ghost use Rattle.example_structures.specs.Fitting.{AddsFitting, Began, FitsFollowing, FitsKeeping, FitsPutting, FitsSince, FitsTaking, KeepsRead, Linked, MayLink, StaysFresh, since};
 ghost use Rattle.example_structures.specs.Making.{Lays};
 ghost use Rattle.example_structures.specs.Queues.{Moves, taken_by};
 ghost use Rattle.example_structures.specs.Looks.{taken_by_look};
@@ -49,8 +51,7 @@ enum Look {
     Again,
 }
 
-/// The queue that a variable refers to. Objects need two references at least. The queue's own value is the
-/// caller's.
+/// The queue that a variable refers to. Objects need two references at least. Its own value is the caller's.
 #[derive(Clone, Copy, Debug, PartialEq, Eq, Drop)]
 pub struct SharedQueue {
     queue: u8,
@@ -94,6 +95,7 @@ impl SharedQueue {
     ) -> Result<(), Refused>
         ensures put { IfOk result (λ _. (m.new.place ≡ Inside) × Moves self.queue 1 0 m.old m.new) }
         ensures refused { IfErr result (λ e. IsRefused e (IsFor item 2 m.old) m.old m.new × Moves self.queue 0 0 m.old m.new) }
+        ensures fits { AddsFitting self.queue m.old m.new }
         ensures world { arc_value m.new.heap ≡ arc_value m.old.heap }
     {
         begin(m, item, 2)?;
@@ -116,6 +118,7 @@ impl SharedQueue {
         requires wide { 2 ≤ field_count_of m.old }
         ensures put { IfOk result (λ won. (m.new.place ≡ Inside) × Moves self.queue (if won then 1 else 0) 0 m.old m.new) }
         ensures refused { IfErr result (λ e. GivenUp e m.new × Moves self.queue 0 0 m.old m.new) }
+        ensures fits { FitsPutting self.queue result m.old m.new }
         ensures world { arc_value m.new.heap ≡ arc_value m.old.heap }
     {
         if self.append(m)? {
@@ -131,6 +134,7 @@ impl SharedQueue {
         requires wide { 2 ≤ field_count_of m.old }
         ensures put { IfOk result (λ won. (m.new.place ≡ Inside) × Moves self.queue (if won then 1 else 0) 0 m.old m.new) }
         ensures refused { IfErr result (λ e. GivenUp e m.new × Moves self.queue 0 0 m.old m.new) }
+        ensures fits { FitsPutting self.queue result m.old m.new }
         ensures world { arc_value m.new.heap ≡ arc_value m.old.heap }
     {
         get(m, TAIL, self.queue, LAST);
@@ -150,6 +154,7 @@ impl SharedQueue {
         requires told { IsTold 21 m.old }
         ensures put { IfOk result (λ won. (m.new.place ≡ Inside) × Moves self.queue (if won then 1 else 0) 0 m.old m.new) }
         ensures refused { IfErr result (λ e. GivenUp e m.new × Moves self.queue 0 0 m.old m.new) }
+        ensures fits { (b : Began) → FitsSince self.queue b m.old → MayLink self.queue b m.old → FitsSince self.queue b m.new × IfOk result (StaysFresh b m.new) }
         ensures world { arc_value m.new.heap ≡ arc_value m.old.heap }
     {
         let won = self.come_behind(m)?;
@@ -166,6 +171,7 @@ impl SharedQueue {
         requires told { IsTold 21 m.old }
         ensures put { IfOk result (λ won. (m.new.place ≡ Inside) × Moves self.queue (if won then 1 else 0) 0 m.old m.new) }
         ensures refused { IfErr result (λ e. GivenUp e m.new × Moves self.queue 0 0 m.old m.new) }
+        ensures fits { (b : Began) → FitsSince self.queue b m.old → MayLink self.queue b m.old → FitsSince self.queue b m.new × IfOk result (Linked self.queue b m.new) }
         ensures world { arc_value m.new.heap ≡ arc_value m.old.heap }
     {
         m.exchange(TAIL, NEXT, SEEN, OWN)
@@ -176,6 +182,7 @@ impl SharedQueue {
         requires wide { (to < 32) × (2 ≤ field_count_of m.old) }
         ensures inside { m.new.place ≡ Inside }
         ensures moves { Moves self.queue 0 0 m.old m.new }
+        ensures fits { FitsFollowing self.queue to m.old m.new }
         ensures world { arc_value m.new.heap ≡ arc_value m.old.heap }
     {
         let _moved = m.exchange(self.queue, LAST, TAIL, to);
@@ -187,6 +194,7 @@ impl SharedQueue {
         requires node { (node ≡ 20) ⊎ (node ≡ 23) }
         ensures inside { m.new.place ≡ Inside }
         ensures moves { Moves self.queue 0 0 m.old m.new }
+        ensures fits { FitsKeeping self.queue node m.old m.new }
         ensures world { arc_value m.new.heap ≡ arc_value m.old.heap }
     {
         let _done = m.set(node, ITEM, item);
@@ -202,6 +210,7 @@ impl SharedQueue {
     ) -> Result<Option<u64>, Refused>
         ensures taken { IfOk result (λ some. (m.new.place ≡ Inside) × Moves self.queue 0 (taken_by some) m.old m.new) }
         ensures refused { IfErr result (λ e. IsRefused e (IsFor item 2 m.old) m.old m.new × Moves self.queue 0 0 m.old m.new) }
+        ensures fits { item ≢ self.queue → AddsFitting self.queue m.old m.new }
         ensures world { arc_value m.new.heap ≡ arc_value m.old.heap }
     {
         begin(m, item, 2)?;
@@ -221,6 +230,7 @@ impl SharedQueue {
         requires wide { IsFor item 2 m.old }
         ensures taken { IfOk result (λ look. (m.new.place ≡ Inside) × Moves self.queue 0 (taken_by_look look) m.old m.new) }
         ensures refused { IfErr result (λ e. GivenUp e m.new × Moves self.queue 0 0 m.old m.new) }
+        ensures fits { item ≢ self.queue → AddsFitting self.queue m.old m.new }
         ensures world { arc_value m.new.heap ≡ arc_value m.old.heap }
     {
         see(m, self.queue, FIRST);
@@ -244,6 +254,7 @@ impl SharedQueue {
         requires wide { 2 ≤ field_count_of m.old }
         ensures taken { IfOk result (λ look. (m.new.place ≡ Inside) × Moves self.queue 0 (taken_by_look look) m.old m.new) }
         ensures refused { IfErr result (λ e. GivenUp e m.new × Moves self.queue 0 0 m.old m.new) }
+        ensures fits { FitsTaking self.queue m.old m.new }
         ensures world { arc_value m.new.heap ≡ arc_value m.old.heap }
     {
         if is_nil(m, SEEN) {
@@ -263,6 +274,7 @@ impl SharedQueue {
         requires told { IsTold 21 m.old }
         ensures taken { IfOk result (λ look. (m.new.place ≡ Inside) × Moves self.queue 0 (taken_by_look look) m.old m.new) }
         ensures refused { IfErr result (λ e. GivenUp e m.new × Moves self.queue 0 0 m.old m.new) }
+        ensures fits { item ≢ self.queue → FitsTaking self.queue m.old m.new }
         ensures world { arc_value m.new.heap ≡ arc_value m.old.heap }
     {
         let number = value(m, BEHIND)?;
@@ -282,6 +294,8 @@ impl SharedQueue {
         requires told { IsTold 21 m.old }
         ensures taken { IfOk result (λ won. (m.new.place ≡ Inside) × Moves self.queue 0 (if won then 1 else 0) m.old m.new) }
         ensures refused { IfErr result (λ e. GivenUp e m.new × Moves self.queue 0 0 m.old m.new) }
+        ensures fits { (b : Began) → FitsSince self.queue b m.old → IsTrue (has_read b.seat 21 23 0 (since b m.old)) → FitsSince self.queue b m.new }
+        ensures kept { KeepsRead self.queue m.old m.new }
         ensures world { arc_value m.new.heap ≡ arc_value m.old.heap }
     {
         m.exchange(self.queue, FIRST, SEEN, BEHIND)

@@ -36,10 +36,10 @@ module _ (q : Queue) (c : Core) (world : World) (es : List Event) (h : Hands) (p
 
     -- the step keeps the queue, whatever it is
     keeps_step : (a : Step) → x.event.step ≡ a → KeepsQueue q c world es k i a
-    keeps_step (StoreField v f y) is = queue.beside q c world es h p k x t v f y is
-    keeps_step (StoreValue v m) is = queue.valued q c world es h p k x t v (ap through is) (ap is_callers is) (subst (λ (s : Step). fits c.shape.fields x.first h (log i k) s ≡ true) is (fit q c world es h p k x (ap is_logged is)))
-    keeps_step (ExchangeValue v m l) is = queue.valued q c world es h p k x t v (ap through is) (ap is_callers is) (subst (λ (s : Step). fits c.shape.fields x.first h (log i k) s ≡ true) is (fit q c world es h p k x (ap is_logged is)))
-    keeps_step (ExchangeField v f y z) is = λ name to won. queue.exchanging q c world es h p k x t v f y z is name to
+    keeps_step (StoreField v f y) is = queue.beside q c world es h p k x t (ap is_logged is) v f y is
+    keeps_step (StoreValue v m) is = queue.valued q c world es h p k x t (ap is_logged is) v (ap through is) (ap is_callers is) (subst (λ (s : Step). fits c.shape.fields x.first h (log i k) s ≡ true) is (fit q c world es h p k x (ap is_logged is)))
+    keeps_step (ExchangeValue v m l) is = queue.valued q c world es h p k x t (ap is_logged is) v (ap through is) (ap is_callers is) (subst (λ (s : Step). fits c.shape.fields x.first h (log i k) s ≡ true) is (fit q c world es h p k x (ap is_logged is)))
+    keeps_step (ExchangeField v f y z) is = λ name to won. queue.exchanging q c world es h p k x t (ap is_logged is) v f y z is name to
     keeps_step a is = tt
 
     act : (a : Step) → x.event.step ≡ a → Taken (core k) x.event.seat x.seat a

@@ -1,7 +1,7 @@
 -- What a log that fits a queue tells of the variables of its seat, and that a node which was put in is behind the last.
-use Rattle.std.proofs.Common.{ℕ, ◌≡◌, ◌≢◌, ◌⊎◌, ◌<◌, ◌≤◌, ◌&&◌, ◌||◌, zero, suc, List, [], ◌∷◌, ◌++◌, append_assoc, take, length, arith, refl, sym, ap, ◌∙◌, Bool, true, Option, None, Some, eqb-true, inl, ⊎_elim}
+use Rattle.std.proofs.Common.{ℕ, ◌≡◌, ◌≢◌, ◌⊎◌, ◌<◌, ◌≤◌, ◌&&◌, ◌||◌, zero, suc, List, [], ◌∷◌, ◌++◌, append_assoc, take, length, arith, refl, sym, ap, ◌∙◌, Bool, true, false, Option, None, Some, eqb-true, inl, ⊎_elim}
 use Rattle.std.specs.Prelude.{if◌then◌else◌, slice_get, slice_index_or}
-use Rattle.std.proofs.lemmas.Bool.{and_parts, cases_eq, or_cases}
+use Rattle.std.proofs.lemmas.Bool.{and_parts, cases_eq, or_cases, true≢false}
 use Rattle.plain_heap.specs.Paths.{Name}
 use Rattle.mark_core.specs.Layout.{words_of}
 use Rattle.mark_core.specs.Steps.{Core, run_of}
@@ -46,7 +46,7 @@ entry_linked h c s step b e =
     let r = and_parts (leaves_variable h.own step) (b || is_link h step (word_told c s step)) p.1 in
     (p.0, r.0, or_cases b (is_link h step (word_told c s step)) r.1)
 
-logged_entry : (c : Core) (s : SeatState) (step : Step) → is_logged step ≡ true → entries_of c (Some s) step ≡ event step (word_told c s step) ∷ []
+pub logged_entry : (c : Core) (s : SeatState) (step : Step) → is_logged step ≡ true → entries_of c (Some s) step ≡ event step (word_told c s step) ∷ []
 logged_entry c s step e = ap (λ (b : Bool). if b then event step (word_told c s step) ∷ [] else []) e
 
 module _ (q : Queue) (c : Core) (world : World) (es : List Event) (h : Hands) (p : FitsQueue q c world es h) where
@@ -67,18 +67,23 @@ module _ (q : Queue) (c : Core) (world : World) (es : List Event) (h : Hands) (p
     pub event : Event
     pub there : slice_get es k ≡ Some event
     pub first : SeatState
-    pub is_first : slice_get c.seats event.seat ≡ Some first
+    pub is_first : is_logged event.step ≡ true → slice_get c.seats event.seat ≡ Some first
     pub seat : SeatState
     pub act : Taken (core k) event.seat seat event.step
     pub agrees : AgreesWith (core k) (heap k)
     pub after : heap (suc k) ≡ world_by (core k).shape (words_of (core k).shape (core k).words) seat event.step (heap k)
     pub below : k < length es
 
+  -- the seat's record at the start, if the event is logged
+  first_of : (e : Event) (s : SeatState) → (is_logged e.step ≡ true → (t : SeatState) × (slice_get c.seats e.seat ≡ Some t)) → (b : Bool) → is_logged e.step ≡ b → (t : SeatState) × (is_logged e.step ≡ true → slice_get c.seats e.seat ≡ Some t)
+  first_of e s there true is = let t = there is in (t.0, λ l. t.1)
+  first_of e s there false is = (s, λ l. absurd (true≢false (sym l ∙ is)))
+
   pub at : (k : ℕ) → k < length es → At k
   at k l =
       let n : Next es c world k = next-at es c world run.allowed k l in
       let r : (s : SeatState) × Acted (core k) n.event s = acts (core k) n.event (run.sound k) n.allowed in
-      let s = p.seats k n.event n.there in
+      let s = first_of n.event r.0 (p.seats k n.event n.there) (is_logged n.event.step) refl in
       record {
         event = n.event;
         there = n.there;
@@ -100,7 +105,7 @@ module _ (q : Queue) (c : Core) (world : World) (es : List Event) (h : Hands) (p
     fit logged =
         let it = split_log e.seat es c run.allowed k e x.there in
         let one : adds e.seat (core k) e ≡ event e.step (word_told (core k) x.seat e.step) ∷ [] = own_adds (core k) e x.seat x.act.got ∙ logged_entry (core k) x.seat e.step logged in
-        p.fit e.seat x.first x.is_first (log e.seat k) it.rest (event e.step (word_told (core k) x.seat e.step))
+        p.fit e.seat x.first (x.is_first logged) (log e.seat k) it.rest (event e.step (word_told (core k) x.seat e.step))
         (it.whole ∙ (ap (λ (l : List Entry). (log e.seat k ++ l) ++ it.rest) one ∙ append_assoc (log e.seat k) (event e.step (word_told (core k) x.seat e.step) ∷ []) it.rest))
 
     -- a variable that the event leaves
@@ -122,10 +127,10 @@ module _ (q : Queue) (c : Core) (world : World) (es : List Event) (h : Hands) (p
       (r.0, ap (λ (z : World). object_of z name) (x.after ∙ sym (ap (λ (o : Option SeatState). world_of (core k) o x.event.step (heap k)) x.act.got)) ∙ r.1)
 
   -- what was seen is nil
-  pub nil : (k : ℕ) (x : At k) → Mutates (core k) x.event.seat x.seat → saw_nil x.first h (log x.event.seat k) ≡ true → variable_of (heap k) x.event.seat h.seen ≡ None
-  nil k x mu saw =
+  pub nil : (k : ℕ) (x : At k) → is_logged x.event.step ≡ true → Mutates (core k) x.event.seat x.seat → saw_nil x.first h (log x.event.seat k) ≡ true → variable_of (heap k) x.event.seat h.seen ≡ None
+  nil k x logged mu saw =
       let below = x.below in
       let seen : h.seen < 32 = p.hands.exist.2 in
-      let word = known-at c world es run x.event.seat h.seen h.tail 0 x.first x.is_first seen p.hands.exist.3 p.hands.differ.4 k (omega (arith, below)) x.seat x.act.got x.act.live in
+      let word = known-at c world es run x.event.seat h.seen h.tail 0 x.first (x.is_first logged) seen p.hands.exist.3 p.hands.differ.4 k (omega (arith, below)) x.seat x.act.got x.act.live in
       sym (env-agrees (core k) x.event.seat x.seat x.event.step (heap k) h.seen x.act x.agrees mu seen)
       ∙ ap (referred (words_of (core k).shape (core k).words).identities) (word ∙ eqb-true _ 0 saw)

@@ -1,5 +1,5 @@
 -- A queue whose threads' logs fit is changed only as its calls do.
-use Rattle.std.proofs.Common.{ℕ, ◌≡◌, ◌≢◌, ◌⊎◌, ◌<◌, ◌≤◌, ◌==◌, ◌&&◌, ◌||◌, List, take, length, arith, refl, sym, ap, ◌∙◌, subst, true, false, Option, None, Some, eqb-true, inr, ⊎_elim}
+use Rattle.std.proofs.Common.{ℕ, ◌≡◌, ◌≢◌, ◌<◌, ◌≤◌, ◌==◌, ◌&&◌, ◌||◌, List, take, length, arith, refl, sym, ap, ◌∙◌, subst, true, false, Option, None, Some, eqb-true, inr, ⊎_elim}
 use Rattle.std.specs.Prelude.{nat_le}
 use Rattle.std.proofs.lemmas.Bool.{and_parts, false_from_ne_true, leb-true, or_cases, or_from, true≢false}
 use Rattle.std.proofs.lemmas.Option.{same_Some}
@@ -42,7 +42,7 @@ module _ (q : Queue) (c : Core) (world : World) (es : List Event) (h : Hands) (p
   abbrev log : ℕ → ℕ → List Entry
   log i k = log_from i c (take k es)
 
-  module _ (k : ℕ) (x : At q c world es h p k) (t : Status q c world es p.begins k) where
+  module _ (k : ℕ) (x : At q c world es h p k) (t : Status q c world es p.begins k) (logged : is_logged x.event.step ≡ true) where
     abbrev i : ℕ
     i = x.event.seat
 
@@ -61,7 +61,7 @@ module _ (q : Queue) (c : Core) (world : World) (es : List Event) (h : Hands) (p
     below_two f l = false_from_ne_true (nat_le 2 f) (λ t. let two = leb-true 2 f t in omega (arith, two, l))
 
     read : (v u f : ℕ) → v < 32 → u < 32 → v ≢ u → has_read x.first v u f (log i k) ≡ true → IsRead c es i v u f k
-    read v u f hv hu d e = record { seat = x.first; there = x.is_first; exists = (hv, hu); others = d; held = e }
+    read v u f hv hu d e = record { seat = x.first; there = x.is_first logged; exists = (hv, hu); others = d; held = e }
 
     -- what is in the queue is a node
     no_queue : (name : Name) → q.is_node name ≡ true → name ≢ q.object
@@ -96,12 +96,12 @@ module _ (q : Queue) (c : Core) (world : World) (es : List Event) (h : Hands) (p
         let a = and_parts (f == 1) (keeps_beside c.shape.fields x.first h (log i k) v) u in
         let one : f ≡ 1 = eqb-true f 1 a.0 in
         (λ e. absurd (omega (arith, one, e)), λ e. ⊎_elim own (next e) (or_cases ((v == h.own) && is_fresh c.shape.fields h.own (log i k)) ((v == h.next) && (has_read x.first h.queue h.seen 0 (log i k) && has_read x.first h.seen h.next 0 (log i k))) a.1)))
-        (or_cases (nat_le 2 f) ((f == 1) && keeps_beside c.shape.fields x.first h (log i k) v) (subst (λ (s : Step). fits c.shape.fields x.first h (log i k) s ≡ true) is (fit q c world es h p k x (ap is_logged is))))
+        (or_cases (nat_le 2 f) ((f == 1) && keeps_beside c.shape.fields x.first h (log i k) v) (subst (λ (s : Step). fits c.shape.fields x.first h (log i k) s ≡ true) is (fit q c world es h p k x logged)))
       where
         own : ((v == h.own) && is_fresh c.shape.fields h.own (log i k)) ≡ true → name ≢ q.object
         own e same =
             let a = and_parts (v == h.own) (is_fresh c.shape.fields h.own (log i k)) e in
-            let m = made_by_log c world es p.begins.run i h.own x.first x.is_first p.hands.exist.1 k within a.1 in
+            let m = made_by_log c world es p.begins.run i h.own x.first (x.is_first logged) p.hands.exist.1 k within a.1 in
             let is_new : m.0 ≡ name = same_Some m.0 name (sym m.1 ∙ (ap (variable_of (heap k) i) (sym (eqb-true v h.own a.0)) ∙ to)) in
             new_other m.0 m.3 p.begins.first.0 (ap (object_of world) (is_new ∙ same) ∙ p.begins.first.1)
 
@@ -133,7 +133,7 @@ module _ (q : Queue) (c : Core) (world : World) (es : List Event) (h : Hands) (p
         let low : is_callers x.event.step ≡ false = small (omega (arith, zero_low)) in
         let tail : variable_of (heap k) i h.tail ≡ Some name = ap (variable_of (heap k) i) (sym l.at_tail) ∙ to in
         let was : Was c world es k q.object 1 name = kinds_by_log.last q c world es i h.queue h.tail k (refers v e low) (read h.queue h.tail 1 p.hands.exist.0 p.hands.exist.3 p.hands.differ.0 l.last) name tail in
-        let m = made_by_log c world es p.begins.run i h.own x.first x.is_first p.hands.exist.1 k within l.fresh in
+        let m = made_by_log c world es p.begins.run i h.own x.first (x.is_first logged) p.hands.exist.1 k within l.fresh in
         let zero_field = l.zero_field in (
           λ g node.
               record {
@@ -216,12 +216,12 @@ module _ (q : Queue) (c : Core) (world : World) (es : List Event) (h : Hands) (p
         ⊎_elim
         (λ (l : links c.shape.fields x.first h (log i k) v f y z ≡ true).
         let parts : IsLink h v f y z c.shape.fields x.first (log i k) = link_parts h v f y z c.shape.fields x.first (log i k) l in
-        linking v f y z name (ap through is) (λ l. ap is_callers is ∙ below_two f l) to (nil q c world es h p k x mu parts.saw) parts)
+        linking v f y z name (ap through is) (λ l. ap is_callers is ∙ below_two f l) to (nil q c world es h p k x logged mu parts.saw) parts)
         (λ (l : (advances x.first h (log i k) v f y z || follows x.first h (log i k) v f z) ≡ true).
         ⊎_elim (advancing v f y z name (ap through is) (λ t. ap is_callers is ∙ below_two f t) to) (following v f y z name (ap through is) (λ t. ap is_callers is ∙ below_two f t)) (or_cases (advances x.first h (log i k) v f y z) (follows x.first h (log i k) v f z) l))
         (or_cases (links c.shape.fields x.first h (log i k) v f y z) (advances x.first h (log i k) v f y z || follows x.first h (log i k) v f z) u))
         (or_cases (nat_le 2 f) (links c.shape.fields x.first h (log i k) v f y z || (advances x.first h (log i k) v f y z || follows x.first h (log i k) v f z))
-        (subst (λ (s : Step). fits c.shape.fields x.first h (log i k) s ≡ true) is (fit q c world es h p k x (ap is_logged is))))
+        (subst (λ (s : Step). fits c.shape.fields x.first h (log i k) s ≡ true) is (fit q c world es h p k x logged)))
       where
         mu : Mutates (core k) x.event.seat x.seat
         mu = (compares (core k) x.event.seat x.seat v f y z (heap k) (subst (λ (s : Step). Taken (core k) x.event.seat x.seat s) is x.act) x.agrees).mutator

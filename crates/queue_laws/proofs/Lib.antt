@@ -1,10 +1,13 @@
 pub mod Chains
+pub mod Created
 pub mod FitKeeps
 pub mod FitSteps
 pub mod Fits
 pub mod Happening
 pub mod Holds
 pub mod KindLogs
+pub mod Laid
+pub mod LentQueues
 pub mod LinkLogs
 pub mod LogQueues
 pub mod MakeLogs
@@ -12,6 +15,7 @@ pub mod MakeSteps
 pub mod Moves
 pub mod News
 pub mod Owners
+pub mod Parts
 pub mod Queues
 pub mod ReadLogs
 pub mod ReadSteps

@@ -1,5 +1,5 @@
 -- A node that a seat put behind another is behind it, as long as the seat's log says so.
-use Rattle.std.proofs.Common.{ℕ, ◌≡◌, ◌≢◌, ◌⊎◌, ◌≤◌, ◌==◌, ◌||◌, zero, suc, List, take, length, arith, refl, sym, ap, ◌∙◌, subst, Bool, true, false, Option, None, Some, eqb-true, ⊎_elim}
+use Rattle.std.proofs.Common.{ℕ, ◌≡◌, ◌≢◌, ◌≤◌, ◌==◌, ◌||◌, zero, suc, List, take, length, arith, refl, sym, ap, ◌∙◌, subst, Bool, true, false, Option, None, Some, eqb-true, ⊎_elim}
 use Rattle.std.specs.Prelude.{if◌then◌else◌, nat_le}
 use Rattle.std.proofs.lemmas.Bool.{and_parts, cases_eq, false≢true, leb-true, or_cases}
 use Rattle.std.proofs.lemmas.List.{get_or-set_same}
@@ -111,10 +111,10 @@ module _ (q : Queue) (c : Core) (world : World) (es : List Event) (h : Hands) (p
         let l : IsLink h v f y z c.shape.fields x.first (log i k) =
         link_parts h v f y z c.shape.fields x.first (log i k) (linking c.shape.fields x.first h (log i k) v f y z (eqb-true v h.tail a.0) (eqb-true f 0 b.0) p.hands.differ.0 fitting) in
         let below = x.below in
-        let fresh = made_by_log c world es p.begins.run i h.own x.first x.is_first p.hands.exist.1 k (omega (arith, below)) l.fresh in
+        let fresh = made_by_log c world es p.begins.run i h.own x.first (x.is_first (ap is_logged is)) p.hands.exist.1 k (omega (arith, below)) l.fresh in
         let none : word ≡ 0 = eqb-true word 0 d.1 in
         let expected : stored (heap k) (own_section x.seat) y ≡ None =
-        ap (λ (n : ℕ). stored (heap k) n y) r.mutator.own ∙ (ap (stored (heap k) i) l.expects ∙ nil q c world es h p k x r.mutator l.saw) in
+        ap (λ (n : ℕ). stored (heap k) n y) r.mutator.own ∙ (ap (stored (heap k) i) l.expects ∙ nil q c world es h p k x (ap is_logged is) r.mutator l.saw) in
         let given : stored (heap k) (own_section x.seat) z ≡ Some fresh.0 =
         ap (λ (n : ℕ). stored (heap k) n z) r.mutator.own ∙ (ap (stored (heap k) i) l.gives ∙ fresh.1) in
         let found : reference_of finds.object f ≡ None = sym finds.found ∙ ap (referred (words_of (core k).shape (core k).words).identities) none in

@@ -32,7 +32,7 @@ use Rattle.queue_laws.specs.Making.{IsNew, Making, gives, gives_none, making_aft
 use Rattle.queue_laws.specs.Queues.{heap_at}
 use Rattle.queue_laws.proofs.MakeSteps.{Knows, other_next, own_next}
 
-makings_join : (fields o : ℕ) (known : Making) (xs ys : List Entry) → makings fields o known (xs ++ ys) ≡ makings fields o (makings fields o known xs) ys
+pub makings_join : (fields o : ℕ) (known : Making) (xs ys : List Entry) → makings fields o known (xs ++ ys) ≡ makings fields o (makings fields o known xs) ys
 makings_join fields o known [] ys = refl
 makings_join fields o known (x ∷ xs) ys = makings_join fields o (making_after fields o known x.step x.found) xs ys
 
@@ -59,7 +59,7 @@ loud_entry fields o known c s (ExchangeField v f x y) e =
 loud_entry fields o known c s step e = absurd (false≢true e)
 
 -- a run keeps the shape
-shape_on : (es : List Event) (c : Core) → AreAllowed c es → (k : ℕ) → (run_of (take k es) c).shape ≡ c.shape
+pub shape_on : (es : List Event) (c : Core) → AreAllowed c es → (k : ℕ) → (run_of (take k es) c).shape ≡ c.shape
 shape_on es c ok zero = refl
 shape_on [] c ok (suc k) = refl
 shape_on (e ∷ es) c ok (suc k) = ap (λ (d : Core). d.shape) (run-first c e (take k es) ok.0) ∙ (shape_on es (after_event c e) ok.1 k ∙ shape-kept c e)

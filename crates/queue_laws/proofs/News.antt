@@ -145,7 +145,7 @@ module _ (q : Queue) (c : Core) (world : World) (es : List Event) (h : Hands) (p
         linked one e =
             let l : IsLink h v f y z c.shape.fields x.first (log x.event.seat k) = link_parts h v f y z c.shape.fields x.first (log x.event.seat k) e in
             let expected : stored (heap k) (own_section x.seat) y ≡ None =
-            ap (λ (n : ℕ). stored (heap k) n y) r.mutator.own ∙ (ap (stored (heap k) x.event.seat) l.expects ∙ nil q c world es h p k x r.mutator l.saw) in
+            ap (λ (n : ℕ). stored (heap k) n y) r.mutator.own ∙ (ap (stored (heap k) x.event.seat) l.expects ∙ nil q c world es h p k x (ap is_logged is) r.mutator l.saw) in
             let source : is_source z (Some h.own) ≡ true = ap (λ (o : Option ℕ). is_source o (Some h.own)) l.gives ∙ eq-eqb h.own h.own refl in
             let some : (word_told (core k) x.seat (ExchangeField v f y z) == 0) ≡ false =
             false_from_ne_true (word_told (core k) x.seat (ExchangeField v f y z) == 0)

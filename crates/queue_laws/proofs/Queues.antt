@@ -11,7 +11,6 @@ use Rattle.queue_laws.specs.Orders.{Begins, IsInOrder, IsQueue, QueueByName, Was
 use Rattle.queue_laws.specs.Queues.{Item, Queue, by_seat, heap_at, nodes_of, puts, takes}
 use Rattle.queue_laws.proofs.Chains.{by_append, distinct_at, get_in, next_at, node_of, nodes_length, none_past}
 use Rattle.queue_laws.proofs.Holds.{Holds, line}
-use Rattle.queue_laws.proofs.Steps as steps
 use Rattle.queue_laws.proofs.Statuses.{Status, begin, goes_on}
 
 module _ (q : Queue) (c : Core) (world : World) (es : List Event) (h : Begins q c world es) where

@@ -1,5 +1,5 @@
 -- A variable has what was read in a field of another's object, as long as the log of its seat says so.
-use Rattle.std.proofs.Common.{ℕ, ◌≡◌, ◌≢◌, ◌<◌, ◌≤◌, zero, suc, List, [], ◌∷◌, ◌++◌, take, length, arith, refl, sym, ap, ◌∙◌, subst, false, true, Option, Some, ⊎_elim}
+use Rattle.std.proofs.Common.{ℕ, ◌≡◌, ◌≢◌, ◌<◌, ◌≤◌, zero, suc, List, [], ◌∷◌, ◌++◌, take, length, arith, refl, sym, ap, ◌∙◌, subst, Option, Some, ⊎_elim}
 use Rattle.std.specs.Prelude.{slice_get, slice_index}
 use Rattle.std.proofs.lemmas.Bool.{cases_eq, false≢true}
 use Rattle.std.proofs.lemmas.Option.{same_Some, slice_get_within}
@@ -28,7 +28,7 @@ use Rattle.queue_laws.specs.Queues.{heap_at}
 use Rattle.queue_laws.specs.Reads.{Reading, reading_after, readings, starting}
 use Rattle.queue_laws.proofs.ReadSteps.{Knows, other_next, own_next}
 
-readings_join : (v u f : ℕ) (known : Reading) (xs ys : List Entry) → readings v u f known (xs ++ ys) ≡ readings v u f (readings v u f known xs) ys
+pub readings_join : (v u f : ℕ) (known : Reading) (xs ys : List Entry) → readings v u f known (xs ++ ys) ≡ readings v u f (readings v u f known xs) ys
 readings_join v u f known [] ys = refl
 readings_join v u f known (x ∷ xs) ys = readings_join v u f (reading_after v u f known x.step x.found) xs ys
 

@@ -4,3 +4,4 @@ pub mod Reads
 pub mod Kinds
 pub mod Making
 pub mod QueueLogs
+pub mod LentQueues

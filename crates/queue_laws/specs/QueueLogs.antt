@@ -7,6 +7,7 @@ use Rattle.mark_core.specs.declared.kinds.Event.{Event}
 use Rattle.mark_core.specs.declared.kinds.Step.{Step}
 use Rattle.mark_core.specs.declared.kinds.Step.TheVariants.{ExchangeField, ExchangeValue, StoreField, StoreValue}
 use Rattle.mark_core.specs.declared.seat.SeatState.{SeatState}
+use Rattle.gc_table.specs.Entries.{is_logged}
 use Rattle.gc_table.specs.Lending.{leaves_variable}
 use Rattle.gc_table.specs.Past.{log_from}
 use Rattle.gc_table.specs.RunWorlds.{World, object_of, variable_of}
@@ -98,8 +99,8 @@ pub record FitsQueue (q : Queue) (c : Core) (world : World) (es : List Event) (h
   pub hands : AreHands h
   -- what threads make are nodes, be they put in or not
   pub new : (name : Name) → object_of world name ≡ None → IsTrue (q.is_node name)
-  -- all seats are there at the start, and who changes an object has the queue in its variable then
-  pub seats : (k : ℕ) (e : Event) → slice_get es k ≡ Some e → (s : SeatState) × (slice_get c.seats e.seat ≡ Some s)
+  -- each seat whose log has an entry is there at the start, and who changes an object has the queue in its variable then
+  pub seats : (k : ℕ) (e : Event) → slice_get es k ≡ Some e → IsTrue (is_logged e.step) → (s : SeatState) × (slice_get c.seats e.seat ≡ Some s)
   pub names : (k : ℕ) (e : Event) (v : ℕ) → slice_get es k ≡ Some e → through e.step ≡ Some v → IsFalse (is_callers e.step) → variable_of (heap_at c world es k) e.seat h.queue ≡ Some q.object
   pub fit : (i : ℕ) (s : SeatState) → slice_get c.seats i ≡ Some s → (before after : List Entry) (x : Entry) → log_from i c es ≡ before ++ x ∷ after → IsTrue (fits c.shape.fields s h before x.step)
 

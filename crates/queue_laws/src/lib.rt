@@ -2,6 +2,7 @@
 #![tactic(auto)]
 
 ghost use Rattle.queue_laws.specs.Kinds.{KindsByLog};
+ghost use Rattle.queue_laws.specs.LentQueues.{QueueByLending};
 ghost use Rattle.queue_laws.specs.Making.{MadeByLog};
 ghost use Rattle.queue_laws.specs.Orders.{QueueByName};
 ghost use Rattle.queue_laws.specs.QueueLogs.{QueueByLog};
@@ -32,4 +33,10 @@ pub fn made_by_log()
 /// If the logs of threads say that they change a queue only as its calls do, it is first in, first out.
 pub fn queue_by_log()
     ensures { QueueByLog }
+{}
+
+/// If one thread lays out what section 0 lends, and the logs of the others say that they change it only as a queue's calls
+/// do, it is a queue from there on.
+pub fn queue_by_lending()
+    ensures { QueueByLending }
 {}

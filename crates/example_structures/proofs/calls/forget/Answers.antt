@@ -1,7 +1,9 @@
 use Rattle.std.proofs.Common.{sym}
+use Rattle.gc_table.specs.Seats.{Across}
+use Rattle.mutator_ops.specs.Sharing.{SetsVariable}
 use Rattle.example_structures.specs.Changes.{ChangesNone, IsTold}
 use Rattle.example_structures.proofs.Called.{variable-none, variable-told}
-use Rattle.example_structures.proofs.Refused.{act-none, act-told, either-way}
+use Rattle.example_structures.proofs.Refused.{act-none, act-told, cant-act, either-way}
 use Rattle.example_structures.proofs.calls.forget.Goals as goal
 
 pub returns-clause-none : goal.returns-clause-none
@@ -15,3 +17,10 @@ returns-clause-told c = λ other.
     let x = c.args.m.now in
     let y = c.forget-done.new.self in
     either-way c.forget-done.result (IsTold 21 x → IsTold 21 y) _ _ c.forget-done.ensures.done c.forget-done.ensures.refused (λ _ s. variable-told x y 21 c.args.v _ (λ e. other (sym e)) s.does) (λ e r. act-told x y 21 e _ r)
+
+pub returns-clause-sets : goal.returns-clause-sets
+returns-clause-sets c =
+    let x = c.args.m.now in
+    let y = c.forget-done.new.self in
+    either-way c.forget-done.result (Across (SetsVariable c.args.v 0) x.seat y.seat) _ _ c.forget-done.ensures.done c.forget-done.ensures.refused (λ _ s. s.does)
+    (λ e r. absurd (cant-act x e _ c.requires.inside c.requires.range r.why))

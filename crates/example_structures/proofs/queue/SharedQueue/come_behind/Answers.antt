@@ -1,11 +1,14 @@
 use Rattle.std.proofs.Common.{◌≡◌, arith}
 use Rattle.std.specs.Prelude.{if◌then◌else◌}
 use Rattle.shared_heap.specs.declared.mutator.Place.TheVariants.{Inside}
+use Rattle.std.proofs.Common.{subst, sym}
+use Rattle.example_structures.specs.Fitting.{FitsSince, Linked}
+use Rattle.example_structures.proofs.FitQueue.{link-fits}
 use Rattle.example_structures.specs.Queues.{Moves}
 use Rattle.example_structures.specs.Refusing.{GivenUp}
 use Rattle.example_structures.proofs.Called.{exchanged-told}
 use Rattle.example_structures.proofs.Counted.{none-moves, put-moves}
-use Rattle.example_structures.proofs.Refused.{want-inside, want-none, when-err, when-ok}
+use Rattle.example_structures.proofs.Refused.{either-way, want-inside, want-none, want-same, when-err, when-ok}
 use Rattle.example_structures.proofs.queue.SharedQueue.come_behind.Goals as goal
 
 pub returns-clause-put : goal.returns-clause-put
@@ -22,3 +25,12 @@ returns-clause-refused c =
     let q = c.args.self.queue in
     when-err c.exchange.result _ (λ e. GivenUp e y × Moves q 0 0 x y) c.exchange.ensures.refused
     (λ e r. ((want-inside x y e _ 22 c.requires.inside (omega arith, omega (arith, c.requires.wide), omega arith, omega arith) r).1, none-moves x y q (want-none x y e _ 22 r)))
+
+pub returns-clause-fits : goal.returns-clause-fits
+returns-clause-fits c = λ b p may.
+    let x = c.args.m.now in
+    let y = c.exchange.new.self in
+    let q = c.args.self.queue in (
+      either-way c.exchange.result (FitsSince q b y) _ _ c.exchange.ensures.done c.exchange.ensures.refused (λ won s. (link-fits x y q won s.does b p may).0) (λ e r. subst (FitsSince q b) (sym (want-same x y e _ 22 r)) p),
+      when-ok c.exchange.result _ (Linked q b y) c.exchange.ensures.done (λ won s. (link-fits x y q won s.does b p may).1),
+    )

@@ -1,11 +1,14 @@
 use Rattle.std.proofs.Common.{◌≡◌, ◌<◌, arith}
 use Rattle.std.specs.Prelude.{if◌then◌else◌}
 use Rattle.shared_heap.specs.declared.mutator.Place.TheVariants.{Inside}
+use Rattle.std.proofs.Common.{subst, sym}
+use Rattle.example_structures.specs.Fitting.{FitsSince, KeepsRead}
+use Rattle.example_structures.proofs.FitQueue.{exchanged-read, none-read, take-fits}
 use Rattle.example_structures.specs.Queues.{Moves}
 use Rattle.example_structures.specs.Refusing.{GivenUp}
 use Rattle.example_structures.proofs.Called.{exchanged-told}
 use Rattle.example_structures.proofs.Counted.{none-moves, taken-moves}
-use Rattle.example_structures.proofs.Refused.{want-inside, want-none, when-err, when-ok}
+use Rattle.example_structures.proofs.Refused.{either-way, want-inside, want-none, want-same, when-err, when-ok}
 use Rattle.example_structures.proofs.queue.SharedQueue.come_first.Goals as goal
 
 pub returns-clause-taken : goal.returns-clause-taken
@@ -23,3 +26,17 @@ returns-clause-refused c =
     let low : q < 20 = c.args.self.caller in
     when-err c.exchange.result _ (λ e. GivenUp e y × Moves q 0 0 x y) c.exchange.ensures.refused
     (λ e r. ((want-inside x y e _ q c.requires.inside (omega arith, omega (arith, c.requires.wide), omega arith, omega arith) r).1, none-moves x y q (want-none x y e _ q r)))
+
+pub returns-clause-fits : goal.returns-clause-fits
+returns-clause-fits c = λ b p had.
+    let x = c.args.m.now in
+    let y = c.exchange.new.self in
+    let q = c.args.self.queue in
+    either-way c.exchange.result (FitsSince q b y) _ _ c.exchange.ensures.done c.exchange.ensures.refused (λ won s. take-fits x y q won s.does b p had) (λ e r. subst (FitsSince q b) (sym (want-same x y e _ q r)) p)
+
+pub returns-clause-kept : goal.returns-clause-kept
+returns-clause-kept c =
+    let x = c.args.m.now in
+    let y = c.exchange.new.self in
+    let q = c.args.self.queue in
+    either-way c.exchange.result (KeepsRead q x y) _ _ c.exchange.ensures.done c.exchange.ensures.refused (λ won s. exchanged-read x y q q 0 21 23 won s.does) (λ e r. subst (KeepsRead q x) (sym (want-same x y e _ q r)) (none-read q x))

@@ -1,3 +1,6 @@
+use Rattle.std.proofs.Common.{subst, sym}
+use Rattle.example_structures.specs.Fitting.{FitsSince, HasFresh}
+use Rattle.example_structures.proofs.FitQueue.{keep-fits}
 use Rattle.example_structures.specs.Queues.{Moves}
 use Rattle.example_structures.proofs.Called.{set-changes}
 use Rattle.example_structures.proofs.Counted.{kept-moves, none-moves}
@@ -11,3 +14,11 @@ returns-clause-moves c =
     let q = c.args.self.queue in
     either-way c.set-done.result (Moves q 0 0 x y) _ _ c.set-done.ensures.done c.set-done.ensures.refused (λ _ s. kept-moves x y q c.args.node c.args.item c.requires.node (set-changes x y c.args.node 1 c.args.item s.does))
     (λ e r. none-moves x y q (act-none x y e _ r))
+
+pub returns-clause-fits : goal.returns-clause-fits
+returns-clause-fits c = λ b p may.
+    let x = c.args.m.now in
+    let y = c.set-done.new.self in
+    let q = c.args.self.queue in
+    either-way c.set-done.result (FitsSince q b y × (HasFresh b x → HasFresh b y)) _ _ c.set-done.ensures.done c.set-done.ensures.refused (λ _ s. keep-fits x y q c.args.node c.args.item s.does b p may)
+    (λ e r. (subst (FitsSince q b) (sym r.same) p, subst (HasFresh b) (sym r.same)))

@@ -2,6 +2,7 @@ use Rattle.std.proofs.Common.{◌≡◌}
 use Rattle.std.specs.Prelude.{if◌then◌else◌}
 use Rattle.std.specs.Arc.{arc_value}
 use Rattle.shared_heap.specs.declared.mutator.Place.TheVariants.{Inside}
+use Rattle.example_structures.specs.Fitting.{Began, FitsSince, StaysFresh}
 use Rattle.example_structures.specs.Queues.{Moves}
 use Rattle.example_structures.proofs.queue.SharedQueue.put.Given as goal
 
@@ -12,4 +13,5 @@ invariant-loop-round g l = record {
   inside : l.m.place ≡ Inside;
   world : arc_value l.m.heap ≡ arc_value l.fn.m.heap;
   moves : Moves l.self.queue (if l.is_in then 1 else 0) 0 l.fn.m l.m;
+  fits : (b : Began) → FitsSince l.self.queue b l.fn.m → FitsSince l.self.queue b l.m × StaysFresh b l.m l.is_in;
 }

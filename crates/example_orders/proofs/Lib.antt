@@ -1,0 +1,11 @@
+mod Happening
+mod Positions
+mod Filling
+mod Agreeing
+mod Lending
+mod Opened
+mod Pieces
+mod Calls
+mod Acting
+mod Answered
+mod Ended

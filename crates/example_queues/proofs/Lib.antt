@@ -1,0 +1,10 @@
+pub mod Answered
+pub mod Comings
+pub mod Ended
+pub mod Layings
+pub mod Lending
+pub mod Lined
+pub mod Opened
+pub mod Queued
+pub mod Stores
+pub mod Worked

@@ -1,0 +1,5 @@
+pub mod Lines
+pub mod Logs
+pub mod Open
+pub mod Queueing
+pub mod Teams
