@@ -30,7 +30,7 @@ extern "C" {
 #endif
 
 /* The version of these calls. The first number rises if a program has to be changed or compiled again. */
-#define MH_VERSION "4.2"
+#define MH_VERSION "4.3"
 
 /* What a call came to. If it isn't MH_OK, objects and variables are as before, but for what a line here says. */
 typedef enum mh_status {

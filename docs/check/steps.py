@@ -131,12 +131,14 @@ def told_in(page, columns):
     for names, *cells in rows_of(page, "Call", *columns):
         for owner, cell in zip(columns.values(), cells):
             cell = re.sub(r"^(\d+), and 1 for each reference of an object$", r"fields + \1", cell)
+            cell = re.sub(r"^(\d+), and (?:in a shared world )?1 for each root that lags(?:, 32 at most)?$", r"flush_steps (VIEW) + \1", cell)
             cell = re.sub(r"^1 for each slot$", "to - from", cell)
             cell = re.sub(r"^2 for each field$", "2 * count", cell)
             # mhl_deaths forgets a variable and then asks for each death, so no clause of its own has a number.
             cell = re.sub(f'^{asked["Stepper", "forget"]}, and {asked["Stepper", "death"]} for each weak reference$', "", cell)
             cell = re.sub(r"^`(refill|help)_steps`, below$", r"\1_steps most x", cell)
-            cell = re.sub(r"^`make_steps`, below, and 4 for each reference that it is given$", "make_steps (view_of x.seat).shape + 4 * length ns", cell)
+            cell = re.sub(r"^`make_steps`, below, 1 for each root that lags, and 4 for each reference that it is given$",
+                          "make_steps (view_of x.seat).shape + flush_steps (VIEW) + 4 * length ns", cell)
             cell = re.sub(r"^`tried_steps`, below$", "tried_steps tried v.shape", cell)
             cell = re.sub(r"^`tracer_help_steps`, below$", "tracer_help_steps most v.shape", cell)
             found.update({(owner, name): cell for name in re.findall(r"`([a-z]\w*)`", names) if cell})
@@ -146,7 +148,8 @@ def told_in(page, columns):
 def compare(page, columns):
     told, bounds = told_in(page, columns), bounds_of(columns.values())
     for key in sorted({*told, *bounds}):
-        if told.get(key) != bounds.get(key):
+        bound = re.sub(r"flush_steps \(view_of \w+\.seat\)", "flush_steps (VIEW)", bounds[key]) if key in bounds else None
+        if told.get(key) != bound:
             print(f"{page}: steps of {key[1]} ({key[0]}): {told.get(key)}, where the clauses have {bounds.get(key)}")
 
 

@@ -28,5 +28,5 @@ for text in README.md CONTRIBUTING.md docs/*.md bench/README.md bench/results/*.
 done
 
 [ "$(wc -w <README.md)" -le 1200 ] || echo "README.md: more than 1,200 words"
-[ "$(cat docs/*.md | sed 's/|/ /g; s/---*/ /g' | wc -w)" -le 32000 ] || echo "docs: more than 32,000 words"
+[ "$(cat docs/*.md | sed 's/|/ /g; s/---*/ /g' | LC_ALL=C.UTF-8 wc -w)" -le 32000 ] || echo "docs: more than 32,000 words"
 awk -F'|' '/^\|/ && $2 ~ /[,;]/ { print "docs/GLOSSARY.md: more than one word in a row:" $2 }' docs/GLOSSARY.md
