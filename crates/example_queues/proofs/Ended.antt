@@ -1,107 +1,55 @@
 -- What three mutators added to their logs ends in what the words of the closed world say.
-use Rattle.std.proofs.Common.{ℕ, zero, suc, ◌≡◌, ◌≢◌, ◌⊎◌, ◌<◌, ◌≤◌, ◌∙◌, List, [], ◌∷◌, ◌++◌, append-nil, ap, arith, drop, inl, inr, length, refl, subst, sym, take, ⊎_elim, true, false, None, Some}
+use Rattle.std.proofs.Common.{ℕ, zero, suc, ◌≡◌, ◌≢◌, ◌⊎◌, ◌<◌, ◌≤◌, ◌∙◌, List, [], ◌∷◌, ◌++◌, append-nil, ap, arith, drop, inl, inr, length, refl, subst, sym, take, ⊎_elim, true, false, Option, None, Some}
 use Rattle.std.specs.Prelude.{slice_get, slice_index}
 use Rattle.std.specs.Arc.{arc_value}
-use Rattle.std.proofs.Math.Seq.{take-append_seam}
-use Rattle.std.proofs.lemmas.Bool.{and_from, and_parts, false≢true}
+use Rattle.std.proofs.Math.Seq.{take-length}
 use Rattle.std.proofs.lemmas.List.{get_or-replicate}
-use Rattle.plain_heap.specs.Paths.{Name}
 use Rattle.mark_core.specs.Numbers.{section_variables}
 use Rattle.mark_core.specs.Steps.{start_core}
 use Rattle.mark_core.specs.Steps.MutatorSteps.{seat_variable as word_in}
 use Rattle.mark_core.specs.declared.kinds.Event.{Event}
 use Rattle.mark_core.specs.declared.kinds.Shape.{Shape}
-use Rattle.mark_core.specs.declared.kinds.Step.{Step}
-use Rattle.mark_core.specs.declared.kinds.Step.TheVariants.{ExchangeField, ExchangeValue, StoreField, StoreValue}
 use Rattle.mark_core.specs.declared.seat.SeatState.{SeatState}
 use Rattle.gc_table.specs.Lending.{leaves_variable}
 use Rattle.gc_table.specs.Log.{all_steps}
 use Rattle.gc_table.specs.Past.{log_of}
 use Rattle.gc_table.specs.Seats.{state_of, view_of}
-use Rattle.gc_table.specs.Single.{spares_values}
 use Rattle.gc_table.specs.declared.seat.Heap.{Heap}
 use Rattle.gc_table.specs.declared.seat.HeapSeat.{HeapSeat}
 use Rattle.gc_table.specs.declared.view.Entry.{Entry}
 use Rattle.gc_table.specs.declared.words.Words.{Words}
-use Rattle.gc_table.proofs.History.Log.{drop-own, events-none}
+use Rattle.gc_table.proofs.History.Log.{events-none}
 use Rattle.gc_table.proofs.Lending.{all_split}
 use Rattle.heap_laws.specs.Moments.{IsHistory}
 use Rattle.heap_laws.proofs.Moments.{each-allowed}
-use Rattle.managed_heap.specs.Gathering.{AreLeft}
-use Rattle.managed_heap.specs.declared.sizes.Sizes.{Sizes}
-use Rattle.queue_laws.specs.LentQueues.{IsRecordAfter, KeepsObjects, LaysOut, LentQueue, QueueByLending, UsesLent, core_past, heap_past, keeps_objects, log_since, word_by}
-use Rattle.queue_laws.specs.Orders.{QueueByName, Was}
+use Rattle.queue_laws.specs.LentQueues.{IsRecordAfter, KeepsObjects, LaysOut, LentQueue, NumbersSince, QueueByLending, UsesLent, core_past, heap_past, keeps_objects, log_since, word_by}
+use Rattle.queue_laws.specs.NumberLogs.{all_told, puts_told, takes_told, telling_at}
+use Rattle.queue_laws.specs.Orders.{QueueByName}
+use Rattle.queue_laws.specs.Queues.{Item, Queue, by_seat, puts, takes}
 use Rattle.queue_laws.specs.Reads.{readings, starting}
+use Rattle.queue_laws.specs.TakenNumbers.{AreNumbers}
 use Rattle.queue_laws.proofs.Parts.{log-join}
 use Rattle.shared_heap.specs.Calls.{LeavesFrom}
 use Rattle.shared_heap.specs.Closing.{HasLeft, IsSharedEnd, all_seats}
-use Rattle.shared_heap.specs.Lending.{IsFreshSharer, IsSharedOpened, KeepsRest}
-use Rattle.shared_heap.specs.Rooting.{spares_fields}
+use Rattle.shared_heap.specs.Lending.{IsFreshSharer}
 use Rattle.shared_heap.specs.Threads.{IsWhole}
 use Rattle.shared_heap.specs.declared.mutator.Place.{Place}
 use Rattle.shared_heap.specs.declared.mutator.Place.TheVariants.{Outside}
 use Rattle.shared_heap.specs.declared.mutator.SharedMutator.{SharedMutator}
 use Rattle.shared_heap.specs.declared.world.SharedWorld.{SharedWorld}
+use Rattle.example_structures.specs.Carrying.{Carries}
 use Rattle.example_structures.specs.FitLaws.{began}
 use Rattle.example_structures.specs.Fitting.{AddsFitting, Began, FitsSince, fit_all, hands, since}
 use Rattle.example_structures.proofs.ByCalls.{by-calls}
+use Rattle.example_structures.proofs.Carried.{carried-before, quiet-carried, quiet-same}
 use Rattle.example_structures.proofs.FitCalls.{same-fits}
 use Rattle.example_structures.proofs.FitLogs.{fit-each}
+use Rattle.example_queues.specs.Fifo.{numbers_of}
 use Rattle.example_queues.specs.Logs.{ComesToRoot}
 use Rattle.example_queues.specs.Queueing.{IsFirstInFirstOut}
-use Rattle.example_queues.specs.Teams.{AreNew}
-
--- the three mutators of a new world
-pub are-new : (sizes : Sizes) (t u v w : SharedWorld) (a b c : SharedMutator) → IsSharedOpened sizes t → t.mutators.items ≡ a ∷ u.mutators.items → KeepsRest t u → u.mutators.items ≡ b ∷ v.mutators.items → KeepsRest u v → v.mutators.items ≡ c ∷ w.mutators.items → KeepsRest v w → AreNew w a b c
-are-new sizes t u v w a b c opened one k two l three n =
-    let heap : arc_value w.heap ≡ arc_value t.heap = ap (λ h. arc_value h) (n.heap ∙ (l.heap ∙ k.heap)) in
-    let name : w.sizes.name ≡ sizes.name = ap (λ (s : Sizes). s.name) (n.sizes_are ∙ (l.sizes_are ∙ (k.sizes_are ∙ opened.sizes_are))) in
-    let all : t.mutators.items ≡ a ∷ b ∷ c ∷ w.mutators.items = one ∙ ap (λ (s : List SharedMutator). a ∷ s) (two ∙ ap (λ (s : List SharedMutator). b ∷ s) three) in
-    let first : IsFreshSharer (arc_value t.heap) sizes.name 1 a = opened.fresh 0 a (ap (λ (s : List SharedMutator). slice_get s 0) all) in
-    let second : IsFreshSharer (arc_value t.heap) sizes.name 2 b = opened.fresh 1 b (ap (λ (s : List SharedMutator). slice_get s 1) all) in
-    let third : IsFreshSharer (arc_value t.heap) sizes.name 3 c = opened.fresh 2 c (ap (λ (s : List SharedMutator). slice_get s 2) all) in
-    record {
-      first = subst (λ (z : Heap × ℕ). IsFreshSharer z.0 z.1 1 a) (λ i. (sym heap i, sym name i)) first;
-      second = subst (λ (z : Heap × ℕ). IsFreshSharer z.0 z.1 2 b) (λ i. (sym heap i, sym name i)) second;
-      maker = subst (λ (z : Heap × ℕ). IsFreshSharer z.0 z.1 3 c) (λ i. (sym heap i, sym name i)) third;
-    }
-
--- two lists that are parted at the same place
-same_parts : (xs ys zs ws : List Entry) → xs ++ ys ≡ zs ++ ws → length xs ≡ length zs → (xs ≡ zs) × (ys ≡ ws)
-same_parts xs ys zs ws e long = (
-  sym (take-append_seam xs ys) ∙ (ap (take (length xs)) e ∙ (ap (λ (n : ℕ). take n (zs ++ ws)) long ∙ take-append_seam zs ws)),
-  sym (drop-own xs ys) ∙ (ap (drop (length xs)) e ∙ (ap (λ (n : ℕ). drop n (zs ++ ws)) long ∙ drop-own zs ws)),
-)
-
-none_parts : (xs ys : List Entry) → xs ++ ys ≡ [] → (xs ≡ []) × (ys ≡ [])
-none_parts [] ys e = (refl, e)
-none_parts (x ∷ xs) ys e = absurd (cc)
-
-zero_keeps : (fields : ℕ) (step : Step) → spares_fields step ≡ true → spares_values fields step ≡ true → keeps_objects step ≡ true
-zero_keeps fields (StoreField v i x) a b = absurd (false≢true a)
-zero_keeps fields (ExchangeField v i x y) a b = absurd (false≢true a)
-zero_keeps fields (StoreValue v n) a b = absurd (false≢true b)
-zero_keeps fields (ExchangeValue v m n) a b = absurd (false≢true b)
-zero_keeps fields step a b = refl
-
-zero_all : (fields : ℕ) (es : List Entry) → all_steps spares_fields es ≡ true → all_steps (spares_values fields) es ≡ true → all_steps keeps_objects es ≡ true
-zero_all fields [] a b = refl
-zero_all fields (x ∷ xs) a b =
-    let p = and_parts (spares_fields x.step) (all_steps spares_fields xs) a in
-    let q = and_parts (spares_values fields x.step) (all_steps (spares_values fields) xs) b in
-    and_from (keeps_objects x.step) (all_steps keeps_objects xs) (zero_keeps fields x.step p.0 q.0) (zero_all fields xs p.1 q.1)
-
-lays_some : {n : ℕ} (es : List Entry) → LaysOut n 0 (hands 0) es → 0 < length es
-lays_some [] l = absurd (false≢true l.first)
-lays_some (x ∷ xs) l = omega arith
-
--- three seats, one for each mutator
-pub three-left : (a b c : SharedMutator) (ss : List HeapSeat) → AreLeft HasLeft (a ∷ b ∷ c ∷ []) ss → (r : HeapSeat) × (s : HeapSeat) × (t : HeapSeat) × (ss ≡ r ∷ s ∷ t ∷ []) × HasLeft a r × HasLeft b s × HasLeft c t
-three-left a b c [] k = absurd k
-three-left a b c (r ∷ []) k = absurd k.1
-three-left a b c (r ∷ s ∷ []) k = absurd k.1.1
-three-left a b c (r ∷ s ∷ t ∷ []) k = (r, s, t, refl, k.0, k.1.0, k.1.1.0)
-three-left a b c (r ∷ s ∷ t ∷ u ∷ ss) k = absurd k.1.1.1
+use Rattle.example_queues.proofs.Merged.{numbers-are}
+use Rattle.example_queues.proofs.Opened.{fifo}
+use Rattle.example_queues.proofs.Parting.{lays_some, none_parts, same_parts, three-left, zero_all}
 
 -- the log tells what the mutator's variables refer to
 abbrev pub TellsAll : SharedMutator → Type 0
@@ -141,6 +89,15 @@ module _ (sh : Shape) (x y : SharedMutator) (shape : (view_of x.seat).shape.fiel
 
   pub since-fits : (s : SeatState) → IsRecordAfter (view_of x.seat).log s → FitsSince 0 (at s) y
   since-fits s r = fitting (at s) (begun s r)
+
+  -- the numbers that its log tells since
+  pub numbers-told : (ps ts : List ℕ) → Carries 0 ps ts x y → (s : SeatState) → IsRecordAfter (view_of x.seat).log s
+      → (puts_told sh.fields (hands 0) (telling_at (hands 0) s) (since (at s) y) ≡ all_told ps) × (takes_told sh.fields (hands 0) (telling_at (hands 0) s) (since (at s) y) ≡ all_told ts)
+  numbers-told ps ts carries s r =
+      let k = carries (at s) (begun s r) in (
+        k.put ∙ ap (λ (l : List Entry). puts_told sh.fields (hands 0) (telling_at (hands 0) s) l ++ all_told ps) (none_since s),
+        k.taken ∙ ap (λ (l : List Entry). takes_told sh.fields (hands 0) (telling_at (hands 0) s) l ++ all_told ts) (none_since s),
+      )
 
   own_record : IsRecordAfter (view_of x.seat).log (state_of x.seat)
   own_record v u low hu d = sym (told v u low)
@@ -185,16 +142,30 @@ module _ (world : SharedWorld) (a b m : SharedMutator) (w : Words) (end : IsShar
       all_split keeps_objects (log_of sh past 0) (log_since sh past rest 0)
       (subst (λ (l : List Entry). all_steps keeps_objects l ≡ true) (log_at 0 world.zero refl ∙ parts 0) (zero_all sh.fields (view_of world.zero).log world.first.fields world.first.one.values))
 
+  -- the numbers that the log of seat i tells, from this log on
+  abbrev TellsNumbers : ℕ → List Entry → List ℕ → List ℕ → Type 0
+  TellsNumbers i log ps ts = (s : SeatState) → IsRecordAfter log s
+      → (puts_told sh.fields (hands 0) (telling_at (hands 0) s) (log_since sh past rest i) ≡ all_told ps) × (takes_told sh.fields (hands 0) (telling_at (hands 0) s) (log_since sh past rest i) ≡ all_told ts)
+
   -- a thread, from the mutator x on
   thread : (i : ℕ) (x y : SharedMutator) (t : HeapSeat) → slice_get (world.zero ∷ left.0 ∷ left.1 ∷ left.2 ∷ []) i ≡ Some t → HasLeft y t → (view_of x.seat).shape.fields ≡ sh.fields → TellsAll x → ComesToRoot (view_of x.seat).log → length (log_of sh past i) ≡ length (view_of x.seat).log → AddsFitting 0 x y
-      → (log_of sh past i ≡ (view_of x.seat).log) × (all_steps keeps_objects (log_of sh past i) ≡ true) × UsesLent sh.fields 0 (hands 0) (log_of sh past i) (log_since sh past rest i)
-  thread i x y t is gone shape told comes long fitting = (
+      → (ps ts : List ℕ) → Carries 0 ps ts x y
+      → (log_of sh past i ≡ (view_of x.seat).log) × (all_steps keeps_objects (log_of sh past i) ≡ true) × UsesLent sh.fields 0 (hands 0) (log_of sh past i) (log_since sh past rest i) × TellsNumbers i (log_of sh past i) ps ts
+  unfolding grown
+  thread i x y t is gone shape told comes long fitting ps ts carries = (
     both.0,
     subst (λ (l : List Entry). all_steps keeps_objects l ≡ true) (sym both.0) comes.keeps,
     subst (λ (l : List Entry). UsesLent sh.fields 0 (hands 0) l (log_since sh past rest i)) (sym both.0)
         (subst (λ (l : List Entry). UsesLent sh.fields 0 (hands 0) (view_of x.seat).log l) (sym both.1) uses),
+    subst (λ (l : List Entry). TellsNumbers i l ps ts) (sym both.0)
+        (λ s r.
+        let n = numbers-told sh x gone.left shape told (λ c p. same-fits y gone.left 0 gone.leaves.same c (fitting c p)) ps ts went s r in
+        (ap (puts_told sh.fields (hands 0) (telling_at (hands 0) s)) both.1 ∙ n.0, ap (takes_told sh.fields (hands 0) (telling_at (hands 0) s)) both.1 ∙ n.1)),
   )
     where
+      went : Carries 0 ps ts x gone.left
+      went c p = carried-before 0 c x y gone.left ps ts (carries c p) (quiet-carried y gone.left 0 c (fitting c p) 20 (quiet-same y gone.left 20 gone.leaves.same))
+
       g : (more : List Entry) × ((view_of gone.left.seat).log ≡ (view_of x.seat).log ++ more) × ((s : SeatState) → IsRecordAfter (view_of x.seat).log s → (fit_all sh.fields s (hands 0) [] more ≡ true) × (all_steps (leaves_variable 0) more ≡ true))
       g = grown sh x gone.left shape told (λ c p. same-fits y gone.left 0 gone.leaves.same c (fitting c p))
 
@@ -212,13 +183,13 @@ module _ (world : SharedWorld) (a b m : SharedMutator) (w : Words) (end : IsShar
           }
 
   module _ (x y : SharedMutator) (shape_x : (view_of x.seat).shape.fields ≡ sh.fields) (shape_y : (view_of y.seat).shape.fields ≡ sh.fields) (told_x : TellsAll x) (told_y : TellsAll y) (comes_x : ComesToRoot (view_of x.seat).log) (comes_y : ComesToRoot (view_of y.seat).log)
-      (has_x : length (log_of sh past 1) ≡ length (view_of x.seat).log) (has_y : length (log_of sh past 2) ≡ length (view_of y.seat).log) (z : SharedMutator) (more : List Entry) (grows : (view_of m.seat).log ≡ (view_of z.seat).log ++ more) (kept : all_steps keeps_objects more ≡ true) (has_m : length (log_of sh past 3) ≡ length (view_of z.seat).log) (fits_x : AddsFitting 0 x a) (fits_y : AddsFitting 0 y b) (lays : LaysOut sh.fields 0 (hands 0) (view_of z.seat).log)
+      (has_x : length (log_of sh past 1) ≡ length (view_of x.seat).log) (has_y : length (log_of sh past 2) ≡ length (view_of y.seat).log) (z : SharedMutator) (more : List Entry) (grows : (view_of m.seat).log ≡ (view_of z.seat).log ++ more) (kept : all_steps keeps_objects more ≡ true) (has_m : length (log_of sh past 3) ≡ length (view_of z.seat).log) (fits_x : AddsFitting 0 x a) (fits_y : AddsFitting 0 y b) (pa ta pb tb : List ℕ) (carries_x : Carries 0 pa ta x a) (carries_y : Carries 0 pb tb y b) (lays : LaysOut sh.fields 0 (hands 0) (view_of z.seat).log)
       (rests : m.place ≡ Outside) where
-    first : (log_of sh past 1 ≡ (view_of x.seat).log) × (all_steps keeps_objects (log_of sh past 1) ≡ true) × UsesLent sh.fields 0 (hands 0) (log_of sh past 1) (log_since sh past rest 1)
-    first = thread 1 x a left.0 refl left.4 shape_x told_x comes_x has_x fits_x
+    first : (log_of sh past 1 ≡ (view_of x.seat).log) × (all_steps keeps_objects (log_of sh past 1) ≡ true) × UsesLent sh.fields 0 (hands 0) (log_of sh past 1) (log_since sh past rest 1) × TellsNumbers 1 (log_of sh past 1) pa ta
+    first = thread 1 x a left.0 refl left.4 shape_x told_x comes_x has_x fits_x pa ta carries_x
 
-    second : (log_of sh past 2 ≡ (view_of y.seat).log) × (all_steps keeps_objects (log_of sh past 2) ≡ true) × UsesLent sh.fields 0 (hands 0) (log_of sh past 2) (log_since sh past rest 2)
-    second = thread 2 y b left.1 refl left.5 shape_y told_y comes_y has_y fits_y
+    second : (log_of sh past 2 ≡ (view_of y.seat).log) × (all_steps keeps_objects (log_of sh past 2) ≡ true) × UsesLent sh.fields 0 (hands 0) (log_of sh past 2) (log_since sh past rest 2) × TellsNumbers 2 (log_of sh past 2) pb tb
+    second = thread 2 y b left.1 refl left.5 shape_y told_y comes_y has_y fits_y pb tb carries_y
 
     -- the maker changed no object since
     third : (log_of sh past 3 ≡ (view_of z.seat).log) × (log_since sh past rest 3 ≡ more)
@@ -259,15 +230,45 @@ module _ (world : SharedWorld) (a b m : SharedMutator) (w : Words) (end : IsShar
           since = each_since;
         }
 
-    pub in-order : QueueByLending → QueueByName → IsFirstInFirstOut sh past rest whole.root
+    -- the seats that aren't the threads' change no object
+    idle_log : (i : ℕ) → i ≢ 1 → i ≢ 2 → all_steps keeps_objects (log_since sh past rest i) ≡ true
+    idle_log zero d e = zero_log.1
+    idle_log (suc zero) d e = absurd (d refl)
+    idle_log (suc (suc zero)) d e = absurd (e refl)
+    idle_log (suc (suc (suc zero))) d e = subst (λ (l : List Entry). all_steps keeps_objects l ≡ true) (sym third.1) kept
+    idle_log (suc (suc (suc (suc i)))) d e = ap (all_steps keeps_objects) (no_others (suc (suc (suc (suc i)))) (omega arith)).1
+
+    -- what a thread put in and took out, by the law
+    numbered : (q : Queue) (i : ℕ) (log : List Entry) (s : SeatState) (ps ts : List ℕ) → log_of sh past i ≡ log → IsRecordAfter log s → TellsNumbers i (log_of sh past i) ps ts → NumbersSince sh past rest (hands 0) q i (length rest) s
+        → (numbers_of (by_seat i (puts q (core_past sh past) (heap_past sh past) rest (length rest))) ≡ ps) × (numbers_of (by_seat i (takes q (core_past sh past) (heap_past sh past) rest (length rest))) ≡ ts)
+    numbered q i log s ps ts is r tells n =
+        let told = tells s (subst (λ (l : List Entry). IsRecordAfter l s) (sym is) r) in
+        let all : log_since sh past (take (length rest) rest) i ≡ log_since sh past rest i = ap (λ (fs : List Event). log_since sh past fs i) (take-length rest) in
+        let P : List Item = by_seat i (puts q (core_past sh past) (heap_past sh past) rest (length rest)) in
+        let T : List Item = by_seat i (takes q (core_past sh past) (heap_past sh past) rest (length rest)) in (
+          numbers-are ps P (subst (λ (ns : List (Option ℕ)). AreNumbers ns P) (ap (puts_told sh.fields (hands 0) (telling_at (hands 0) s)) all ∙ told.0) n.put),
+          numbers-are ts T (subst (λ (ns : List (Option ℕ)). AreNumbers ns T) (ap (takes_told sh.fields (hands 0) (telling_at (hands 0) s)) all ∙ told.1) n.taken),
+        )
+
+    -- the numbers of both threads in the queue's order
+    pub record HasNumbers (q : Queue) : Type 0 where
+      pub first : (numbers_of (by_seat 1 (puts q (core_past sh past) (heap_past sh past) rest (length rest))) ≡ pa) × (numbers_of (by_seat 1 (takes q (core_past sh past) (heap_past sh past) rest (length rest))) ≡ ta)
+      pub second : (numbers_of (by_seat 2 (puts q (core_past sh past) (heap_past sh past) rest (length rest))) ≡ pb) × (numbers_of (by_seat 2 (takes q (core_past sh past) (heap_past sh past) rest (length rest))) ≡ tb)
+      pub only : (i : ℕ) → i ≢ 1 → i ≢ 2 → (by_seat i (puts q (core_past sh past) (heap_past sh past) rest (length rest)) ≡ []) × (by_seat i (takes q (core_past sh past) (heap_past sh past) rest (length rest)) ≡ [])
+
+    pub in-order : QueueByLending → QueueByName → (order : IsFirstInFirstOut sh past rest whole.root) × HasNumbers order.queue
     in-order lending name =
-        let r = lending sh past rest 0 (hands 0) whole.root lent_queue in
-        record {
-          queue = r.0;
-          object = r.1;
-          order = λ k l. name.order r.0 (core_past sh past) (heap_past sh past) rest r.2 k l;
-          empty = λ k l node was none. name.empty r.0 (core_past sh past) (heap_past sh past) rest r.2 k l node (subst (λ (z : Name). Was (core_past sh past) (heap_past sh past) rest k z 0 node) (sym r.1) was) none;
-        }
+        let f = fifo lending name sh past rest whole.root lent_queue in
+        let end : length rest ≤ length rest = omega arith in
+        let own_x = own_record sh x a shape_x told_x fits_x in
+        let own_y = own_record sh y b shape_y told_y fits_y in (
+          f.0,
+          record {
+            first = numbered f.0.queue 1 (view_of x.seat).log (state_of x.seat) pa ta first.0 own_x first.3 (f.1.told (length rest) end 1 first.2 (state_of x.seat) (subst (λ (l : List Entry). IsRecordAfter l (state_of x.seat)) (sym first.0) own_x));
+            second = numbered f.0.queue 2 (view_of y.seat).log (state_of y.seat) pb tb second.0 own_y second.3 (f.1.told (length rest) end 2 second.2 (state_of y.seat) (subst (λ (l : List Entry). IsRecordAfter l (state_of y.seat)) (sym second.0) own_y));
+            only = λ i d e. f.1.idle (length rest) end i (idle_log i d e);
+          },
+        )
 
     pub first-log : (view_of x.seat).log ≡ log_of sh past 1
     first-log = sym first.0

@@ -20,7 +20,7 @@ use Rattle.mutator_ops.specs.Sharing.{LendsFound, SetsField, next_word}
 use Rattle.seat_turns.specs.Sharing.{MakesSharedAfter, spares_heap}
 use Rattle.queue_laws.specs.LentQueues.{LaysOut, Laying, keeps_objects, laid_after, laying_after, layings, makes_none, nothing_laid, only_lays}
 use Rattle.queue_laws.specs.Making.{Making, makings, nothing_made}
-use Rattle.queue_laws.proofs.Laid.{layings_join}
+use Rattle.queue_laws.proofs.LaidLogs.{layings_join}
 use Rattle.queue_laws.proofs.MakeLogs.{makings_join}
 use Rattle.plain_heap.specs.PlainStep.{IsInRange}
 use Rattle.plain_heap.specs.declared.operation.Op.TheVariants as ops

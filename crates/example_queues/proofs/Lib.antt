@@ -4,7 +4,9 @@ pub mod Ended
 pub mod Layings
 pub mod Lending
 pub mod Lined
+pub mod Merged
 pub mod Opened
+pub mod Parting
 pub mod Queued
 pub mod Stores
 pub mod Worked

@@ -20,7 +20,7 @@ use Rattle.gc_table.proofs.Freeing.{allowed}
 use Rattle.gc_table.proofs.Lending.{none_starts}
 use Rattle.heap_laws.specs.Moments.{IsHistory}
 use Rattle.heap_laws.proofs.Moments.{each-allowed}
-use Rattle.queue_laws.specs.LentQueues.{LentQueue, QueueByLending, core_past, heap_past, log_since}
+use Rattle.queue_laws.specs.LentQueues.{LentNumbers, LentQueue, QueueByLending, core_past, heap_past, log_since}
 use Rattle.queue_laws.specs.Orders.{QueueByName, Was}
 use Rattle.queue_laws.proofs.Parts.{log-join}
 use Rattle.example_structures.specs.Fitting.{hands}
@@ -39,15 +39,17 @@ none_after [] ys e = e
 none_after (x ∷ xs) ys e = absurd (cc)
 
 -- a queue of which all that the law asks is so
-pub fifo : QueueByLending → QueueByName → (sh : Shape) (past rest : List Event) (root : Name) → LentQueue sh past rest 0 (hands 0) root → IsFirstInFirstOut sh past rest root
+pub fifo : QueueByLending → QueueByName → (sh : Shape) (past rest : List Event) (root : Name) → LentQueue sh past rest 0 (hands 0) root → (order : IsFirstInFirstOut sh past rest root) × LentNumbers sh past rest 0 (hands 0) order.queue
 fifo lending name sh past rest root p =
-    let r = lending sh past rest 0 (hands 0) root p in
-    record {
-      queue = r.0;
-      object = r.1;
-      order = λ k l. name.order r.0 (core_past sh past) (heap_past sh past) rest r.2 k l;
-      empty = λ k l node was none. name.empty r.0 (core_past sh past) (heap_past sh past) rest r.2 k l node (subst (λ (z : Name). Was (core_past sh past) (heap_past sh past) rest k z 0 node) (sym r.1) was) none;
-    }
+    let r = lending sh past rest 0 (hands 0) root p in (
+      record {
+        queue = r.0;
+        object = r.1;
+        order = λ k l. name.order r.0 (core_past sh past) (heap_past sh past) rest r.2 k l;
+        empty = λ k l node was none. name.empty r.0 (core_past sh past) (heap_past sh past) rest r.2 k l node (subst (λ (z : Name). Was (core_past sh past) (heap_past sh past) rest k z 0 node) (sym r.1) was) none;
+      },
+      r.3,
+    )
 
 module _ (law : SeatsShareRun) (sh : Shape) (plan : List (List Op)) (s : State (Unit {0}) TokenState) (o : OneHistory sh plan s) (past rest : List Event) (is : o.holds.past ≡ past ++ rest) (all : AllUse sh s past rest) where
   run : IsRunOfAll sh s (past ++ rest)
@@ -96,4 +98,4 @@ module _ (law : SeatsShareRun) (sh : Shape) (plan : List (List Op)) (s : State (
   root-lent = (lent.0, lent.1, opened)
 
 pub queue-open : SeatsShareRun → QueueByLending → QueueByName → QueueOpen
-queue-open law lending name sh plan s o past rest is all = let r = root-lent law sh plan s o past rest is all in (r.0, r.1, fifo lending name sh past rest r.0 r.2)
+queue-open law lending name sh plan s o past rest is all = let r = root-lent law sh plan s o past rest is all in let f = fifo lending name sh past rest r.0 r.2 in (r.0, r.1, f.0, f.1)

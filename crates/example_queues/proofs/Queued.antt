@@ -1,5 +1,5 @@
 -- The program: what its three mutators did, from the world's opening to its closing.
-use Rattle.std.proofs.Common.{ℕ, ◌≡◌, ◌∙◌, List, [], ◌∷◌, ◌++◌, ap, length, subst, sym}
+use Rattle.std.proofs.Common.{ℕ, ◌≡◌, ◌∙◌, List, [], ◌∷◌, ◌++◌, ap, arith, length, subst, sym}
 use Rattle.std.specs.Prelude.{slice_get}
 use Rattle.std.specs.Arc.{arc_value}
 use Rattle.mark_core.specs.Steps.MutatorSteps.{seat_variable as word_in}
@@ -14,8 +14,9 @@ use Rattle.gc_table.specs.declared.seat.HeapSeat.{HeapSeat}
 use Rattle.gc_table.specs.declared.view.Entry.{Entry}
 use Rattle.gc_table.specs.declared.view.View.{View}
 use Rattle.gc_table.specs.declared.words.Words.{Words}
-use Rattle.queue_laws.specs.LentQueues.{LaysOut, QueueByLending, word_by}
+use Rattle.queue_laws.specs.LentQueues.{LaysOut, QueueByLending, core_past, heap_past, word_by}
 use Rattle.queue_laws.specs.Orders.{QueueByName}
+use Rattle.queue_laws.specs.Queues.{Item, puts, takes}
 use Rattle.seat_steps.specs.declared.stamping.Stamp.{Stamp}
 use Rattle.shared_heap.specs.Calls.{LeavesFrom}
 use Rattle.shared_heap.specs.Closing.{IsSharedEnd, all_seats}
@@ -28,19 +29,22 @@ use Rattle.shared_heap.specs.declared.mutator.Place.TheVariants.{Outside}
 use Rattle.shared_heap.specs.declared.mutator.SharedMutator.{SharedMutator}
 use Rattle.shared_heap.specs.declared.world.SharedWorld.{SharedWorld}
 use Rattle.example_structures.specs.Fitting.{hands}
+use Rattle.example_queues.specs.Fifo.{IsFifo}
 use Rattle.example_queues.specs.Lines.{AreInLine, HasAll, Stays}
 use Rattle.example_queues.specs.Logs.{Comes, ComesToRoot, LaysRoot, LetsGo, Works}
 use Rattle.example_queues.specs.Queueing.{IsQueued}
 use Rattle.example_queues.specs.Teams.{AreNew}
-use Rattle.example_queues.proofs.Ended.{TellsAll, first-log, in-order, second-log, tells-all, three-left}
+use Rattle.example_queues.proofs.Ended.{TellsAll, first-log, in-order, second-log, tells-all}
 use Rattle.example_queues.proofs.Lined.{begins-on}
+use Rattle.example_queues.proofs.Merged.{fifo-by, none-left}
+use Rattle.example_queues.proofs.Parting.{three-left}
 
 -- the whole log of a mutator that had done nothing
 whole_log : (P : List Entry → Type 0) (h : Heap) (name k : ℕ) (x y : SharedMutator) → IsFreshSharer h name k x → Adds P x y → P (view_of y.seat).log
 whole_log P h name k x y f a = subst P (sym (a.log ∙ ap (λ (l : List Entry). l ++ a.more) f.log)) a.are
 
-module _ (world : SharedWorld) (a0 b0 m0 a1 b1 m1 a2 b2 m2 mk a3 b3 m3 m4 : SharedMutator) (one two : Stamp) (w : Words) (n : ℕ) (new : AreNew world a0 b0 m0) (come_a : Comes a0 a1) (come_b : Comes b0 b1) (lay : LaysRoot m0 m1) (line : AreInLine one two a1 b1 m1 a2 b2 m2)
-    (works_a : Works n a2 a3) (works_b : Works n b2 b3) (gone : LetsGo m2 mk) (go_one : GoesOnFrom one mk m3) (go_two : GoesOnFrom two m3 m4) where
+module _ (world : SharedWorld) (a0 b0 m0 a1 b1 m1 a2 b2 m2 mk a3 b3 m3 m4 : SharedMutator) (one two : Stamp) (w : Words) (pa ta pb tb : List ℕ) (new : AreNew world a0 b0 m0) (come_a : Comes a0 a1) (come_b : Comes b0 b1) (lay : LaysRoot m0 m1) (line : AreInLine one two a1 b1 m1 a2 b2 m2)
+    (works_a : Works pa ta a2 a3) (works_b : Works pb tb b2 b3) (gone : LetsGo m2 mk) (go_one : GoesOnFrom one mk m3) (go_two : GoesOnFrom two m3 m4) where
   heap_m : arc_value m1.heap ≡ arc_value world.heap
   heap_m = lay.adds.heap ∙ new.maker.heap
 
@@ -97,9 +101,16 @@ module _ (world : SharedWorld) (a0 b0 m0 a1 b1 m1 a2 b2 m2 mk a3 b3 m3 m4 : Shar
     parted : IsWhole sh (all_seats world end.rest []) w (line.past ++ goes_on.0)
     parted = subst (IsWhole sh (all_seats world end.rest []) w) goes_on.1 whole
 
-    pub queued-run : QueueByLending → QueueByName → IsQueued n w
+    pub queued-run : QueueByLending → QueueByName → IsQueued pa pb ta tb w
     queued-run lending name =
+        let f = in-order world a3 b3 m4 w end line.past goes_on.0 parted a2 b2 shape_a shape_b told_a told_b comes_a comes_b has_a has_b m2 gone.adds.more grows gone.adds.are has_m works_a.fits works_b.fits pa ta pb tb works_a.numbers works_b.numbers log_m rests lending name in
+        let q = f.0.queue in
+        let P : List Item = puts q (core_past sh line.past) (heap_past sh line.past) goes_on.0 (length goes_on.0) in
+        let T : List Item = takes q (core_past sh line.past) (heap_past sh line.past) goes_on.0 (length goes_on.0) in
+        let one : IsFifo pa pb ta tb = fifo-by P T pa pb ta tb (f.0.order (length goes_on.0) (omega arith)).fifo (λ i d e. (f.1.only i d e).0) (λ i d e. (f.1.only i d e).1) f.1.first.0 f.1.second.0 f.1.first.1 f.1.second.1 in
         record {
+          fifo = one;
+          all = none-left pa pb ta tb one works_a.each works_b.each;
           world = world;
           first = a3;
           second = b3;
@@ -108,9 +119,25 @@ module _ (world : SharedWorld) (a0 b0 m0 a1 b1 m1 a2 b2 m2 mk a3 b3 m3 m4 : Shar
           past = line.past;
           rest = goes_on.0;
           whole = parted;
-          order = in-order world a3 b3 m4 w end line.past goes_on.0 parted a2 b2 shape_a shape_b told_a told_b comes_a comes_b has_a has_b m2 gone.adds.more grows gone.adds.are has_m works_a.fits works_b.fits log_m rests lending name;
-          first_worked = record { before = a2; log = first-log world a3 b3 m4 w end line.past goes_on.0 parted a2 b2 shape_a shape_b told_a told_b comes_a comes_b has_a has_b m2 gone.adds.more grows gone.adds.are has_m works_a.fits works_b.fits log_m rests; moves = works_a.moves };
-          second_worked = record { before = b2; log = second-log world a3 b3 m4 w end line.past goes_on.0 parted a2 b2 shape_a shape_b told_a told_b comes_a comes_b has_a has_b m2 gone.adds.more grows gone.adds.are has_m works_a.fits works_b.fits log_m rests; moves = works_b.moves };
+          order = f.0;
+          first_worked =
+              record {
+                before = a2;
+                log = first-log world a3 b3 m4 w end line.past goes_on.0 parted a2 b2 shape_a shape_b told_a told_b comes_a comes_b has_a has_b m2 gone.adds.more grows gone.adds.are has_m works_a.fits works_b.fits pa ta pb tb works_a.numbers works_b.numbers log_m rests;
+                each = works_a.each;
+                moves = works_a.moves;
+                put = f.1.first.0;
+                taken = f.1.first.1;
+              };
+          second_worked =
+              record {
+                before = b2;
+                log = second-log world a3 b3 m4 w end line.past goes_on.0 parted a2 b2 shape_a shape_b told_a told_b comes_a comes_b has_a has_b m2 gone.adds.more grows gone.adds.are has_m works_a.fits works_b.fits pa ta pb tb works_a.numbers works_b.numbers log_m rests;
+                each = works_b.each;
+                moves = works_b.moves;
+                put = f.1.second.0;
+                taken = f.1.second.1;
+              };
         }
       where
         shape_a : (view_of a2.seat).shape.fields ≡ sh.fields
@@ -140,5 +167,5 @@ module _ (world : SharedWorld) (a0 b0 m0 a1 b1 m1 a2 b2 m2 mk a3 b3 m3 m4 : Shar
         has_m : length (log_of sh line.past 3) ≡ length (view_of m2.seat).log
         has_m = has_by 3 m2 line.has_maker (number_of m1 m2 line.maker ∙ (lay.number ∙ new.maker.number))
 
-  pub queued : ThreadsRun → QueueByLending → QueueByName → IsSharedEnd world (a3 ∷ b3 ∷ m4 ∷ []) [] w → IsQueued n w
+  pub queued : ThreadsRun → QueueByLending → QueueByName → IsSharedEnd world (a3 ∷ b3 ∷ m4 ∷ []) [] w → IsQueued pa pb ta tb w
   queued runs lending name end = let r = runs world (a3 ∷ b3 ∷ m4 ∷ []) [] w end in queued-run end r.0 r.1 lending name

@@ -1,3 +1,4 @@
+pub mod Fifo
 pub mod Lines
 pub mod Logs
 pub mod Open

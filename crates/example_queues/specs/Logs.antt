@@ -1,5 +1,5 @@
 -- What each mutator adds to its log. The queue is the root, to which variable 0 of each refers.
-use Rattle.std.specs.Prelude.{ℕ, ◌≡◌, List, Bool, Option, IsTrue}
+use Rattle.std.specs.Prelude.{ℕ, ◌≡◌, List, Bool, Option, IsTrue, length}
 use Rattle.std.specs.Arc.{arc_value}
 use Rattle.gc_table.specs.Log.{all_steps}
 use Rattle.gc_table.specs.Seats.{state_of}
@@ -10,6 +10,7 @@ use Rattle.shared_heap.specs.Calls.{field_count_of}
 use Rattle.shared_heap.specs.Logs.{Adds}
 use Rattle.shared_heap.specs.declared.mutator.Place.TheVariants.{Outside}
 use Rattle.shared_heap.specs.declared.mutator.SharedMutator.{SharedMutator}
+use Rattle.example_structures.specs.Carrying.{Carries}
 use Rattle.example_structures.specs.Fitting.{AddsFitting, hands}
 use Rattle.example_structures.specs.Queues.{Moves}
 
@@ -35,8 +36,10 @@ pub record LetsGo (x y : SharedMutator) : Type 0 where
   pub adds : Adds (λ es. IsTrue (all_steps keeps_objects es)) x y
   pub outside : y.place ≡ Outside
 
--- the mutator put so many nodes in and took as many out, and all that it did fits a queue
-pub record Works (n : ℕ) (x y : SharedMutator) : Type 0 where
-  pub moves : Moves 0 n n x y
+-- the mutator put these numbers in and took as many out, which are those; and all that it did fits a queue
+pub record Works (puts takes : List ℕ) (x y : SharedMutator) : Type 0 where
+  pub each : length takes ≡ length puts
+  pub moves : Moves 0 (length puts) (length takes) x y
   pub fits : AddsFitting 0 x y
+  pub numbers : Carries 0 puts takes x y
   pub world : arc_value y.heap ≡ arc_value x.heap

@@ -14,7 +14,7 @@ use Rattle.gc_table.specs.Seen.{OneHistory, seats_of}
 use Rattle.gc_table.specs.declared.view.Entry.{Entry}
 use Rattle.gc_table.specs.declared.view.TokenState.{TokenState}
 use Rattle.gc_table.specs.declared.view.View.{View}
-use Rattle.queue_laws.specs.LentQueues.{KeepsObjects, LaysOut, UsesLent, keeps_objects, log_since}
+use Rattle.queue_laws.specs.LentQueues.{KeepsObjects, LaysOut, LentNumbers, UsesLent, keeps_objects, log_since}
 use Rattle.example_structures.specs.Fitting.{hands}
 use Rattle.example_queues.specs.Queueing.{IsFirstInFirstOut}
 
@@ -31,8 +31,8 @@ pub record AllUse (sh : Shape) (s : State (Unit {0}) TokenState) (past rest : Li
   pub others : (i : ℕ) → i ≢ maker → IsTrue (all_steps keeps_objects (log_of sh past i))
   pub seats : (i : ℕ) (v : View) → get_elem? (seats_of s.views) i ≡ some v → (v.log ≡ log_of sh past i ++ log_since sh past rest i) → GoesOn sh.fields i (log_of sh past i) (log_since sh past rest i)
 
--- then what section 0 lends is a queue, first in, first out, whatever happens
+-- then what section 0 lends is a queue, first in, first out, whatever happens; and what each seat puts in and takes out has the numbers that its log tells
 abbrev pub QueueOpen : Type 0
 QueueOpen =
     (sh : Shape) (plan : List (List Op)) (s : State (Unit {0}) TokenState) (o : OneHistory sh plan s) (past rest : List Event) → o.holds.past ≡ past ++ rest → AllUse sh s past rest
-    → (root : Name) × ((k : ℕ) → RefersTo sh (past ++ rest) 0 root k) × IsFirstInFirstOut sh past rest root
+    → (root : Name) × ((k : ℕ) → RefersTo sh (past ++ rest) 0 root k) × (order : IsFirstInFirstOut sh past rest root) × LentNumbers sh past rest 0 (hands 0) order.queue

@@ -1,6 +1,6 @@
 //! Two threads share a queue.
 ghost use Rattle.std.specs.Arc.{arc_value};
-ghost use Rattle.std.specs.Prelude.{IfSome};
+ghost use Rattle.std.specs.Prelude.{[], ◌∷◌, IfSome};
 ghost use Rattle.std.specs.Thread.{IsSync};
 ghost use Rattle.example_queues.specs.Logs.{Works};
 ghost use Rattle.example_queues.specs.Queueing.{IsQueued};
@@ -13,6 +13,7 @@ use crate::worlds::{SharedTeam, close, open};
 use example_structures::SharedQueue;
 use queue_laws::{queue_by_lending, queue_by_name};
 use shared_heap::{SharedMutator, SharedSizes, Words, threads_run};
+use std::alloc::Global;
 use std::io;
 use std::rt::Runtime;
 use std::sync::Wait;
@@ -26,7 +27,7 @@ const NUMBERS: u32 = 1000;
 
 /// Puts a number in, and takes one out. There is one: who takes has put one in for each that he took.
 fn turn<R: Wait>(rt: &R, m: &mut SharedMutator, number: u32) -> Option<u64>
-    ensures works { IfSome result (λ _. Works 1 m.old m.new) }
+    ensures works { IfSome result (λ n. Works (number ∷ []) (n ∷ []) m.old m.new) }
 {
     let queue = SharedQueue::at(ROOT)?;
     if queue.put(rt, m, ITEM, number).is_err() {
@@ -38,55 +39,53 @@ fn turn<R: Wait>(rt: &R, m: &mut SharedMutator, number: u32) -> Option<u64>
     }
 }
 
-/// So many turns, with the numbers from this one on.
-fn turns<R: Wait>(rt: &R, m: &mut SharedMutator, from: u32, times: u32) -> Option<Tally>
-    ensures works { IfSome result (λ _. Works times m.old m.new) }
+/// A turn for each of these numbers: what it took.
+fn turns<R: Wait + AllocGlobal>(rt: &R, m: &mut SharedMutator, numbers: &[u32]) -> Option<Vec<u64>>
+    ensures works { IfSome result (λ taken. Works numbers.now taken.items m.old m.new) }
 {
-    let mut done = 0u32;
-    let mut tally = Tally::new();
-    for _ in rt.forever() {
-        if done >= times {
-            break;
+    let mut taken = Vec::new(rt.alloc());
+    for number in numbers {
+        let one = turn(rt, m, *number)?;
+        if taken.push(one).is_err() {
+            return None;
         }
-        let number = turn(rt, m, from.saturating_add(done))?;
-        tally.count(number, u64::from(times));
-        done += 1;
     }
-    Some(tally)
+    Some(taken)
 }
 
 /// One thread.
-fn act<R: Wait>(rt: &R, m: &mut SharedMutator, from: u32, times: u32) -> Option<Tally>
-    ensures works { IfSome result (λ _. Works times m.old m.new) }
+fn act<R: Wait + AllocGlobal>(rt: &R, m: &mut SharedMutator, numbers: &[u32]) -> Option<Vec<u64>>
+    ensures works { IfSome result (λ taken. Works numbers.now taken.items m.old m.new) }
 {
     if m.enter(rt).is_err() {
         return None;
     }
-    let tally = turns(rt, m, from, times)?;
+    let taken = turns(rt, m, numbers)?;
     m.leave();
-    Some(tally)
+    Some(taken)
 }
 
-/// Both threads.
-fn play<R: Wait + Threads + Sync>(
+/// Both threads, each with its numbers: what each took.
+fn play<R: Wait + Threads + AllocGlobal + Sync>(
     rt: &R,
     first: &mut SharedMutator,
     second: &mut SharedMutator,
-    times: u32,
-) -> Option<(Tally, Tally)>
-    ensures first { IfSome result (λ _. Works times first.old first.new) }
-    ensures second { IfSome result (λ _. Works times second.old second.new) }
+    firsts: &[u32],
+    seconds: &[u32],
+) -> Option<(Vec<u64>, Vec<u64>)>
+    ensures first { IfSome result (λ taken. Works firsts.now taken.0.items first.old first.new) }
+    ensures second { IfSome result (λ taken. Works seconds.now taken.1.items second.old second.new) }
 {
     let (one, two) = join_mut(
         rt,
-        &mut || -> Option<Tally>
+        &mut || -> Option<Vec<u64>>
             requires { IsSync R.row }
-            ensures { IfSome result (λ _. Works times first.entry.now first.exit.now) }
-        { act(rt, first, 0, times) },
-        &mut || -> Option<Tally>
+            ensures { IfSome result (λ taken. Works firsts.entry.now taken.items first.entry.now first.exit.now) }
+        { act(rt, first, firsts) },
+        &mut || -> Option<Vec<u64>>
             requires { IsSync R.row }
-            ensures { IfSome result (λ _. Works times second.entry.now second.exit.now) }
-        { act(rt, second, times, times) },
+            ensures { IfSome result (λ taken. Works seconds.entry.now taken.items second.entry.now second.exit.now) }
+        { act(rt, second, seconds) },
     );
     match (one, two) {
         (Some(a), Some(b)) => Some((a, b)),
@@ -97,15 +96,19 @@ fn play<R: Wait + Threads + Sync>(
 /// What both took, and the words of the closed world.
 #[derive(Drop)]
 pub struct Played {
-    pub first: Tally,
-    pub second: Tally,
+    pub first: Vec<u64>,
+    pub second: Vec<u64>,
     pub words: Words,
 }
 
-/// Whatever the schedule, the root is a queue that is first in, first out, and each thread put so many in and took as
-/// many out. None if a call was refused or there is no memory.
-fn run_queue<R: Wait + Threads + AllocGlobal + Sync>(rt: &R, times: u32) -> Option<Played>
-    ensures queued { IfSome result (λ p. IsQueued times p.words) }
+/// Two threads put these numbers in, and each takes one out for each. Whatever the schedule, what they took went in, and
+/// comes in the order in which it went in. None if a call was refused or there is no memory.
+fn run_queue<R: Wait + Threads + AllocGlobal + Sync>(
+    rt: &R,
+    firsts: &[u32],
+    seconds: &[u32],
+) -> Option<Played>
+    ensures queued { IfSome result (λ p. IsQueued firsts.now seconds.now p.first.items p.second.items p.words) }
 {
     let SharedTeam {
         world,
@@ -125,7 +128,7 @@ fn run_queue<R: Wait + Threads + AllocGlobal + Sync>(rt: &R, times: u32) -> Opti
     }
     // While they act this is so of what they have done so far.
     queue_open();
-    let (taken_first, taken_second) = play(rt, &mut first, &mut second, times)?;
+    let (taken_first, taken_second) = play(rt, &mut first, &mut second, firsts, seconds)?;
     if !maker.after(&mut one) || !maker.after(&mut two) {
         return None;
     }
@@ -140,15 +143,38 @@ fn run_queue<R: Wait + Threads + AllocGlobal + Sync>(rt: &R, times: u32) -> Opti
     })
 }
 
+/// The numbers from this one on.
+fn numbers_from(alloc: Global, from: u32) -> Option<Vec<u32>> {
+    let mut numbers = Vec::new(alloc);
+    for k in 0..NUMBERS {
+        if numbers.push(from.saturating_add(k)).is_err() {
+            return None;
+        }
+    }
+    Some(numbers)
+}
+
+/// Two threads share a queue: one puts in the numbers from 0 on, and the other those behind.
+fn run<R: Wait + Threads + AllocGlobal + Sync>(rt: &R) -> Option<Played> {
+    let firsts = numbers_from(rt.alloc(), 0)?;
+    let seconds = numbers_from(rt.alloc(), NUMBERS)?;
+    run_queue(rt, firsts.as_slice(), seconds.as_slice())
+}
+
 /// Lets two threads share a queue, and tells what they took.
 pub fn tell<R: Runtime + Wait + Threads + AllocGlobal + Sync>(rt: &R) -> io::Result<()> {
-    match run_queue(rt, NUMBERS) {
-        Some(played) => println!(rt;
-            "queue: {} numbers put in and taken, sum {}, each thread's in order {}",
-            u64::from(NUMBERS).saturating_mul(2),
-            played.first.sum.saturating_add(played.second.sum),
-            played.first.in_order && played.second.in_order
-        ),
+    match run(rt) {
+        Some(played) => {
+            let border = u64::from(NUMBERS);
+            let first = Tally::of(played.first.as_slice(), border);
+            let second = Tally::of(played.second.as_slice(), border);
+            println!(rt;
+                "queue: {} numbers put in and taken, sum {}, each thread's in order {}",
+                border.saturating_mul(2),
+                first.sum.saturating_add(second.sum),
+                first.in_order && second.in_order
+            )
+        }
         None => println!(rt; "queue: stopped"),
     }
 }

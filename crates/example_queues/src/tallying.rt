@@ -11,17 +11,22 @@ pub struct Tally {
 }
 
 impl Tally {
-    pub fn new() -> Tally {
-        Tally {
+    /// Of these numbers; the first thread's are below `border`.
+    pub fn of(numbers: &[u64], border: u64) -> Tally {
+        let mut tally = Tally {
             sum: 0,
             in_order: true,
             first: 0,
             second: 0,
+        };
+        for number in numbers {
+            tally.count(*number, border);
         }
+        tally
     }
 
-    /// One number more; the first thread's are below `border`.
-    pub fn count(&mut self, number: u64, border: u64) {
+    /// One number more.
+    fn count(&mut self, number: u64, border: u64) {
         let next = number.saturating_add(1);
         if number < border {
             self.in_order = self.in_order && number >= self.first;

@@ -107,20 +107,27 @@ module _ (x y : SharedMutator) where
             let same : length k.came.state.env ≡ length (state_of x.seat).env = ap (λ (l : List ℕ). length l) k.leaves.words in
             omega (arith, low, long, same)
 
-  pub made-fresh : (q n : ℕ) (b : Began) → FitsSince q b x → MakesSharedAfter 20 n (view_of x.seat) (view_of y.seat) → HasFresh b y
-  made-fresh q n b p k =
+  -- the steps by which a node was made for variable 20
+  pub making_is : (q n : ℕ) (b : Began) → FitsSince q b x → (k : MakesSharedAfter 20 n (view_of x.seat) (view_of y.seat))
+      → (id : ℕ) × (ss : List Step) × (steps_of (did x.seat y.seat) ≡ ss ++ StoreNew k.makes.cell b.fields n ∷ StoreNew k.makes.cell (b.fields + 1) id ∷ HoldRoot 20 (k.makes.cell + 1) ∷ [])
+  making_is q n b p k =
       let c : ℕ = k.makes.cell in
       let id : ℕ = next_word k.came.state in
       let first : List Step = steps_of (events (view_of x.seat) k.came) in
-      let fields : k.came.shape.fields ≡ b.fields = ap (λ sh. sh.fields) (ran-shape (view_of x.seat) k.came k.leaves.ran) ∙ p.shape in
-      let steps : steps_of (did x.seat y.seat) ≡ (first ++ nil_fields c b.fields) ++ StoreNew c b.fields n ∷ StoreNew c (b.fields + 1) id ∷ HoldRoot 20 (c + 1) ∷ [] =
-      steps_are 20 n k
-      ∙ (ap (λ (z : ℕ). (first ++ making_steps z c n id) ++ HoldRoot 20 (c + 1) ∷ []) fields
-      ∙ (ap (λ (l : List Step). l ++ HoldRoot 20 (c + 1) ∷ []) (sym (append_assoc first (nil_fields c b.fields) (StoreNew c b.fields n ∷ StoreNew c (b.fields + 1) id ∷ [])))
-      ∙ append_assoc (first ++ nil_fields c b.fields) (StoreNew c b.fields n ∷ StoreNew c (b.fields + 1) id ∷ []) (HoldRoot 20 (c + 1) ∷ []))) in
+      let fields : k.came.shape.fields ≡ b.fields = ap (λ sh. sh.fields) (ran-shape (view_of x.seat) k.came k.leaves.ran) ∙ p.shape in (
+        id,
+        first ++ nil_fields c b.fields,
+        steps_are 20 n k
+            ∙ (ap (λ (z : ℕ). (first ++ making_steps z c n id) ++ HoldRoot 20 (c + 1) ∷ []) fields
+            ∙ (ap (λ (l : List Step). l ++ HoldRoot 20 (c + 1) ∷ []) (sym (append_assoc first (nil_fields c b.fields) (StoreNew c b.fields n ∷ StoreNew c (b.fields + 1) id ∷ [])))
+            ∙ append_assoc (first ++ nil_fields c b.fields) (StoreNew c b.fields n ∷ StoreNew c (b.fields + 1) id ∷ []) (HoldRoot 20 (c + 1) ∷ []))),
+      )
+
+  pub made-fresh : (q n : ℕ) (b : Began) → FitsSince q b x → MakesSharedAfter 20 n (view_of x.seat) (view_of y.seat) → HasFresh b y
+  made-fresh q n b p k =
+      let m = making_is q n b p k in
       ap (λ (l : List Entry). is_fresh b.fields 20 l) (since-ran x y b p.log (made-ran x y 20 n k))
-      ∙ (ap (λ (z : Making). z.fresh) (makings_join b.fields 20 nothing_made (since b x) (did x.seat y.seat))
-      ∙ made-assigned b.fields 20 c n id (makings b.fields 20 nothing_made (since b x)) (first ++ nil_fields c b.fields) (did x.seat y.seat) steps)
+      ∙ (ap (λ (z : Making). z.fresh) (makings_join b.fields 20 nothing_made (since b x) (did x.seat y.seat)) ∙ made-assigned b.fields 20 k.makes.cell n m.0 (makings b.fields 20 nothing_made (since b x)) m.1 (did x.seat y.seat) m.2)
 
   -- a reference was stored in a field
   setting_all : (P : Step → Bool) (v i w : ℕ) (b : Bool) (card : ℕ) (is_new dirty : Bool) → P (StoreField v i (Some w)) ≡ true → P (CheckCard card) ≡ true → P (DirtyCard card) ≡ true
@@ -130,7 +137,7 @@ module _ (x y : SharedMutator) where
   setting_all P v i w false card false true a c d = and_from _ _ a (and_from _ true c refl)
   setting_all P v i w false card false false a c d = and_from _ _ a (and_from _ _ c (and_from _ true d refl))
 
-  set_all : (P : Step → Bool) (v i w : ℕ) → SetsField v i w (view_of x.seat) (view_of y.seat) → P (StoreField v i (Some w)) ≡ true → ((card : ℕ) → P (CheckCard card) ≡ true) → ((card : ℕ) → P (DirtyCard card) ≡ true) → all_steps P (did x.seat y.seat) ≡ true
+  pub set_all : (P : Step → Bool) (v i w : ℕ) → SetsField v i w (view_of x.seat) (view_of y.seat) → P (StoreField v i (Some w)) ≡ true → ((card : ℕ) → P (CheckCard card) ≡ true) → ((card : ℕ) → P (DirtyCard card) ≡ true) → all_steps P (did x.seat y.seat) ≡ true
   set_all P v i w s a c d =
       let card : ℕ = card_of (cell_in (state_of x.seat) v) in
       steps-all P (did x.seat y.seat)
@@ -158,7 +165,7 @@ module _ (x y : SharedMutator) where
       (set_by (word_in (state_of x.seat) v == 0) (used_in (state_of x.seat).cache (cell_in (state_of x.seat) v)) (was_dirty (did x.seat y.seat)) q v i w (card_of (cell_in (state_of x.seat) v)) b s.steps_are a)
 
   -- a field was exchanged
-  rest_all : (P : Step → Bool) (u word : ℕ) (won : Bool) → ((card : ℕ) → P (CheckCard card) ≡ true) → ((card : ℕ) → P (DirtyCard card) ≡ true) → all_steps P (if won then seen_to (state_of x.seat) u word else []) ≡ true
+  pub rest_all : (P : Step → Bool) (u word : ℕ) (won : Bool) → ((card : ℕ) → P (CheckCard card) ≡ true) → ((card : ℕ) → P (DirtyCard card) ≡ true) → all_steps P (if won then seen_to (state_of x.seat) u word else []) ≡ true
   rest_all P u word false c d = refl
   rest_all P u word true c d = by_card (used_in (state_of x.seat).cache (cell_in (state_of x.seat) u)) (word == 1) (card_of (cell_in (state_of x.seat) u))
     where

@@ -115,7 +115,7 @@ word-assigned v u f r known [] (x ∷ []) e =
 word-assigned v u f r known [] (x ∷ y ∷ es) e = absurd (cc)
 word-assigned v u f r known (s ∷ ss) (x ∷ es) e = word-assigned v u f r (reading_after v u f known x.step x.found) ss es cc
 
-past_fields : (fields : ℕ) → nat_le (fields + 1) fields ≡ false
+pub past_fields : (fields : ℕ) → nat_le (fields + 1) fields ≡ false
 past_fields fields = not_past (nat_le (fields + 1) fields) refl
   where
     not_past : (b : Bool) → nat_le (fields + 1) fields ≡ b → b ≡ false

@@ -1,5 +1,7 @@
 pub mod ByCalls
 pub mod Called
+pub mod Carried
+pub mod CarriedMoves
 pub mod Changed
 pub mod Counted
 pub mod FitCalls

@@ -22,6 +22,10 @@ pub either-way : {A E : Type 0} (r : Result A E) (Q : Type 0) (P : A → Type 0)
 either-way (Ok a) Q P R p q f g = f a p
 either-way (Err e) Q P R p q f g = g e q
 
+pub by-result : {A E : Type 0} (r : Result A E) (Q : Result A E → Type 0) (P : A → Type 0) (R : E → Type 0) → IfOk r P → IfErr r R → ((a : A) → P a → Q (Ok a)) → ((e : E) → R e → Q (Err e)) → Q r
+by-result (Ok a) Q P R p q f g = f a p
+by-result (Err e) Q P R p q f g = g e q
+
 pub when-ok : {A E : Type 0} (r : Result A E) (P Q : A → Type 0) → IfOk r P → ((a : A) → P a → Q a) → IfOk r Q
 when-ok (Ok a) P Q p f = f a p
 when-ok (Err e) P Q p f = tt

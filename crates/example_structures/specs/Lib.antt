@@ -1,3 +1,4 @@
+pub mod Carrying
 pub mod Changes
 pub mod FitLaws
 pub mod Fitting

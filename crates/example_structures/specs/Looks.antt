@@ -1,7 +1,7 @@
 -- What one look at a queue came to.
 use Rattle.std.specs.Prelude.{ℕ}
-use Rattle.example_structures.specs.declared.queue.Look.{Look}
-use Rattle.example_structures.specs.declared.queue.Look.TheVariants.{Again, Empty, Taken}
+use Rattle.example_structures.specs.declared.queue.taking.Look.{Look}
+use Rattle.example_structures.specs.declared.queue.taking.Look.TheVariants.{Again, Empty, Taken}
 
 -- how many it took
 abbrev pub taken_by_look : Look → ℕ

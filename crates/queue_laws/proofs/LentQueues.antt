@@ -33,15 +33,15 @@ use Rattle.heap_laws.proofs.Fields.{none_replicate}
 use Rattle.heap_laws.proofs.Lent.{lent_by_log}
 use Rattle.heap_laws.proofs.Moments.{Next, each-allowed, next-at}
 use Rattle.heap_laws.proofs.SplitLogs.{SplitLog, split_log}
-use Rattle.queue_laws.specs.LentQueues.{KeepsObjects, LentQueue, QueueByLending, UsesLent, core_past, heap_past, keeps_objects, layings, log_since, nothing_laid}
+use Rattle.queue_laws.specs.LentQueues.{KeepsObjects, LentQueue, UsesLent, core_past, heap_past, keeps_objects, layings, log_since, nothing_laid}
 use Rattle.queue_laws.specs.Making.{makings, nothing_made}
 use Rattle.queue_laws.specs.Orders.{Begins}
 use Rattle.queue_laws.specs.QueueLogs.{FitsQueue, Hands, fits, is_callers}
 use Rattle.queue_laws.specs.Queues.{Queue, heap_at}
 use Rattle.queue_laws.proofs.Created.{Came, came, came-first, made-told, spent-none, words-told}
 use Rattle.queue_laws.proofs.FitSteps.{logged_entry}
-use Rattle.queue_laws.proofs.Laid.{Laid, laid, there_by}
-use Rattle.queue_laws.proofs.LogQueues.{queue_by_log}
+use Rattle.queue_laws.proofs.Laid.{laid}
+use Rattle.queue_laws.proofs.LaidSteps.{Laid, there_by}
 use Rattle.queue_laws.proofs.MakeLogs.{shape_on}
 use Rattle.queue_laws.proofs.Parts.{heap-more, log-more, part-at, past-history, rest-run}
 
@@ -102,10 +102,10 @@ module _ (sh : Shape) (past rest : List Event) (u : ℕ) (h : Hands) (root : Nam
   abbrev m : ℕ
   m = p.maker
 
-  first_part : IsHistory sh past
+  pub first_part : IsHistory sh past
   first_part = past-history sh past rest p.history
 
-  run : IsRunOn c world rest
+  pub run : IsRunOn c world rest
   run = rest-run sh past rest p.history
 
   lends_past : (k : ℕ) → RefersTo sh past u root k
@@ -114,7 +114,7 @@ module _ (sh : Shape) (past rest : List Event) (u : ℕ) (h : Hands) (root : Nam
       subst (λ (es : List Event). (variable_of (world_run es (start_core sh 1) (start_world sh)) 0 u ≡ None) ⊎ (variable_of (world_run es (start_core sh 1) (start_world sh)) 0 u ≡ Some root)) (sym q.1) (p.lends q.0)
 
   -- a seat that did something is there
-  came_by : (i : ℕ) → (log_of sh past i ≡ [] → ⊥) → Came sh past first_part i (length past)
+  pub came_by : (i : ℕ) → (log_of sh past i ≡ [] → ⊥) → Came sh past first_part i (length past)
   came_by i some = ⊎_elim (λ a. absurd (some (ap (λ (es : List Event). log_of sh es i) (sym (take-length past)) ∙ a.1))) (λ (k : Came sh past first_part i (length past)). k) (came sh past first_part i (length past) (omega arith))
 
   maker_came : Came sh past first_part m (length past)
@@ -126,7 +126,7 @@ module _ (sh : Shape) (past rest : List Event) (u : ℕ) (h : Hands) (root : Nam
   abbrev pub d : Name
   d = dummy.0
 
-  shape_is : c.shape ≡ sh
+  pub shape_is : c.shape ≡ sh
   shape_is = ap (λ (es : List Event). (run_of es (start_core sh 1)).shape) (sym (take-length past)) ∙ shape_on past (start_core sh 1) (each-allowed sh past first_part) (length past)
 
   inside : m < sh.sections
@@ -216,11 +216,11 @@ module _ (sh : Shape) (past rest : List Event) (u : ℕ) (h : Hands) (root : Nam
       }
 
   -- a seat that had what is lent did something
-  lent_some : (i : ℕ) → holds_lent u h.queue None false (log_of sh past i) ≡ true → log_of sh past i ≡ [] → ⊥
+  pub lent_some : (i : ℕ) → holds_lent u h.queue None false (log_of sh past i) ≡ true → log_of sh past i ≡ [] → ⊥
   lent_some i e none = false≢true (sym (ap (holds_lent u h.queue None false) none) ∙ e)
 
   -- the record of a seat that came
-  record_of : (i : ℕ) → Came sh past first_part i (length past) → (s : SeatState) × (slice_get c.seats i ≡ Some s)
+  pub record_of : (i : ℕ) → Came sh past first_part i (length past) → (s : SeatState) × (slice_get c.seats i ≡ Some s)
   record_of i k =
       let there : i < length c.seats = subst (λ (es : List Event). i < length (run_of es (start_core sh 1)).seats) whole k.still in
       (_, slice_get-get_or c.seats i (start_seat sh i) there)
@@ -281,6 +281,3 @@ module _ (sh : Shape) (past rest : List Event) (u : ℕ) (h : Hands) (root : Nam
         names = names;
         fit = fit;
       }
-
-pub queue_by_lending : QueueByLending
-queue_by_lending sh past rest u h root p = (q sh past rest u h root p, refl, queue_by_log (q sh past rest u h root p) (core_past sh past) (heap_past sh past) rest h (fits_lent sh past rest u h root p))

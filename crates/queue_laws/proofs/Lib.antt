@@ -7,6 +7,9 @@ pub mod Happening
 pub mod Holds
 pub mod KindLogs
 pub mod Laid
+pub mod LaidLogs
+pub mod LaidSteps
+pub mod LentNumbers
 pub mod LentQueues
 pub mod LinkLogs
 pub mod LogQueues
@@ -14,6 +17,12 @@ pub mod MakeLogs
 pub mod MakeSteps
 pub mod Moves
 pub mod News
+pub mod NodeValues
+pub mod NumberExchanges
+pub mod NumberLogs
+pub mod NumberQueues
+pub mod NumberRuns
+pub mod NumberSteps
 pub mod Owners
 pub mod Parts
 pub mod Queues

@@ -22,7 +22,7 @@ module _ (q : Queue) (c : Core) (world : World) (es : List Event) (h : Hands) (p
       subst (λ (z : SeatState). KeepsQueue q c world es k (own_section z) e.step) record_is
       (subst (λ (z : Event). KeepsQueue q c world es k (own_section x.seat) z.step) same (own_of q c world es h p k x t x.event.step refl))
 
-  status : (k : ℕ) → k ≤ length es → Status q c world es p.begins k
+  pub status : (k : ℕ) → k ≤ length es → Status q c world es p.begins k
   status zero l = begin q c world es p.begins
   status (suc k) l =
       let before = status k (omega (arith, l)) in

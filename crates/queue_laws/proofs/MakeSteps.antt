@@ -31,11 +31,11 @@ use Rattle.queue_laws.specs.Making.{Making, makings}
 use Rattle.queue_laws.proofs.ReadSteps.{left_own, other_variable, register_keeps, stored_variable}
 
 -- the name of the n-th object of section i
-abbrev numbered : ℕ → ℕ → Name
+abbrev pub numbered : ℕ → ℕ → Name
 numbered i n = record { section = i; number = n }
 
 -- the name in the identity of the last of so many objects
-last_name : (i n identity : ℕ) → identity + 1 ≡ i * section_span + n → 0 < n → n ≤ section_span → name_in identity ≡ numbered i (n - 1)
+pub last_name : (i n identity : ℕ) → identity + 1 ≡ i * section_span + n → 0 < n → n ≤ section_span → name_in identity ≡ numbered i (n - 1)
 last_name i n identity e some few =
     let section : identity / section_span ≡ i = omega (arith, e, some, few) in
     let number : identity % section_span ≡ n - 1 = omega (arith, e, some, few) in

@@ -51,7 +51,7 @@ own_in i (x ∷ xs) name e = by_same (x.seat == i) e (λ f. own_in i xs name f)
     by_same false f rest = or_right (is_same (Some x.node) (Some name)) (is_in (nodes_of xs) name) (rest f)
 
 -- an item of another seat isn't among a seat's
-others_none : (i j : ℕ) (w : World) (o : Option Name) → i ≢ j → by_seat i (item_of w j o) ≡ []
+pub others_none : (i j : ℕ) (w : World) (o : Option Name) → i ≢ j → by_seat i (item_of w j o) ≡ []
 others_none i j w None d = refl
 others_none i j w (Some name) d =
     let item : Item = record { seat = j; node = name; number = value_of (object_of w name) } in
@@ -71,7 +71,7 @@ quiet_step o c s (Join other) e = refl
 quiet_step o c s step e = not-true (gives o step (word_told c s step)) (and_parts (not (gives o step (word_told c s step))) true e).0
 
 -- an exchange of field 0 that fits links or advances
-zero_kinds : (fields : ℕ) (s : SeatState) (h : Hands) (log : List Entry) (v f : ℕ) (x y : Option ℕ) → f ≡ 0 → fits fields s h log (ExchangeField v f x y) ≡ true → (links fields s h log v f x y ≡ true) ⊎ (advances s h log v f x y ≡ true)
+pub zero_kinds : (fields : ℕ) (s : SeatState) (h : Hands) (log : List Entry) (v f : ℕ) (x y : Option ℕ) → f ≡ 0 → fits fields s h log (ExchangeField v f x y) ≡ true → (links fields s h log v f x y ≡ true) ⊎ (advances s h log v f x y ≡ true)
 zero_kinds fields s h log v f x y none e =
     ⊎_elim
     (λ (t : nat_le 2 f ≡ true). absurd (let low = leb-true 2 f t in omega (arith, low, none)))

@@ -1,5 +1,5 @@
 -- A queue that section 0 lends: one seat lays it out, others put in and take out, and their logs tell it.
-use Rattle.std.specs.Prelude.{ℕ, ◌≡◌, ◌≢◌, ◌⊎◌, ◌<◌, ◌==◌, ◌&&◌, ◌||◌, if◌then◌else◌, List, [], ◌∷◌, ◌++◌, Bool, true, false, Option, None, Some, IsTrue, length}
+use Rattle.std.specs.Prelude.{ℕ, ◌≡◌, ◌≢◌, ◌⊎◌, ◌<◌, ◌≤◌, ◌==◌, ◌&&◌, ◌||◌, if◌then◌else◌, List, [], ◌∷◌, ◌++◌, Bool, true, false, Option, None, Some, IsTrue, length, take}
 use Rattle.plain_heap.specs.Paths.{Name}
 use Rattle.mark_core.specs.Numbers.{section_variables}
 use Rattle.mark_core.specs.Steps.{Core, run_of, start_core}
@@ -19,10 +19,12 @@ use Rattle.heap_laws.specs.Lent.{holds_lent, lent_after, read_by}
 use Rattle.heap_laws.specs.Moments.{IsHistory}
 use Rattle.heap_laws.specs.Pairs.{is_source}
 use Rattle.queue_laws.specs.Making.{makings, nothing_made}
+use Rattle.queue_laws.specs.NumberLogs.{puts_told, takes_told, telling_at}
 use Rattle.queue_laws.specs.Orders.{IsQueue}
 use Rattle.queue_laws.specs.QueueLogs.{AreHands, Hands, fits}
-use Rattle.queue_laws.specs.Queues.{Queue}
+use Rattle.queue_laws.specs.Queues.{Queue, by_seat, puts, takes}
 use Rattle.queue_laws.specs.Reads.{readings}
+use Rattle.queue_laws.specs.TakenNumbers.{AreNumbers}
 
 -- the step changes no object
 abbrev pub keeps_objects : Step → Bool
@@ -134,8 +136,18 @@ pub record LentQueue (sh : Shape) (past rest : List Event) (u : ℕ) (h : Hands)
   pub others : (i : ℕ) → i ≢ maker → IsTrue (all_steps keeps_objects (log_of sh past i))
   pub since : (i : ℕ) → (log_since sh past rest i ≡ []) ⊎ (KeepsObjects i (log_of sh past i) (log_since sh past rest i) ⊎ UsesLent sh.fields u h (log_of sh past i) (log_since sh past rest i))
 
--- then it is a queue from there on
+-- of the first k events since, seat i puts in and takes out as many as its log tells, with the numbers that it tells
+pub record NumbersSince (sh : Shape) (past rest : List Event) (h : Hands) (q : Queue) (i k : ℕ) (s : SeatState) : Type 0 where
+  pub put : AreNumbers (puts_told sh.fields h (telling_at h s) (log_since sh past (take k rest) i)) (by_seat i (puts q (core_past sh past) (heap_past sh past) rest k))
+  pub taken : AreNumbers (takes_told sh.fields h (telling_at h s) (log_since sh past (take k rest) i)) (by_seat i (takes q (core_past sh past) (heap_past sh past) rest k))
+
+-- so does each seat that uses the queue; one that changes no object puts in nothing, and takes nothing out
+pub record LentNumbers (sh : Shape) (past rest : List Event) (u : ℕ) (h : Hands) (q : Queue) : Type 0 where
+  pub told : (k : ℕ) → k ≤ length rest → (i : ℕ) → UsesLent sh.fields u h (log_of sh past i) (log_since sh past rest i) → (s : SeatState) → IsRecordAfter (log_of sh past i) s → NumbersSince sh past rest h q i k s
+  pub idle : (k : ℕ) → k ≤ length rest → (i : ℕ) → IsTrue (all_steps keeps_objects (log_since sh past rest i)) → (by_seat i (puts q (core_past sh past) (heap_past sh past) rest k) ≡ []) × (by_seat i (takes q (core_past sh past) (heap_past sh past) rest k) ≡ [])
+
+-- then it is a queue from there on, and the logs tell its numbers
 abbrev pub QueueByLending : Type 0
 QueueByLending =
     (sh : Shape) (past rest : List Event) (u : ℕ) (h : Hands) (root : Name) → LentQueue sh past rest u h root
-    → (q : Queue) × (q.object ≡ root) × IsQueue q (core_past sh past) (heap_past sh past) rest
+    → (q : Queue) × (q.object ≡ root) × IsQueue q (core_past sh past) (heap_past sh past) rest × LentNumbers sh past rest u h q

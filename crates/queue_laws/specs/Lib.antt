@@ -5,3 +5,5 @@ pub mod Kinds
 pub mod Making
 pub mod QueueLogs
 pub mod LentQueues
+pub mod NumberLogs
+pub mod TakenNumbers

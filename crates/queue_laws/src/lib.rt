@@ -7,6 +7,7 @@ ghost use Rattle.queue_laws.specs.Making.{MadeByLog};
 ghost use Rattle.queue_laws.specs.Orders.{QueueByName};
 ghost use Rattle.queue_laws.specs.QueueLogs.{QueueByLog};
 ghost use Rattle.queue_laws.specs.Reads.{ReadByLog};
+ghost use Rattle.queue_laws.specs.TakenNumbers.{NumbersByLog};
 
 /// If threads change a queue only as the calls of Michael and Scott's queue do, all that is taken was put in, in the same
 /// order, and none is taken twice.
@@ -39,4 +40,10 @@ pub fn queue_by_log()
 /// do, it is a queue from there on.
 pub fn queue_by_lending()
     ensures { QueueByLending }
+{}
+
+/// Then the numbers of what each thread puts in and takes out are those that its log tells: those with which it made its
+/// nodes, and those that it read.
+pub fn numbers_by_log()
+    ensures { NumbersByLog }
 {}

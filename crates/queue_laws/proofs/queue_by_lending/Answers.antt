@@ -1,4 +1,4 @@
-use Rattle.queue_laws.proofs.LentQueues.{queue_by_lending}
+use Rattle.queue_laws.proofs.LentNumbers.{queue_by_lending}
 use Rattle.queue_laws.proofs.queue_by_lending.Goals as goal
 
 pub returns : goal.returns

@@ -1,11 +1,6 @@
-use Rattle.std.proofs.Common.{◌≤◌}
+use Rattle.std.proofs.Common.{take}
 use Rattle.example_queues.specs.Logs.{Works}
 use Rattle.example_queues.proofs.playing.turns.Given as goal
 
-abbrev pub invariant-loop : goal.invariant-loop
-invariant-loop g l = record {
-  next : (goal.iterator-loop g).can_next l.iterator';
-  finite : (goal.iterator-loop g).is_finite l.iterator';
-  works : Works l.done l.fn.m l.m;
-  below : l.done ≤ l.times;
-}
+abbrev pub invariant-loop-number : goal.invariant-loop-number
+invariant-loop-number g l = Works (take l.number-index l.numbers) l.taken.items l.fn.m l.m

@@ -1,4 +1,4 @@
-use Rattle.example_queues.proofs.Ended.{are-new}
+use Rattle.example_queues.proofs.Parting.{are-new}
 use Rattle.example_queues.proofs.worlds.open.Goals as goal
 
 pub returns : goal.returns

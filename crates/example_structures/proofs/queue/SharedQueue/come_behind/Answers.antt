@@ -8,7 +8,12 @@ use Rattle.example_structures.specs.Queues.{Moves}
 use Rattle.example_structures.specs.Refusing.{GivenUp}
 use Rattle.example_structures.proofs.Called.{exchanged-told}
 use Rattle.example_structures.proofs.Counted.{none-moves, put-moves}
-use Rattle.example_structures.proofs.Refused.{either-way, want-inside, want-none, want-same, when-err, when-ok}
+use Rattle.example_structures.proofs.Refused.{by-result, either-way, want-inside, want-none, want-same, when-err, when-ok}
+use Rattle.std.specs.declared.result.Result.TheVariants.{Err}
+use Rattle.shared_heap.specs.declared.mutator.SharedMutator.{SharedMutator}
+use Rattle.example_structures.specs.Carrying.{NumbersPut}
+use Rattle.example_structures.proofs.Carried.{carried-none}
+use Rattle.example_structures.proofs.CarriedMoves.{linked-carried, linked-own}
 use Rattle.example_structures.proofs.queue.SharedQueue.come_behind.Goals as goal
 
 pub returns-clause-put : goal.returns-clause-put
@@ -34,3 +39,11 @@ returns-clause-fits c = λ b p may.
       either-way c.exchange.result (FitsSince q b y) _ _ c.exchange.ensures.done c.exchange.ensures.refused (λ won s. (link-fits x y q won s.does b p may).0) (λ e r. subst (FitsSince q b) (sym (want-same x y e _ 22 r)) p),
       when-ok c.exchange.result _ (Linked q b y) c.exchange.ensures.done (λ won s. (link-fits x y q won s.does b p may).1),
     )
+
+pub returns-clause-numbers : goal.returns-clause-numbers
+returns-clause-numbers c = λ b p may n had.
+    let x = c.args.m.now in
+    let y = c.exchange.new.self in
+    let q = c.args.self.queue in
+    by-result c.exchange.result (λ r. NumbersPut q b n r x y) _ _ c.exchange.ensures.done c.exchange.ensures.refused (λ won s. (linked-carried x y q b p won s.does may.1 n had, linked-own x y q b p won s.does may.1 n had))
+    (λ e r. subst (λ (m : SharedMutator). NumbersPut q b n (Err e) x m) (sym (want-same x y e _ 22 r)) (carried-none q b x, had))

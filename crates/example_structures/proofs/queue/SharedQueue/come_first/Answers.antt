@@ -1,4 +1,4 @@
-use Rattle.std.proofs.Common.{◌≡◌, ◌<◌, arith}
+use Rattle.std.proofs.Common.{◌≡◌, ◌<◌, arith, []}
 use Rattle.std.specs.Prelude.{if◌then◌else◌}
 use Rattle.shared_heap.specs.declared.mutator.Place.TheVariants.{Inside}
 use Rattle.std.proofs.Common.{subst, sym}
@@ -8,7 +8,11 @@ use Rattle.example_structures.specs.Queues.{Moves}
 use Rattle.example_structures.specs.Refusing.{GivenUp}
 use Rattle.example_structures.proofs.Called.{exchanged-told}
 use Rattle.example_structures.proofs.Counted.{none-moves, taken-moves}
-use Rattle.example_structures.proofs.Refused.{either-way, want-inside, want-none, want-same, when-err, when-ok}
+use Rattle.example_structures.proofs.Refused.{by-result, either-way, want-inside, want-none, want-same, when-err, when-ok}
+use Rattle.shared_heap.specs.declared.mutator.SharedMutator.{SharedMutator}
+use Rattle.example_structures.specs.Carrying.{Carried, if_won}
+use Rattle.example_structures.proofs.Carried.{carried-none}
+use Rattle.example_structures.proofs.CarriedMoves.{first-carried}
 use Rattle.example_structures.proofs.queue.SharedQueue.come_first.Goals as goal
 
 pub returns-clause-taken : goal.returns-clause-taken
@@ -40,3 +44,11 @@ returns-clause-kept c =
     let y = c.exchange.new.self in
     let q = c.args.self.queue in
     either-way c.exchange.result (KeepsRead q x y) _ _ c.exchange.ensures.done c.exchange.ensures.refused (λ won s. exchanged-read x y q q 0 21 23 won s.does) (λ e r. subst (KeepsRead q x) (sym (want-same x y e _ q r)) (none-read q x))
+
+pub returns-clause-numbers : goal.returns-clause-numbers
+returns-clause-numbers c = λ b p n had.
+    let x = c.args.m.now in
+    let y = c.exchange.new.self in
+    let q = c.args.self.queue in
+    by-result c.exchange.result (λ r. Carried q b [] (if_won r n) x y) _ _ c.exchange.ensures.done c.exchange.ensures.refused (λ won s. first-carried x y q b p won s.does n had)
+    (λ e r. subst (λ (m : SharedMutator). Carried q b [] [] x m) (sym (want-same x y e _ q r)) (carried-none q b x))
