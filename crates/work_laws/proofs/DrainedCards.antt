@@ -73,30 +73,30 @@ none_in allocs x b word true true e hl hw is f =
     let set : has_bit (get_or allocs (y / 64) 0) (y % 64) ≡ true = f y left in
     sym (ap (λ z. has_bit z i) is) ∙ (sym (ap (λ z. has_bit (get_or allocs z 0) i) at) ∙ (sym (ap (has_bit (get_or allocs (y / 64) 0)) place) ∙ set))))
 
-none_left : (allocs : List ℕ) (o : Option Cleaning) (b word : ℕ) → IfSome o (λ (x : Cleaning). x.left < 18446744073709551616) → word < 18446744073709551616 → get_or allocs b 0 ≡ word → ((x : ℕ) → left_in o x ≡ true → cell_bit allocs x ≡ true) → lacks_bits o b word ≡ false
-none_left allocs None b word hl hw is f = refl
-none_left allocs (Some x) b word hl hw is f = none_in allocs x b word x.known (eqb (block_of_card x.card) b) refl hl hw is f
+pub none-left : (allocs : List ℕ) (o : Option Cleaning) (b word : ℕ) → IfSome o (λ (x : Cleaning). x.left < 18446744073709551616) → word < 18446744073709551616 → get_or allocs b 0 ≡ word → ((x : ℕ) → left_in o x ≡ true → cell_bit allocs x ≡ true) → lacks_bits o b word ≡ false
+none-left allocs None b word hl hw is f = refl
+none-left allocs (Some x) b word hl hw is f = none_in allocs x b word x.known (eqb (block_of_card x.card) b) refl hl hw is f
 
-left_fits : (sh : Shape) (o : Option Cleaning) → IfSome o (IsCleaning sh) → IfSome o (λ (x : Cleaning). x.left < 18446744073709551616)
-left_fits sh None h = tt
-left_fits sh (Some x) h = h.words.0
+pub left-fits : (sh : Shape) (o : Option Cleaning) → IfSome o (IsCleaning sh) → IfSome o (λ (x : Cleaning). x.left < 18446744073709551616)
+left-fits sh None h = tt
+left-fits sh (Some x) h = h.words.0
 
-alloc_fits : (c : Core) (i : ℕ) (s : SeatState) (b : ℕ) → Taken c i s (ReadAlloc b) → get_or (words_of c.shape c.words).allocs b 0 < 18446744073709551616
-alloc_fits c i s b t =
+pub alloc-fits : (c : Core) (i : ℕ) (s : SeatState) (b : ℕ) → Taken c i s (ReadAlloc b) → get_or (words_of c.shape c.words).allocs b 0 < 18446744073709551616
+alloc-fits c i s b t =
     let hb : b < block_count c.shape = ltb-true b (block_count c.shape) (and_parts _ _ t.ok.0).0 in
     subst (λ (n : ℕ). n < 18446744073709551616) (alloc-found c b hb) (word-in c.words (address c.shape (4, b)) t.core.formed.words_in_range)
 
 abbrev NoneRedirtied : Core → SeatState → Step → Type 0
 NoneRedirtied c s step = bit (redirties_in_drain c s step) ≡ 0
 
-in_drain : (c : Core) (i : ℕ) (s : SeatState) (b : ℕ) → Taken c i s (ReadAlloc b) → (here : Bool) → eqb (words_of c.shape c.words).phase 2 ≡ here → bit (here && lacks_bits s.cleaning b (get_or (words_of c.shape c.words).allocs b 0)) ≡ 0
-in_drain c i s b t true e =
+pub in-drain : (c : Core) (i : ℕ) (s : SeatState) (b : ℕ) → Taken c i s (ReadAlloc b) → (here : Bool) → eqb (words_of c.shape c.words).phase 2 ≡ here → bit (here && lacks_bits s.cleaning b (get_or (words_of c.shape c.words).allocs b 0)) ≡ 0
+in-drain c i s b t true e =
     let w : Words = words_of c.shape c.words in
-    ap bit (none_left w.allocs s.cleaning b (get_or w.allocs b 0) (left_fits c.shape s.cleaning (t.core.formed.seats i s t.got).cleaning) (alloc_fits c i s b t) refl (λ x l. left_published c i s (ReadAlloc b) x t (eqb-true w.phase 2 e) l))
-in_drain c i s b t false e = refl
+    ap bit (none-left w.allocs s.cleaning b (get_or w.allocs b 0) (left-fits c.shape s.cleaning (t.core.formed.seats i s t.got).cleaning) (alloc-fits c i s b t) refl (λ x l. left_published c i s (ReadAlloc b) x t (eqb-true w.phase 2 e) l))
+in-drain c i s b t false e = refl
 
 none-redirtied : (c : Core) (i : ℕ) (s : SeatState) (step : Step) → Taken c i s step → NoneRedirtied c s step
-none-redirtied c i s (ReadAlloc b) t = in_drain c i s b t (eqb (words_of c.shape c.words).phase 2) refl
+none-redirtied c i s (ReadAlloc b) t = in-drain c i s b t (eqb (words_of c.shape c.words).phase 2) refl
 none-redirtied c i s step t = refl
 
 redirty_pay : (sh : Shape) → Pays (one_in redirties_in_drain) (λ c e. 0 * one_in defers c e) (λ c. 0) sh

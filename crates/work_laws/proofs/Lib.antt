@@ -12,4 +12,13 @@ pub mod Cleans
 pub mod Drains
 pub mod DrainedCards
 pub mod Starts
+pub mod DirtySteps
+pub mod UnseenSteps
+pub mod Dirties
+pub mod BringSteps
+pub mod Brings
+pub mod Pushes
+pub mod Idles
+pub mod Cycles
+pub mod CycleTables
 pub mod Work

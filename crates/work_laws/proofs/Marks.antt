@@ -64,7 +64,7 @@ abbrev FreshPaid : Core → SeatState → Step → Type 0
 FreshPaid c s step = bit (pushes_fresh c s step) + bit (has_fresh (seat_after c.shape s step (found c s step))) ≤ bit (has_fresh s) + bit (marks_anew c s step)
 
 -- what a step does to the cell that its seat has just marked
-fresh-paid : (c : Core) (i : ℕ) (s : SeatState) (step : Step) → Taken c i s step → FreshPaid c s step
+pub fresh-paid : (c : Core) (i : ℕ) (s : SeatState) (step : Step) → Taken c i s step → FreshPaid c s step
 fresh-paid c i s (SetMark x) t =
     let at = in-place c i s (SetMark x) t in
     let here : found c s (SetMark x) ≡ get_or (words_of c.shape c.words).marks (x / 64) 0 = words-get (region_sizes c.shape) 5 c.words (x / 64) 0 at in

@@ -1,5 +1,5 @@
 -- What one step does to the lengths of packets, and to a cell that was found unpublished.
-use Rattle.std.proofs.Common.{ℕ, ◌≡◌, ◌≢◌, ◌+◌, ◌-◌, ◌/◌, ◌%◌, ◌<◌, ◌≤◌, List, get_or, arith, refl, ap, Bool, true, false, not, ◌&&◌, ◌||◌, cond, eqb, Option, Some, None}
+use Rattle.std.proofs.Common.{ℕ, ◌≡◌, ◌+◌, ◌/◌, ◌%◌, ◌<◌, ◌≤◌, List, get_or, arith, refl, ap, Bool, true, false, not, ◌&&◌, ◌||◌, cond, eqb, Option, Some, None}
 use Rattle.std.specs.List.{sum_by, range_with_len}
 use Rattle.std.proofs.lemmas.Bool.{and_parts, ltb-true, false≢true}
 use Rattle.mark_core.specs.Layout.{words_of, region_sizes}
@@ -38,7 +38,7 @@ pop_paid c i s p t =
     let heads : List ℕ = (words_of c.shape c.words).heads in
     let f : ℕ → ℕ = λ q. packet_length heads (hands c.seats) q in
     let g : ℕ → ℕ = λ q. packet_length heads (hands (seats_left c i s (Pop p))) q in
-    let all : sum_by g (range_with_len 0 c.shape.packets) + f p ≡ sum_by f (range_with_len 0 c.shape.packets) + g p = sum-but-one f g p 0 c.shape.packets (omega arith) (omega (arith, o.packet)) o.others in
+    let all : sum_by g (range_with_len 0 c.shape.packets) + f p ≡ sum_by f (range_with_len 0 c.shape.packets) + g p = sum-but-one f g p 0 c.shape.packets (omega arith) (omega (arith, o.packet)) (λ x h. o.others x) in
     omega (arith, all, o.before, o.after, o.some)
 
 push_paid : (c : Core) (i : ℕ) (s : SeatState) (p x : ℕ) → Taken c i s (Push p x) → EntriesPaid c i s (Push p x)
@@ -48,7 +48,7 @@ push_paid c i s p x t =
     let heads : List ℕ = (words_of c.shape c.words).heads in
     let f : ℕ → ℕ = λ q. packet_length heads (hands c.seats) q in
     let g : ℕ → ℕ = λ q. packet_length heads (hands (seats_left c i s (Push p x))) q in
-    let all : sum_by g (range_with_len 0 c.shape.packets) + f p ≡ sum_by f (range_with_len 0 c.shape.packets) + g p = sum-but-one f g p 0 c.shape.packets (omega arith) (omega (arith, hp)) o.others in
+    let all : sum_by g (range_with_len 0 c.shape.packets) + f p ≡ sum_by f (range_with_len 0 c.shape.packets) + g p = sum-but-one f g p 0 c.shape.packets (omega arith) (omega (arith, hp)) (λ x h. o.others x) in
     omega (arith, all, o.before, o.after)
 
 same_entries : (c : Core) (i : ℕ) (s : SeatState) (step : Step) → ((q : ℕ) → packet_length (words_left c s step).heads (hands (seats_left c i s step)) q ≡ packet_length (words_of c.shape c.words).heads (hands c.seats) q) → left c i s step ≡ before c

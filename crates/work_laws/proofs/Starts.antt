@@ -20,23 +20,23 @@ use Rattle.work_laws.specs.Queueing.{queued}
 use Rattle.work_laws.specs.Cleaning.{is_dirty, dirty_cards}
 use Rattle.work_laws.proofs.Seats.{IsOfHands}
 
-sum_none : {X : Type 0} (f : X → ℕ) (xs : List X) → All (λ (x : X). f x ≡ 0) xs → sum_by f xs ≡ 0
-sum_none f [] a = refl
-sum_none {X} f (x ∷ xs) a =
+pub sum-none : {X : Type 0} (f : X → ℕ) (xs : List X) → All (λ (x : X). f x ≡ 0) xs → sum_by f xs ≡ 0
+sum-none f [] a = refl
+sum-none {X} f (x ∷ xs) a =
     let P : X → Type 0 = λ (y : X). f y ≡ 0 in
-    omega (arith, sum_by-cons f x xs, All-head P x xs a, sum_none f xs (All-tail P x xs a))
+    omega (arith, sum_by-cons f x xs, All-head P x xs a, sum-none f xs (All-tail P x xs a))
 
 -- nothing in hand
 pub none-in-hands : (f : SeatState → ℕ) (sh : Shape) (n : ℕ) → IsOfHands f → sum_by f (start_seats sh n) ≡ 0
-none-in-hands f sh n z = sum_none f (start_seats sh n) (each-seat (λ (s : SeatState). f s ≡ 0) sh n (z.start sh))
+none-in-hands f sh n z = sum-none f (start_seats sh n) (each-seat (λ (s : SeatState). f s ≡ 0) sh n (z.start sh))
 
-range_none : (f : ℕ → ℕ) (a n : ℕ) → ((x : ℕ) → x < a + n → f x ≡ 0) → sum_by f (range_with_len a n) ≡ 0
-range_none f a zero h = refl
-range_none f a (suc n) h = omega (arith, sum_by-cons f a (range_with_len (a + 1) n), h a (omega arith), range_none f (a + 1) n (λ x l. h x (omega arith)))
+pub range-none : (f : ℕ → ℕ) (a n : ℕ) → ((x : ℕ) → x < a + n → f x ≡ 0) → sum_by f (range_with_len a n) ≡ 0
+range-none f a zero h = refl
+range-none f a (suc n) h = omega (arith, sum_by-cons f a (range_with_len (a + 1) n), h a (omega arith), range-none f (a + 1) n (λ x l. h x (omega arith)))
 
 -- nothing in packets
 pub none-queued : (sh : Shape) (n : ℕ) → IsCore (start_core sh n) → queued (start_core sh n) ≡ 0
-none-queued sh n k = range_none (λ p. packet_length (words_of sh (start_words sh)).heads (hands (start_seats sh n)) p) 0 sh.packets (λ p h. k.sound.phases.packets_empty refl p (omega (arith, h)))
+none-queued sh n k = range-none (λ p. packet_length (words_of sh (start_words sh)).heads (hands (start_seats sh n)) p) 0 sh.packets (λ p h. k.sound.phases.packets_empty refl p (omega (arith, h)))
 
 no_card : (sh : Shape) (card : ℕ) → card < card_count sh → slice_index (words_of sh (start_words sh)).cards card ≡ 0
 no_card sh card h =

@@ -5,4 +5,7 @@ pub mod Scanning
 pub mod Cleaning
 pub mod Drains
 pub mod DrainedCards
+pub mod Dirtying
+pub mod Bringing
+pub mod Cycles
 pub mod Work

@@ -1,7 +1,10 @@
 //! A cycle's work is bounded: laws about all runs of the core, and about what threads do with an open table.
 #![tactic(auto)]
 
+ghost use Rattle.work_laws.specs.Bringing.{DeferringIsBounded};
 ghost use Rattle.work_laws.specs.Cleaning.{CleaningIsBounded};
+ghost use Rattle.work_laws.specs.Cycles.{CyclesAreBounded};
+ghost use Rattle.work_laws.specs.Dirtying.{DirtyingIsBounded};
 ghost use Rattle.work_laws.specs.DrainedCards.{DrainsStayClean};
 ghost use Rattle.work_laws.specs.Drains.{DrainsDeferNone};
 ghost use Rattle.work_laws.specs.Marking.{MarksAreBounded};
@@ -35,6 +38,20 @@ pub fn cleaning_bounded()
     ensures { CleaningIsBounded }
 {}
 
+/// A card is dirtied once for each store, and for each cell that finds no packet; and again only once for each dirty one
+/// that was cleaned in Marking.
+#[tactic(auto, using(crate::proofs::Dirties::dirtying_bounded))]
+pub fn dirtying_bounded()
+    ensures { DirtyingIsBounded }
+{}
+
+/// A popped cell is found unpublished only once after it was marked, and once each time that it is brought back out of
+/// the deferred pool.
+#[tactic(auto, using(crate::proofs::Brings::deferring_bounded))]
+pub fn deferring_bounded()
+    ensures { DeferringIsBounded }
+{}
+
 /// While the world is stopped no popped cell is found unpublished.
 #[tactic(auto, using(crate::proofs::Drains::drains_defer_none))]
 pub fn drains_defer_none()
@@ -52,4 +69,11 @@ pub fn drains_stay_clean()
 #[tactic(auto, using(crate::proofs::Work::work_bounded))]
 pub fn work_bounded()
     ensures { WorkIsBounded }
+{}
+
+/// From any moment on at which no cycle is under way, all that marking and cleaning come to, by numbers: of cells, fields
+/// and cards, of the stores that mutators make meanwhile, and of what is brought back and cleaned while they run.
+#[tactic(auto, using(crate::proofs::CycleTables::cycles_bounded))]
+pub fn cycles_bounded()
+    ensures { CyclesAreBounded }
 {}
