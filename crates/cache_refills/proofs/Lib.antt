@@ -5,3 +5,4 @@ pub mod Positions
 pub mod Causes
 pub mod Refills
 pub mod Stops
+pub mod Telling

@@ -5,3 +5,4 @@ pub mod StopEnds
 pub mod InStops
 pub mod InStop
 pub mod AfterStop
+pub mod Told

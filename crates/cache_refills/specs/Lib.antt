@@ -7,3 +7,5 @@ pub mod RefillRules
 pub mod InStops
 pub mod Trying
 pub mod Pieces
+pub mod Notices
+pub mod Telling

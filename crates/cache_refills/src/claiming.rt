@@ -14,7 +14,9 @@ ghost use Rattle.gc_cycle.specs.Finishing.{IsAloneIn, IsPart};
 ghost use Rattle.cache_refills.specs.InStops.{begins_none};
 ghost use Rattle.cache_refills.specs.Refilling.{ClaimsAlone, HasMissed, RestsAlone, SeesFull};
 ghost use Rattle.gc_cycle.specs.Sorts.{ends_cycle, moves_to, raises_flag};
+ghost use Rattle.cache_refills.specs.Notices.{IsTold};
 ghost use Rattle.cache_refills.specs.Stops.{may_end};
+ghost use Rattle.cache_refills.specs.Telling.{IsUntold, TellsStops};
 ghost use Rattle.gc_cycle.specs.Statistics.{ChangesNumbers, leaves_numbers, taken};
 
 use crate::watching::Watch;
@@ -42,6 +44,7 @@ pub(crate) fn claim_in_stop<R: Wait, W: Watch>(
     ensures cycles { (before : List Entry) → IsTrue (some_event raises_flag (since_or_all ends_cycle before)) → IsTrue (each_after (may_end heap.now.shape) ends_cycle before (did seat.old seat.new)) }
     ensures missed { HasMissed heap.now.shape result (did seat.old seat.new) (view_of seat.new) }
     ensures fills { IsTrue (each_after (may_fill heap.now.shape) (moves_to Full) [] (did seat.old seat.new)) }
+    ensures told { IsTold W.hears (λ ns. Across (TellsStops ns) seat.old seat.new) watch.old watch.new }
 {
     match seat.state().phase_seen {
         Some(Phase::Full) => None,
@@ -71,6 +74,7 @@ fn claim_or_collect<R: Wait, W: Watch>(
     ensures cycles { (before : List Entry) → IsTrue (each_after (may_end heap.now.shape) ends_cycle before (did seat.old seat.new)) }
     ensures missed { HasMissed heap.now.shape result (did seat.old seat.new) (view_of seat.new) }
     ensures fills { IsTrue (each_after (may_fill heap.now.shape) (moves_to Full) [] (did seat.old seat.new)) }
+    ensures told { IsTold W.hears (λ ns. Across (TellsStops ns) seat.old seat.new) watch.old watch.new }
 {
     if let Some(cache) = claim(heap, seat) {
         return Some(cache);
@@ -88,6 +92,7 @@ fn claim_or_fill(heap: &Heap, seat: &mut HeapSeat) -> Option<Cache>
     ensures numbers { Across (ChangesNumbers (taken result)) seat.old seat.new }
     ensures unbegun { IsTrue (begins_none (did seat.old seat.new)) }
     ensures unended { IsTrue (never ends_cycle (did seat.old seat.new)) }
+    ensures untold { Across IsUntold seat.old seat.new }
     ensures missed { (before : List Entry) → IsTrue (collects before) → HasMissed heap.now.shape result (before ++ did seat.old seat.new) (view_of seat.new) }
     ensures fills { (before : List Entry) → IsTrue (collects before) → IsTrue (each_after (may_fill heap.now.shape) (moves_to Full) before (did seat.old seat.new)) }
 {

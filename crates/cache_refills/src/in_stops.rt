@@ -7,6 +7,7 @@ ghost use Rattle.gc_table.specs.declared.view.View.{View};
 ghost use Rattle.alloc_cache.specs.Caching.{IsCached};
 ghost use Rattle.gc_cycle.specs.Answering.{StoredAt, TellsFull, answers};
 ghost use Rattle.cache_refills.specs.InStops.{FillsTo, HasSearched, begins_none};
+ghost use Rattle.cache_refills.specs.Notices.{IsTold};
 ghost use Rattle.cache_refills.specs.RefillRules.{KeepsRefillRules};
 ghost use Rattle.cache_refills.specs.Refilling.{IsRound};
 ghost use Rattle.gc_cycle.specs.Mutating.{pops_in_stops};
@@ -14,6 +15,7 @@ ghost use Rattle.gc_cycle.specs.Sparing.{SparesRefill};
 ghost use Rattle.gc_cycle.specs.Standing.{Mutates};
 ghost use Rattle.gc_cycle.specs.Statistics.{PaysNumbers, RoundNumbers};
 ghost use Rattle.cache_refills.specs.Stops.{stops_in_visit, stops_with_cause};
+ghost use Rattle.cache_refills.specs.Telling.{TellsStops};
 
 use crate::refilling::{nothing_paid, refill_in_stop};
 use crate::watching::Watch;
@@ -38,6 +40,7 @@ pub fn refill_in_stops<R: Wait, W: Watch>(
     ensures fills { Across (FillsTo result done) seat.old seat.new }
     ensures pops { IsTrue (pops_in_stops (did seat.old seat.new)) }
     ensures unbegun { IsTrue (begins_none (did seat.old seat.new)) }
+    ensures told { IsTold W.hears (λ ns. Across (TellsStops ns) seat.old seat.new) watch.old watch.new }
 {
     for _ in rt.forever() {
         if let Some(refill) = fill_once(rt, heap, seat, done, watch) {
@@ -64,6 +67,7 @@ fn fill_once<R: Wait, W: Watch>(
     ensures visit { IsTrue (stops_in_visit heap.now.shape (did seat.old seat.new)) }
     ensures pops { IsTrue (pops_in_stops (did seat.old seat.new)) }
     ensures unbegun { IsTrue (begins_none (did seat.old seat.new)) }
+    ensures told { IsTold W.hears (λ ns. Across (TellsStops ns) seat.old seat.new) watch.old watch.new }
     ensures some { IfSome result (λ r. (u : View) → Ran u (view_of seat.old) → TellsFull u (view_of seat.old) → StoredAt done u (view_of seat.old) → FillsTo r done u (view_of seat.new)) }
 {
     match claim(heap, seat) {

@@ -18,6 +18,7 @@ ghost use Rattle.cache_refills.specs.InStops.{begins_none};
 ghost use Rattle.gc_cycle.specs.Mutating.{pops_in_stops, stays_calm};
 ghost use Rattle.cache_refills.specs.Pace.Pacing.{begins_where_due, card_looks};
 ghost use Rattle.cache_refills.specs.Pace.Paying.{IsFree, pops_where_paid};
+ghost use Rattle.cache_refills.specs.Notices.{IsTold};
 ghost use Rattle.cache_refills.specs.RefillRules.{KeepsRefillRules};
 ghost use Rattle.cache_refills.specs.Refilling.{HasClaimed, IsPaced, IsRound, SeesEnd, looks_for_end, prepares};
 ghost use Rattle.gc_cycle.specs.Sparing.{SparesRefill};
@@ -25,6 +26,7 @@ ghost use Rattle.gc_cycle.specs.Standing.{Mutates};
 ghost use Rattle.gc_cycle.specs.Statistics.{ChangesBy, PaysNumbers, RoundNumbers};
 ghost use Rattle.cache_refills.specs.Stops.{stops_in_visit, stops_with_cause};
 ghost use Rattle.cache_refills.specs.Pace.StepBounds.{payment_steps};
+ghost use Rattle.cache_refills.specs.Telling.{IsInside, TellsRefill, TellsRound, TellsStops, payment};
 
 use crate::claiming::claim_in_stop;
 use crate::pace::kick_off;
@@ -81,6 +83,7 @@ pub fn refill_watched<R: Wait, W: Watch>(
     ensures refills { Across (RefillsTo result done) seat.old seat.new }
     ensures pops { IsTrue (pops_where_paid (did seat.old seat.new)) }
     ensures due { IsTrue (begins_where_due (did seat.old seat.new)) }
+    ensures told { IsTold W.hears (λ ns. Across (TellsRefill result ns) seat.old seat.new) watch.old watch.new }
 {
     for _ in rt.forever() {
         if let Some(refill) = refill_once(rt, heap, seat, done, watch) {
@@ -108,6 +111,7 @@ fn refill_once<R: Wait, W: Watch>(
     ensures pops { IsTrue (pops_where_paid (did seat.old seat.new)) }
     ensures due { IsTrue (begins_where_due (did seat.old seat.new)) }
     ensures some { IfSome result (λ r. (u : View) → Ran u (view_of seat.old) → TellsFull u (view_of seat.old) → StoredAt done u (view_of seat.old) → RefillsTo r done u (view_of seat.new)) }
+    ensures told { IsTold W.hears (λ ns. Across (TellsRound result ns) seat.old seat.new) watch.old watch.new }
 {
     if stores_if_full(heap, seat, done) {
         return Some(Refill::Full);
@@ -164,6 +168,7 @@ fn claim_or_stop<R: Wait, W: Watch>(
     ensures pops { IsTrue (pops_where_paid (did seat.old seat.new)) }
     ensures due { IsTrue (begins_where_due (did seat.old seat.new)) }
     ensures some { IfSome result (λ r. (u : View) → Ran u (view_of seat.old) → TellsFull u (view_of seat.old) → StoredAt done u (view_of seat.old) → IsPaced (events u (view_of seat.old)) (view_of seat.old) → RefillsTo r done u (view_of seat.new)) }
+    ensures told { IsTold W.hears (λ ns. Across (TellsRound result ns) seat.old seat.new) watch.old watch.new }
 {
     match claim(heap, seat) {
         None => refill_in_stop(rt, heap, seat, done, watch),
@@ -175,9 +180,12 @@ fn claim_or_stop<R: Wait, W: Watch>(
     }
 }
 
-fn tell_paid<W: Watch>(refill: &Refill, watch: &mut W) {
-    if let Refill::Cache(_, paid) = refill {
-        watch.pays(*paid);
+fn tell_paid<W: Watch>(refill: &Refill, watch: &mut W)
+    ensures { IsTold W.hears (λ ns. ns ≡ payment refill.now) watch.old watch.new }
+{
+    match refill {
+        Refill::Cache(_, paid) => watch.pays(*paid),
+        Refill::Full => {}
     }
 }
 
@@ -242,6 +250,8 @@ pub(crate) fn refill_in_stop<R: Wait, W: Watch>(
     ensures unbegun { IsTrue (begins_none (did seat.old seat.new)) }
     ensures outside { IsTrue (each_after (never comes_in) raises_flag [] (did seat.old seat.new)) }
     ensures pops { IsTrue (pops_in_stops (did seat.old seat.new)) }
+    ensures told { IsTold W.hears (λ ns. Across (TellsStops ns) seat.old seat.new) watch.old watch.new }
+    ensures inside { IsInside result (did seat.old seat.new) }
 {
     watch.asks();
     if !stop(rt, heap, seat, done) {

@@ -11,3 +11,7 @@ pub mod Swept
 pub mod NoRescans
 pub mod Spared
 pub mod Rooted
+pub mod Funds
+pub mod Whitens
+pub mod Empties
+pub mod Uses

@@ -10,3 +10,4 @@ pub mod Looked
 pub mod HelperDrains
 pub mod Unopened
 pub mod Beside
+pub mod Spared

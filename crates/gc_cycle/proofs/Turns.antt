@@ -1,10 +1,11 @@
 -- How much is done at a time, put together out of calls.
-use Rattle.std.proofs.Common.{ℕ, ◌≡◌, List, [], ◌∷◌, arith, refl, sym, ap, ◌∙◌, subst, true, ⊎_elim, ◌++◌, Bool, not, ◌&&◌}
+use Rattle.std.proofs.Common.{ℕ, ◌≡◌, List, [], ◌∷◌, arith, refl, sym, ap, ◌∙◌, subst, true, false, ⊎_elim, ◌++◌, Bool, not, ◌&&◌, ◌||◌}
 use Rattle.std.specs.Prelude.{nat_le}
-use Rattle.std.proofs.lemmas.Bool.{le-leb, leb-true, or_cases, or_left, or_right, and_from, and_parts}
+use Rattle.std.proofs.lemmas.Bool.{le-leb, leb-true, not-true, or_cases, or_from, or_left, or_parts, or_right, and_from, and_parts, true≢false}
 use Rattle.mark_core.specs.declared.kinds.Shape.{Shape}
-use Rattle.mark_core.specs.declared.kinds.Step.TheVariants.{Observe}
-use Rattle.gc_table.specs.Log.{events}
+use Rattle.mark_core.specs.declared.kinds.Step.{Step}
+use Rattle.mark_core.specs.declared.kinds.Step.TheVariants.{JoinHelpStep, Observe}
+use Rattle.gc_table.specs.Log.{event, events}
 use Rattle.gc_table.specs.Running.{Ran}
 use Rattle.gc_table.specs.Taking.{after}
 use Rattle.gc_table.specs.declared.view.View.{View}
@@ -17,13 +18,13 @@ use Rattle.tracer.specs.declared.traced.Stopped.TheVariants.{NoPacket, NoWork, Q
 use Rattle.tracer.specs.declared.traced.RootScan.{RootScan}
 use Rattle.tracer.specs.declared.traced.RootScan.TheVariants as roots
 use Rattle.tracer.specs.declared.traced.Traced.{Traced}
-use Rattle.gc_cycle.specs.Events.{never}
+use Rattle.gc_cycle.specs.Events.{Sort, never}
 use Rattle.gc_cycle.specs.Lower.{EndsTrace, ScansRoots, HasTraced, traces_or_cleans}
 use Rattle.gc_cycle.specs.Moments.{at_some_moment, begins, finds_no_packet, finds_no_work, Moment}
 use Rattle.gc_cycle.specs.Roots.{roots_scanned, root_marked}
-use Rattle.gc_cycle.specs.Sorts.{joins, pops}
+use Rattle.gc_cycle.specs.Sorts.{joins, lets_in, pops}
 use Rattle.gc_cycle.specs.RoundParts.{BringsBack}
-use Rattle.gc_cycle.specs.Turns.{DrainsFor, HelpsBetween, HelpsInTurns, HelpsOnce, SeesToRoots, StaysApart, help_quota}
+use Rattle.gc_cycle.specs.Turns.{DrainsFor, HelpsBetween, HelpsInTurns, SeesToRoots, StaysApart, WaitsBetween, WaitsInTurns}
 use Rattle.gc_cycle.proofs.Stops.Admitted.{count-run, late, longer}
 use Rattle.gc_cycle.proofs.Searched.{work-longer, work-widens, front-more, moment-wider, Widens}
 use Rattle.gc_cycle.proofs.Sequences.{this-moment}
@@ -33,7 +34,7 @@ use Rattle.mark_core.specs.Held.{holds_any}
 use Rattle.mark_core.specs.Numbers.{section_variables}
 use Rattle.mark_core.specs.declared.seat.SeatState.{SeatState}
 use Rattle.gc_table.specs.declared.view.Entry.{Entry}
-use Rattle.packet_pools.specs.Seeking.{input_pools, moves_packet, output_pools, no_input, no_output}
+use Rattle.packet_pools.specs.Seeking.{input_pools, moves_packet, output_pools, no_input, no_output, some_event}
 use Rattle.tracer.specs.Moments.{finds_none_to_fill, finds_none_to_read, front}
 use Rattle.tracer.proofs.RootScans.{seen-left, seen-right}
 use Rattle.packet_pools.proofs.Searches.{all-more, no-input-left, no-output-left}
@@ -162,17 +163,60 @@ apart-join u v w a b = record { ran = ran-join u v w a.ran b.ran; apart = ap (ne
 pub apart-look : (v w : View) (n : ℕ) → Ran v w → w ≡ after Observe n v → StaysApart v w
 apart-look v w n r e = record { ran = r; apart = ap (never joins) (events-after v w Observe n e) }
 
--- the turns of one call, and then those of another
-between-join : (quota : ℕ) (ts ss : List (View × View)) (u v w : View) → HelpsBetween quota ts u v → HelpsBetween quota ss v w → (rs : List (View × View)) × HelpsBetween quota rs u w
-between-join quota [] [] u v w a b = ([], apart-join u v w a b)
-between-join quota [] (s ∷ ss) u v w a b = (s ∷ ss, (apart-join u v s.0 a b.0, b.1, b.2))
-between-join quota (t ∷ ts) ss u v w a b = let r = between-join quota ts ss t.1 v w a.2 b in (t ∷ r.0, (a.0, a.1, r.1))
+or_false : (b : Bool) → (b || false) ≡ b
+or_false true = refl
+or_false false = refl
+
+-- an event of one of two calls
+some-both : (f : Sort) (xs ys : List Entry) → some_event f (xs ++ ys) ≡ (some_event f xs || some_event f ys)
+some-both f [] ys = refl
+some-both f (x ∷ xs) ys = ap (λ (b : Bool). f x.step x.found || b) (some-both f xs ys) ∙ associates (f x.step x.found) (some_event f xs) (some_event f ys)
+  where
+    associates : (a b c : Bool) → (a || (b || c)) ≡ ((a || b) || c)
+    associates true b c = refl
+    associates false b c = refl
+
+-- the turns of a wait so far, and then more of it
+pub between-join : (quota : ℕ) (start : View) (ts ss : List (View × View)) (u v w : View) → HelpsBetween quota start ts u v → HelpsBetween quota start ss v w → (rs : List (View × View)) × HelpsBetween quota start rs u w
+between-join quota start [] [] u v w a b = ([], apart-join u v w a b)
+between-join quota start [] (s ∷ ss) u v w a b = (s ∷ ss, (apart-join u v s.0 a b.0, b.1, b.2))
+between-join quota start (t ∷ ts) ss u v w a b = let r = between-join quota start ts ss t.1 v w a.2 b in (t ∷ r.0, (a.0, a.1, r.1))
+
+-- the waits of one call, and then those of another
+waits-join : (ts ss : List (View × View)) (u v w : View) → WaitsBetween ts u v → WaitsBetween ss v w → (rs : List (View × View)) × WaitsBetween rs u w
+waits-join [] [] u v w a b = ([], apart-join u v w a b)
+waits-join [] (s ∷ ss) u v w a b = (s ∷ ss, (apart-join u v s.0 a b.0, b.1, b.2))
+waits-join (t ∷ ts) ss u v w a b = let r = waits-join ts ss t.1 v w a.2 b in (t ∷ r.0, (a.0, a.1, r.1))
 
 pub turns-join : (u v w : View) → HelpsInTurns u v → HelpsInTurns v w → HelpsInTurns u w
-turns-join u v w a b = between-join help_quota a.0 b.0 u v w a.1 b.1
+turns-join u v w a b = waits-join a.0 b.0 u v w a.1 b.1
 
 pub turns-none : (v w : View) → StaysApart v w → HelpsInTurns v w
 turns-none v w a = ([], a)
 
-pub turns-once : (v w : View) → HelpsOnce help_quota v w → HelpsInTurns v w
-turns-once v w h = ((v, w) ∷ [], (apart-none v, h, apart-none w))
+-- whether the seat was let in since the wait began
+lets-join : (step : Step) (n : ℕ) → joins step n ≡ false → lets_in step n ≡ false
+lets-join JoinHelpStep n e = absurd (true≢false e)
+lets-join step n e = refl
+
+pub unjoined : (es : List Entry) → never joins es ≡ true → some_event lets_in es ≡ false
+unjoined [] h = refl
+unjoined (e ∷ es) h =
+    let p = or_parts (joins e.step e.found) (some_event joins es) (not-true _ h) in or_from (lets_in e.step e.found) (some_event lets_in es) (lets-join e.step e.found p.0) (unjoined es (ap not p.1))
+
+pub first-looked : (u v w : View) (n : ℕ) → Ran u v → Ran v w → w ≡ after Observe n v → never lets_in (events u w) ≡ never lets_in (events u v)
+first-looked u v w n r q e =
+    ap (never lets_in) (ran-events u v w r q ∙ ap (λ es. events u v ++ es) (events-after v w Observe n e)) ∙ ap not (some-both lets_in (events u v) (event Observe n ∷ []) ∙ or_false (some_event lets_in (events u v)))
+
+pub first-turned : (cards helped : Bool) (xs ys zs : List Entry) → cards ≡ never lets_in xs → some_event lets_in ys ≡ helped → some_event lets_in zs ≡ false → (cards && not helped) ≡ never lets_in (xs ++ (ys ++ zs))
+first-turned cards helped xs ys zs a b z =
+    (λ i. a i && not (sym b i))
+    ∙ (both (some_event lets_in xs) (some_event lets_in ys)
+    ∙ sym (ap not (some-both lets_in xs (ys ++ zs) ∙ ap (λ (c : Bool). some_event lets_in xs || c) (some-both lets_in ys zs ∙ (ap (λ (c : Bool). some_event lets_in ys || c) z ∙ or_false (some_event lets_in ys))))))
+  where
+    both : (b c : Bool) → (not b && not c) ≡ not (b || c)
+    both true c = refl
+    both false c = refl
+
+pub turns-waited : (v w : View) → WaitsInTurns v w → HelpsInTurns v w
+turns-waited v w h = ((v, w) ∷ [], (apart-none v, h, apart-none w))

@@ -20,7 +20,7 @@ use Rattle.gc_cycle.specs.declared.counts.Safe.TheVariants as safes
 use Rattle.gc_cycle.specs.Collecting.{EndsExactly}
 use Rattle.gc_cycle.specs.Cycles.{collects}
 use Rattle.gc_cycle.specs.Events.{each_before}
-use Rattle.gc_cycle.specs.Mutating.{GoesOut, pops_in_stops}
+use Rattle.gc_cycle.specs.Mutating.{GoesOut, works_in_stops}
 use Rattle.gc_cycle.specs.Polling.{offered_help, poll_found_stop, saw_full}
 use Rattle.gc_cycle.specs.Sorts.{leaves, polls}
 use Rattle.mark_core.specs.Numbers.{done_count}
@@ -112,7 +112,7 @@ abbrev pub LooksOnce : List Entry → Type 0
 LooksOnce es = (found : ℕ) × (phase : ℕ) × (es ≡ event Observe found ∷ event ReadPhase phase ∷ [])
 
 -- the mutator polled; if that found a stop, it gave up its cache, stored its position, left, offered its help and entered again, and else it has what it had; it
--- popped cells only in stops, by turns of help
+-- popped cells and cleared cards only in stops, by turns of help
 pub record GivesWay (handed kept : Option Cache) (done : ℕ) (v w : View) : Type 0 where
   pub out : GoesOut v w
   pub cached : HasCache kept w
@@ -121,7 +121,7 @@ pub record GivesWay (handed kept : Option Cache) (done : ℕ) (v w : View) : Typ
   pub position : IsTrue (poll_found_stop (events v w)) → (w.own.position ≡ done) × IsTrue (some_event leaves (events v w))
   pub waits : IsTrue (waits_helping (events v w))
   pub looks : IsFalse (poll_found_stop (events v w)) → (found : ℕ) × (events v w ≡ event Observe found ∷ [])
-  pub pops : IsTrue (pops_in_stops (events v w))
+  pub pops : IsTrue (works_in_stops (events v w))
   pub helps : HelpsInTurns v w
 
 -- the mutator polled; if the first poll found a stop, it stored its position, left, offered its help and gave up its cache, and else it has what it had, and did

@@ -1,5 +1,5 @@
 -- What a helper does in a stop, and why it ends.
-use Rattle.std.specs.Prelude.{ℕ, ◌≡◌, ◌≢◌, ◌≤◌, ◌+◌, ◌&&◌, ◌||◌, List, Bool, nat_le, IsTrue}
+use Rattle.std.specs.Prelude.{ℕ, ◌≡◌, ◌≢◌, ◌≤◌, ◌+◌, ◌&&◌, ◌||◌, List, Bool, true, false, nat_le, IsTrue}
 use Rattle.mark_core.specs.Layout.{block_count}
 use Rattle.mark_core.specs.Numbers.{empty_offset}
 use Rattle.mark_core.specs.Seats.{saw}
@@ -7,8 +7,11 @@ use Rattle.mark_core.specs.declared.kinds.Phase.TheVariants.{Drain, Sweep}
 use Rattle.mark_core.specs.declared.kinds.Shape.{Shape}
 use Rattle.gc_table.specs.declared.view.Entry.{Entry}
 use Rattle.gc_table.specs.declared.view.View.{View}
+use Rattle.gc_table.specs.Log.{events}
+use Rattle.gc_table.specs.Running.{Ran}
 use Rattle.packet_pools.specs.Counts.{count_of}
 use Rattle.packet_pools.specs.Seeking.{some_event}
+use Rattle.card_clean.specs.DirtyCards.{CleansRound}
 use Rattle.card_clean.specs.Leaving.{rescanned_in}
 use Rattle.gc_cycle.specs.declared.counts.Helped.{Helped}
 use Rattle.gc_cycle.specs.declared.counts.HelpEnd.{HelpEnd}
@@ -35,6 +38,24 @@ DrainsTo Quota sh quota done m es = done ≡ quota
 DrainsTo NoWork sh quota done m es = (done ≢ quota) × IsTrue (helped_to_the_end sh m es) × IsTrue (waited sh es)
 DrainsTo NoPacket sh quota done m es = (done ≢ quota) × IsTrue (at_some_moment sh (finds_no_room sh) m es)
 DrainsTo Swept sh quota done m es = ⊥
+
+-- all cards were passed, and after that none was cleared
+pub record PassesAll (v w : View) : Type 0 where
+  pub passed : View
+  pub first : Ran v passed
+  pub rescanned : ℕ
+  pub cleans : CleansRound v.shape rescanned (events v passed)
+  pub later : Ran passed w
+  pub uncleared : IsTrue (never clears (events passed w))
+
+-- all cards were passed first, or none was cleared
+abbrev pub PassesIf : Bool → View → View → Type 0
+PassesIf true v w = PassesAll v w
+PassesIf false v w = IsTrue (never clears (events v w))
+
+-- a helper that was to look at cards passed all of them first in a drain, and else it cleared none
+abbrev pub PassesFirst : Bool → View → View → Type 0
+PassesFirst cards v w = PassesIf (cards && saw v.state.phase_seen Drain) v w
 
 -- a helper swept until no block was left
 pub record SweepsAll (sh : Shape) (helped : Helped) (es : List Entry) : Type 0 where

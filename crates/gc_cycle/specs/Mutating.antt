@@ -3,15 +3,16 @@ use Rattle.std.specs.Prelude.{Bool, true, false, not, ◌==◌, ◌≡◌, ◌�
 use Rattle.mark_core.specs.declared.kinds.Phase.{Phase}
 use Rattle.mark_core.specs.declared.kinds.Phase.TheVariants.{Idle, Marking, Full}
 use Rattle.mark_core.specs.declared.kinds.Step.{Step}
-use Rattle.mark_core.specs.declared.kinds.Step.TheVariants.{ClaimBlock, RaiseStep, ReadCat, ReadOwn, ReadStat, StorePhase, ReadSlot, ReadWeak}
+use Rattle.mark_core.specs.declared.kinds.Step.TheVariants.{ClaimBlock, DropStep, RaiseStep, ReadCat, ReadOwn, ReadStat, StorePhase, ReadSlot, ReadWeak}
 use Rattle.gc_table.specs.declared.view.Entry.{Entry}
 use Rattle.gc_table.specs.declared.view.View.{View}
 use Rattle.packet_pools.specs.Seeking.{some_event}
 use Rattle.gc_table.specs.Log.{events, Only}
 use Rattle.gc_table.specs.Running.{Alone, Ran}
+use Rattle.gc_table.specs.Seats.{Took}
 use Rattle.gc_cycle.specs.Cycles.{never_fills}
 use Rattle.gc_cycle.specs.Events.{each_after, never, since_or_all}
-use Rattle.gc_cycle.specs.Sorts.{claims, comes_in, leaves, pops, raises_flag, resumes}
+use Rattle.gc_cycle.specs.Sorts.{claims, comes_in, leaves, pops, pops_or_clears, raises_flag, resumes}
 use Rattle.mark_core.specs.Numbers.{done_count}
 use Rattle.gc_cycle.specs.Sparing.{fills_part}
 use Rattle.gc_cycle.specs.Standing.{IsAlone, KeepsSeat, KeepsSection}
@@ -39,6 +40,18 @@ abbrev pub tries_stopping : Step → Bool
 tries_stopping RaiseStep = true
 tries_stopping step = stays_calm step
 
+-- the step neither tries to raise the flag, nor resumes the world, nor moves the phase to Idle
+abbrev pub spares_world : Step → Bool
+spares_world RaiseStep = false
+spares_world DropStep = false
+spares_world (StorePhase Idle) = false
+spares_world step = true
+
+-- such a step that claims no block
+abbrev pub spares_blocks : Step → Bool
+spares_blocks (ClaimBlock b) = false
+spares_blocks step = spares_world step
+
 -- the seat has raised its flag since it resumed the world last: it holds a stop
 abbrev pub holds_stop : List Entry → Bool
 holds_stop es = some_event raises_flag (since_or_all resumes es)
@@ -50,6 +63,10 @@ is_in_stop es = some_event leaves (since_or_all comes_in es) || holds_stop es
 -- cells were popped only in such stops
 abbrev pub pops_in_stops : List Entry → Bool
 pops_in_stops es = each_after is_in_stop pops [] es
+
+-- cells were popped, and cards cleared, only in such stops
+abbrev pub works_in_stops : List Entry → Bool
+works_in_stops es = each_after is_in_stop pops_or_clears [] es
 
 -- the seat and its section are as they were, and the heap wasn't said to be full
 pub record GoesOut (v w : View) : Type 0 where
@@ -86,3 +103,11 @@ pub record StopsWorld (v w : View) : Type 0 where
   pub left : (phase ≡ Idle) ⊎ (phase ≡ Marking) ⊎ (phase ≡ Full)
   pub unhelping : IsFalse w.state.helping
   pub raised : IsTrue (some_event raises_flag (events v w))
+
+-- the seat tried once to raise the flag; before and after that it neither tried, nor resumed the world, nor ended a cycle
+pub record AsksOnce (v w : View) : Type 0 where
+  pub asking : View
+  pub asked : View
+  pub leaves : Ran v asking × Only spares_blocks v asking
+  pub asks : Took RaiseStep asking asked
+  pub waits : Ran asked w × Only spares_blocks asked w

@@ -68,6 +68,11 @@ abbrev pub joins : Step → ℕ → Bool
 joins JoinHelpStep found = true
 joins step found = false
 
+-- the helpers were joined while help was open
+abbrev pub lets_in : Step → ℕ → Bool
+lets_in JoinHelpStep found = has_flag found
+lets_in step found = false
+
 -- the phase was read
 abbrev pub looks_at_phase : Step → ℕ → Bool
 looks_at_phase ReadPhase found = true
@@ -152,6 +157,10 @@ abbrev pub draws_or_clears : Step → ℕ → Bool
 draws_or_clears NextOfCards found = true
 draws_or_clears (ClearCard card) found = true
 draws_or_clears step found = false
+
+-- a cell was popped, or a card was cleared
+abbrev pub pops_or_clears : Step → ℕ → Bool
+pops_or_clears step found = pops step found || clears step found
 
 -- the counter of cards gave out this one
 abbrev pub gives_card : ℕ → Step → ℕ → Bool

@@ -16,9 +16,9 @@ ghost use Rattle.gc_table.specs.Running.{Ran};
 ghost use Rattle.gc_cycle.specs.Answering.{AnswersTo, CollectsTo, EndsFull, GivesWay, GoesOn, HasCache, KeepsOn, SafeTo, TellsFull, answers, giving_up, retires, waits_helping};
 ghost use Rattle.gc_cycle.specs.Collecting.{EndsStop, HoldsWorld, TriesAgain, spares_section};
 ghost use Rattle.gc_cycle.specs.Cycles.{never_fills};
-ghost use Rattle.gc_cycle.specs.Mutating.{holds_stop, is_in_stop, pops_in_stops};
+ghost use Rattle.gc_cycle.specs.Mutating.{holds_stop, is_in_stop, spares_blocks, works_in_stops};
 ghost use Rattle.gc_cycle.specs.Polling.{poll_found_stop, saw_full};
-ghost use Rattle.gc_cycle.specs.Sorts.{ends_cycle, polls, pops, raises_flag, tries_marking};
+ghost use Rattle.gc_cycle.specs.Sorts.{ends_cycle, polls, pops_or_clears, raises_flag, tries_marking};
 ghost use Rattle.gc_cycle.specs.Sparing.{KnowsAnswer, spares_part};
 ghost use Rattle.gc_cycle.specs.Standing.{KeepsSeat, KeepsSection, Mutates};
 ghost use Rattle.gc_cycle.specs.Statistics.{ChangesBy, ChangesNumbers, GivesUp, cache_of};
@@ -35,8 +35,8 @@ use std::sync::Wait;
 use stop_world::{poll, resume};
 
 /// A precise collection by a mutator without a cache, that has done `done` commands: of its own one cycle ends, and
-/// then exactly the reachable cells are in use. If another seat's stop comes first it tries again. It pops cells only in
-/// stops. Full: it read that the heap is full.
+/// then exactly the reachable cells are in use. If another seat's stop comes first it tries again. It pops cells
+/// and cleans cards only in stops. Full: it read that the heap is full.
 pub fn collect<R: Wait>(rt: &R, heap: &Heap, seat: &mut HeapSeat, done: u32) -> Safe
     requires seat { Sits heap.now seat.old × Mutates (view_of seat.old) }
     requires cache { (state_of seat.old).cache ≡ None }
@@ -50,7 +50,7 @@ pub fn collect<R: Wait>(rt: &R, heap: &Heap, seat: &mut HeapSeat, done: u32) -> 
     ensures spares { Across (Only spares_part) seat.old seat.new }
     ensures numbers { Across (ChangesNumbers []) seat.old seat.new }
     ensures unbegun { IsTrue (never tries_marking (did seat.old seat.new)) }
-    ensures pops { IsTrue (pops_in_stops (did seat.old seat.new)) }
+    ensures pops { IsTrue (works_in_stops (did seat.old seat.new)) }
     ensures known { KnowsAnswer result (view_of seat.new) }
 {
     for _ in rt.forever() {
@@ -74,7 +74,7 @@ fn collect_once<R: Wait>(rt: &R, heap: &Heap, seat: &mut HeapSeat, done: u32) ->
     ensures only { Across (Only spares_section) seat.old seat.new }
     ensures numbers { Across (ChangesNumbers []) seat.old seat.new }
     ensures unbegun { IsTrue (never tries_marking (did seat.old seat.new)) }
-    ensures pops { IsTrue (pops_in_stops (did seat.old seat.new)) }
+    ensures pops { IsTrue (works_in_stops (did seat.old seat.new)) }
     ensures known { IfSome result (λ safe. KnowsAnswer safe (view_of seat.new)) }
 {
     if stores_if_full(heap, seat, done) {
@@ -97,7 +97,7 @@ fn collect_in_stop<R: Wait>(rt: &R, heap: &Heap, seat: &mut HeapSeat)
     ensures ends { Across EndsStop seat.old seat.new }
     ensures numbers { Across (ChangesNumbers []) seat.old seat.new }
     ensures unbegun { IsTrue (never tries_marking (did seat.old seat.new)) }
-    ensures pops { (before : List Entry) → IsTrue (holds_stop before) → IsTrue (each_after is_in_stop pops before (did seat.old seat.new)) }
+    ensures pops { (before : List Entry) → IsTrue (holds_stop before) → IsTrue (each_after is_in_stop pops_or_clears before (did seat.old seat.new)) }
 {
     if has_seen_full(seat) {
         resume(heap, seat);
@@ -134,9 +134,10 @@ pub fn safe_point<R: Wait>(
     ensures safe { Across (SafeTo result cache done) seat.old seat.new }
     ensures polled { IsTrue (some_event polls (did seat.old seat.new)) }
     ensures calm { IsTrue (never raises_flag (did seat.old seat.new)) }
+    ensures apart { Across (Only spares_blocks) seat.old seat.new }
     ensures helping { IsTrue (waits_helping (did seat.old seat.new)) }
     ensures helps { Across HelpsInTurns seat.old seat.new }
-    ensures pops { IsTrue (pops_in_stops (did seat.old seat.new)) }
+    ensures pops { IsTrue (works_in_stops (did seat.old seat.new)) }
     ensures few { IsFalse (poll_found_stop (did seat.old seat.new)) → length (did seat.old seat.new) ≤ 6 }
     ensures not_full { IsTrue (never_fills (did seat.old seat.new)) }
     ensures keeps { Across KeepsSeat seat.old seat.new × Across KeepsSection seat.old seat.new }
@@ -170,9 +171,10 @@ pub fn pass_safe_point<R: Wait>(
     ensures full { OnFalse result (Across (SafeTo safes.Full cache.old done) seat.old seat.new × KnowsFull (view_of seat.new) × (cache.new ≡ None)) }
     ensures polled { IsTrue (some_event polls (did seat.old seat.new)) }
     ensures calm { IsTrue (never raises_flag (did seat.old seat.new)) }
+    ensures apart { Across (Only spares_blocks) seat.old seat.new }
     ensures helping { IsTrue (waits_helping (did seat.old seat.new)) }
     ensures helps { Across HelpsInTurns seat.old seat.new }
-    ensures pops { IsTrue (pops_in_stops (did seat.old seat.new)) }
+    ensures pops { IsTrue (works_in_stops (did seat.old seat.new)) }
     ensures few { IsFalse (poll_found_stop (did seat.old seat.new)) → length (did seat.old seat.new) ≤ 6 }
     ensures not_full { IsTrue (never_fills (did seat.old seat.new)) }
     ensures keeps { Across KeepsSeat seat.old seat.new × Across KeepsSection seat.old seat.new }
@@ -190,6 +192,7 @@ fn give_way<R: Wait>(rt: &R, heap: &Heap, seat: &mut HeapSeat, cache: &mut Optio
     requires cache { HasCache cache.old (view_of seat.old) }
     ensures seat { Sits heap.now seat.new × Mutates (view_of seat.new) }
     ensures gives { Across (GivesWay cache.old cache.new done) seat.old seat.new }
+    ensures apart { Across (Only spares_blocks) seat.old seat.new }
     ensures numbers { Across (GivesUp cache.old cache.new) seat.old seat.new }
 {
     if !poll(heap, seat) {

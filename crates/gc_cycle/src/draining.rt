@@ -13,6 +13,7 @@ ghost use Rattle.card_clean.specs.Leaving.{rescanned_in};
 ghost use Rattle.gc_cycle.specs.DrainRounds.{BringsAtLast, DrainsAlone, DrainsTogether};
 ghost use Rattle.gc_cycle.specs.Drained.{DrainedAlone};
 ghost use Rattle.gc_cycle.specs.Finishing.{DrainsInStop, IsAloneIn, IsMove, most};
+ghost use Rattle.gc_cycle.specs.LeftToDrain.{UsesUp};
 ghost use Rattle.gc_cycle.specs.Lower.{HasTraced};
 ghost use Rattle.gc_cycle.specs.Sorts.{sees_all_empty as says_all_empty};
 ghost use Rattle.gc_cycle.specs.RoundParts.{BringsBack, CleansLast};
@@ -50,6 +51,7 @@ fn drain_round(heap: &Heap, seat: &mut HeapSeat, quota: u32) -> u32
     ensures seat { Sits heap.now seat.new }
     ensures traced { Across HasTraced seat.old seat.new }
     ensures rescanned { rescanned_in (view_of seat.old) (did seat.old seat.new) ≡ result }
+    ensures uses { IsAloneIn Drain (view_of seat.old) → Across UsesUp seat.old seat.new }
     ensures worked { Across (DrainsFor quota) seat.old seat.new }
     ensures brings { Across BringsBack seat.old seat.new }
     ensures cleans { Across CleansLast seat.old seat.new }

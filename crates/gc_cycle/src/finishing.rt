@@ -9,9 +9,11 @@ ghost use Rattle.card_clean.specs.Leaving.{rescanned_in};
 ghost use Rattle.gc_cycle.specs.Cycles.{collects_exactly};
 ghost use Rattle.gc_cycle.specs.DrainRounds.{DrainsBefore, DrainsToSweep};
 ghost use Rattle.gc_cycle.specs.Ending.{InEach, IsCycleEnd, IsExact};
+ghost use Rattle.gc_cycle.specs.Events.{never};
 ghost use Rattle.gc_cycle.specs.Finishing.{BeginsExactly, Completes, IsAloneIn, most};
 ghost use Rattle.gc_cycle.specs.Moments.{begins};
 ghost use Rattle.gc_cycle.specs.OneCycle.{EndsCycle};
+ghost use Rattle.gc_cycle.specs.Sorts.{begins_exactly};
 
 use crate::clearing::clear_all_marks;
 use crate::counts::Counts;
@@ -81,6 +83,7 @@ pub fn finish_cycle<R: Wait>(rt: &R, heap: &Heap, seat: &mut HeapSeat) -> Counts
     requires alone { IsAloneIn Marking (view_of seat.old) }
     ensures seat { Sits heap.now seat.new }
     ensures ends { Across (EndsCycle result) seat.old seat.new }
+    ensures ordinary { IsTrue (never begins_exactly (did seat.old seat.new)) }
 {
     begin_drain(heap, seat);
     complete(rt, heap, seat, 0)

@@ -12,13 +12,14 @@ ghost use Rattle.gc_table.specs.declared.view.Entry.{Entry};
 ghost use Rattle.gc_cycle.specs.Answering.{waits_helping};
 ghost use Rattle.gc_cycle.specs.Cycles.{never_fills};
 ghost use Rattle.gc_cycle.specs.Events.{each_after, never};
-ghost use Rattle.gc_cycle.specs.Mutating.{GoesOut, HasEntered, StopsWorld, TriesToStop, is_in_stop, pops_in_stops, stays_calm};
+ghost use Rattle.gc_cycle.specs.Helping.{PassesFirst};
+ghost use Rattle.gc_cycle.specs.Mutating.{AsksOnce, GoesOut, HasEntered, StopsWorld, TriesToStop, is_in_stop, stays_calm, works_in_stops};
 ghost use Rattle.gc_cycle.specs.Polling.{offered_help, saw_resumed};
-ghost use Rattle.gc_cycle.specs.Sorts.{comes_in, joins, leaves, pops, raises_flag, resumes};
+ghost use Rattle.gc_cycle.specs.Sorts.{comes_in, joins, leaves, lets_in, pops_or_clears, raises_flag, resumes};
 ghost use Rattle.gc_cycle.specs.Sparing.{spares_part};
 ghost use Rattle.gc_cycle.specs.Standing.{IsAdmitted, IsOut, KeepsSeat, KeepsSection, Mutates};
 ghost use Rattle.gc_cycle.specs.Statistics.{leaves_numbers};
-ghost use Rattle.gc_cycle.specs.Turns.{HelpsFor, HelpsInTurns, HelpsOnce, help_quota};
+ghost use Rattle.gc_cycle.specs.Turns.{HelpsFor, HelpsInTurns, HelpsOnce, WaitsInTurns, help_quota};
 
 use crate::helping::help_with;
 use gc_table::{Heap, HeapSeat};
@@ -44,6 +45,7 @@ fn help_joined(heap: &Heap, seat: &mut HeapSeat, cards: bool)
     ensures inside { IsTrue (never leaves (did seat.old seat.new)) }
     ensures stays { IsTrue (never joins (did seat.old seat.new)) }
     ensures helps { Across (HelpsFor help_quota) seat.old seat.new }
+    ensures passes { Across (PassesFirst cards) seat.old seat.new }
 {
     match seat.state().phase_seen {
         Some(Phase::Drain) => {
@@ -65,7 +67,8 @@ fn help_once(heap: &Heap, seat: &mut HeapSeat, cards: bool) -> bool
     ensures numbers { Across (Only leaves_numbers) seat.old seat.new }
     ensures offered { IsTrue (some_event joins (did seat.old seat.new)) }
     ensures inside { IsTrue (never leaves (did seat.old seat.new)) }
-    ensures helps { Across (HelpsOnce help_quota) seat.old seat.new }
+    ensures helps { Across (HelpsOnce cards help_quota) seat.old seat.new }
+    ensures let_in { some_event lets_in (did seat.old seat.new) ≡ result }
 {
     if join_help(heap, seat) {
         help_joined(heap, seat, cards);
@@ -154,7 +157,8 @@ fn pause(heap: &Heap, seat: &mut HeapSeat)
     }
 }
 
-/// Waits until no stop is under way, and helps meanwhile.
+/// Waits until no stop is under way, and helps meanwhile. In a drain it passes all cards the first time that it is let
+/// in, and never again.
 pub fn await_resumed_helping<R: Wait>(rt: &R, heap: &Heap, seat: &mut HeapSeat)
     requires seat { Sits heap.now seat.old × IsOut (view_of seat.old) }
     ensures seat { Sits heap.now seat.new × IsOut (view_of seat.new) }
@@ -167,7 +171,7 @@ pub fn await_resumed_helping<R: Wait>(rt: &R, heap: &Heap, seat: &mut HeapSeat)
     ensures keeps { Across KeepsSeat seat.old seat.new }
     ensures own { (view_of seat.new).own ≡ (view_of seat.old).own }
     ensures inside { IsTrue (never leaves (did seat.old seat.new)) }
-    ensures helps { Across HelpsInTurns seat.old seat.new }
+    ensures helps { Across WaitsInTurns seat.old seat.new }
 {
     let mut cards = true;
     for _ in rt.forever() {
@@ -197,7 +201,8 @@ pub fn go_out(heap: &Heap, seat: &mut HeapSeat, done: u32)
     leave(heap, seat);
 }
 
-/// Enters the world as soon as no stop is under way, and helps meanwhile.
+/// Enters the world as soon as no stop is under way, and helps meanwhile. Once it is inside it traces nothing and
+/// cleans no card.
 #[inline(never)]
 pub fn go_in<R: Wait>(rt: &R, heap: &Heap, seat: &mut HeapSeat)
     requires seat { Sits heap.now seat.old × IsOut (view_of seat.old) }
@@ -208,7 +213,7 @@ pub fn go_in<R: Wait>(rt: &R, heap: &Heap, seat: &mut HeapSeat)
     ensures offered { IsTrue (offered_help (did seat.old seat.new)) }
     ensures helps { Across HelpsInTurns seat.old seat.new }
     ensures unresumed { IsTrue (never resumes (did seat.old seat.new)) }
-    ensures away { (before : List Entry) → IsTrue (is_in_stop before) → IsTrue (each_after is_in_stop pops before (did seat.old seat.new)) }
+    ensures away { (before : List Entry) → IsTrue (is_in_stop before) → IsTrue (each_after is_in_stop pops_or_clears before (did seat.old seat.new)) }
     ensures spares { Across (Only spares_part) seat.old seat.new }
     ensures numbers { Across (Only leaves_numbers) seat.old seat.new }
 {
@@ -232,9 +237,10 @@ pub fn stop<R: Wait>(rt: &R, heap: &Heap, seat: &mut HeapSeat, done: u32) -> boo
     ensures theirs { OnFalse result (Mutates (view_of seat.new)) }
     ensures position { (view_of seat.new).own.position ≡ done }
     ensures raises { count_of raises_flag (did seat.old seat.new) ≡ (if result then 1 else 0) }
+    ensures asks { Across AsksOnce seat.old seat.new }
     ensures outside { IsTrue (each_after (never comes_in) raises_flag [] (did seat.old seat.new)) }
     ensures unresumed { IsTrue (never resumes (did seat.old seat.new)) }
-    ensures pops { IsTrue (pops_in_stops (did seat.old seat.new)) }
+    ensures pops { IsTrue (works_in_stops (did seat.old seat.new)) }
     ensures numbers { Across (Only leaves_numbers) seat.old seat.new }
 {
     go_out(heap, seat, done);

@@ -26,7 +26,7 @@ use Rattle.gc_cycle.specs.Sorts.{enters, looks_at_phase, tries_marking}
 use Rattle.gc_cycle.specs.Statistics.{changing_step, numbers_changed, tells}
 use Rattle.gc_cycle.proofs.Sequences.{none-of-steps, some-none}
 use Rattle.seat_turns.specs.TracerStanding.{GoesMarking}
-use Rattle.seat_turns.specs.Tending.{MarksSome, Tends, tends_inside, turn_quota}
+use Rattle.seat_turns.specs.Tending.{MarksAndRecycles, Tends, tends_inside, turn_quota}
 use Rattle.gc_play.specs.Stays.{SeatStays}
 use Rattle.gc_play.specs.Turns.{TracesInside, WaitsOutside, until_leave, is_leave, leaves_done, payment, seat_traces_on}
 use Rattle.gc_play.proofs.Rounds.{traces-more}
@@ -48,7 +48,7 @@ marked-stays n h x y a b t =
     }
 
 -- a marking popped as many cells as a turn traces, or fewer, and then nothing was left in hand and there was no packet to read from
-pub marked-on : (sh : Shape) (n : ℕ) (v w : View) → v.shape ≡ sh → MarksSome n v w → seat_traces_on sh v.state (events v w) ≡ true
+pub marked-on : (sh : Shape) (n : ℕ) (v w : View) → v.shape ≡ sh → MarksAndRecycles n v w → seat_traces_on sh v.state (events v w) ≡ true
 marked-on sh n v w e m =
     let u : View = m.between in
     let t = m.traces.tends in

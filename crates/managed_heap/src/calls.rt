@@ -6,9 +6,11 @@ ghost use Rattle.gc_table.specs.Running.{Ran};
 ghost use Rattle.gc_table.specs.Seats.{Across};
 ghost use Rattle.plain_heap.specs.declared.operation.Op.TheVariants as ops;
 ghost use Rattle.managed_heap.specs.Calls.{CantEnter, MutatorCollected, MutatorEntered, MutatorLeft, HasPassed, MutatorDoes, MutatorRefused, IsSame, MakesNone, RefusedBy, StaysOut};
+ghost use Rattle.cache_refills.specs.Notices.{IsTold};
 ghost use Rattle.seat_turns.specs.Coming.{CollectsAtTurn, CollectsNone, EntersFull, MakesAtTurn, MakesNoneAtTurn, PollsOutWith, PollsWith, WithOwn};
 ghost use Rattle.seat_turns.specs.Operating.{AtMost, TakesSteps};
 ghost use Rattle.seat_turns.specs.Sharing.{spares_tracers};
+ghost use Rattle.seat_turns.specs.Telling.{TellsFills};
 
 use crate::mutator::{Mutator, Place};
 use cache_refills::{Unwatched, Watch};
@@ -128,6 +130,7 @@ impl Mutator {
         ensures none { IfErr result (λ e. RefusedBy (λ e. MakesNoneAtTurn e self.old.in_stops (arc_value self.old.heap).shape) e self.old self.new) }
         ensures tracers { Across (Only spares_tracers) self.old.seat self.new.seat }
         ensures world { arc_value self.new.heap ≡ arc_value self.old.heap }
+        ensures told { IsTold W.hears (λ ns. Across (TellsFills self.old.in_stops (arc_value self.old.heap).shape ns) self.old.seat self.new.seat) watch.old watch.new }
     {
         if v >= VARIABLES {
             return Err(Refused::OutOfRange);

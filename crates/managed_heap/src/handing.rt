@@ -5,7 +5,7 @@ ghost use Rattle.gc_table.specs.Seats.{Across};
 ghost use Rattle.managed_heap.specs.Calls.{LeavesFrom, heap_of};
 ghost use Rattle.mutator_ops.specs.Few.{AtMost};
 ghost use Rattle.managed_heap.specs.declared.mutator.Place.TheVariants as places;
-ghost use Rattle.seat_steps.specs.Handing.{IsNewStepper};
+ghost use Rattle.seat_steps.specs.Handing.{IsNewStepper, StopsFrom};
 ghost use Rattle.seat_steps.specs.Stepping.{heap_of_stepper, is_collecting, shares};
 ghost use Rattle.seat_steps.specs.declared.stepper.Stage.TheVariants as stages;
 
@@ -40,6 +40,7 @@ impl Mutator {
         ensures ok { IfOk result (λ m. (m.place ≡ places.Outside) × (heap_of m ≡ heap_of_stepper stepper) × (arc_value m.heap ≡ arc_value stepper.heap) × (m.name ≡ stepper.name)) }
         ensures err { IfErr result (λ s. (IsTrue (is_collecting stepper.stage) ⊎ IsTrue (shares stepper)) × (s ≡ stepper)) }
         ensures few { IfOk result (λ m. Across (AtMost 5) stepper.seat m.seat) }
+        ensures stopped { IfOk result (λ m. Across (StopsFrom stepper.stage) stepper.seat m.seat) }
         ensures stops { IfOk result (λ m. m.in_stops ≡ stepper.in_stops) }
     {
         if stepper.shares() {

@@ -60,6 +60,7 @@ nothing v op x y d search nil same =
       name_is = d.name_is;
       stops = d.stops;
       search = search;
+      cycle = d.cycle;
     }
   where
     no_step : (b : Bool) → shares x ≡ b → steps_of (did x.seat y.seat) ≡ []

@@ -1,12 +1,12 @@
 -- What a world comes to whose mutators have objects of their own.
-use Rattle.std.specs.Prelude.{◌≡◌, ◌<◌, ◌++◌, [], ◌∷◌, IsFalse, vec_len}
+use Rattle.std.specs.Prelude.{◌≡◌, ◌<◌, ◌⊎◌, ◌++◌, [], ◌∷◌, IsFalse, vec_len}
 use Rattle.std.specs.Arc.{arc_value}
 use Rattle.gc_table.specs.Seats.{Across, view_of}
 use Rattle.mutator_ops.specs.Few.{AtMost}
 use Rattle.stop_world.specs.Gates.{TurnsBack}
 use Rattle.seat_turns.specs.TracerTries.{Dismisses}
 use Rattle.seat_turns.specs.declared.background.Tracer.{Tracer}
-use Rattle.seat_steps.specs.Handing.{IsNewStepper}
+use Rattle.seat_steps.specs.Handing.{IsNewStepper, StopsFrom}
 use Rattle.seat_steps.specs.Stepping.{heap_of_stepper, shares}
 use Rattle.seat_steps.specs.declared.stepper.Stage.TheVariants.{Outside}
 use Rattle.seat_steps.specs.declared.stepper.Stepper.{Stepper}
@@ -48,21 +48,29 @@ LacksMutator w x = (w.mutators.items ≡ []) × (x.mutators.items ≡ []) × Kee
 abbrev pub GoesBack : Mutator → World → World → Type 0
 GoesBack m w x = IsBack m w x × KeepsAllButMutators w x
 
--- the world doesn't take the mutator, which is in steps again, by no step if it was outside, and has all that it had
+-- the world doesn't take the mutator, which is in steps again, new and outside, by no step if it was outside, and has all that it had
 abbrev pub StaysOut : Mutator → Stepper → World → World → Type 0
-StaysOut m t w x = (heap_of_stepper t ≡ heap_of m) × (arc_value t.heap ≡ arc_value m.heap) × (t.name ≡ m.name) × (x.mutators.items ≡ w.mutators.items) × KeepsAllButMutators w x × (m.place ≡ places.Outside → t.seat ≡ m.seat)
+StaysOut m t w x = (heap_of_stepper t ≡ heap_of m) × (arc_value t.heap ≡ arc_value m.heap) × (t.name ≡ m.name) × (x.mutators.items ≡ w.mutators.items) × KeepsAllButMutators w x × (m.place ≡ places.Outside → t.seat ≡ m.seat) × (t.stage ≡ Outside) × IsNewStepper t × (t.in_stops ≡ m.in_stops)
 
--- the world has a mutator back with these objects and variables, which left by five steps at most
+-- the world has a mutator back with these objects and variables: if it was inside it gave up its cache and left, by five steps at most, and it did nothing if not
 abbrev pub TakesBack : Stepper → World → World → Type 0
-TakesBack s w x = (m : Mutator) × (m.place ≡ places.Outside) × Across (AtMost 5) s.seat m.seat × (heap_of m ≡ heap_of_stepper s) × (arc_value m.heap ≡ arc_value s.heap) × (m.name ≡ s.name) × GoesBack m w x
+TakesBack s w x = (m : Mutator) × (m.place ≡ places.Outside) × Across (AtMost 5) s.seat m.seat × Across (StopsFrom s.stage) s.seat m.seat × (heap_of m ≡ heap_of_stepper s) × (arc_value m.heap ≡ arc_value s.heap) × (m.name ≡ s.name) × (m.in_stops ≡ s.in_stops) × GoesBack m w x
 
--- the world doesn't take the mutator, which keeps its objects and variables, by five steps at most, and has all that it had
+-- the mutator is in steps anew, outside: it gave up its cache and left if it was inside, and did nothing if not
+pub record IsTakenAnew (s t : Stepper) : Type 0 where
+  pub outside : t.stage ≡ Outside
+  pub new : IsNewStepper t
+  pub stops : t.in_stops ≡ s.in_stops
+  pub stopped : Across (StopsFrom s.stage) s.seat t.seat
+
+-- the world doesn't take the mutator, which is as it was or in steps anew, and keeps its objects and variables, by five steps at most; and has all that it had
 pub record Refuses (s t : Stepper) (w x : World) : Type 0 where
   pub same : heap_of_stepper t ≡ heap_of_stepper s
   pub of_world : (arc_value t.heap ≡ arc_value s.heap) × (t.name ≡ s.name)
   pub mutators : x.mutators.items ≡ w.mutators.items
   pub rest : KeepsAllButMutators w x
   pub few : Across (AtMost 5) s.seat t.seat
+  pub came : (t ≡ s) ⊎ IsTakenAnew s t
 
 -- the world had this tracer, and has the others still
 abbrev pub LendsTracer : Tracer → World → World → Type 0

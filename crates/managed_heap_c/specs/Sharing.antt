@@ -1,5 +1,5 @@
 -- What a world comes to whose mutators share all objects.
-use Rattle.std.specs.Prelude.{◌≡◌, ◌<◌, ◌+◌, ◌++◌, [], ◌∷◌, vec_len}
+use Rattle.std.specs.Prelude.{◌≡◌, ◌<◌, ◌+◌, ◌⊎◌, ◌++◌, [], ◌∷◌, IsFalse, vec_len}
 use Rattle.std.specs.Arc.{arc_value}
 use Rattle.gc_table.specs.Seats.{Across, view_of}
 use Rattle.stop_world.specs.Gates.{TurnsBack}
@@ -8,6 +8,8 @@ use Rattle.seat_turns.specs.Sharing.{LeavesHeap}
 use Rattle.seat_turns.specs.Standing.{flush_steps}
 use Rattle.seat_turns.specs.TracerTries.{Dismisses}
 use Rattle.seat_turns.specs.declared.background.Tracer.{Tracer}
+use Rattle.seat_steps.specs.Handing.{IsNewStepper, StopsFrom}
+use Rattle.seat_steps.specs.declared.stepper.Stage.TheVariants as stages
 use Rattle.seat_steps.specs.declared.stepper.Stepper.{Stepper}
 use Rattle.shared_heap.specs.Handing.{IsInSteps, IsOfSteps}
 use Rattle.shared_heap.specs.Lending.{HasAllStill, IsBack, KeepsRest}
@@ -38,21 +40,29 @@ LacksMutator w x = (w.mutators.items ≡ []) × (x.mutators.items ≡ []) × Kee
 abbrev pub GoesBack : SharedMutator → SharedWorld → SharedWorld → Type 0
 GoesBack m w x = IsBack m w x × KeepsAllButMutators w x
 
--- the world doesn't take the mutator, which is in steps again, by no step if it was outside, and has all that it had
+-- the world doesn't take the mutator, which is in steps again, new and outside, by no step if it was outside, and has all that it had
 abbrev pub StaysOut : SharedMutator → Stepper → SharedWorld → SharedWorld → Type 0
-StaysOut m t w x = Across LeavesHeap m.seat t.seat × (arc_value t.heap ≡ arc_value m.heap) × (t.name ≡ m.name) × (x.mutators.items ≡ w.mutators.items) × KeepsAllButMutators w x × (m.place ≡ Outside → t.seat ≡ m.seat)
+StaysOut m t w x = Across LeavesHeap m.seat t.seat × (arc_value t.heap ≡ arc_value m.heap) × (t.name ≡ m.name) × (x.mutators.items ≡ w.mutators.items) × KeepsAllButMutators w x × (m.place ≡ Outside → t.seat ≡ m.seat) × (t.stage ≡ stages.Outside) × IsNewStepper t × IsFalse t.in_stops
 
 -- the world has the mutator back; no step was taken that a plain heap sees
 abbrev pub TakesBack : Stepper → SharedWorld → SharedWorld → Type 0
 TakesBack s w x = (m : SharedMutator) × IsOfSteps s m × GoesBack m w x
 
--- the world doesn't take the mutator, which took no step that a plain heap sees, and five at most beside the stores of roots that lag, and has all that it had
+-- the mutator is in steps anew, outside: if it was inside it stored the roots that lagged, gave up its cache and left, and it did nothing if not
+pub record IsTakenAnew (s t : Stepper) : Type 0 where
+  pub outside : t.stage ≡ stages.Outside
+  pub new : IsNewStepper t
+  pub stops : IsFalse t.in_stops
+  pub stopped : Across (StopsFrom s.stage) s.seat t.seat
+
+-- the world doesn't take the mutator, which is as it was or in steps anew, took no step that a plain heap sees, and five at most beside the stores of roots that lag; and has all that it had
 pub record Refuses (s t : Stepper) (w x : SharedWorld) : Type 0 where
   pub leaves : Across LeavesHeap s.seat t.seat
   pub of_world : (arc_value t.heap ≡ arc_value s.heap) × (t.name ≡ s.name)
   pub mutators : x.mutators.items ≡ w.mutators.items
   pub rest : KeepsAllButMutators w x
   pub few : Across (AtMost (flush_steps (view_of s.seat) + 5)) s.seat t.seat
+  pub came : (t ≡ s) ⊎ IsTakenAnew s t
 
 -- the world had this tracer, and has the others still
 abbrev pub LendsTracer : Tracer → SharedWorld → SharedWorld → Type 0

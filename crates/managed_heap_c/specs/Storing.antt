@@ -6,7 +6,7 @@ use Rattle.plain_heap.specs.declared.operation.Op.{Op}
 use Rattle.gc_table.specs.Seats.{did}
 use Rattle.seat_steps.specs.declared.came.Came.{Came}
 use Rattle.seat_steps.specs.declared.came.Came.TheVariants as cames
-use Rattle.seat_steps.specs.Stepping.{KeepsSearch, Operates, StepperDoes, TakesFew, fields_in, heap_of_stepper, shares}
+use Rattle.seat_steps.specs.Stepping.{KeepsCycle, KeepsSearch, Operates, StepperDoes, TakesFew, fields_in, heap_of_stepper, shares}
 use Rattle.seat_steps.specs.declared.stepper.Stage.TheVariants.{Inside}
 use Rattle.seat_steps.specs.declared.stepper.Stepper.{Stepper}
 use Rattle.managed_heap_c.specs.Asking.{IsNil}
@@ -23,6 +23,7 @@ pub record StoresNothing (v : ℕ) (op : Op) (x y : Stepper) : Type 0 where
   pub name_is : y.name ≡ x.name
   pub stops : y.in_stops ≡ x.in_stops
   pub search : KeepsSearch x y
+  pub cycle : KeepsCycle x y
 
 -- a store through variable v was done, or v refers to nothing, or the call was refused
 abbrev pub Stores : ℕ → Op → Came → Stepper → Stepper → Type 0

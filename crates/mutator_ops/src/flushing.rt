@@ -22,6 +22,7 @@ fn flush_lagging(heap: &Heap, seat: &mut HeapSeat, v: u8)
 }
 
 /// Stores each variable whose root lags in its root, in their order. Afterwards none lags, and else nothing is changed.
+/// Where none lags, no bit is looked at.
 pub fn flush_roots(heap: &Heap, seat: &mut HeapSeat)
     requires seat { Sits heap.now seat.old }
     requires turn { IsTrue (may_mutate (state_of seat.old)) }
@@ -29,6 +30,9 @@ pub fn flush_roots(heap: &Heap, seat: &mut HeapSeat)
     ensures seat { Sits heap.now seat.new }
     ensures flushes { Across Flushes seat.old seat.new }
 {
+    if seat.state().lags == 0 {
+        return;
+    }
     for v in 0..VARIABLES {
         flush_lagging(heap, seat, v);
     }

@@ -39,7 +39,7 @@ shared_counts p = cells-free shared 64 ((0 ∷ []) ∷ (0 ∷ []) ∷ []) p 1 1 
     (record { section = 0; number = 0 }) 0 (((found (heaps_at shared 1 1 1) (searched (heaps_at shared 1 1 1) 2) refl).reachable.each (record { section = 0; number = 0 })).0 (0, omega arith, refl)) refl refl
 
 -- the first object is reachable through the second one, in the script that `docs/HEADLINE.md` walks through
-abbrev kept : Sections
+abbrev pub kept : Sections
 kept = sections_in (script (codes "gcscript 1\nwarehouse\nnew a 7\nnew b 9\nset b 0 a\nnil a\nnew c 5\nnil c\nnew d 4\nsay first b\nsum both b 0 10\n"))
 
 kept_counts : IsPlaced kept 64 ([] ∷ (0 ∷ 1 ∷ 0 ∷ 2 ∷ []) ∷ []) → ⊥

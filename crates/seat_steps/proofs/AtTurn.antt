@@ -29,11 +29,11 @@ use Rattle.gc_cycle.proofs.Refills.KnownFull.{full-known, full-seen}
 use Rattle.gc_cycle.proofs.SectionKept.{calm-tries, goes-out, out-join}
 use Rattle.seat_turns.specs.Sharing.{LeavesHeap}
 use Rattle.mutator_ops.specs.Flushing.{word_of_variables}
-use Rattle.seat_turns.specs.Standing.{HoldsWorld, IsMutator, IsMutatorOutside, flush_steps, saw_going, settled}
+use Rattle.seat_turns.specs.Standing.{Halts, HoldsWorld, IsMutator, IsMutatorOutside, flush_steps, saw_going, settled}
 use Rattle.seat_turns.proofs.Held.{flush-same}
 use Rattle.seat_turns.proofs.Leaving.{leaves-spared}
-use Rattle.seat_turns.proofs.Seats.{seen-saw}
-use Rattle.seat_steps.specs.Arriving.{Arrives, HasLooked}
+use Rattle.seat_turns.proofs.Seats.{kept-works, seen-saw}
+use Rattle.seat_steps.specs.Arriving.{Arrives, HasLooked, HasLookedIn}
 use Rattle.seat_steps.specs.Causes.{FoundFull}
 use Rattle.seat_steps.specs.declared.came.Came.{Came}
 use Rattle.seat_steps.specs.declared.came.Came.TheVariants as cames
@@ -110,6 +110,23 @@ polled-lags u v n e = flush-same u v (ap (λ (x : View). x.shape) e) (ap (λ (x 
 
 pub looked-lags : (u v w : View) (n m : ℕ) → v ≡ after Observe n u → w ≡ after ReadPhase m v → flush_steps w ≡ flush_steps u
 looked-lags u v w n m e f = flush-same v w (ap (λ (x : View). x.shape) f) (ap (λ (x : View). x.state.lags) f) ∙ polled-lags u v n e
+
+-- without a cache
+module _ (h : Heap) (x y : HeapSeat) (k : Halts h x) (sits : Sits h y) (mutates : Mutates (view_of y)) (out : GoesOut (view_of x) (view_of y)) where
+  pub halts-still : (view_of y).state.cache ≡ (view_of x).state.cache → Halts h y
+  halts-still e = record { works = kept-works h x y k.works sits mutates out.ran out.seat out.section; cache = e ∙ k.cache }
+
+pub turned-halts : (c : Came) (h : Heap) (s : HeapSeat) → (c ≡ cames.Done → ⊥) → HasLookedIn c h s → Halts h s
+turned-halts cames.Done h s n l = absurd (n refl)
+turned-halts cames.Stopped h s n l = l
+turned-halts cames.Full h s n l = l.0
+turned-halts c h s n l = absurd l
+
+pub turned-out : (c : Came) (h : Heap) (x y : HeapSeat) → (c ≡ cames.Done → ⊥) → HasLookedIn c h x → IsMutatorOutside h y → (KnowsFull (view_of x) → KnowsFull (view_of y)) → Arrives c h y
+turned-out cames.Done h x y n l out k = absurd (n refl)
+turned-out cames.Stopped h x y n l out k = out
+turned-out cames.Full h x y n l out k = (out, k l.1)
+turned-out c h x y n l out k = absurd l
 
 -- something hinders it
 pub hindered-holds : (c : Came) (h : Heap) (s : HeapSeat) → (c ≡ cames.Done → ⊥) → HasLooked c h s → HoldsWorld h s

@@ -29,12 +29,12 @@ use Rattle.gc_cycle.specs.Sorts.{polls, reads_phase, sees_flag}
 use Rattle.cache_refills.specs.Trying.{EntersOnce, PassesTo}
 use Rattle.cache_refills.specs.declared.trying.Pass.{Pass}
 use Rattle.cache_refills.specs.declared.trying.Pass.TheVariants as passes
-use Rattle.seat_turns.specs.Coming.{FlushesFirst, LeavesTurn}
+use Rattle.seat_turns.specs.Coming.{FlushesFirst, LeavesTurn, StepsOut}
 use Rattle.seat_turns.specs.SeasonLooks.{LooksAtSeason, SeesOther}
 use Rattle.seat_turns.specs.Standing.{LacksFree, flush_steps}
 use Rattle.seat_turns.proofs.Held.{flush-same}
 use Rattle.seat_turns.proofs.Seats.{looks-ran}
-use Rattle.seat_steps.specs.Causes.{ArrivesBy, ComesFreely, EntersBy, FoundStop, GoesFreely, HasFree, LacksBy, LooksBy, LooksFreely, LooksTo, PassesBy, PassesFreely, SawOther, finds_flag}
+use Rattle.seat_steps.specs.Causes.{ArrivesBy, ComesBy, ComesFreely, EntersBy, FoundStop, GoesFreely, HasFree, LacksBy, LooksBy, LooksFreely, LooksTo, PassesBy, PassesFreely, SawOther, finds_flag}
 use Rattle.seat_steps.specs.Filling.{TriesSome}
 use Rattle.seat_steps.specs.Pacing.{CarriesPace}
 use Rattle.seat_steps.specs.Arriving.{Arrives, LacksCell, LeavesWorld}
@@ -133,6 +133,21 @@ hindered-few cames.Stopped v w n g = at-most-more (flush_steps v + 6) (flush_ste
 hindered-few cames.Full v w n g = at-most-more (flush_steps v + 7) (flush_steps v + 8) v w (omega arith) g.0.1
 hindered-few c v w n g = absurd g
 
+-- who looked without a cache and was hindered came by these steps
+pub turned-by : (c : Came) (u v w : View) → (c ≡ cames.Done → ⊥) → LooksTo c u v → StepsOut v w → ComesBy c u w
+turned-by cames.Done u v w n l o = absurd (n refl)
+turned-by cames.Stopped u v w n l o = record { looked = v; looks = inl l; leaves = o }
+turned-by cames.Full u v w n l o = record { looked = v; looks = l; leaves = o }
+turned-by c u v w n l o = absurd l
+
+pub turned-found : (c : Came) (u v w : View) → (c ≡ cames.Done → ⊥) → LooksTo c u v → Ran u v → Ran v w → AtMost 2 v w → (KnowsFull v → KnowsFull w) → ArrivesBy c u w
+turned-found cames.Done u v w n l a b few k = absurd (n refl)
+turned-found cames.Stopped u v w n l a b few k =
+    let found : FoundStop u v = inl (ap (some_event finds_flag) l.2 ∙ or_left (has_flag l.0) _ l.1) in
+    (found-left u v w a b found, at-most-more 3 8 u w (omega arith) (at-most-join 1 2 u v w a b (at-most-events 1 u v _ l.2 (omega arith)) few))
+turned-found cames.Full u v w n l a b few k = ((full-left u v w a b l.1.0, k l.1.1), at-most-more 4 8 u w (omega arith) (at-most-join 2 2 u v w a b (two-few u v l.0) few))
+turned-found c u v w n l a b few k = absurd l
+
 -- on the way in
 pub turns-found : (v w : View) → TurnsBack v w → FoundStop v w
 turns-found v w t = inl (ap (some_event finds_flag) t.events ∙ or_left (has_flag t.word) _ t.flag)
@@ -141,8 +156,8 @@ entered_few : (u v : View) → EntersOnce u v → AtMost 2 u v
 entered_few u v e =
     at-most-join 1 1 u e.entered v e.ran (ran-took e.entered v ReadPhase refl e.reads) (at-most-events 1 u e.entered _ e.enters.events (omega arith)) (at-most-after e.entered v ReadPhase e.reads.0 e.reads.1.0)
 
-pub enters-by : (c : Came) (u v w : View) → Ran u v → EntersOnce u v → Ran v w → ArrivesBy c v w → CarriesPace u w → EntersBy c u w
-enters-by cames.Done u v w r e q g p =
+pub enters-by : (c : Came) (u v w : View) → Ran u v → EntersOnce u v → Ran v w → ArrivesBy c v w → ComesBy c v w → CarriesPace u w → EntersBy c u w
+enters-by cames.Done u v w r e q g m p =
     record {
       ran = ran-join u v w r q;
       entered = v;
@@ -150,9 +165,9 @@ enters-by cames.Done u v w r e q g p =
       goes = g;
       few = at-most-join 2 3 u v w r q (entered_few u v e) g.few;
     }
-enters-by cames.Stopped u v w r e q g p = ((found-right u v w r q g.0, at-most-join 2 8 u v w r q (entered_few u v e) g.1), p)
-enters-by cames.Full u v w r e q g p = (((full-right u v w r q g.0.0, g.0.1), at-most-join 2 8 u v w r q (entered_few u v e) g.1), p)
-enters-by c u v w r e q g p = g
+enters-by cames.Stopped u v w r e q g m p = ((found-right u v w r q g.0, at-most-join 2 8 u v w r q (entered_few u v e) g.1), p, inr (record { entered = v; enters = e; turns = m }))
+enters-by cames.Full u v w r e q g m p = (((full-right u v w r q g.0.0, g.0.1), at-most-join 2 8 u v w r q (entered_few u v e) g.1), p, inr (record { entered = v; enters = e; turns = m }))
+enters-by c u v w r e q g m p = absurd g
 
 -- without a cell
 pub lacks-by : (c : Came) (v w : View) → (c ≡ cames.Done → ⊥) → ArrivesBy c v w → LacksBy c v w

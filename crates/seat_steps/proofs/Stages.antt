@@ -8,13 +8,13 @@ use Rattle.seat_steps.specs.declared.came.Came.{Came}
 use Rattle.seat_steps.specs.declared.came.Came.TheVariants as cames
 use Rattle.seat_steps.specs.Bounds.{IsBounded, IsBoundedStep}
 use Rattle.seat_steps.specs.Stepping.{KeepsCycle, KeepsRest}
-use Rattle.seat_steps.specs.Steps.{StepsCollection, StepsOn, counts_of}
+use Rattle.seat_steps.specs.Steps.{KeepsTold, StepsCollection, StepsOn, counts_of}
 use Rattle.seat_steps.specs.declared.stepper.Stage.{Stage}
 use Rattle.seat_steps.specs.declared.stepper.Stage.TheVariants as stages
 use Rattle.seat_steps.specs.declared.stepper.Stepper.{Stepper}
 
-pub step-on : (precise : Bool) (most : ℕ) (x y : Stepper) (s t : Stage) → x.stage ≡ s → y.stage ≡ t → StepsOn precise s t most x y → KeepsRest x y → StepsCollection precise most cames.NotYet x y
-step-on precise most x y s t e f p k = (subst (λ (a : Stage). StepsOn precise a y.stage most x y) (sym e) (subst (λ (b : Stage). StepsOn precise s b most x y) (sym f) p), k)
+pub step-on : (precise : Bool) (most : ℕ) (x y : Stepper) (s t : Stage) → x.stage ≡ s → y.stage ≡ t → KeepsTold t x y → StepsOn precise s t most x y → KeepsRest x y → StepsCollection precise most cames.NotYet x y
+step-on precise most x y s t e f told p k = (subst (λ (a : Stage). StepsOn precise a y.stage most x y) (sym e) (subst (λ (b : Stage). StepsOn precise s b most x y) (sym f) p), k, subst (λ (b : Stage). KeepsTold b x y) (sym f) told)
 
 pub bounded-on : (most : ℕ) (x y : Stepper) (s t : Stage) → x.stage ≡ s → y.stage ≡ t → IsBounded s t most x y → IsBoundedStep most x y
 bounded-on most x y s t e f p = subst (λ (a : Stage). IsBounded a y.stage most x y) (sym e) (subst (λ (b : Stage). IsBounded s b most x y) (sym f) p)

@@ -42,6 +42,13 @@ HasLooked cames.Stopped h s = HoldsWorld h s
 HasLooked cames.Full h s = HoldsWorld h s × KnowsFull (view_of s)
 HasLooked c h s = ⊥
 
+-- where it is after it looked so without a cache, on its way to its turn
+abbrev pub HasLookedIn : Came → Heap → HeapSeat → Type 0
+HasLookedIn cames.Done h s = Halts h s × HasSeenPhase (view_of s).state
+HasLookedIn cames.Stopped h s = Halts h s
+HasLookedIn cames.Full h s = Halts h s × KnowsFull (view_of s)
+HasLookedIn c h s = ⊥
+
 -- where it is after it asked for a cache
 abbrev pub Refills : Refill → Heap → HeapSeat → Type 0
 Refills (refills.Cache free paid) h s = Works h s × IsCached free (view_of s) × (0 < ones free.cells)

@@ -11,12 +11,13 @@ use Rattle.gc_table.specs.Running.{Ran}
 use Rattle.gc_table.specs.declared.view.View.{View}
 use Rattle.packet_pools.specs.Seeking.{some_event}
 use Rattle.alloc_cache.specs.declared.cache.Cache.{Cache}
+use Rattle.stop_world.specs.Gates.{TurnsBack}
 use Rattle.mutator_ops.specs.Few.{AtMost}
 use Rattle.gc_cycle.specs.Polling.{saw_full}
 use Rattle.cache_refills.specs.Trying.{EntersOnce}
 use Rattle.cache_refills.specs.declared.trying.Pass.{Pass}
 use Rattle.cache_refills.specs.declared.trying.Pass.TheVariants as passes
-use Rattle.seat_turns.specs.Coming.{FlushesFirst, LeavesTurn}
+use Rattle.seat_turns.specs.Coming.{FlushesFirst, LeavesTurn, StepsOut}
 use Rattle.seat_turns.specs.SeasonLooks.{LooksAtSeason, SeesOther}
 use Rattle.seat_turns.specs.Standing.{flush_steps}
 use Rattle.seat_steps.specs.Filling.{FewBesides, TriesOnce, TriesSome, filling_steps, make_steps, search_steps}
@@ -90,6 +91,23 @@ pub record LeavesAfterLook (c : Came) (v w : View) : Type 0 where
   pub looks : LooksTo c v looked
   pub leaves : FlushesFirst LeavesTurn looked w
 
+-- what hindered a mutator that looked on its way to its turn: a stop was under way, or the season was another; or the heap was full
+abbrev pub Hinders : Came → View → View → Type 0
+Hinders cames.Stopped v w = LooksTo cames.Stopped v w ⊎ (GoesFreely v w × SeesOther 1 w)
+Hinders cames.Full v w = LooksTo cames.Full v w
+Hinders c v w = ⊥
+
+-- so it looked, and then it stored its position and left
+pub record TurnsAway (c : Came) (v w : View) : Type 0 where
+  pub looked : View
+  pub looks : Hinders c v looked
+  pub leaves : StepsOut looked w
+
+-- what a mutator without a cache did that came to its turn, or left
+abbrev pub ComesBy : Came → View → View → Type 0
+ComesBy cames.Done v w = GoesFreely v w
+ComesBy c v w = TurnsAway c v w
+
 -- one look at the world found no stop, and one at the phase followed, and nothing else was done
 pub record PassesFreely (v w : View) : Type 0 where
   pub ran : Ran v w
@@ -103,6 +121,18 @@ pub record EntersFreely (v w : View) : Type 0 where
   pub enters : EntersOnce v entered
   pub goes : GoesFreely entered w
   pub few : AtMost 5 v w
+
+-- the seat entered while no stop was under way and read the phase, and then it looked, and left
+pub record EntersInVain (c : Came) (v w : View) : Type 0 where
+  pub entered : View
+  pub enters : EntersOnce v entered
+  pub turns : TurnsAway c entered w
+
+-- the seat entered while no stop was under way and read the phase, which was Full; then it stored its position and left
+pub record EntersFull (v w : View) : Type 0 where
+  pub entered : View
+  pub enters : EntersOnce v entered
+  pub leaves : StepsOut entered w
 
 -- the cache has a free cell
 abbrev pub HasFree : Option CacheState → Type 0
@@ -145,8 +175,8 @@ PassesBy c v w = ⊥
 -- what it found on its way in
 abbrev pub EntersBy : Came → View → View → Type 0
 EntersBy cames.Done v w = EntersFreely v w
-EntersBy cames.Stopped v w = FoundStopIn 10 v w × CarriesPace v w
-EntersBy cames.Full v w = FoundFullIn 10 v w × CarriesPace v w
+EntersBy cames.Stopped v w = FoundStopIn 10 v w × CarriesPace v w × (TurnsBack v w ⊎ EntersInVain cames.Stopped v w)
+EntersBy cames.Full v w = FoundFullIn 10 v w × CarriesPace v w × (EntersFull v w ⊎ EntersInVain cames.Full v w)
 EntersBy c v w = ⊥
 
 -- what it found that came to its turn without a cell

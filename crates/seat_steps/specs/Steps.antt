@@ -145,6 +145,24 @@ StepsOn precise stages.Counting stages.Counting most x y = (most ≤ blocks_left
 StepsOn precise stages.Counting stages.Ending most x y = (blocks_left x < most) × (steps_of (did x.seat y.seat) ≡ alloc_reads x.next (blocks_left x)) × (y.freed ≡ x.freed) × KeepsCourse x y × KeepsWork x y
 StepsOn precise s t most x y = ⊥
 
+-- what its last collection traced, cleaned, scanned again, freed and counted, and from where its pass goes on, is as it was
+abbrev pub KeepsTally : Stepper → Stepper → Type 0
+KeepsTally x y = (y.shared ≡ x.shared) × KeepsWork x y × (y.freed ≡ x.freed) × (y.counted ≡ x.counted) × (y.next ≡ x.next)
+
+-- what a step leaves as it was, by the stage that it comes to: the cells that were freed until it sweeps and after that, the cells in use until it counts them, and
+-- while it waits for its stop all that is known of the collection before
+abbrev pub KeepsTold : Stage → Stepper → Stepper → Type 0
+KeepsTold stages.Stopping x y = (y.exact ≡ x.exact) × (y.again ≡ x.again) × KeepsTally x y
+KeepsTold stages.Sweeping x y = y.counted ≡ x.counted
+KeepsTold stages.Parting x y = y.counted ≡ x.counted
+KeepsTold stages.Counting x y = y.freed ≡ x.freed
+KeepsTold stages.Ending x y = y.freed ≡ x.freed
+KeepsTold stage x y = (y.freed ≡ x.freed) × (y.counted ≡ x.counted)
+
+-- the stop was reached, but the heap was full: the world went on, and the stepper left, and counted nothing
+abbrev pub FindsFull : Stepper → Stepper → Type 0
+FindsFull x y = (x.stage ≡ stages.Stopping) × Across FindsHeapFull x.seat y.seat × (y.precise ≡ x.precise) × KeepsTally x y
+
 -- what its collection has counted
 abbrev pub counts_of : Stepper → Counts
 counts_of x = record { marked = x.counted; freed = x.freed; rescanned = x.rescanned }
@@ -159,9 +177,9 @@ FindsAnother x y = (x.stage ≡ stages.Inside) × Across (AsksForStop false) x.s
 
 -- what a step of a collection came to, of this many roots, objects, cards or blocks
 abbrev pub StepsCollection : Bool → ℕ → Came → Stepper → Stepper → Type 0
-StepsCollection precise most cames.NotYet x y = StepsOn precise x.stage y.stage most x y × KeepsRest x y
+StepsCollection precise most cames.NotYet x y = StepsOn precise x.stage y.stage most x y × KeepsRest x y × KeepsTold y.stage x y
 StepsCollection precise most cames.Done x y = Finishes cames.Done x y × (y.stage ≡ stages.Inside) × KeepsRest x y
 StepsCollection precise most cames.Stopped x y = (FindsAnother x y ⊎ Finishes cames.Stopped x y) × (y.stage ≡ stages.Outside) × KeepsRest x y
-StepsCollection precise most cames.Full x y = (((x.stage ≡ stages.Stopping) × Across FindsHeapFull x.seat y.seat) ⊎ Finishes cames.Full x y) × KnowsFull (view_of y.seat) × (y.stage ≡ stages.Outside) × KeepsRest x y
+StepsCollection precise most cames.Full x y = (FindsFull x y ⊎ Finishes cames.Full x y) × KnowsFull (view_of y.seat) × (y.stage ≡ stages.Outside) × KeepsRest x y
 StepsCollection precise most cames.Outside x y = (x.stage ≡ stages.Outside) × (y ≡ x)
 StepsCollection precise most c x y = ⊥

@@ -13,17 +13,17 @@ ghost use Rattle.seat_turns.specs.Coming.{FlushesFirst, LeavesTurn};
 ghost use Rattle.seat_turns.specs.SeasonLooks.{LooksAtSeason, SeesOther};
 ghost use Rattle.seat_turns.specs.Sharing.{LeavesHeap};
 ghost use Rattle.seat_turns.specs.Standing.{Halts, HoldsTurn, HoldsWorld, IsMutatorOutside, Plays, Works, flush_steps, plain_of, saw_going};
-ghost use Rattle.seat_steps.specs.Causes.{ArrivesBy, EntersBy, GoesFreely, LooksBy, LooksTo, PassesBy};
+ghost use Rattle.seat_steps.specs.Causes.{ArrivesBy, ComesBy, EntersBy, GoesFreely, LooksBy, LooksTo, PassesBy};
 ghost use Rattle.seat_steps.specs.Pacing.{CarriesPace};
-ghost use Rattle.seat_steps.specs.Arriving.{Arrives, HasLooked, HasPassed, LeavesWorld, Passes, Tries};
+ghost use Rattle.seat_steps.specs.Arriving.{Arrives, HasLooked, HasLookedIn, HasPassed, LeavesWorld, Passes, Tries};
 
 use crate::came::Came;
 use alloc_cache::{Cache, cache_of};
 use cache_refills::{Pass, try_enter, try_safe_point};
-use gc_cycle::spend_none;
+use gc_cycle::{reads_full, spend_none};
 use gc_table::{Heap, HeapSeat};
 use mark_core::Phase;
-use seat_turns::{TURN, flush_turn, is_turn, keep_some, leave, retire_some};
+use seat_turns::{TURN, flush_turn, is_turn, leave, retire_some};
 use stop_world::poll;
 
 #[tactic(auto, using(seat_turns::proofs::Leaving::leaving, crate::proofs::Searched::trying))]
@@ -175,6 +175,25 @@ pub fn point(heap: &Heap, seat: &mut HeapSeat, cache: Option<Cache>) -> Result<O
     }
 }
 
+/// Looks at the world and at the phase, as a mutator without a cache. Done: nothing hinders it. It has only looked,
+/// whatever it found.
+fn look_in(heap: &Heap, seat: &mut HeapSeat) -> Came
+    requires halts { Halts heap.now seat.old }
+    ensures looked { HasLookedIn result heap.now seat.new }
+    ensures same { plain_of seat.new ≡ plain_of seat.old }
+    ensures leaves { Across LeavesHeap seat.old seat.new }
+    ensures ran { Across Ran seat.old seat.new }
+    ensures looks { Across (LooksTo result) seat.old seat.new }
+{
+    if poll(heap, seat) {
+        return Came::Stopped;
+    }
+    if reads_full(heap, seat) {
+        return Came::Full;
+    }
+    Came::Done
+}
+
 pub fn arrive(heap: &Heap, seat: &mut HeapSeat) -> Came
     requires halts { Halts heap.now seat.old }
     ensures arrives { Arrives result heap.now seat.new }
@@ -182,14 +201,21 @@ pub fn arrive(heap: &Heap, seat: &mut HeapSeat) -> Came
     ensures leaves { Across LeavesHeap seat.old seat.new }
     ensures ran { Across Ran seat.old seat.new }
     ensures found { Across (ArrivesBy result) seat.old seat.new }
+    ensures came { Across (ComesBy result) seat.old seat.new }
     ensures paces { Across CarriesPace seat.old seat.new }
 {
-    match point(heap, seat, None) {
-        Ok(none) => {
-            keep_some(none);
-            Came::Done
+    match look_in(heap, seat) {
+        Came::Done => {
+            if comes_to_turn(heap, seat) {
+                return Came::Done;
+            }
+            leave(heap, seat);
+            Came::Stopped
         }
-        Err(came) => came,
+        other => {
+            leave(heap, seat);
+            other
+        }
     }
 }
 

@@ -21,7 +21,7 @@ use Rattle.alloc_cache.specs.Caching.{IsCached}
 use Rattle.gc_cycle.specs.Answering.{HasCache, PassesSafely}
 use Rattle.gc_cycle.specs.Cycles.{never_fills}
 use Rattle.gc_cycle.specs.Events.{Sort, first_is, never}
-use Rattle.gc_cycle.specs.Mutating.{pops_in_stops}
+use Rattle.gc_cycle.specs.Mutating.{works_in_stops}
 use Rattle.gc_cycle.specs.Polling.{poll_found_stop, saw_full}
 use Rattle.gc_cycle.specs.Sorts.{joins, moves_to, polls, raises_flag, reads_phase, sees_flag, tries_marking}
 use Rattle.gc_cycle.specs.Statistics.{GivesUp}
@@ -30,7 +30,7 @@ use Rattle.gc_cycle.specs.declared.counts.Refill.{Refill}
 use Rattle.gc_cycle.specs.declared.counts.Refill.TheVariants as refills
 use Rattle.gc_cycle.proofs.Changes.{by-none, changes-after, gives-join, keeps-up}
 use Rattle.gc_cycle.proofs.Ends.Finishes.{never-both}
-use Rattle.gc_cycle.proofs.Stops.Popping.{pops-join}
+use Rattle.gc_cycle.proofs.Stops.Popping.{works-join}
 use Rattle.gc_cycle.proofs.Turns.{apart-none, turns-join, turns-none}
 use Rattle.seat_turns.specs.SeasonLooks.{LooksAtSeason}
 use Rattle.seat_turns.specs.Coming.{ComesTo, ComesToNone, FillsWith, FindsFull, Polls, RefillsBeside, RefillsBy, RefillsInStops, hinders, passing}
@@ -67,19 +67,19 @@ passes-cause handed kept done v w p = by (poll_found_stop (events v w)) refl
 pub full-cause : (v w : View) → saw_full (events v w) ≡ true → some_event hinders (events v w) ≡ true
 full-cause v w e = some_more (reads_phase Full) hinders (λ step n h. or_right (sees_flag step n) (reads_phase Full step n) h) (events v w) e
 
--- no flag was raised, no cycle begun, the heap wasn't said to be full, cells were popped only in stops, by turns of help, and a number changed only if the cache was
--- given up, which it was only if something hindered
+-- no flag was raised, no cycle begun, the heap wasn't said to be full, cells were popped and cards cleared only in stops, by turns of help, and a number changed
+-- only if the cache was given up, which it was only if something hindered
 pub record Calm (handed kept : Option Cache) (v w : View) : Type 0 where
   pub calm : never raises_flag (events v w) ≡ true
   pub not_full : never_fills (events v w) ≡ true
   pub unbegun : never tries_marking (events v w) ≡ true
   pub numbers : GivesUp handed kept v w
-  pub pops : pops_in_stops (events v w) ≡ true
+  pub pops : works_in_stops (events v w) ≡ true
   pub helps : HelpsInTurns v w
   pub cause : (kept ≡ handed) ⊎ (some_event hinders (events v w) ≡ true)
 
 pub calm-none : (o : Option Cache) (v : View) → Calm o o v v
-calm-none o v = record { calm = ap (never raises_flag) (events-none v); not_full = ap never_fills (events-none v); unbegun = ap (never tries_marking) (events-none v); numbers = keeps-up o v v (by-none v); pops = ap pops_in_stops (events-none v); helps = turns-none v v (apart-none v); cause = inl refl }
+calm-none o v = record { calm = ap (never raises_flag) (events-none v); not_full = ap never_fills (events-none v); unbegun = ap (never tries_marking) (events-none v); numbers = keeps-up o v v (by-none v); pops = ap works_in_stops (events-none v); helps = turns-none v v (apart-none v); cause = inl refl }
 
 pub calm-join : (a b c : Option Cache) (u v w : View) → Calm a b u v → Calm b c v w → Calm a c u w
 calm-join a b c u v w x y =
@@ -89,7 +89,7 @@ calm-join a b c u v w x y =
       not_full = ap never_fills all ∙ never-both (moves_to Full) (events u v) (events v w) x.not_full y.not_full;
       unbegun = ap (never tries_marking) all ∙ never-both tries_marking (events u v) (events v w) x.unbegun y.unbegun;
       numbers = gives-join a b c u v w x.numbers y.numbers;
-      pops = ap pops_in_stops all ∙ pops-join (events u v) (events v w) x.pops y.pops;
+      pops = ap works_in_stops all ∙ works-join (events u v) (events v w) x.pops y.pops;
       helps = turns-join u v w x.helps y.helps;
       cause =
           ⊎_elim
@@ -111,7 +111,7 @@ calm-looked o v w looks = ⊎_elim (λ (same : w ≡ v). subst (Calm o o v) (sym
           not_full = ap never_fills one;
           unbegun = ap (never tries_marking) one;
           numbers = keeps-up o v w (changes-after v w ReadSeason n refl (ran-found v w ReadSeason n refl found) found.0);
-          pops = ap pops_in_stops one;
+          pops = ap works_in_stops one;
           helps = turns-none v w (record { ran = ran-found v w ReadSeason n refl found; apart = ap (never joins) one });
           cause = inl refl;
         }

@@ -11,8 +11,10 @@ mod Uncatalogued
 mod TurnSteps
 pub mod TracerStanding
 pub mod Tending
+mod Cards
 mod Sparing
 mod Tallying
 mod Visiting
 mod TracerTurns
 mod Helped
+pub mod Telling

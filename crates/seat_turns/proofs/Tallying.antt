@@ -64,9 +64,9 @@ tallies-only a v w ran o = tallies-by a v w ran (told-none leaves_numbers leaves
 pub tallies-marked : (a n : ℕ) (v u w : View) → MarksSome n v u → Took (AddStat traced_count n false) u w → Tallies a ((a + n) % 2 ^ 64) v w
 tallies-marked a n v u w m t =
     let traced = told-none tends_inside tends-untold (events v m.between) m.traces.tends.only in
-    let tended = told-none tends_inside tends-untold (events m.between u) m.tends.only in
-    let ran = ran-join v m.between u m.traces.tends.ran m.tends.ran in
-    let marked = ap told_in (ran-events v m.between u m.traces.tends.ran m.tends.ran) ∙ told-join (events v m.between) (events m.between u) in
+    let tended = told-none tends_inside tends-untold (events m.between u) m.cards.tends.only in
+    let ran = ran-join v m.between u m.traces.tends.ran m.cards.tends.ran in
+    let marked = ap told_in (ran-events v m.between u m.traces.tends.ran m.cards.tends.ran) ∙ told-join (events v m.between) (events m.between u) in
     let last = ran-took u w (AddStat traced_count n false) refl t in
     let all = ap told_in (ran-events v u w ran last) ∙ told-join (events v u) (events u w) in
     let one = ap told_in (events-after u w (AddStat traced_count n false) t.0 t.1.0) in

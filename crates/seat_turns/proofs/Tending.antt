@@ -19,8 +19,7 @@ use Rattle.card_clean.specs.Passing.{DrawsCard, draws_card}
 use Rattle.card_clean.specs.declared.cleaned.Cleaned.{Cleaned}
 use Rattle.tracer.specs.Tally.{pops}
 use Rattle.cache_refills.specs.Pace.Payment.{reads_number}
-use Rattle.seat_turns.specs.Tending.{MarksSome, Tends, tends_inside}
-use Rattle.packet_pools.proofs.Few.{few-none}
+use Rattle.seat_turns.specs.Tending.{MarksAndRecycles, MarksSome, Tends, tends_inside}
 
 -- a step of tracing is one that a tracer may take inside
 traces-tend : (step : Step) → traces_cells step ≡ true → tends_inside step ≡ true
@@ -130,6 +129,7 @@ tends-read v w ran only =
 
 -- a turn's marking as a whole
 pub marks-tend : (n : ℕ) (v w : View) → MarksSome n v w → Tends n v w
-marks-tend n v w m = tends-join n 0 n v m.between w (omega arith) m.traces.tends m.tends
+marks-tend n v w m = tends-join n 0 n v m.between w (omega arith) m.traces.tends m.cards.tends
 
-pub ruleset tends_nothing = (tends-none, few-none)
+pub recycles-tend : (n : ℕ) (v w : View) → MarksAndRecycles n v w → Tends n v w
+recycles-tend n v w m = tends-join n 0 n v m.between w (omega arith) m.traces.tends m.tends

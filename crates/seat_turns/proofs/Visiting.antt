@@ -11,7 +11,7 @@ use Rattle.gc_table.specs.declared.view.View.{View}
 use Rattle.stop_world.specs.Gates.{Enters}
 use Rattle.mutator_ops.specs.Few.{AtMost}
 use Rattle.mutator_ops.proofs.Few.{at-most-after, at-most-events, at-most-join}
-use Rattle.seat_turns.specs.Tending.{Tends, TracesSome}
+use Rattle.seat_turns.specs.Tending.{TendsCards, TracesSome}
 use Rattle.seat_turns.specs.Tracing.{HasMarked, MarksIn, Rounds, Tended, TracesForTurn, VisitsWorld, marking_steps}
 use Rattle.seat_turns.specs.TracerTries.{TriesTo, TriesTurn, tried_steps}
 use Rattle.seat_turns.specs.declared.try_turns.TryTurn.{TryTurn}
@@ -32,8 +32,8 @@ unmarked p sh other = refl
 pub marked-traces : (n : ℕ) (v u : View) → TracesSome n v u → TracesForTurn n v u
 marked-traces n v u t = record { ran = t.tends.ran; only = t.tends.only; done = t.tends.done; ends = t.ends; defers = t.defers }
 
-pub marked-tends : (u w : View) → Tends 0 u w → Tended u w
-marked-tends u w t = record { ran = t.ran; only = t.only; none = t.done }
+pub marked-tends : (u w : View) → TendsCards 0 u w → Tended u w
+marked-tends u w t = record { ran = t.tends.ran; only = t.tends.only; none = t.tends.done; untaken = t.untaken; once = let few = t.once in omega (arith, few) }
 
 -- the seat entered and went a round
 pub visits : (p : Phase) (sh : Shape) (v u w : View) → v.shape ≡ sh → Ran v u → Ran u w → Enters v u → Rounds p u w → AtMost (marking_steps p sh + 2) u w → VisitsWorld p v w

@@ -15,9 +15,9 @@ use Rattle.alloc_cache.specs.declared.cache.Cache.{Cache}
 use Rattle.gc_cycle.specs.Answering.{CollectsTo, HasCache, retires}
 use Rattle.gc_cycle.specs.Cycles.{fills_with_cause, never_fills}
 use Rattle.gc_cycle.specs.Events.{each_after, never}
-use Rattle.gc_cycle.specs.Mutating.{HasEntered, is_in_stop, pops_in_stops}
+use Rattle.gc_cycle.specs.Mutating.{HasEntered, is_in_stop, pops_in_stops, works_in_stops}
 use Rattle.gc_cycle.specs.Polling.{offered_help}
-use Rattle.gc_cycle.specs.Sorts.{ends_cycle, polls, pops, raises_flag, reads_phase, sees_flag, tries_marking}
+use Rattle.gc_cycle.specs.Sorts.{ends_cycle, polls, pops_or_clears, raises_flag, reads_phase, sees_flag, tries_marking}
 use Rattle.gc_cycle.specs.Sparing.{fills_part}
 use Rattle.gc_cycle.specs.Statistics.{ChangesNumbers, GivesUp, RefillsNumbers, leaves_numbers}
 use Rattle.gc_cycle.specs.Turns.{HelpsInTurns}
@@ -38,13 +38,13 @@ use Rattle.seat_turns.specs.Sharing.{LeavesHeap, MakesShared}
 use Rattle.seat_turns.specs.declared.refused.Refused.{Refused}
 use Rattle.seat_turns.specs.declared.refused.Refused.TheVariants as refusals
 
--- the seat went in: it waited while a stop was under way, and helped; no number changed, and it popped cells only while it was out
+-- the seat went in: it waited while a stop was under way, and helped; no number changed, and it popped cells and cleared cards only while it was out
 pub record GoesIn (v w : View) : Type 0 where
   pub entered : HasEntered v w
   pub numbers : Only leaves_numbers v w
   pub offered : IsTrue (offered_help (events v w))
   pub helps : HelpsInTurns v w
-  pub away : (before : List Entry) → IsTrue (is_in_stop before) → IsTrue (each_after is_in_stop pops before (events v w))
+  pub away : (before : List Entry) → IsTrue (is_in_stop before) → IsTrue (each_after is_in_stop pops_or_clears before (events v w))
 
 -- the seat stored its position, which is how many objects it has made, and left
 abbrev pub StepsOut : View → View → Type 0
@@ -65,15 +65,15 @@ abbrev pub passing : Option ℕ → List Step
 passing None = Observe ∷ ReadPhase ∷ ReadSeason ∷ []
 passing (Some season) = Observe ∷ ReadPhase ∷ []
 
--- safe points: the seat polled, raised no flag, began no cycle, didn't say that the heap is full, popped cells only in stops, by turns of help, and changed a number
--- only if it gave up its cache; it gave that up only if it found a stop, or the heap full, and without either it did nothing but look
+-- safe points: the seat polled, raised no flag, began no cycle, didn't say that the heap is full, popped cells and cleared cards only in stops, by turns of help,
+-- and changed a number only if it gave up its cache; it gave that up only if it found a stop, or the heap full, and without either it did nothing but look
 pub record Polls (handed kept : Option Cache) (v w : View) : Type 0 where
   pub polled : IsTrue (some_event polls (events v w))
   pub calm : IsTrue (never raises_flag (events v w))
   pub not_full : IsTrue (never_fills (events v w))
   pub unbegun : IsTrue (never tries_marking (events v w))
   pub numbers : GivesUp handed kept v w
-  pub pops : IsTrue (pops_in_stops (events v w))
+  pub pops : IsTrue (works_in_stops (events v w))
   pub helps : HelpsInTurns v w
   pub cause : (kept ≡ handed) ⊎ IsTrue (some_event hinders (events v w))
   pub looks : IsTrue (never hinders (events v w)) → steps_of (events v w) ≡ passing v.state.season_seen
@@ -195,8 +195,8 @@ pub record FlushesFirst (R : View → View → Type 0) (v w : View) : Type 0 whe
   pub flushes : Flushes v flushed
   pub later : R flushed w
 
--- a precise collection answered so: it stopped the world once at most and ended one cycle at most, began no cycle that marks beside the program, popped cells only in
--- stops, and changed no number but those that its cycle set
+-- a precise collection answered so: it stopped the world once at most and ended one cycle at most, began no cycle that marks beside the program, popped cells and
+-- cleared cards only in stops, and changed no number but those that its cycle set
 pub record CollectsOnce (safe : Safe) (v w : View) : Type 0 where
   pub ran : Ran v w
   pub collects : CollectsTo safe v.state.made v w
@@ -205,7 +205,7 @@ pub record CollectsOnce (safe : Safe) (v w : View) : Type 0 where
   pub not_full : IsTrue (never_fills (events v w))
   pub unbegun : IsTrue (never tries_marking (events v w))
   pub numbers : ChangesNumbers [] v w
-  pub pops : IsTrue (pops_in_stops (events v w))
+  pub pops : IsTrue (works_in_stops (events v w))
 
 -- the seat gave up its cache, collected, and came to its turn by safe points
 pub record CollectsAtTurn (v w : View) : Type 0 where

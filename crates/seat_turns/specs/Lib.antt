@@ -15,3 +15,4 @@ pub mod Tracing
 pub mod Weak
 pub mod TracerTries
 pub mod TracerHelps
+pub mod Telling

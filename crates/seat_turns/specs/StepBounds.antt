@@ -2,7 +2,7 @@
 use Rattle.std.specs.Prelude.{ℕ, ◌+◌, ◌*◌}
 use Rattle.mark_core.specs.Cards.{card_cells}
 use Rattle.mark_core.specs.declared.kinds.Shape.{Shape}
-use Rattle.tracer.specs.StepBounds.{recycle_steps, trace_steps}
+use Rattle.tracer.specs.StepBounds.{trace_steps}
 use Rattle.card_clean.specs.StepBounds.{clean_one_steps}
 use Rattle.seat_turns.specs.Tending.{turn_cards, turn_quota}
 
@@ -18,6 +18,6 @@ cards_steps sh = turn_cards * card_steps sh
 abbrev pub late_steps : Shape → ℕ
 late_steps sh = 3 + cards_steps sh
 
--- the objects of a turn are traced, cards are passed if the cycle is far on, and what was deferred is brought back
+-- the objects of a turn are traced, and cards are passed if the cycle is far on
 abbrev pub turn_steps : Shape → ℕ
-turn_steps sh = trace_steps turn_quota sh + late_steps sh + recycle_steps sh
+turn_steps sh = trace_steps turn_quota sh + late_steps sh

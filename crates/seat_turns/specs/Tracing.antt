@@ -2,7 +2,7 @@
 -- phase, traces if a cycle is marking, and leaves; or it finds a stop under way, leaves at once and helps until that has ended. A run is a list of turns,
 -- each of which starts where the one before ended: all but the last were to be followed by another, and the last found the tracers dismissed, or the heap full.
 -- Both are told of what the seat knew before and after: a view v, the log of which the turn's events were added to, and then w.
-use Rattle.std.specs.Prelude.{ℕ, ◌≡◌, ◌<◌, ◌+◌, ◌⊎◌, List, [], ◌∷◌, false, IsTrue}
+use Rattle.std.specs.Prelude.{ℕ, ◌≡◌, ◌<◌, ◌≤◌, ◌+◌, ◌⊎◌, List, [], ◌∷◌, false, IsTrue}
 use Rattle.mark_core.specs.Numbers.{done_count, traced_count}
 use Rattle.mark_core.specs.Seats.{phase_of}
 use Rattle.mark_core.specs.declared.kinds.Phase.{Phase}
@@ -15,10 +15,13 @@ use Rattle.gc_table.specs.Seats.{Answered, Found, Took}
 use Rattle.gc_table.specs.declared.view.View.{View}
 use Rattle.packet_pools.specs.Counts.{count_of}
 use Rattle.stop_world.specs.Gates.{Enters, TurnsBack}
+use Rattle.card_clean.specs.Cleaning.{clears}
 use Rattle.tracer.specs.Causes.{FoundNoWork}
 use Rattle.tracer.specs.Deferral.{Defers}
 use Rattle.tracer.specs.Tally.{pops}
+use Rattle.gc_cycle.specs.Events.{never}
 use Rattle.gc_cycle.specs.Polling.{saw_resumed}
+use Rattle.gc_cycle.specs.Sorts.{draws, takes_deferred}
 use Rattle.gc_cycle.specs.Turns.{HelpsInTurns}
 use Rattle.mutator_ops.specs.Few.{AtMost}
 use Rattle.seat_turns.specs.StepBounds.{turn_steps}
@@ -26,11 +29,14 @@ use Rattle.seat_turns.specs.Tending.{tends_inside, turn_quota}
 use Rattle.seat_turns.specs.declared.background.Turn.{Turn}
 use Rattle.seat_turns.specs.declared.background.Turn.TheVariants as turns
 
--- the seat took steps of a tracer inside the world, and traced nothing
+-- the seat took steps of a tracer inside the world, and traced nothing. No packet was taken out of the deferred pool, and a card was cleaned only once for each
+-- that was drawn
 pub record Tended (v w : View) : Type 0 where
   pub ran : Ran v w
   pub only : Only tends_inside v w
   pub none : count_of pops (events v w) ≡ 0
+  pub untaken : IsTrue (never takes_deferred (events v w))
+  pub once : count_of clears (events v w) ≤ count_of draws (events v w)
 
 -- the seat traced this many objects inside the world: as many as a turn traces; or fewer, and then at some moment nothing was left in hand
 -- and no packet with a cell was found; no cell that it deferred was popped again (`Defers`)
@@ -41,7 +47,7 @@ pub record TracesForTurn (traced : ℕ) (v w : View) : Type 0 where
   pub ends : (traced ≡ turn_quota) ⊎ ((traced < turn_quota) × FoundNoWork v w)
   pub defers : Defers v w
 
--- the seat traced, then cleaned cards and brought deferred packets back, and told by one step how many objects it traced
+-- the seat traced, then cleaned cards, and told by one step how many objects it traced; what is deferred stays where it is
 pub record HasMarked (v w : View) : Type 0 where
   pub count : ℕ
   pub traced : View

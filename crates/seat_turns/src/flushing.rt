@@ -5,14 +5,16 @@ ghost use Rattle.gc_table.specs.Rule.{KnowsFull};
 ghost use Rattle.gc_cycle.specs.Cycles.{collects};
 ghost use Rattle.gc_table.specs.Seats.{Across, did, state_of, view_of};
 ghost use Rattle.mark_core.specs.Numbers.{section_variables};
+ghost use Rattle.cache_refills.specs.Notices.{IsTold};
 ghost use Rattle.mutator_ops.specs.Few.{AtMost};
 ghost use Rattle.mutator_ops.specs.Flushing.{Flushes};
-ghost use Rattle.seat_turns.specs.Coming.{CollectsAtTurn, CollectsNone, FlushesFirst, LeavesTurn, MakesNoneAtTurn, MakesSharedAtTurn, PollsOutWith, PollsWith, WithOwn};
+ghost use Rattle.seat_turns.specs.Coming.{CollectsAtTurn, CollectsNone, FlushesFirst, LeavesTurn, MakesNoneAtTurn, MakesSharedAtTurn};
 ghost use Rattle.seat_turns.specs.Halting.{LeftFull, MadeNone};
 ghost use Rattle.seat_turns.specs.Sharing.{LeavesHeap, MakesSharedAfter};
 ghost use Rattle.seat_turns.specs.Standing.{HoldsTurn, HoldsWorld, IsAtTurn, IsMutatorOutside, Works, flush_steps, plain_of, saw_going};
+ghost use Rattle.seat_turns.specs.Telling.{TellsFills};
 
-use crate::gates::{collect_turn, leave_turn, pass_turn};
+use crate::gates::{collect_turn, leave_turn};
 use crate::refused::Refused;
 use crate::sharing::make_shared;
 use cache_refills::Watch;
@@ -48,20 +50,6 @@ pub fn leave_flushed(heap: &Heap, seat: &mut HeapSeat)
     leave_turn(heap, seat);
 }
 
-/// A safe point, as [`pass_turn`], once no root lags.
-pub fn pass_flushed<R: Wait>(rt: &R, heap: &Heap, seat: &mut HeapSeat) -> Result<(), Refused>
-    requires turn { HoldsTurn heap.now seat.old }
-    ensures ok { IfOk result (λ _. IsAtTurn heap.now seat.new) }
-    ensures err { IfErr result (λ e. LeftFull e heap.now seat.new) }
-    ensures same { plain_of seat.new ≡ plain_of seat.old }
-    ensures leaves { Across LeavesHeap seat.old seat.new }
-    ensures polls { IfOk result (λ _. Across (FlushesFirst (WithOwn PollsWith)) seat.old seat.new) }
-    ensures full { IfErr result (λ _. Across (FlushesFirst (WithOwn PollsOutWith)) seat.old seat.new) }
-{
-    flush_turn(heap, seat);
-    pass_turn(rt, heap, seat)
-}
-
 /// A precise collection, as [`collect_turn`], once no root lags.
 pub fn collect_flushed<R: Wait>(rt: &R, heap: &Heap, seat: &mut HeapSeat) -> Result<(), Refused>
     requires turn { HoldsTurn heap.now seat.old }
@@ -93,6 +81,7 @@ pub fn make_flushed<R: Wait, W: Watch>(
     ensures leaves { IfErr result (λ _. Across LeavesHeap seat.old seat.new) }
     ensures made { IfOk result (λ _. Across (FlushesFirst (MakesSharedAtTurn heap.now.shape v value)) seat.old seat.new) }
     ensures none { IfErr result (λ e. Across (FlushesFirst (MakesNoneAtTurn e false heap.now.shape)) seat.old seat.new) }
+    ensures told { IsTold W.hears (λ ns. Across (TellsFills false heap.now.shape ns) seat.old seat.new) watch.old watch.new }
 {
     flush_turn(heap, seat);
     make_shared(rt, heap, seat, v, value, watch)

@@ -17,7 +17,8 @@
 //! 1. it traces 64 objects, or fewer if at some moment nothing was left in hand and no packet with a cell was found;
 //! 2. if there were fewer and the cycle is far on, it passes up to 1,024 cards and cleans the dirty ones. The stop
 //!    cleans those that are dirtied again;
-//! 3. deferred cells, which weren't published yet, may be traced again.
+//! 3. deferred cells, which weren't published yet, stay where they are until the stop, or until a mutator that pays
+//!    finds nothing else to trace. A play's tracers bring them back ([`mark_and_recycle`]).
 //!
 //! A [`Tracer`] owns a seat that is outside the world between two turns, so none of its calls asks for a proof.
 #![tactic(auto)]
@@ -39,14 +40,14 @@ mod weak;
 
 pub use background::{Tracer, Turn, rest};
 pub use dismissing::{tell_dismissed, try_dismiss};
-pub use flushing::{collect_flushed, flush_turn, leave_flushed, make_flushed, pass_flushed};
+pub use flushing::{collect_flushed, flush_turn, leave_flushed, make_flushed};
 pub use gates::{collect_turn, enter_turn, leave, leave_turn, pass_turn, retire_own_cache};
 pub use helping::TryHelp;
 pub use operations::{make_in, make_object, read_value, refer_to_one, refers_to_nothing};
 pub use own_turn::is_turn;
 pub use refused::{NotOpened, Refused};
 pub use sharing::{clear_slots_shared, get_shared, identity_shared, make_shared_in, word_of};
-pub use tracer_marking::{mark_some, see_phase};
+pub use tracer_marking::{mark_and_recycle, mark_some, see_phase};
 pub use try_turns::TryTurn;
 pub use turns::{TURN, keep_some, retire_some, with_free};
 pub use weak::{Upgraded, Weak, upgrade_shared, weak_shared};

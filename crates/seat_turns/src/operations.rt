@@ -10,6 +10,7 @@ ghost use Rattle.gc_table.specs.Log.{Only, steps_of};
 ghost use Rattle.gc_table.specs.Running.{Ran};
 ghost use Rattle.gc_table.specs.Seats.{Across, did, state_of, view_of};
 ghost use Rattle.alloc_cache.specs.Caching.{IsCached};
+ghost use Rattle.cache_refills.specs.Notices.{IsTold};
 ghost use Rattle.mutator_ops.specs.Few.{AtMost};
 ghost use Rattle.mutator_ops.specs.Listing.{creating_steps};
 ghost use Rattle.seat_turns.specs.Coming.{MakesAtTurn, MakesNoneAtTurn};
@@ -18,6 +19,7 @@ ghost use Rattle.seat_turns.specs.Operating.{TakesSteps};
 ghost use Rattle.seat_turns.specs.Plain.{Steps, value_in};
 ghost use Rattle.seat_turns.specs.Sharing.{spares_tracers};
 ghost use Rattle.seat_turns.specs.Standing.{IsAtTurn, Plays, plain_of};
+ghost use Rattle.seat_turns.specs.Telling.{TellsFills};
 
 use crate::gates::leave_full;
 use crate::refused::Refused;
@@ -72,6 +74,7 @@ pub fn make_object<R: Wait, W: Watch>(
     ensures tracers { Across (Only spares_tracers) seat.old seat.new }
     ensures made { IfOk result (λ _. Across (MakesAtTurn in_stops heap.now.shape v value) seat.old seat.new) }
     ensures none { IfErr result (λ e. Across (MakesNoneAtTurn e in_stops heap.now.shape) seat.old seat.new) }
+    ensures told { IsTold W.hears (λ ns. Across (TellsFills in_stops heap.now.shape ns) seat.old seat.new) watch.old watch.new }
 {
     let cache = cache_of(seat);
     match come_to(rt, heap, seat, cache, in_stops, watch) {

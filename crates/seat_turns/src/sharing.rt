@@ -6,6 +6,7 @@ ghost use Rattle.mark_core.specs.Steps.MutatorSteps.{seat_variable as word_in};
 ghost use Rattle.mark_core.specs.declared.kinds.Step.TheVariants.{ReadIdent, StoreSlot};
 ghost use Rattle.gc_table.specs.Seats.{Across, Found, state_of, view_of};
 ghost use Rattle.alloc_cache.specs.Caching.{IsCached};
+ghost use Rattle.cache_refills.specs.Notices.{IsTold};
 ghost use Rattle.mutator_ops.specs.Few.{AtMost};
 ghost use Rattle.mutator_ops.specs.Sharing.{TakesSteps};
 ghost use Rattle.seat_turns.specs.Clearing.{clearing_steps};
@@ -13,6 +14,7 @@ ghost use Rattle.seat_turns.specs.Coming.{MakesNoneAtTurn, MakesSharedAtTurn};
 ghost use Rattle.seat_turns.specs.Halting.{MadeNone};
 ghost use Rattle.seat_turns.specs.Sharing.{FollowsField, LeavesHeap, MakesShared, MakesSharedAfter};
 ghost use Rattle.seat_turns.specs.Standing.{HoldsTurn, IsAtTurn};
+ghost use Rattle.seat_turns.specs.Telling.{TellsFills};
 
 use crate::gates::leave_full;
 use crate::refused::Refused;
@@ -84,6 +86,7 @@ pub fn make_shared<R: Wait, W: Watch>(
     ensures leaves { IfErr result (λ _. Across LeavesHeap seat.old seat.new) }
     ensures made { IfOk result (λ _. Across (MakesSharedAtTurn heap.now.shape v value) seat.old seat.new) }
     ensures none { IfErr result (λ e. Across (MakesNoneAtTurn e false heap.now.shape) seat.old seat.new) }
+    ensures told { IsTold W.hears (λ ns. Across (TellsFills false heap.now.shape ns) seat.old seat.new) watch.old watch.new }
 {
     let cache = cache_of(seat);
     match come_to(rt, heap, seat, cache, false, watch) {

@@ -9,7 +9,7 @@ ghost use Rattle.card_clean.specs.StepBounds.{clean_one_steps};
 ghost use Rattle.tracer.specs.StepBounds.{recycle_steps};
 ghost use Rattle.seat_turns.specs.TracerStanding.{Goes, GoesMarking};
 ghost use Rattle.seat_turns.specs.StepBounds.{card_steps, cards_steps, late_steps, turn_steps};
-ghost use Rattle.seat_turns.specs.Tending.{MarksSome, Tends};
+ghost use Rattle.seat_turns.specs.Tending.{MarksAndRecycles, MarksSome, TendsCards};
 
 use cache_refills::is_far_on;
 use card_clean::{clean_one, next_card};
@@ -35,7 +35,7 @@ fn clean(heap: &Heap, seat: &mut HeapSeat, card: u32) -> bool
     requires seat { GoesMarking heap.now seat.old }
     requires card { card < card_count heap.now.shape }
     ensures seat { GoesMarking heap.now seat.new }
-    ensures tends { Across (Tends 0) seat.old seat.new }
+    ensures tends { Across (TendsCards 1) seat.old seat.new }
     ensures few { length (did seat.old seat.new) ≤ clean_one_steps card_cells heap.now.shape }
 {
     match clean_one(heap, seat, card) {
@@ -49,7 +49,7 @@ fn clean_where_dirty(heap: &Heap, seat: &mut HeapSeat, card: u32) -> bool
     requires seat { GoesMarking heap.now seat.old }
     requires card { card < card_count heap.now.shape }
     ensures seat { GoesMarking heap.now seat.new }
-    ensures tends { Across (Tends 0) seat.old seat.new }
+    ensures tends { Across (TendsCards 1) seat.old seat.new }
     ensures few { length (did seat.old seat.new) ≤ 1 + clean_one_steps card_cells heap.now.shape }
 {
     if !heap.read_card(seat, card) {
@@ -62,7 +62,7 @@ fn clean_where_dirty(heap: &Heap, seat: &mut HeapSeat, card: u32) -> bool
 fn clean_next(heap: &Heap, seat: &mut HeapSeat) -> bool
     requires { GoesMarking heap.now seat.old }
     ensures seat { GoesMarking heap.now seat.new }
-    ensures tends { Across (Tends 0) seat.old seat.new }
+    ensures tends { Across (TendsCards 0) seat.old seat.new }
     ensures few { length (did seat.old seat.new) ≤ card_steps heap.now.shape }
 {
     match next_card(heap, seat) {
@@ -74,7 +74,7 @@ fn clean_next(heap: &Heap, seat: &mut HeapSeat) -> bool
 fn clean_cards(heap: &Heap, seat: &mut HeapSeat)
     requires { GoesMarking heap.now seat.old }
     ensures seat { GoesMarking heap.now seat.new }
-    ensures tends { Across (Tends 0) seat.old seat.new }
+    ensures tends { Across (TendsCards 0) seat.old seat.new }
     ensures few { length (did seat.old seat.new) ≤ cards_steps heap.now.shape }
 {
     for _card in 0..CARDS {
@@ -87,7 +87,7 @@ fn clean_cards(heap: &Heap, seat: &mut HeapSeat)
 fn clean_late(heap: &Heap, seat: &mut HeapSeat)
     requires { GoesMarking heap.now seat.old }
     ensures seat { GoesMarking heap.now seat.new }
-    ensures tends { Across (Tends 0) seat.old seat.new }
+    ensures tends { Across (TendsCards 0) seat.old seat.new }
     ensures few { length (did seat.old seat.new) ≤ late_steps heap.now.shape }
 {
     if is_far_on(heap, seat) {
@@ -95,11 +95,11 @@ fn clean_late(heap: &Heap, seat: &mut HeapSeat)
     }
 }
 
-#[tactic(auto, using(crate::proofs::Tending::tends_nothing))]
+#[tactic(auto, using(crate::proofs::Cards::tends_nothing))]
 fn clean_after(heap: &Heap, seat: &mut HeapSeat, stopped: Stopped)
     requires { GoesMarking heap.now seat.old }
     ensures seat { GoesMarking heap.now seat.new }
-    ensures tends { Across (Tends 0) seat.old seat.new }
+    ensures tends { Across (TendsCards 0) seat.old seat.new }
     ensures few { length (did seat.old seat.new) ≤ late_steps heap.now.shape }
 {
     if let Stopped::NoWork = stopped {
@@ -107,18 +107,11 @@ fn clean_after(heap: &Heap, seat: &mut HeapSeat, stopped: Stopped)
     }
 }
 
-fn tend(heap: &Heap, seat: &mut HeapSeat, stopped: Stopped)
-    requires { GoesMarking heap.now seat.old }
-    ensures seat { GoesMarking heap.now seat.new }
-    ensures tends { Across (Tends 0) seat.old seat.new }
-    ensures few { length (did seat.old seat.new) ≤ late_steps heap.now.shape + recycle_steps heap.now.shape }
-{
-    clean_after(heap, seat, stopped);
-    recycle_deferred(heap, seat);
-}
-
 /// Marks as a turn does, and answers how many objects it traced. The caller tells the collector so, by a step of its
 /// own.
+///
+/// What is deferred stays where it is: it is traced in the stop, or when a mutator that pays finds nothing else.
+/// Otherwise an idle tracer would pop the same unpublished cells and defer them again at each of its turns.
 pub fn mark_some(heap: &Heap, seat: &mut HeapSeat) -> u32
     requires { GoesMarking heap.now seat.old }
     ensures seat { GoesMarking heap.now seat.new }
@@ -126,6 +119,19 @@ pub fn mark_some(heap: &Heap, seat: &mut HeapSeat) -> u32
     ensures few { length (did seat.old seat.new) ≤ turn_steps heap.now.shape }
 {
     let traced = trace(heap, seat, OBJECTS);
-    tend(heap, seat, traced.stopped);
+    clean_after(heap, seat, traced.stopped);
     traced.done
+}
+
+/// Marks as a turn does, and then brings back what was deferred, so that the next turn finds what was published
+/// meanwhile.
+pub fn mark_and_recycle(heap: &Heap, seat: &mut HeapSeat) -> u32
+    requires { GoesMarking heap.now seat.old }
+    ensures seat { GoesMarking heap.now seat.new }
+    ensures marks { Across (MarksAndRecycles result) seat.old seat.new }
+    ensures few { length (did seat.old seat.new) ≤ turn_steps heap.now.shape + recycle_steps heap.now.shape }
+{
+    let traced = mark_some(heap, seat);
+    recycle_deferred(heap, seat);
+    traced
 }

@@ -1,5 +1,5 @@
 //! A mutator comes to its turn, and to a free cell.
-ghost use Rattle.std.specs.Prelude.{◌≡◌, ◌<◌, None, Some, IfOk, IfErr};
+ghost use Rattle.std.specs.Prelude.{◌≡◌, ◌<◌, true, false, None, Some, IfOk, IfErr};
 ghost use Rattle.std.specs.Int.Count.{ones};
 ghost use Rattle.gc_table.specs.Log.{Only};
 ghost use Rattle.gc_cycle.specs.Answering.{retires};
@@ -7,12 +7,14 @@ ghost use Rattle.gc_table.specs.Running.{Ran};
 ghost use Rattle.mutator_ops.specs.Few.{AtMost};
 ghost use Rattle.gc_table.specs.Seats.{Across, state_of, view_of};
 ghost use Rattle.alloc_cache.specs.Caching.{IsCached};
+ghost use Rattle.cache_refills.specs.Notices.{IsTold};
 ghost use Rattle.gc_cycle.specs.Answering.{HasCache};
 ghost use Rattle.gc_cycle.specs.declared.counts.Refill.TheVariants as refills;
 ghost use Rattle.seat_turns.specs.Coming.{ComesTo, ComesToNone, FillsOnce, FillsWith, GivesCache, Polls, RefillsBeside, RefillsInStops};
 ghost use Rattle.seat_turns.specs.Halting.{EndsFullOrSpent, HaltsFull};
 ghost use Rattle.seat_turns.specs.Sharing.{LeavesHeap};
 ghost use Rattle.seat_turns.specs.Standing.{Halts, IsAtTurn, LacksFree, Plays, Works, plain_of};
+ghost use Rattle.seat_turns.specs.Telling.{GoesUntold, TellsFill, TellsFills};
 
 use crate::own_turn::is_turn;
 use crate::refused::Refused;
@@ -64,6 +66,7 @@ pub fn pass<R: Wait>(
     ensures ran { Across Ran seat.old seat.new }
     ensures polls { IfOk result (λ kept. Across (Polls cache kept) seat.old seat.new) }
     ensures full { IfErr result (λ _. Across (Polls cache None) seat.old seat.new) }
+    ensures untold { Across GoesUntold seat.old seat.new }
 {
     let mut cache = cache;
     for _ in rt.forever() {
@@ -94,6 +97,7 @@ fn fill_beside<R: Wait, W: Watch>(
     ensures leaves { Across LeavesHeap seat.old seat.new }
     ensures refilled { IfOk result (λ kept. Across (FillsWith (RefillsBeside heap.now.shape) kept) seat.old seat.new) }
     ensures full { IfErr result (λ _. Across (RefillsBeside heap.now.shape refills.Full) seat.old seat.new) }
+    ensures told { IsTold W.hears (λ ns. Across (TellsFill false heap.now.shape ns) seat.old seat.new) watch.old watch.new }
 {
     let made = seat.state().made;
     match refill_watched(rt, heap, seat, made, watch) {
@@ -115,6 +119,7 @@ fn fill_in_stops<R: Wait, W: Watch>(
     ensures leaves { Across LeavesHeap seat.old seat.new }
     ensures refilled { IfOk result (λ kept. Across (FillsWith (RefillsInStops heap.now.shape) kept) seat.old seat.new) }
     ensures full { IfErr result (λ _. Across (RefillsInStops heap.now.shape refills.Full) seat.old seat.new) }
+    ensures told { IsTold W.hears (λ ns. Across (TellsFill true heap.now.shape ns) seat.old seat.new) watch.old watch.new }
 {
     let made = seat.state().made;
     match refill_in_stops(rt, heap, seat, made, watch) {
@@ -140,6 +145,7 @@ fn fill<R: Wait, W: Watch>(
     ensures leaves { Across LeavesHeap seat.old seat.new }
     ensures fills { IfOk result (λ kept. Across (FillsWith (FillsOnce in_stops heap.now.shape cache) kept) seat.old seat.new) }
     ensures full { IfErr result (λ _. Across (FillsOnce in_stops heap.now.shape cache refills.Full) seat.old seat.new) }
+    ensures told { IsTold W.hears (λ ns. Across (TellsFills in_stops heap.now.shape ns) seat.old seat.new) watch.old watch.new }
 {
     retire_some(heap, seat, cache);
     if in_stops {
@@ -186,6 +192,7 @@ pub fn come_to<R: Wait, W: Watch>(
     ensures leaves { Across LeavesHeap seat.old seat.new }
     ensures comes { IfOk result (λ free. Across (ComesTo in_stops heap.now.shape cache (Some free)) seat.old seat.new) }
     ensures none { IfErr result (λ e. Across (ComesToNone e in_stops heap.now.shape cache) seat.old seat.new) }
+    ensures told { IsTold W.hears (λ ns. Across (TellsFills in_stops heap.now.shape ns) seat.old seat.new) watch.old watch.new }
 {
     let mut cache = cache;
     for _ in rt.forever() {

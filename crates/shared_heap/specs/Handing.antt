@@ -5,7 +5,7 @@ use Rattle.gc_table.specs.Seats.{Across, view_of}
 use Rattle.mutator_ops.specs.Few.{AtMost}
 use Rattle.seat_turns.specs.Sharing.{LeavesHeap}
 use Rattle.seat_turns.specs.Standing.{flush_steps}
-use Rattle.seat_steps.specs.Handing.{IsNewStepper}
+use Rattle.seat_steps.specs.Handing.{IsNewStepper, StopsFrom}
 use Rattle.seat_steps.specs.Stepping.{is_collecting, shares}
 use Rattle.seat_steps.specs.declared.stepper.Stage.TheVariants as stages
 use Rattle.seat_steps.specs.declared.stepper.Stepper.{Stepper}
@@ -25,11 +25,12 @@ pub record IsInSteps (m : SharedMutator) (s : Stepper) : Type 0 where
   pub stops : IsFalse s.in_stops
   pub new : IsNewStepper s
 
--- the mutator is this stepper, outside the world; no step was taken that a plain heap sees, and five at most beside those that
--- store the roots that lag
+-- the mutator is this stepper, outside the world; no step was taken that a plain heap sees. A stepper that was inside stored the roots that
+-- lagged, gave up its cache and left, by five steps at most beside those roots; one that was outside did nothing
 pub record IsOfSteps (s : Stepper) (m : SharedMutator) : Type 0 where
   pub outside : m.place ≡ Outside
   pub few : Across (AtMost (flush_steps (view_of s.seat) + 5)) s.seat m.seat
+  pub stopped : Across (StopsFrom s.stage) s.seat m.seat
   pub leaves : Across LeavesHeap s.seat m.seat
   pub world : arc_value m.heap ≡ arc_value s.heap
   pub name_is : m.name ≡ s.name

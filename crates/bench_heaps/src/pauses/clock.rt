@@ -108,6 +108,8 @@ impl<'a, R: Clock> StopClock<'a, R> {
 }
 
 impl<'a, R: Clock> Watch for StopClock<'a, R> {
+    ghost hears = { λ s n t. Unit {0} };
+
     fn pays(&mut self, paid: Paid) {
         if paid.quota > 0 {
             self.log.line.end(self.rt, Doing::Paying);

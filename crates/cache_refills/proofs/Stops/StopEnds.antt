@@ -24,7 +24,7 @@ use Rattle.cache_refills.specs.Stops.{cycles_with_cause, has_ended, may_end, res
 use Rattle.cache_refills.proofs.Causes.{after-join, after-none, since-more}
 use Rattle.cache_refills.proofs.Stops.StopsAgain.{tried-unended}
 use Rattle.gc_cycle.specs.Mutating.{is_in_stop, pops_in_stops, tries_stopping}
-use Rattle.gc_cycle.proofs.Stops.Popping.{answered-pops, held-pops}
+use Rattle.gc_cycle.proofs.Stops.Popping.{answered-pops, held-on}
 use Rattle.cache_refills.proofs.Stops.Visits.{before-later, unresumed-ends}
 use Rattle.gc_cycle.proofs.Refills.Answered.{answers-out}
 use Rattle.gc_cycle.proofs.Sequences.{none-of-steps, some-none}
@@ -82,7 +82,7 @@ module _ (u v w x y : View) (r : Ran u v) (q : Ran v w) (d : Took DropStep w x) 
       let held : some_event raises_flag (since_or_all resumes (events u v)) ≡ true =
       ap (λ (b : Bool). some_event raises_flag (if b then since_last resumes (events u v) else events u v)) (not-true _ out) ∙ raised in
       ap pops_in_stops all-events
-      ∙ after-join is_in_stop pops [] first (event DropStep d.0 ∷ events x y) (after-join is_in_stop pops [] (events u v) (events v w) away (held-pops (events u v) (events v w) (not-true _ inside) held))
+      ∙ after-join is_in_stop pops [] first (event DropStep d.0 ∷ events x y) (after-join is_in_stop pops [] (events u v) (events v w) away (held-on pops (events u v) (events v w) (not-true _ inside) held))
       (after-none is_in_stop pops first (event DropStep d.0 ∷ events x y) (answered-pops x y a))
 
   -- a cycle ended in it

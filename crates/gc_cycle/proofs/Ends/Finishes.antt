@@ -1,8 +1,8 @@
 -- An ordinary cycle, and a precise one, from their first move to their end.
-use Rattle.std.proofs.Common.{ℕ, ◌≡◌, ◌<◌, List, [], ◌∷◌, ◌++◌, append_assoc, get_or, length, refl, sym, ap, ◌∙◌, subst, Bool, true, false, not, ◌&&◌, ⊎_elim, arith}
+use Rattle.std.proofs.Common.{ℕ, ◌≡◌, ◌<◌, List, [], ◌∷◌, ◌++◌, append_assoc, get_or, length, refl, sym, ap, ◌∙◌, subst, Bool, true, false, not, ◌&&◌, ◌||◌, ⊎_elim, arith}
 use Rattle.std.specs.Prelude.{if◌then◌else◌}
 use Rattle.std.specs.List.{list_any}
-use Rattle.std.proofs.lemmas.Bool.{and_from, and_parts, false≢true, not-true, or_cases, or_from, or_left, or_right}
+use Rattle.std.proofs.lemmas.Bool.{and_from, and_parts, false≢true, not-true, or_cases, or_from, or_left, or_parts, or_right}
 use Rattle.std.proofs.lemmas.List.Folds.{list_any_at}
 use Rattle.std.proofs.lemmas.Option.{slice_get_within, get_or_from_slice_get}
 use Rattle.mark_core.specs.Effects.{seat_after}
@@ -72,6 +72,13 @@ lets-help xs e ys es move still none drain sweep =
 pub never-both : (f : Sort) (xs ys : List Entry) → never f xs ≡ true → never f ys ≡ true → never f (xs ++ ys) ≡ true
 never-both f xs ys a b = ap not (some-none f xs ys (not-true _ a) (not-true _ b))
 
+-- where no drain begins, none begins exactly
+undrained : (es : List Entry) → some_event (moves_to Drain) es ≡ false → some_event begins_exactly es ≡ false
+undrained [] h = refl
+undrained (e ∷ es) h =
+    let p = or_parts (moves_to Drain e.step e.found) (some_event (moves_to Drain) es) h in
+    or_from (begins_exactly e.step e.found) (some_event begins_exactly es) (ap (λ (b : Bool). (b && is_phase e.found Idle) || (b && is_phase e.found Clear)) p.0) (undrained es p.1)
+
 -- an ordinary cycle
 module _ (v0 v1 v2 : View) (r : Ran v0 v1) (is : events v0 v1 ≡ event (StorePhase Drain) 1 ∷ event (Reset card_counter) 0 ∷ []) (k : Completes v1 v2) where
   all-events : events v0 v2 ≡ event (StorePhase Drain) 1 ∷ event (Reset card_counter) 0 ∷ events v1 v2
@@ -85,6 +92,11 @@ module _ (v0 v1 v2 : View) (r : Ran v0 v1) (is : events v0 v1 ≡ event (StorePh
 
   pub cycle-unbegun : never tries_marking (events v0 v2) ≡ true
   cycle-unbegun = ap (never tries_marking) all-events ∙ never-both tries_marking (event (StorePhase Drain) 1 ∷ event (Reset card_counter) 0 ∷ []) (events v1 v2) refl k.unbegun
+
+  pub cycle-ordinary : never begins_exactly (events v0 v2) ≡ true
+  cycle-ordinary =
+      ap (never begins_exactly) all-events
+      ∙ never-both begins_exactly (event (StorePhase Drain) 1 ∷ event (Reset card_counter) 0 ∷ []) (events v1 v2) refl (ap not (undrained (events v1 v2) (not-true _ k.no_drain)))
 
   pub cycle-once : count_of ends_cycle (events v0 v2) ≡ 1
   cycle-once = let all = ap (count_of ends_cycle) all-events in let one = k.once in omega (arith, all, one)

@@ -26,16 +26,16 @@ use Rattle.gc_cycle.specs.Answering.{answers, AnswersTo, EndsFull, GivesWay, Has
 use Rattle.gc_cycle.specs.declared.counts.Safe.{Safe}
 use Rattle.gc_cycle.specs.declared.counts.Safe.TheVariants as safes
 use Rattle.gc_cycle.specs.Events.{each_after, first_is, never, Sort}
-use Rattle.gc_cycle.specs.Mutating.{GoesOut, HasEntered, is_in_stop, pops_in_stops, stays_calm, tries_stopping}
+use Rattle.gc_cycle.specs.Mutating.{GoesOut, HasEntered, is_in_stop, works_in_stops, stays_calm, tries_stopping}
 use Rattle.gc_cycle.specs.Polling.{offered_help, poll_found_stop, saw_full}
-use Rattle.gc_cycle.specs.Sorts.{joins, leaves, polls, pops, reads_phase, sees_flag}
+use Rattle.gc_cycle.specs.Sorts.{joins, leaves, polls, pops_or_clears, reads_phase, sees_flag}
 use Rattle.gc_cycle.specs.Standing.{Mutates}
 use Rattle.gc_cycle.specs.Turns.{HelpsInTurns, StaysApart}
 use Rattle.gc_cycle.proofs.Few.{few-events, few-join}
 use Rattle.gc_cycle.proofs.Refills.KnownFull.{full-seen, tells-more, tells-none}
 use Rattle.gc_cycle.proofs.SectionKept.{calm-tries, goes-out, out-join}
 use Rattle.gc_cycle.proofs.Sequences.{none-of-steps}
-use Rattle.gc_cycle.proofs.Stops.Popping.{answered-pops, pops-join, unpopped}
+use Rattle.gc_cycle.proofs.Stops.Popping.{answered-works, works-join, unworked}
 use Rattle.gc_cycle.proofs.Stops.Waits.{stayed-waits, waits-join}
 use Rattle.gc_cycle.proofs.Turns.{apart-join, apart-look, turns-join, turns-none}
 
@@ -177,7 +177,7 @@ kept-way v w handed done n r e f h =
       position = λ k. absurd (true≢false (sym k ∙ found));
       waits = ap waits_helping es;
       looks = λ k. (n, es);
-      pops = ap pops_in_stops es;
+      pops = ap works_in_stops es;
       helps = turns-none v w (apart-look v w n r e);
     }
 
@@ -189,7 +189,7 @@ waits-later (x ∷ xs) ys h w =
     and_from (not (leaves x.step x.found) || offered_help (xs ++ ys)) (waits_helping (xs ++ ys)) (or_left (not (leaves x.step x.found)) _ (ap not p.0)) (waits-later xs ys p.1 w)
 
 -- a stop was under way
-pub gave-way : (u v w x y : View) (handed : Option Cache) (done n m : ℕ) → Ran u v → v ≡ after Observe n u → has_flag n ≡ true → Ran v w → Only retires v w → GoesOut w x → events w x ≡ event (StorePosition done) done ∷ event LeaveStep m ∷ [] → x.own.position ≡ done → HasEntered x y → waits_helping (events x y) ≡ true → offered_help (events x y) ≡ true → ((before : List Entry) → is_in_stop before ≡ true → each_after is_in_stop pops before (events x y) ≡ true) → HelpsInTurns x y → GivesWay handed None done u y
+pub gave-way : (u v w x y : View) (handed : Option Cache) (done n m : ℕ) → Ran u v → v ≡ after Observe n u → has_flag n ≡ true → Ran v w → Only retires v w → GoesOut w x → events w x ≡ event (StorePosition done) done ∷ event LeaveStep m ∷ [] → x.own.position ≡ done → HasEntered x y → waits_helping (events x y) ≡ true → offered_help (events x y) ≡ true → ((before : List Entry) → is_in_stop before ≡ true → each_after is_in_stop pops_or_clears before (events x y) ≡ true) → HelpsInTurns x y → GivesWay handed None done u y
 gave-way u v w x y handed done n m r e f q o g es at h waits offered away helps =
     let last : Ran w y = ran-join w x y g.ran h.out.ran in
     let later : Ran v y = ran-join v w y q last in
@@ -216,8 +216,8 @@ gave-way u v w x y handed done n m r e f q o g es at h waits offered away helps 
           ∙ waits-later (events v w) (event (StorePosition done) done ∷ event LeaveStep m ∷ events x y) (answers-stay (events v w) (only-more retires answers retires-answer v w o)) waited;
       looks = λ k. absurd (true≢false (sym found ∙ k));
       pops =
-          ap pops_in_stops all
-          ∙ pops-join (event Observe n ∷ events v w) (event (StorePosition done) done ∷ event LeaveStep m ∷ events x y) (unpopped (event Observe n ∷ events v w) (answered-pops v w (only-more retires answers retires-answer v w o)))
+          ap works_in_stops all
+          ∙ works-join (event Observe n ∷ events v w) (event (StorePosition done) done ∷ event LeaveStep m ∷ events x y) (unworked (event Observe n ∷ events v w) (answered-works v w (only-more retires answers retires-answer v w o)))
           (away (event (StorePosition done) done ∷ event LeaveStep m ∷ []) refl);
       helps =
           turns-join u w y (turns-none u w (apart-join u v w (apart-look u v n r e) (apart-answers v w q (only-more retires answers retires-answer v w o))))
@@ -256,12 +256,12 @@ passed-few u v w handed kept done m g r few h =
     let l = g.looks (sym found ∙ h) in
     few-join 1 m u v w g.out.ran r (few-events 1 u v (event Observe l.0 ∷ []) l.1 (omega arith)) few
 
-pub passed-out : (u v w : View) (handed kept : Option Cache) (done : ℕ) → GivesWay handed kept done u v → Ran v w → Only answers v w → GoesOut u w × (some_event polls (events u w) ≡ true) × (waits_helping (events u w) ≡ true) × (pops_in_stops (events u w) ≡ true) × HelpsInTurns u w
+pub passed-out : (u v w : View) (handed kept : Option Cache) (done : ℕ) → GivesWay handed kept done u v → Ran v w → Only answers v w → GoesOut u w × (some_event polls (events u w) ≡ true) × (waits_helping (events u w) ≡ true) × (works_in_stops (events u w) ≡ true) × HelpsInTurns u w
 passed-out u v w handed kept done g r o =
     let es = ran-events u v w g.out.ran r in (
       out-join u v w g.out (answers-out v w r o),
       ap (some_event polls) es ∙ some-left polls (events u v) (events v w) g.polled,
       ap waits_helping es ∙ waits-join (events u v) (events v w) g.waits (stayed-waits (events v w) (ap not (answers-stay (events v w) o))) (answers-offered (events v w) o),
-      ap pops_in_stops es ∙ pops-join (events u v) (events v w) g.pops (unpopped (events v w) (answered-pops v w o)),
+      ap works_in_stops es ∙ works-join (events u v) (events v w) g.pops (unworked (events v w) (answered-works v w o)),
       turns-join u v w g.helps (turns-none v w (apart-answers v w r o)),
     )

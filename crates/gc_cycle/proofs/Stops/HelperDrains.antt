@@ -1,9 +1,9 @@
 -- What a helper has done, as it goes on.
-use Rattle.std.proofs.Common.{ℕ, ◌≡◌, ◌≤◌, ◌+◌, zero-add, ◌++◌, arith, refl, sym, ap, ◌∙◌, subst, true, ◌||◌, ⊎_elim}
+use Rattle.std.proofs.Common.{ℕ, ◌≡◌, ◌≤◌, ◌+◌, zero-add, ◌++◌, arith, refl, sym, ap, ◌∙◌, subst, Bool, true, false, ◌&&◌, ◌||◌, ⊎_elim, Some}
 use Rattle.std.specs.Prelude.{is_none, nat_le}
 use Rattle.mark_core.specs.Numbers.{empty_offset}
 use Rattle.packet_pools.specs.Counts.{count_of}
-use Rattle.gc_cycle.specs.Helping.{help_looks, waited}
+use Rattle.gc_cycle.specs.Helping.{PassesAll, PassesFirst, PassesIf, help_looks, waited}
 use Rattle.std.proofs.lemmas.Bool.{le-leb, leb-true, or_cases, or_left, or_right}
 use Rattle.mark_core.specs.Seats.{saw}
 use Rattle.mark_core.specs.declared.kinds.Phase.TheVariants.{Drain, Sweep}
@@ -128,6 +128,13 @@ helped-still quota helped u v w h e a p n z =
       most = h.most;
       stops = subst (λ x. StopsFor x quota helped.traced u w) (sym e) (stops.0, moment);
     }
+
+-- which cards it passed
+pub passes-none : (cards : Bool) (v w : View) → (cards && saw v.state.phase_seen Drain) ≡ false → never clears (events v w) ≡ true → PassesFirst cards v w
+passes-none cards v w e n = subst (λ (b : Bool). PassesIf b v w) (sym e) n
+
+pub passes-all : (cards : Bool) (v w : View) → cards ≡ true → v.state.phase_seen ≡ Some Drain → PassesAll v w → PassesFirst cards v w
+passes-all cards v w e p a = subst (λ (b : Bool). PassesIf b v w) (λ i. sym e i && saw (sym p i) Drain) a
 
 -- a helper waited in the second of two calls
 pub waited-later : (h : HelpEnd) (u v w : View) → Ran u v → Ran v w → EndsAt h v w → EndsAt h u w

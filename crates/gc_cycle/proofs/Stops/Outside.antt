@@ -13,7 +13,7 @@ use Rattle.gc_table.specs.declared.view.Entry.{Entry}
 use Rattle.gc_table.specs.declared.view.View.{View}
 use Rattle.packet_pools.specs.Seeking.{some_event}
 use Rattle.gc_cycle.specs.Events.{never, each_after, since_or_all}
-use Rattle.gc_cycle.specs.Sorts.{comes_in, leaves, resumes, pops, raises_flag}
+use Rattle.gc_cycle.specs.Sorts.{comes_in, leaves, resumes, pops_or_clears, raises_flag}
 use Rattle.gc_cycle.specs.Standing.{IsOut}
 use Rattle.gc_cycle.proofs.Stops.OutAndIn.{bare-parts}
 use Rattle.packet_pools.proofs.Searches.{some-left, some-right}
@@ -86,11 +86,11 @@ stop-on before es n h =
     or_right (some_event leaves (since_or_all comes_in (before ++ es))) _ (ap (some_event raises_flag) (since-unlike resumes before es (unresumed-out es n)) ∙ some-left raises_flag (since_or_all resumes before) es k))
     (or_cases (some_event leaves (since_or_all comes_in before)) (some_event raises_flag (since_or_all resumes before)) h)
 
-pub pops-on : (before es : List Entry) → some_event comes_in es ≡ false → is_in_stop before ≡ true → each_after is_in_stop pops before es ≡ true
-pops-on before [] n h = refl
-pops-on before (e ∷ es) n h =
+pub works-on : (before es : List Entry) → some_event comes_in es ≡ false → is_in_stop before ≡ true → each_after is_in_stop pops_or_clears before es ≡ true
+works-on before [] n h = refl
+works-on before (e ∷ es) n h =
     let p = or_parts (comes_in e.step e.found) (some_event comes_in es) n in
-    and_from _ _ (or_right (not (pops e.step e.found)) _ h) (pops-on (before ++ e ∷ []) es p.1 (stop-on before (e ∷ []) (ap (λ (b : Bool). b || false) p.0) h))
+    and_from _ _ (or_right (not (pops_or_clears e.step e.found)) _ h) (works-on (before ++ e ∷ []) es p.1 (stop-on before (e ∷ []) (ap (λ (b : Bool). b || false) p.0) h))
 
 -- it came in and turned back
 pub turned-stop : (before : List Entry) (n m : ℕ) → is_in_stop (before ++ event EnterStep n ∷ event LeaveStep m ∷ []) ≡ true

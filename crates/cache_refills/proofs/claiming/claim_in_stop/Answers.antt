@@ -1,4 +1,4 @@
-use Rattle.std.proofs.Common.{ℕ, ◌≡◌, ◌≤◌, ◌⊎◌, ◌++◌, inl, List, true, refl, sym, ap, ◌∙◌, subst, Option, Some, inr, [], arith}
+use Rattle.std.proofs.Common.{ℕ, ◌≡◌, ◌≤◌, ◌⊎◌, ◌++◌, inl, List, true, refl, sym, ap, ◌∙◌, subst, Option, Some, inr, [], ◌∷◌, arith}
 use Rattle.std.specs.Prelude.{is_some, unwrap_or}
 use Rattle.std.proofs.lemmas.Bool.{true≢false}
 use Rattle.mark_core.specs.declared.kinds.Phase.TheVariants.{Clear, Drain, Full, Idle, Marking, Sweep}
@@ -34,6 +34,9 @@ use Rattle.gc_cycle.specs.Sorts.{ends_cycle, raises_flag}
 use Rattle.cache_refills.specs.Stops.{may_end}
 use Rattle.cache_refills.proofs.Causes.{after-join}
 use Rattle.cache_refills.proofs.Stops.Visits.{after-once, raised-may, some-counted, unended-later}
+use Rattle.cache_refills.specs.Notices as notices
+use Rattle.cache_refills.specs.Telling.{TellsStops}
+use Rattle.cache_refills.proofs.Telling.{stops-join, stops-last, stops-one, told-join, told-none, told-one, untold-none}
 use Rattle.cache_refills.proofs.claiming.claim_in_stop.Goals as goal
 
 pub claim_or_collect-requires-clause-alone : goal.claim_or_collect-requires-clause-alone
@@ -207,3 +210,27 @@ returns-in_default-clause-cycles g c = λ before h.
     let p = c.precise.ensures.ends in
     let e = c.claim_or_fill.ensures in
     collected-cycles c.args.heap.now.shape before u v w p.ran e.claims.ran h p.once (unended-later c.args.heap.now.shape (before ++ events u v) (events v w) e.unended)
+
+pub returns-in-Some-Full-clause-told : goal.returns-in-Some-Full-clause-told
+returns-in-Some-Full-clause-told g c =
+    let u : View = view_of c.args.seat.now in told-none g.W.Watch.hears (λ ns. TellsStops ns u u) c.args.watch.now (untold-none u)
+
+pub returns-in-Some-Marking-clause-told : goal.returns-in-Some-Marking-clause-told
+returns-in-Some-Marking-clause-told g c =
+    let u : View = view_of c.args.seat.now in
+    let v : View = view_of c.finish_cycle.new.seat in
+    let w : View = view_of c.claim_or_collect.new.seat in
+    let f = c.finish_cycle.ensures in
+    let first = stops-one (notices.finishes c.finish_cycle.result) u v f.ends.ran (f.ends, f.ordinary) in
+    told-join g.W.Watch.hears (λ ns. TellsStops ns u v) (λ ns. TellsStops ns v w) (λ ns. TellsStops ns u w) c.args.watch.now c.finishes.new.self c.claim_or_collect.new.watch (λ ms ns a b. stops-join ms ns u v w a b)
+    (told-one g.W.Watch.hears (λ ns. TellsStops ns u v) (notices.finishes c.finish_cycle.result) c.args.watch.now c.finishes.new.self c.finishes.ensures first) c.claim_or_collect.ensures.told
+
+pub returns-in_default-clause-told : goal.returns-in_default-clause-told
+returns-in_default-clause-told g c =
+    let u : View = view_of c.args.seat.now in
+    let v : View = view_of c.precise.new.seat in
+    let w : View = view_of c.claim_or_fill.new.seat in
+    let p = c.precise.ensures in
+    let n = notices.collects c.precise.result in
+    let one = stops-one n u v p.ends.ran (record { ends = p.ends; collected = exactly-collects c.args.heap.now.shape (begins u) (events u v) p.collects; exact = p.exact }) in
+    told-one g.W.Watch.hears (λ ns. TellsStops ns u w) n c.args.watch.now c.collects.new.self c.collects.ensures (stops-last (n ∷ []) u v w one c.claim_or_fill.ensures.untold)

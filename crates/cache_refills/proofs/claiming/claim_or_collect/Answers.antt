@@ -1,4 +1,4 @@
-use Rattle.std.proofs.Common.{[], ◌++◌, ◌<◌, ◌≤◌, List, None, Some, arith, inl, ap, ◌≡◌, ◌∙◌, true, sym, subst}
+use Rattle.std.proofs.Common.{[], ◌∷◌, ◌++◌, ◌<◌, ◌≤◌, List, None, Some, arith, inl, ap, ◌≡◌, ◌∙◌, true, sym, subst}
 use Rattle.std.proofs.lemmas.Bool.{not-true}
 use Rattle.mark_core.specs.Layout.{block_count}
 use Rattle.gc_table.specs.declared.view.Entry.{Entry}
@@ -25,6 +25,10 @@ use Rattle.gc_cycle.proofs.Sequences.{followed-later}
 use Rattle.gc_cycle.proofs.Changes.{numbers-after, numbers-join, numbers-one, claim-by, seeks-by}
 use Rattle.gc_cycle.specs.Statistics.{taken}
 use Rattle.cache_refills.proofs.Stops.InStops.{unbegun-claims, unbegun-join, unbegun-seeks, unended-claims, unended-seeks}
+use Rattle.cache_refills.specs.Notices as notices
+use Rattle.cache_refills.specs.Telling.{TellsStops}
+use Rattle.cache_refills.proofs.Stops.Told.{claims-untold}
+use Rattle.cache_refills.proofs.Telling.{stops-first, stops-last, stops-one, told-none, told-one}
 use Rattle.cache_refills.proofs.claiming.claim_or_collect.Goals as goal
 
 collected-after : (sh : Shape) (u v w : View) → Ran u v → Ran v w → collects_exactly sh (begins v) (events v w) ≡ true → collects (events u w) ≡ true
@@ -135,3 +139,22 @@ returns-clause-cycles g c = λ before.
     let f = c.claim_or_fill.ensures in
     let some : 0 < block_count sh = subst (λ (s : Shape). 0 < block_count s) c.requires.seat.1 (some-blocks u c.args.seat.now.possible) in
     collected-cycles sh before u v (view_of c.precise.new.seat) (view_of c.claim_or_fill.new.seat) c.claim.ensures.ran p.ran f.claims.ran (unended-seeks u v n.3) (search-failed sh (events u v) some n.3 n.2) p.once f.unended
+
+pub returns-in-Some-clause-told : goal.returns-in-Some-clause-told
+returns-in-Some-clause-told g c =
+    let u : View = view_of c.args.seat.now in
+    let v : View = view_of c.claim.new.seat in
+    told-none g.W.Watch.hears (λ ns. TellsStops ns u v) c.args.watch.now (claims-untold c.args.heap.now.shape (Some c.in-Some.cache) u v c.claim.ensures.ran c.in-Some.ensures.some tt)
+
+pub returns-clause-told : goal.returns-clause-told
+returns-clause-told g c =
+    let u : View = view_of c.args.seat.now in
+    let v : View = view_of c.claim.new.seat in
+    let w : View = view_of c.precise.new.seat in
+    let x : View = view_of c.claim_or_fill.new.seat in
+    let sh : Shape = c.args.heap.now.shape in
+    let p = c.precise.ensures in
+    let n = notices.collects c.precise.result in
+    let one = stops-one n v w p.ends.ran (record { ends = p.ends; collected = exactly-collects sh (begins v) (events v w) p.collects; exact = p.exact }) in
+    told-one g.W.Watch.hears (λ ns. TellsStops ns u x) n c.args.watch.now c.collects.new.self c.collects.ensures
+    (stops-first (n ∷ []) u v x (claims-untold sh None u v c.claim.ensures.ran tt c.in_default.ensures.none) (stops-last (n ∷ []) v w x one c.claim_or_fill.ensures.untold))

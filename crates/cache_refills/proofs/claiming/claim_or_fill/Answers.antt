@@ -19,6 +19,10 @@ use Rattle.alloc_cache.specs.declared.cache.Cache.{Cache}
 use Rattle.gc_cycle.proofs.Changes.{by-join, changes-after, numbers-one, only-changes, claim-any}
 use Rattle.gc_cycle.specs.Statistics.{taken}
 use Rattle.cache_refills.proofs.Stops.InStops.{unbegun-after, unbegun-any, unbegun-join, unbegun-part, unended-after, unended-any, unended-join, unended-part}
+use Rattle.gc_cycle.specs.Mutating.{spares_world}
+use Rattle.gc_table.proofs.History.Log.{only-after}
+use Rattle.cache_refills.proofs.Stops.Told.{claims-untold, part-untold}
+use Rattle.cache_refills.proofs.Telling.{untold-join}
 use Rattle.cache_refills.proofs.claiming.claim_or_fill.Goals as goal
 
 pub store_named-requires-clause-may : goal.store_named-requires-clause-may
@@ -164,3 +168,23 @@ returns-clause-unended c =
     let a = c.all_allocated.ensures.part in
     let e = c.claim.ensures in
     unended-join u v w a.ran e.ran (unended-part Idle u v a) (unended-any c.args.heap.now.shape c.claim.result v w e.some e.none)
+
+pub returns-then-all_allocated-clause-untold : goal.returns-then-all_allocated-clause-untold
+returns-then-all_allocated-clause-untold c =
+    let u : View = view_of c.args.seat.now in
+    let v : View = view_of c.all_allocated.new.seat in
+    let w : View = view_of c.store_named.new.seat in
+    let x : View = view_of c.store_phase.new.seat in
+    let s = c.store_named.ensures.view in
+    let t = c.store_phase.ensures.view in
+    untold-join u v x (part-untold Idle u v c.all_allocated.ensures.part)
+    (untold-join v w x (ran-stored v w StoreNamed refl s, only-after spares_world v w StoreNamed (written v.shape v.state StoreNamed 0) refl s)
+    (ran-found w x (StorePhase Full) t.0 refl (t.1, t.2), only-after spares_world w x (StorePhase Full) t.0 refl t.1))
+
+pub returns-clause-untold : goal.returns-clause-untold
+returns-clause-untold c =
+    let u : View = view_of c.args.seat.now in
+    let v : View = view_of c.all_allocated.new.seat in
+    let w : View = view_of c.claim.new.seat in
+    let e = c.claim.ensures in
+    untold-join u v w (part-untold Idle u v c.all_allocated.ensures.part) (claims-untold c.args.heap.now.shape c.claim.result v w e.ran e.some e.none)

@@ -23,6 +23,10 @@ use Rattle.gc_cycle.proofs.Refills.Answered.{answers-calm}
 use Rattle.cache_refills.proofs.Stops.InStops.{fills-from, searched, unbegun-answers, unbegun-claims, unbegun-join, unbegun-seeks}
 use Rattle.cache_refills.proofs.Refills.RoundsSoFar.{claims-refill, leaves-first}
 use Rattle.gc_cycle.proofs.Changes.{seeks-by}
+use Rattle.std.proofs.Common.{None}
+use Rattle.cache_refills.specs.Telling.{TellsStops}
+use Rattle.cache_refills.proofs.Stops.Told.{answers-untold, claims-untold}
+use Rattle.cache_refills.proofs.Telling.{stops-first, told-more, told-none, untold-join}
 use Rattle.cache_refills.proofs.in_stops.fill_once.Goals as goal
 
 pub returns-in-None-clause-round : goal.returns-in-None-clause-round
@@ -130,3 +134,20 @@ returns-in-Some-clause-pops g c =
     let w : View = view_of c.keep_cache.new.seat in
     let p = c.keep_cache.ensures in
     leads-pops v x w (leads-prepared v x c.claim.ensures.ran (claims-only c.in-Some.cache v x c.in-Some.ensures.some)) p.ran (unpopped (events x w) (answered-pops x w p.only))
+
+pub returns-in-None-clause-told : goal.returns-in-None-clause-told
+returns-in-None-clause-told g c =
+    let v : View = view_of c.args.seat.now in
+    let x : View = view_of c.claim.new.seat in
+    let y : View = view_of c.refill_in_stop.new.seat in
+    let before = claims-untold c.args.heap.now.shape None v x c.claim.ensures.ran tt c.in-None.ensures.none in
+    told-more g.W.Watch.hears (λ ns. TellsStops ns x y) (λ ns. TellsStops ns v y) c.args.watch.now c.refill_in_stop.new.watch (λ ns k. stops-first ns v x y before k) c.refill_in_stop.ensures.told
+
+pub returns-in-Some-clause-told : goal.returns-in-Some-clause-told
+returns-in-Some-clause-told g c =
+    let v : View = view_of c.args.seat.now in
+    let x : View = view_of c.claim.new.seat in
+    let w : View = view_of c.keep_cache.new.seat in
+    let e = c.keep_cache.ensures in
+    told-none g.W.Watch.hears (λ ns. TellsStops ns v w) c.args.watch.now
+    (untold-join v x w (claims-untold c.args.heap.now.shape (Some c.in-Some.cache) v x c.claim.ensures.ran c.in-Some.ensures.some tt) (answers-untold x w e.ran e.only))

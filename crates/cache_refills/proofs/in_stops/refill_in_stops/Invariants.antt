@@ -4,6 +4,8 @@ use Rattle.cache_refills.specs.InStops.{begins_none}
 use Rattle.gc_table.specs.Seats.{Sits, view_of}
 use Rattle.gc_cycle.specs.Statistics.{ChangesNumbers}
 use Rattle.cache_refills.proofs.Refills.RoundsSoFar.{HasTried}
+use Rattle.cache_refills.specs.Notices.{IsTold}
+use Rattle.cache_refills.specs.Telling.{TellsStops}
 use Rattle.cache_refills.proofs.in_stops.refill_in_stops.Given as goal
 
 abbrev pub invariant-loop : goal.invariant-loop
@@ -14,4 +16,5 @@ invariant-loop g l = record {
   numbers : ChangesNumbers [] (view_of l.fn.seat) (view_of l.seat);
   tried : HasTried l.fn.done (view_of l.fn.seat) (view_of l.seat);
   unbegun : begins_none (events (view_of l.fn.seat) (view_of l.seat)) ≡ true;
+  told : IsTold g.W.Watch.hears (λ ns. TellsStops ns (view_of l.fn.seat) (view_of l.seat)) l.fn.watch l.watch;
 }

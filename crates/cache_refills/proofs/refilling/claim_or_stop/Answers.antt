@@ -1,4 +1,4 @@
-use Rattle.std.proofs.Common.{◌<◌, Some, subst}
+use Rattle.std.proofs.Common.{◌≡◌, ◌<◌, ◌∙◌, ap, None, Some, subst}
 use Rattle.std.proofs.lemmas.Bool.{not-true}
 use Rattle.mark_core.specs.Layout.{block_count}
 use Rattle.mark_core.specs.declared.kinds.Shape.{Shape}
@@ -19,6 +19,13 @@ use Rattle.gc_cycle.proofs.Changes.{seeks-by}
 use Rattle.gc_table.specs.Log.{events}
 use Rattle.cache_refills.proofs.Due.{due-calm, due-join, due-none}
 use Rattle.cache_refills.proofs.Stops.InStops.{unbegun-claims, unbegun-seeks}
+use Rattle.gc_table.proofs.Running.{ran-events}
+use Rattle.packet_pools.specs.Seeking.{some_event}
+use Rattle.packet_pools.proofs.Searches.{some-left}
+use Rattle.gc_cycle.specs.Sorts.{claims}
+use Rattle.cache_refills.specs.Telling.{TellsRefill, TellsRound, TellsStops, payment}
+use Rattle.cache_refills.proofs.Stops.Told.{calm-untold, claims-untold}
+use Rattle.cache_refills.proofs.Telling.{inside-round, outside-refill, telling-later, told-more, untold-join}
 use Rattle.cache_refills.proofs.refilling.claim_or_stop.Goals as goal
 
 pub returns-in-None-clause-round : goal.returns-in-None-clause-round
@@ -129,3 +136,26 @@ returns-in-Some-clause-pops g c =
     let w : View = view_of c.pay_for-refill.new.seat in
     let p = c.pay_for-refill.ensures in
     leads-claimed v x w (leads-prepared v x c.claim.ensures.ran (claims-only c.in-Some.cache v x c.in-Some.ensures.some)) p.ran (claims-block c.in-Some.cache v x c.in-Some.ensures.some) (calm-claims x w p.only)
+
+pub returns-in-None-clause-told : goal.returns-in-None-clause-told
+returns-in-None-clause-told g c =
+    let v : View = view_of c.args.seat.now in
+    let x : View = view_of c.claim.new.seat in
+    let y : View = view_of c.refill_in_stop.new.seat in
+    let o = c.refill_in_stop.result in
+    let r = c.refill_in_stop.ensures in
+    told-more g.W.Watch.hears (λ ns. TellsStops ns x y) (λ ns. TellsRound o ns v y) c.args.watch.now c.refill_in_stop.new.watch
+    (λ ns k. telling-later o ns v x y r.round.ran (claims-untold c.args.heap.now.shape None v x c.claim.ensures.ran tt c.in-None.ensures.none) (inside-round o ns x y r.inside k)) r.told
+
+pub returns-in-Some-clause-told : goal.returns-in-Some-clause-told
+returns-in-Some-clause-told g c =
+    let v : View = view_of c.args.seat.now in
+    let x : View = view_of c.claim.new.seat in
+    let w : View = view_of c.pay_for-refill.new.seat in
+    let some = c.in-Some.ensures.some in
+    let ran = c.claim.ensures.ran in
+    let r = c.pay_for-refill.result in
+    let p = c.pay_for-refill.ensures in
+    let untold = untold-join v x w (claims-untold c.args.heap.now.shape (Some c.in-Some.cache) v x ran some tt) (calm-untold x w p.ran p.only p.inside) in
+    let claimed = ap (some_event claims) (ran-events v x w ran p.ran) ∙ some-left claims (events v x) (events x w) (claims-block c.in-Some.cache v x some) in
+    told-more g.W.Watch.hears (λ ns. ns ≡ payment r) (λ ns. TellsRefill r ns v w) c.args.watch.now c.tell_paid.new.watch (λ ns e. outside-refill r ns v w untold claimed e) c.tell_paid.ensures

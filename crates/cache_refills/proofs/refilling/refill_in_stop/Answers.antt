@@ -9,10 +9,18 @@ use Rattle.cache_refills.proofs.Stops.StopEnds.{stop-outside, stop-pops}
 use Rattle.gc_cycle.proofs.Changes.{numbers-one, only-changes}
 use Rattle.gc_cycle.specs.Statistics.{GivesUp, taken}
 use Rattle.cache_refills.proofs.Refills.RoundsSoFar.{stop-full, stop-none, stop-some, stop-takes}
+use Rattle.gc_table.specs.Log.{events}
+use Rattle.gc_cycle.proofs.Stops.Popping.{works-pop}
+use Rattle.cache_refills.specs.Notices as notices
+use Rattle.cache_refills.specs.Telling.{TellsStops}
+use Rattle.cache_refills.proofs.Stops.Told.{stop-inside, stop-told}
+use Rattle.cache_refills.proofs.Telling.{stops-asking, told-one}
+use Rattle.std.specs.Prelude.{is_some}
+use Rattle.gc_cycle.proofs.Refills.Answered.{cached-still}
 use Rattle.cache_refills.proofs.refilling.refill_in_stop.Goals as goal
 
 pub returns-then-not-stop-clause-round : goal.returns-then-not-stop-clause-round
-returns-then-not-stop-clause-round g c = round-theirs c.args.done (view_of c.args.seat.now) (view_of c.stop.new.seat) c.stop.ensures.tries c.stop.ensures.position (c.stop.ensures.raises ∙ ap (λ (b : Bool). if b then 1 else 0) c.if-not-stop.true) c.stop.ensures.unresumed c.stop.ensures.pops c.if-not-stop.ensures.theirs
+returns-then-not-stop-clause-round g c = round-theirs c.args.done (view_of c.args.seat.now) (view_of c.stop.new.seat) c.stop.ensures.tries c.stop.ensures.position (c.stop.ensures.raises ∙ ap (λ (b : Bool). if b then 1 else 0) c.if-not-stop.true) c.stop.ensures.unresumed (works-pop (events (view_of c.args.seat.now) (view_of c.stop.new.seat)) c.stop.ensures.pops) c.if-not-stop.ensures.theirs
 
 pub resume-requires-clause-done : goal.resume-requires-clause-done
 resume-requires-clause-done g c = done-resuming (view_of c.claim_in_stop-cache.new.seat) c.claim_in_stop-cache.ensures.claims.resume
@@ -96,7 +104,7 @@ returns-in-None-clause-round g c =
     let d = c.resume.ensures.step in
     let e = c.goes_on.ensures in
     let k = rw c.in-None.is at c.if-not-goes_on.ensures.going in
-    round-none o u v w x y t once i.claims d e.ran e.only c.args.done c.args.heap.now.shape c.stop.ensures.position c.requires.seat.0.1 c.if-not-stop.ensures.yours.raised i.fills c.stop.ensures.unresumed i.cycles i.ends c.stop.ensures.pops i.full i.missed k e.seat.1
+    round-none o u v w x y t once i.claims d e.ran e.only c.args.done c.args.heap.now.shape c.stop.ensures.position c.requires.seat.0.1 c.if-not-stop.ensures.yours.raised i.fills c.stop.ensures.unresumed i.cycles i.ends (works-pop (events u v) c.stop.ensures.pops) i.full i.missed k e.seat.1
 
 pub returns-then-not-stop-clause-numbers : goal.returns-then-not-stop-clause-numbers
 returns-then-not-stop-clause-numbers g c =
@@ -183,25 +191,65 @@ returns-in-None-clause-outside g c =
     c.stop.ensures.outside i.calm
 
 pub returns-then-not-stop-clause-pops : goal.returns-then-not-stop-clause-pops
-returns-then-not-stop-clause-pops g c = c.stop.ensures.pops
+returns-then-not-stop-clause-pops g c = works-pop (events (view_of c.args.seat.now) (view_of c.stop.new.seat)) c.stop.ensures.pops
 
 pub returns-then-not-goes_on-clause-pops : goal.returns-then-not-goes_on-clause-pops
 returns-then-not-goes_on-clause-pops g c =
     let i = c.claim_in_stop-cache.ensures.claims in
     let s = c.stop.ensures in
     stop-pops (view_of c.args.seat.now) (view_of c.stop.new.seat) (view_of c.claim_in_stop-cache.new.seat) (view_of c.resume.new.seat) (view_of c.goes_on.new.seat) s.tries.ran i.ran c.resume.ensures.step c.goes_on.ensures.ran c.goes_on.ensures.only
-    s.pops c.if-not-stop.ensures.yours.raised s.unresumed i.stopped
+    (works-pop (events (view_of c.args.seat.now) (view_of c.stop.new.seat)) s.pops) c.if-not-stop.ensures.yours.raised s.unresumed i.stopped
 
 pub returns-in-Some-clause-pops : goal.returns-in-Some-clause-pops
 returns-in-Some-clause-pops g c =
     let i = c.claim_in_stop-cache.ensures.claims in
     let s = c.stop.ensures in
     stop-pops (view_of c.args.seat.now) (view_of c.stop.new.seat) (view_of c.claim_in_stop-cache.new.seat) (view_of c.resume.new.seat) (view_of c.goes_on.new.seat) s.tries.ran i.ran c.resume.ensures.step c.goes_on.ensures.ran c.goes_on.ensures.only
-    s.pops c.if-not-stop.ensures.yours.raised s.unresumed i.stopped
+    (works-pop (events (view_of c.args.seat.now) (view_of c.stop.new.seat)) s.pops) c.if-not-stop.ensures.yours.raised s.unresumed i.stopped
 
 pub returns-in-None-clause-pops : goal.returns-in-None-clause-pops
 returns-in-None-clause-pops g c =
     let i = c.claim_in_stop-cache.ensures.claims in
     let s = c.stop.ensures in
     stop-pops (view_of c.args.seat.now) (view_of c.stop.new.seat) (view_of c.claim_in_stop-cache.new.seat) (view_of c.resume.new.seat) (view_of c.goes_on.new.seat) s.tries.ran i.ran c.resume.ensures.step c.goes_on.ensures.ran c.goes_on.ensures.only
-    s.pops c.if-not-stop.ensures.yours.raised s.unresumed i.stopped
+    (works-pop (events (view_of c.args.seat.now) (view_of c.stop.new.seat)) s.pops) c.if-not-stop.ensures.yours.raised s.unresumed i.stopped
+
+pub returns-then-not-stop-clause-told : goal.returns-then-not-stop-clause-told
+returns-then-not-stop-clause-told g c =
+    let u : View = view_of c.args.seat.now in
+    let v : View = view_of c.stop.new.seat in
+    told-one g.W.Watch.hears (λ ns. TellsStops ns u v) notices.asks c.args.watch.now c.asks.new.self c.asks.ensures (stops-asking u v c.stop.ensures.asks)
+
+pub returns-then-not-goes_on-clause-told : goal.returns-then-not-goes_on-clause-told
+returns-then-not-goes_on-clause-told g c =
+    let e = c.goes_on.ensures in
+    stop-told (view_of c.stop.new.seat) (view_of c.claim_in_stop-cache.new.seat) (view_of c.resume.new.seat) (view_of c.goes_on.new.seat) c.resume.ensures.step e.ran e.only g.W.Watch.hears (view_of c.args.seat.now)
+    c.args.watch.now c.asks.new.self c.claim_in_stop-cache.new.watch c.resumes.new.self c.stop.ensures.asks c.asks.ensures c.claim_in_stop-cache.ensures.told c.resumes.ensures
+
+pub returns-in-Some-clause-told : goal.returns-in-Some-clause-told
+returns-in-Some-clause-told g c =
+    let e = c.goes_on.ensures in
+    stop-told (view_of c.stop.new.seat) (view_of c.claim_in_stop-cache.new.seat) (view_of c.resume.new.seat) (view_of c.goes_on.new.seat) c.resume.ensures.step e.ran e.only g.W.Watch.hears (view_of c.args.seat.now)
+    c.args.watch.now c.asks.new.self c.claim_in_stop-cache.new.watch c.resumes.new.self c.stop.ensures.asks c.asks.ensures c.claim_in_stop-cache.ensures.told c.resumes.ensures
+
+pub returns-in-None-clause-told : goal.returns-in-None-clause-told
+returns-in-None-clause-told g c =
+    let e = c.goes_on.ensures in
+    stop-told (view_of c.stop.new.seat) (view_of c.claim_in_stop-cache.new.seat) (view_of c.resume.new.seat) (view_of c.goes_on.new.seat) c.resume.ensures.step e.ran e.only g.W.Watch.hears (view_of c.args.seat.now)
+    c.args.watch.now c.asks.new.self c.claim_in_stop-cache.new.watch c.resumes.new.self c.stop.ensures.asks c.asks.ensures c.claim_in_stop-cache.ensures.told c.resumes.ensures
+
+pub returns-in-Some-clause-inside : goal.returns-in-Some-clause-inside
+returns-in-Some-clause-inside g c =
+    let e = c.goes_on.ensures in
+    let k = rw c.in-Some.is at c.if-not-goes_on.ensures.going in
+    stop-inside (view_of c.stop.new.seat) (view_of c.claim_in_stop-cache.new.seat) (view_of c.resume.new.seat) (view_of c.goes_on.new.seat) c.resume.ensures.step e.ran e.only c.claim_in_stop-cache.result c.in-Some.kept (view_of c.args.seat.now)
+    c.stop.ensures.tries.ran c.claim_in_stop-cache.ensures.claims k.same
+
+pub claim_in_stop-cache-requires-clause-stopped : goal.claim_in_stop-cache-requires-clause-stopped
+claim_in_stop-cache-requires-clause-stopped g c =
+    let y = c.if-not-stop.ensures.yours in
+    record { rest = y.rest; section = ap (λ o. is_some o) c.stop.ensures.tries.seat.section ∙ c.requires.seat.1.section; unhelping = y.unhelping; phase = y.phase; alone = y.alone; seen = y.seen; left = y.left }
+
+pub goes_on-requires-clause-cache : goal.goes_on-requires-clause-cache
+goes_on-requires-clause-cache g c =
+    cached-still c.claim_in_stop-cache.result (view_of c.claim_in_stop-cache.new.seat) (view_of c.resume.new.seat) (ap (λ (x : View). x.state.cache) c.resume.ensures.step.1.0) c.claim_in_stop-cache.ensures.claims.cached

@@ -14,9 +14,14 @@ use Rattle.gc_cycle.proofs.Sequences.{none-of-steps}
 use Rattle.cache_refills.proofs.Stops.StopEnds.{answers-in}
 use Rattle.cache_refills.proofs.Refills.RoundsSoFar.{leaves-first, leaves-full}
 use Rattle.gc_cycle.proofs.Changes.{by-join}
-use Rattle.std.proofs.Common.{[]}
 use Rattle.gc_table.specs.Log.{events}
 use Rattle.cache_refills.proofs.Due.{due-calm, due-join, due-none}
+use Rattle.std.proofs.Common.{[], Some, refl}
+use Rattle.gc_cycle.specs.declared.counts.Refill.TheVariants as refills
+use Rattle.cache_refills.specs.Refilling.{prepares}
+use Rattle.cache_refills.specs.Telling.{IsUntold, TellsRound, TellsStops}
+use Rattle.cache_refills.proofs.Stops.Told.{answers-untold, prepared-untold}
+use Rattle.cache_refills.proofs.Telling.{inside-round, telling-later, told-more, told-none, untold-join}
 use Rattle.cache_refills.proofs.refilling.refill_once.Goals as goal
 
 pub returns-then-stores_if_full-clause-round : goal.returns-then-stores_if_full-clause-round
@@ -191,3 +196,37 @@ returns-clause-pops g c =
     let x : View = view_of c.sees_to_cycle.new.seat in
     let s = c.sees_to_cycle.ensures in
     leads-paid v x (view_of c.claim_or_stop.new.seat) (leads-join v w x (leads-looked v w c.if-stores_if_full.ensures.going) (leads-prepared w x s.ran s.only)) c.claim_or_stop.ensures.round.ran c.claim_or_stop.ensures.pops
+
+pub returns-then-stores_if_full-clause-told : goal.returns-then-stores_if_full-clause-told
+returns-then-stores_if_full-clause-told g c =
+    let v : View = view_of c.args.seat.now in
+    let w : View = view_of c.stores_if_full.new.seat in
+    let e = c.stores_if_full.ensures in
+    told-none g.W.Watch.hears (λ ns. TellsRound (Some refills.Full) ns v w) c.args.watch.now (record { stops = []; last = []; all = refl; tells = answers-untold v w e.ran e.only; paid = refl })
+
+pub returns-then-sees_to_cycle-clause-told : goal.returns-then-sees_to_cycle-clause-told
+returns-then-sees_to_cycle-clause-told g c =
+    let v : View = view_of c.args.seat.now in
+    let w : View = view_of c.stores_if_full.new.seat in
+    let x : View = view_of c.sees_to_cycle.new.seat in
+    let y : View = view_of c.refill_in_stop.new.seat in
+    let e = c.stores_if_full.ensures in
+    let s = c.sees_to_cycle.ensures in
+    let r = c.refill_in_stop.ensures in
+    let o = c.refill_in_stop.result in
+    let untold : IsUntold v x = untold-join v w x (answers-untold v w e.ran e.only) (prepared-untold w x s.ran s.only) in
+    told-more g.W.Watch.hears (λ ns. TellsStops ns x y) (λ ns. TellsRound o ns v y) c.args.watch.now c.refill_in_stop.new.watch
+    (λ ns k. telling-later o ns v x y r.round.ran untold (inside-round o ns x y r.inside k)) r.told
+
+pub returns-clause-told : goal.returns-clause-told
+returns-clause-told g c =
+    let v : View = view_of c.args.seat.now in
+    let w : View = view_of c.stores_if_full.new.seat in
+    let x : View = view_of c.sees_to_cycle.new.seat in
+    let y : View = view_of c.claim_or_stop.new.seat in
+    let e = c.stores_if_full.ensures in
+    let s = c.sees_to_cycle.ensures in
+    let r = c.claim_or_stop.ensures in
+    let o = c.claim_or_stop.result in
+    let untold : IsUntold v x = untold-join v w x (answers-untold v w e.ran e.only) (prepared-untold w x s.ran s.only) in
+    told-more g.W.Watch.hears (λ ns. TellsRound o ns x y) (λ ns. TellsRound o ns v y) c.args.watch.now c.claim_or_stop.new.watch (λ ns k. telling-later o ns v x y r.round.ran untold k) r.told

@@ -11,16 +11,18 @@ use Rattle.gc_cycle.proofs.Refills.KnownFull.{tells-none}
 use Rattle.cache_refills.proofs.Refills.RoundsSoFar.{ends-round, rules-at, tried-more, tried-none}
 use Rattle.gc_cycle.proofs.Changes.{by-none, numbers-join, numbers-one}
 use Rattle.cache_refills.proofs.Due.{due-empty, due-join}
+use Rattle.cache_refills.specs.Telling.{TellsRefill, TellsStops}
+use Rattle.cache_refills.proofs.Telling.{refill-later, stops-join, told-join, told-none, untold-none}
 use Rattle.cache_refills.proofs.refilling.refill_watched.Goals as goal
 
 pub loop-init : goal.loop-init
-loop-init g c = record { next = tt; finite = tt; sits = c.requires.seat.0; numbers = numbers-one [] (view_of c.args.seat.now) (view_of c.args.seat.now) (by-none (view_of c.args.seat.now)); due = due-empty (view_of c.args.seat.now); tried = tried-none c.args.done (view_of c.args.seat.now) c.requires.seat.1 c.requires.cache }
+loop-init g c = record { next = tt; finite = tt; sits = c.requires.seat.0; numbers = numbers-one [] (view_of c.args.seat.now) (view_of c.args.seat.now) (by-none (view_of c.args.seat.now)); due = due-empty (view_of c.args.seat.now); tried = tried-none c.args.done (view_of c.args.seat.now) c.requires.seat.1 c.requires.cache; told = told-none g.W.Watch.hears (λ ns. TellsStops ns (view_of c.args.seat.now) (view_of c.args.seat.now)) c.args.watch.now (untold-none (view_of c.args.seat.now)) }
 
 pub loop-preserved : goal.loop-preserved
 loop-preserved g c =
     let i = c.loop.invariant in
     let e = c.refill_once.ensures in
-    record { next = tt; finite = tt; sits = e.seat; numbers = numbers-join [] (view_of c.args.seat.now) (view_of c.loop.seat) (view_of c.refill_once.new.seat) i.numbers c.in_default.ensures.numbers; due = due-join (view_of c.args.seat.now) (view_of c.loop.seat) (view_of c.refill_once.new.seat) i.tried.ran e.round.ran i.due e.due; tried = tried-more c.args.done (view_of c.args.seat.now) (view_of c.loop.seat) (view_of c.refill_once.new.seat) i.tried c.in_default.ensures.round (subst (λ (sh : Shape). stops_with_cause sh (events (view_of c.loop.seat) (view_of c.refill_once.new.seat)) ≡ true) (sym i.sits.1) e.stops) (subst (λ (sh : Shape). stops_in_visit sh (events (view_of c.loop.seat) (view_of c.refill_once.new.seat)) ≡ true) (sym i.sits.1) e.visit) }
+    record { next = tt; finite = tt; sits = e.seat; numbers = numbers-join [] (view_of c.args.seat.now) (view_of c.loop.seat) (view_of c.refill_once.new.seat) i.numbers c.in_default.ensures.numbers; due = due-join (view_of c.args.seat.now) (view_of c.loop.seat) (view_of c.refill_once.new.seat) i.tried.ran e.round.ran i.due e.due; tried = tried-more c.args.done (view_of c.args.seat.now) (view_of c.loop.seat) (view_of c.refill_once.new.seat) i.tried c.in_default.ensures.round (subst (λ (sh : Shape). stops_with_cause sh (events (view_of c.loop.seat) (view_of c.refill_once.new.seat)) ≡ true) (sym i.sits.1) e.stops) (subst (λ (sh : Shape). stops_in_visit sh (events (view_of c.loop.seat) (view_of c.refill_once.new.seat)) ≡ true) (sym i.sits.1) e.visit); told = told-join g.W.Watch.hears (λ ns. TellsStops ns (view_of c.args.seat.now) (view_of c.loop.seat)) (λ ns. TellsStops ns (view_of c.loop.seat) (view_of c.refill_once.new.seat)) (λ ns. TellsStops ns (view_of c.args.seat.now) (view_of c.refill_once.new.seat)) c.args.watch.now c.loop.watch c.refill_once.new.watch (λ ms ns a b. stops-join ms ns (view_of c.args.seat.now) (view_of c.loop.seat) (view_of c.refill_once.new.seat) a b) i.told c.in_default.ensures.told }
 
 pub returns-in-Some-refill_once : goal.returns-in-Some-refill_once
 returns-in-Some-refill_once g c =
@@ -37,4 +39,5 @@ returns-in-Some-refill_once g c =
       refills = e.some u t.ran (t.tells u (ran-refl u) (tells-none u)) t.position;
       pops = ap pops_where_paid (ran-events u v w t.ran e.round.ran) ∙ paid-join (events u v) (events v w) t.pops e.pops;
       due = due-join u v w t.ran e.round.ran i.due e.due;
+      told = told-join g.W.Watch.hears (λ ns. TellsStops ns u v) (λ ns. TellsRefill c.in-Some-refill_once.refill ns v w) (λ ns. TellsRefill c.in-Some-refill_once.refill ns u w) c.args.watch.now c.loop.watch c.refill_once.new.watch (λ ms ns a b. refill-later c.in-Some-refill_once.refill ms ns u v w t.ran e.round.ran a b) i.told e.told;
     }

@@ -7,13 +7,13 @@ use Rattle.gc_table.proofs.Running.{ran-events, ran-join, ran-only, ran-refl}
 use Rattle.packet_pools.specs.Counts.{count_of}
 use Rattle.packet_pools.proofs.Counting.{count-join}
 use Rattle.gc_cycle.specs.Collecting.{spares_section}
-use Rattle.gc_cycle.specs.Mutating.{pops_in_stops, tries_stopping}
+use Rattle.gc_cycle.specs.Mutating.{tries_stopping, works_in_stops}
 use Rattle.gc_cycle.specs.Sorts.{raises_flag}
 use Rattle.gc_cycle.proofs.Refills.Collected.{section-kept, tries-spare}
 use Rattle.gc_cycle.proofs.Refills.OneCycle.{cycles-join, tried-unended}
 use Rattle.gc_cycle.proofs.Refills.KnownFull.{tells-more, tells-none}
 use Rattle.gc_cycle.proofs.Stops.FlagRaised.{count-calls}
-use Rattle.gc_cycle.proofs.Stops.Popping.{pops-join}
+use Rattle.gc_cycle.proofs.Stops.Popping.{works-join}
 use Rattle.gc_cycle.proofs.Changes.{by-none, numbers-join, numbers-one}
 use Rattle.gc_cycle.proofs.Unbegun.{tries-unbegun, unbegun-join}
 use Rattle.gc_cycle.proofs.collecting.collect.Goals as goal
@@ -32,7 +32,7 @@ loop-init g c =
       calm = ap (count_of raises_flag) (events-none u);
       numbers = numbers-one [] u u (by-none u);
       tells = tells-none u;
-      pops = ap pops_in_stops (events-none u);
+      pops = ap works_in_stops (events-none u);
     }
 
 pub loop-preserved : goal.loop-preserved
@@ -54,7 +54,7 @@ loop-preserved g c =
       calm = count-calls u v w 0 0 i.ran e.ran i.calm n.calm;
       numbers = numbers-join [] u v w i.numbers e.numbers;
       tells = tells-more u v w i.ran e.ran n.only i.tells;
-      pops = ap pops_in_stops (ran-events u v w i.ran e.ran) ∙ pops-join (events u v) (events v w) i.pops e.pops;
+      pops = ap works_in_stops (ran-events u v w i.ran e.ran) ∙ works-join (events u v) (events v w) i.pops e.pops;
     }
 
 pub returns-in-Some-collect_once-clause-ran : goal.returns-in-Some-collect_once-clause-ran
@@ -135,4 +135,4 @@ returns-in-Some-collect_once-clause-pops g c =
     let w : View = view_of c.collect_once.new.seat in
     let i = c.loop.invariant in
     let e = c.collect_once.ensures in
-    ap pops_in_stops (ran-events u v w i.ran e.ran) ∙ pops-join (events u v) (events v w) i.pops e.pops
+    ap works_in_stops (ran-events u v w i.ran e.ran) ∙ works-join (events u v) (events v w) i.pops e.pops

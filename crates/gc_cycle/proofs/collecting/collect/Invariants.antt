@@ -4,7 +4,7 @@ use Rattle.gc_table.specs.Running.{Ran}
 use Rattle.gc_table.specs.Seats.{Sits, view_of}
 use Rattle.packet_pools.specs.Counts.{count_of}
 use Rattle.gc_cycle.specs.Answering.{TellsFull}
-use Rattle.gc_cycle.specs.Mutating.{pops_in_stops, tries_stopping}
+use Rattle.gc_cycle.specs.Mutating.{tries_stopping, works_in_stops}
 use Rattle.gc_cycle.specs.Sorts.{raises_flag}
 use Rattle.gc_cycle.specs.Standing.{Mutates}
 use Rattle.gc_cycle.specs.Statistics.{ChangesNumbers}
@@ -22,5 +22,5 @@ invariant-loop g l = record {
   calm : count_of raises_flag (events (view_of l.fn.seat) (view_of l.seat)) ≡ 0;
   numbers : ChangesNumbers [] (view_of l.fn.seat) (view_of l.seat);
   tells : TellsFull (view_of l.fn.seat) (view_of l.seat);
-  pops : pops_in_stops (events (view_of l.fn.seat) (view_of l.seat)) ≡ true;
+  pops : works_in_stops (events (view_of l.fn.seat) (view_of l.seat)) ≡ true;
 }

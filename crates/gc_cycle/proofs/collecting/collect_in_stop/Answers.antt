@@ -11,7 +11,7 @@ use Rattle.gc_cycle.proofs.Changes.{changes-after, numbers-after, numbers-one}
 use Rattle.gc_table.proofs.History.Log.{events-after}
 use Rattle.gc_cycle.specs.Events.{never}
 use Rattle.gc_cycle.specs.Sorts.{tries_marking}
-use Rattle.gc_cycle.proofs.Stops.Popping.{drop-pops, finished-pops}
+use Rattle.gc_cycle.proofs.Stops.Popping.{drop-works, finished-works}
 use Rattle.gc_cycle.proofs.Unbegun.{unbegun-join}
 use Rattle.gc_cycle.proofs.collecting.collect_in_stop.Goals as goal
 
@@ -80,11 +80,11 @@ returns-clause-unbegun g c =
     unbegun-join (view_of c.args.seat.now) w x p.ran r.ran p.unbegun (ap (never tries_marking) (events-after w x DropStep r.step.0 r.step.1.0))
 
 pub returns-then-has_seen_full-clause-pops : goal.returns-then-has_seen_full-clause-pops
-returns-then-has_seen_full-clause-pops g c = λ before h. let t = c.resume.ensures.step in drop-pops before (view_of c.args.seat.now) (view_of c.resume.new.seat) t.0 t.1.0
+returns-then-has_seen_full-clause-pops g c = λ before h. let t = c.resume.ensures.step in drop-works before (view_of c.args.seat.now) (view_of c.resume.new.seat) t.0 t.1.0
 
 pub returns-clause-pops : goal.returns-clause-pops
 returns-clause-pops g c = λ before h.
     let w : View = view_of c.precise.new.seat in
     let p = c.precise.ensures.ends in
     let r = c.resume-2.ensures in
-    finished-pops before (view_of c.args.seat.now) w (view_of c.resume-2.new.seat) r.step.0 p.ran p.only r.ran r.step.1.0 h
+    finished-works before (view_of c.args.seat.now) w (view_of c.resume-2.new.seat) r.step.0 p.ran p.only r.ran r.step.1.0 h

@@ -10,7 +10,7 @@ use Rattle.gc_cycle.proofs.Refills.Answered.{full-later}
 use Rattle.gc_cycle.proofs.Refills.Collected.{answers-section, answers-tried, answers-uncounted, goes-collected, held, none-raised, stopped, tells-tried, tried}
 use Rattle.gc_cycle.proofs.Refills.OneCycle.{tried-unended}
 use Rattle.gc_cycle.proofs.Changes.{by-join, numbers-collected, numbers-one, only-changes}
-use Rattle.gc_cycle.proofs.Stops.Popping.{answered-pops, raised-holds, stopped-pops, tried-pops, unpopped}
+use Rattle.gc_cycle.proofs.Stops.Popping.{answered-works, raised-holds, stopped-works, tried-works, unworked}
 use Rattle.gc_cycle.proofs.Unbegun.{answers-unbegun, stopped-unbegun, tries-unbegun, unbegun-join}
 use Rattle.gc_cycle.proofs.collecting.collect_once.Goals as goal
 
@@ -52,7 +52,7 @@ pub returns-then-stores_if_full-clause-pops : goal.returns-then-stores_if_full-c
 returns-then-stores_if_full-clause-pops g c =
     let u : View = view_of c.args.seat.now in
     let v : View = view_of c.stores_if_full.new.seat in
-    unpopped (events u v) (answered-pops u v c.stores_if_full.ensures.only)
+    unworked (events u v) (answered-works u v c.stores_if_full.ensures.only)
 
 pub returns-then-not-stop : goal.returns-then-not-stop
 returns-then-not-stop g c =
@@ -72,7 +72,7 @@ returns-then-not-stop g c =
       only = d.2;
       numbers = numbers-one [] u w (by-join [] [] u v w e.numbers (only-changes v w t.tries.ran t.numbers));
       unbegun = unbegun-join u v w e.ran t.tries.ran (answers-unbegun u v e.only) (tries-unbegun v w t.tries.only);
-      pops = tried-pops u v w e.ran e.only t.tries.ran t.pops;
+      pops = tried-works u v w e.ran e.only t.tries.ran t.pops;
       known = tt;
     }
 
@@ -98,7 +98,7 @@ returns-then-stores_if_full-2 g c =
       only = d.1;
       numbers = numbers-collected u v w x y e.numbers (only-changes v w t.tries.ran t.numbers) i.numbers l.numbers;
       unbegun = stopped-unbegun u v w x y e.ran e.only t.tries i.ends.ran i.unbegun l.ran l.only;
-      pops = stopped-pops u v w x y e.ran e.only t.tries.ran t.pops (raised-holds (events v w) c.if-not-stop.ensures.yours.raised t.unresumed) i.ends.ran i.pops l.ran l.only;
+      pops = stopped-works u v w x y e.ran e.only t.tries.ran t.pops (raised-holds (events v w) c.if-not-stop.ensures.yours.raised t.unresumed) i.ends.ran i.pops l.ran l.only;
       known = search rules;
     }
 
@@ -124,6 +124,6 @@ returns g c =
       only = d.1;
       numbers = numbers-collected u v w x y e.numbers (only-changes v w t.tries.ran t.numbers) i.numbers l.numbers;
       unbegun = stopped-unbegun u v w x y e.ran e.only t.tries i.ends.ran i.unbegun l.ran l.only;
-      pops = stopped-pops u v w x y e.ran e.only t.tries.ran t.pops (raised-holds (events v w) c.if-not-stop.ensures.yours.raised t.unresumed) i.ends.ran i.pops l.ran l.only;
+      pops = stopped-works u v w x y e.ran e.only t.tries.ran t.pops (raised-holds (events v w) c.if-not-stop.ensures.yours.raised t.unresumed) i.ends.ran i.pops l.ran l.only;
       known = search rules;
     }

@@ -6,6 +6,11 @@ use Rattle.gc_cycle.specs.Statistics.{GivesUp}
 use Rattle.gc_cycle.proofs.Refills.Answered.{cached-still, gave-way, kept-way, polled-mutates}
 use Rattle.mark_core.specs.declared.kinds.Step.TheVariants.{Observe}
 use Rattle.gc_cycle.proofs.Changes.{by-join, changes-after, gives-join, keeps-up, only-changes}
+use Rattle.gc_table.specs.Log.{all_steps}
+use Rattle.gc_table.proofs.History.Log.{only-after}
+use Rattle.gc_table.proofs.Running.{ran-join, ran-only}
+use Rattle.gc_cycle.specs.Mutating.{spares_blocks}
+use Rattle.gc_cycle.proofs.Stops.Spared.{spares-calm, spares-retires}
 use Rattle.gc_cycle.proofs.collecting.give_way.Goals as goal
 
 pub returns-then-not-poll-clause-seat : goal.returns-then-not-poll-clause-seat
@@ -63,3 +68,23 @@ returns-clause-numbers g c =
     (gives-join old old None u v y (keeps-up old u v (changes-after u v Observe t.0 refl c.poll.ensures.ran t.1))
     (gives-join old None None v w y given
     (keeps-up None w y (by-join [] [] w x y (only-changes w x o.out.ran o.numbers) (only-changes x y i.entered.out.ran i.numbers)))))
+
+pub returns-then-not-poll-clause-apart : goal.returns-then-not-poll-clause-apart
+returns-then-not-poll-clause-apart g c =
+    let t = c.poll.ensures.step in only-after spares_blocks (view_of c.args.seat.now) (view_of c.poll.new.seat) Observe t.0 refl t.1
+
+pub returns-clause-apart : goal.returns-clause-apart
+returns-clause-apart g c =
+    let u : View = view_of c.args.seat.now in
+    let v : View = view_of c.poll.new.seat in
+    let w : View = view_of c.retire_some.new.seat in
+    let x : View = view_of c.go_out.new.seat in
+    let y : View = view_of c.go_in.new.seat in
+    let t = c.poll.ensures.step in
+    let r = c.retire_some.ensures in
+    let o = c.go_out.ensures in
+    let i = c.go_in.ensures in
+    let again = i.entered.out.ran in
+    ran-only spares_blocks u v y c.poll.ensures.ran (ran-join v w y r.ran (ran-join w x y o.out.ran again)) (only-after spares_blocks u v Observe t.0 refl t.1)
+    (ran-only spares_blocks v w y r.ran (ran-join w x y o.out.ran again) (spares-retires v w r.only)
+    (ran-only spares_blocks w x y o.out.ran again (ap (all_steps spares_blocks) o.left.1) (spares-calm x y i.entered.out.only i.unresumed)))

@@ -2,13 +2,14 @@ use Rattle.std.proofs.lemmas.Bool.{OnFalse_at, OnFalse_from, OnTrue_at, OnTrue_f
 use Rattle.gc_table.specs.Seats.{view_of}
 use Rattle.gc_table.specs.declared.view.View.{View}
 use Rattle.gc_table.proofs.History.Log.{only-more}
-use Rattle.gc_table.proofs.Running.{ran-join}
-use Rattle.gc_cycle.specs.Mutating.{stays_calm}
+use Rattle.gc_table.proofs.Running.{ran-join, ran-only}
+use Rattle.gc_cycle.specs.Mutating.{spares_blocks, stays_calm}
 use Rattle.gc_cycle.specs.declared.counts.Safe.TheVariants as safes
 use Rattle.gc_cycle.specs.Sparing.{spares_part}
 use Rattle.gc_cycle.proofs.Refills.Answered.{passed-few, passed-out, passes}
 use Rattle.gc_cycle.proofs.Refills.Collected.{calm-spares}
 use Rattle.gc_cycle.proofs.Changes.{gives-join}
+use Rattle.gc_cycle.proofs.Stops.Spared.{spares-answers}
 use Rattle.gc_cycle.proofs.Unbegun.{calm-unbegun}
 use Rattle.gc_cycle.proofs.collecting.pass_safe_point.Goals as goal
 
@@ -79,3 +80,10 @@ returns-clause-unbegun g c =
     let v : View = view_of c.args.seat.now in
     let w : View = view_of c.goes_on.new.seat in
     calm-unbegun v w (passed-out v (view_of c.give_way.new.seat) w c.args.cache.now c.give_way.new.cache c.args.done c.give_way.ensures.gives c.goes_on.ensures.ran c.goes_on.ensures.only).0.only
+
+pub returns-clause-apart : goal.returns-clause-apart
+returns-clause-apart g c =
+    let v : View = view_of c.give_way.new.seat in
+    let w : View = view_of c.goes_on.new.seat in
+    let e = c.goes_on.ensures in
+    ran-only spares_blocks (view_of c.args.seat.now) v w c.give_way.ensures.gives.out.ran e.ran c.give_way.ensures.apart (spares-answers v w e.only)

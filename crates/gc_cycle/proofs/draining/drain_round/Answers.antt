@@ -8,6 +8,7 @@ use Rattle.gc_table.specs.declared.view.View.{View}
 use Rattle.gc_cycle.specs.Standing.{is_at_rest}
 use Rattle.gc_cycle.proofs.Turns.{has-traced, brings-back, traced-within}
 use Rattle.gc_cycle.proofs.Traced.{drains-on, drains-rest, drains-trace, rescans-last}
+use Rattle.gc_cycle.proofs.Ends.Uses.{uses-up}
 use Rattle.gc_cycle.proofs.draining.drain_round.Goals as goal
 
 pub recycle_deferred-requires-clause-seat : goal.recycle_deferred-requires-clause-seat
@@ -68,3 +69,6 @@ returns-clause-brings c =
     let y : View = view_of c.clean_dirty.new.seat in
     let r = c.recycle_deferred.ensures in
     brings-back c.args.heap.now.shape c.recycle_deferred.result v w y c.requires.seat.1 r.traced.ran r.recycled (ran-join w x y c.trace.ensures.traced.ran c.clean_dirty.ensures.traced.ran)
+
+pub returns-clause-uses : goal.returns-clause-uses
+returns-clause-uses c = λ alone. let t = returns-clause-traced c in uses-up (view_of c.args.seat.now) (view_of c.clean_dirty.new.seat) t.ran t.only alone

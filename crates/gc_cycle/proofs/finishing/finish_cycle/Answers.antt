@@ -9,7 +9,7 @@ use Rattle.gc_cycle.specs.Finishing.{finishes}
 use Rattle.gc_cycle.specs.Sorts.{moves_to}
 use Rattle.card_clean.specs.Leaving.{rescans}
 use Rattle.sweeper.specs.Freeing.{frees}
-use Rattle.gc_cycle.proofs.Ends.Finishes.{cycle-help, cycle-not-full, cycle-once, cycle-total, cycle-unbegun}
+use Rattle.gc_cycle.proofs.Ends.Finishes.{cycle-help, cycle-not-full, cycle-once, cycle-ordinary, cycle-total, cycle-unbegun}
 use Rattle.gc_cycle.proofs.Ends.Spared.{finish-calm, finish-keeps, finish-position, finish-spares, untold-fills, untold-sees}
 use Rattle.gc_cycle.proofs.Sequences.{freed-same}
 use Rattle.gc_cycle.proofs.finishing.finish_cycle.Goals as goal
@@ -48,3 +48,7 @@ returns-clause-ends g c =
       rescanned = let n = r.rescanned in omega (arith, rescanned, n);
       freed = r.freed ∙ (sym (freed-same (events v w) v) ∙ (sym freed ∙ freed-same (events u w) u));
     }
+
+pub returns-clause-ordinary : goal.returns-clause-ordinary
+returns-clause-ordinary g c =
+    let b = c.begin_drain.ensures in cycle-ordinary (view_of c.args.seat.now) (view_of c.begin_drain.new.seat) (view_of c.complete.new.seat) b.ran (b.events Marking c.requires.alone) c.complete.ensures.completes

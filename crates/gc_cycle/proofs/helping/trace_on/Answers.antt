@@ -1,8 +1,13 @@
-use Rattle.std.proofs.Common.{◌+◌, ◌-◌, arith, sym, subst}
+use Rattle.std.proofs.Common.{◌+◌, ◌-◌, ◌∙◌, ap, arith, sym, subst}
 use Rattle.gc_table.specs.Seats.{view_of}
 use Rattle.gc_table.specs.declared.view.View.{View}
-use Rattle.gc_table.proofs.Running.{ran-join}
+use Rattle.gc_table.specs.Log.{events}
+use Rattle.gc_table.proofs.Running.{ran-events, ran-join}
 use Rattle.gc_cycle.specs.Draining.{HelpsOn}
+use Rattle.gc_cycle.specs.Events.{never}
+use Rattle.gc_cycle.specs.Sorts.{clears}
+use Rattle.gc_cycle.proofs.Ends.Finishes.{never-both}
+use Rattle.gc_cycle.proofs.Stops.Admitted.{uncleared}
 use Rattle.gc_cycle.proofs.Stops.HelperDrains.{helped-still, helped-traced}
 use Rattle.gc_cycle.proofs.helping.trace_on.Goals as goal
 
@@ -24,6 +29,18 @@ returns-clause-helps c = λ u h.
     (λ k. HelpsOn c.args.quota (record { traced = c.args.before.traced + c.trace-more.result.done; rescanned = c.args.before.rescanned; swept = c.args.before.swept; ended = k }) u x)
     (sym c.end_of.ensures)
     (helped-traced c.args.quota (c.args.quota - c.args.before.traced) c.args.before c.trace-more.result u w x still t.traced t.ends t.most (omega (arith, low)) t.rescanned t.uncleaned)
+
+pub returns-then-lacks_work-clause-uncleared : goal.returns-then-lacks_work-clause-uncleared
+returns-then-lacks_work-clause-uncleared c = c.lacks_work.ensures.uncleared
+
+pub returns-clause-uncleared : goal.returns-clause-uncleared
+returns-clause-uncleared c =
+    let v : View = view_of c.args.seat.now in
+    let w : View = view_of c.lacks_work.new.seat in
+    let x : View = view_of c.trace-more.new.seat in
+    let e = c.lacks_work.ensures in
+    let t = c.trace-more.ensures in
+    ap (never clears) (ran-events v w x e.traced.ran t.traced.ran) ∙ never-both clears (events v w) (events w x) e.uncleared (uncleared (events w x) t.uncleaned)
 
 pub returns-clause-ran : goal.returns-clause-ran
 returns-clause-ran c = ran-join (view_of c.args.seat.now) (view_of c.lacks_work.new.seat) (view_of c.trace-more.new.seat) c.lacks_work.ensures.traced.ran c.trace-more.ensures.traced.ran

@@ -1,12 +1,13 @@
 use Rattle.gc_table.specs.Seats.{Sits, view_of}
-use Rattle.std.proofs.Common.{◌≡◌, true}
+use Rattle.std.proofs.Common.{◌≡◌, List, true}
 use Rattle.gc_cycle.specs.Events.{never}
-use Rattle.gc_cycle.specs.Sorts.{leaves}
+use Rattle.gc_cycle.specs.Sorts.{leaves, lets_in}
 use Rattle.gc_table.specs.Log.{events, Only}
+use Rattle.gc_table.specs.declared.view.View.{View}
 use Rattle.gc_cycle.specs.Mutating.{GoesOut}
 use Rattle.gc_cycle.specs.Standing.{IsOut}
 use Rattle.gc_cycle.specs.Statistics.{leaves_numbers}
-use Rattle.gc_cycle.specs.Turns.{HelpsInTurns}
+use Rattle.gc_cycle.specs.Turns.{HelpsBetween, help_quota}
 use Rattle.gc_cycle.proofs.Stops.OutAndIn.{Offered}
 use Rattle.gc_cycle.proofs.stopping.await_resumed_helping.Given as goal
 
@@ -21,5 +22,6 @@ invariant-loop g l = record {
   offered : Offered (events (view_of l.fn.seat) (view_of l.seat));
   inside : never leaves (events (view_of l.fn.seat) (view_of l.seat)) ≡ true;
   numbers : Only leaves_numbers (view_of l.fn.seat) (view_of l.seat);
-  helps : HelpsInTurns (view_of l.fn.seat) (view_of l.seat);
+  helps : (turns : List (View × View)) × HelpsBetween help_quota (view_of l.fn.seat) turns (view_of l.fn.seat) (view_of l.seat);
+  first : l.cards ≡ never lets_in (events (view_of l.fn.seat) (view_of l.seat));
 }

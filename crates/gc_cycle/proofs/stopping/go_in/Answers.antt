@@ -9,7 +9,7 @@ use Rattle.gc_cycle.specs.Answering.{waits_helping}
 use Rattle.gc_cycle.specs.Events.{each_after, never}
 use Rattle.gc_cycle.specs.Mutating.{is_in_stop, stays_calm}
 use Rattle.gc_cycle.specs.Polling.{offered_help}
-use Rattle.gc_cycle.specs.Sorts.{joins, leaves, pops, resumes}
+use Rattle.gc_cycle.specs.Sorts.{joins, leaves, pops_or_clears, resumes}
 use Rattle.gc_cycle.specs.Sparing.{spares_part}
 use Rattle.gc_cycle.proofs.Refills.Collected.{calm-spares}
 use Rattle.gc_cycle.proofs.Stops.Waits.{entered-waits, offered-join, turned-waits}
@@ -23,8 +23,8 @@ use Rattle.gc_cycle.proofs.Sequences.{some-none}
 use Rattle.gc_cycle.proofs.Stops.OutAndIn.{enters-in, turns-out}
 use Rattle.packet_pools.proofs.Counting.{after-join, after-none}
 use Rattle.std.proofs.lemmas.List.{append-nil}
-use Rattle.gc_cycle.proofs.Stops.Outside.{pops-on, turned-stop, stayed-out, unresumed-out}
-use Rattle.gc_cycle.proofs.Turns.{apart-none, turns-join, turns-none}
+use Rattle.gc_cycle.proofs.Stops.Outside.{works-on, turned-stop, stayed-out, unresumed-out}
+use Rattle.gc_cycle.proofs.Turns.{apart-none, turns-join, turns-none, turns-waited}
 use Rattle.gc_cycle.specs.Statistics.{leaves_numbers}
 use Rattle.gc_cycle.proofs.stopping.go_in.Goals as goal
 
@@ -45,13 +45,13 @@ unresumed-on u v w x r q p a n o b =
     ∙ some-none resumes (events u v) (events v x) a
     (ap (some_event resumes) (ran-events v w x q p) ∙ some-none resumes (events v w) (events w x) (unresumed-out (events v w) (stayed-out v w q n o)) b)
 
--- it waited outside, and then took a step or two, by which it pops nothing
-waited-pops : (before : List Entry) (u v w x : View) → Ran u v → Ran v w → Ran w x → (each_after is_in_stop pops before (events u v) ≡ true) × (is_in_stop (before ++ events u v) ≡ true) → never leaves (events v w) ≡ true → IsOut w → some_event pops (events w x) ≡ false → each_after is_in_stop pops before (events u x) ≡ true
-waited-pops before u v w x r q p i n o b =
+-- it waited outside, and then took a step or two, by which it pops and clears nothing
+waited-works : (before : List Entry) (u v w x : View) → Ran u v → Ran v w → Ran w x → (each_after is_in_stop pops_or_clears before (events u v) ≡ true) × (is_in_stop (before ++ events u v) ≡ true) → never leaves (events v w) ≡ true → IsOut w → some_event pops_or_clears (events w x) ≡ false → each_after is_in_stop pops_or_clears before (events u x) ≡ true
+waited-works before u v w x r q p i n o b =
     let first : List Entry = before ++ events u v in
-    ap (each_after is_in_stop pops before) (ran-events u v x r (ran-join v w x q p) ∙ ap (λ es. events u v ++ es) (ran-events v w x q p))
-    ∙ after-join is_in_stop pops before (events u v) (events v w ++ events w x) i.0
-    (after-join is_in_stop pops first (events v w) (events w x) (pops-on first (events v w) (stayed-out v w q n o) i.1) (after-none is_in_stop pops (first ++ events v w) (events w x) b))
+    ap (each_after is_in_stop pops_or_clears before) (ran-events u v x r (ran-join v w x q p) ∙ ap (λ es. events u v ++ es) (ran-events v w x q p))
+    ∙ after-join is_in_stop pops_or_clears before (events u v) (events v w ++ events w x) i.0
+    (after-join is_in_stop pops_or_clears first (events v w) (events w x) (works-on first (events v w) (stayed-out v w q n o) i.1) (after-none is_in_stop pops_or_clears (first ++ events v w) (events w x) b))
 
 turned-back : (before : List Entry) (u v w x : View) (n m : ℕ) → Ran u v → Ran v w → Ran w x → events w x ≡ event EnterStep n ∷ event LeaveStep m ∷ [] → is_in_stop (before ++ events u x) ≡ true
 turned-back before u v w x n m r q p e =
@@ -73,7 +73,7 @@ loop-init g c =
       offered = ap offered_help (events-none u);
       numbers = only-none leaves_numbers u;
       helps = turns-none u u (apart-none u);
-      away = λ before h. (ap (each_after is_in_stop pops before) (events-none u), ap is_in_stop (ap (λ es. before ++ es) (events-none u) ∙ append-nil before) ∙ h);
+      away = λ before h. (ap (each_after is_in_stop pops_or_clears before) (events-none u), ap is_in_stop (ap (λ es. before ++ es) (events-none u) ∙ append-nil before) ∙ h);
       unresumed = ap (some_event resumes) (events-none u);
     }
 
@@ -100,8 +100,8 @@ loop-preserved g c =
           ∙ offered-join (events u v) (events v x) i.offered
           (ap offered_help (ran-events v w x a.ran c.enter.ensures.ran ∙ ap (λ es. events v w ++ es) b.events) ∙ (turned-waits (events v w) b.word b.left [] a.inside a.offered refl refl).1);
       numbers = ran-only leaves_numbers u v x i.goes.ran (ran-join v w x a.ran c.enter.ensures.ran) i.numbers (ran-only leaves_numbers v w x a.ran c.enter.ensures.ran a.numbers (ap (all_steps leaves_numbers) b.events));
-      helps = turns-join u v x i.helps (turns-join v w x a.helps (turns-none w x (record { ran = c.enter.ensures.ran; apart = ap (never joins) b.events })));
-      away = λ before h. (waited-pops before u v w x i.goes.ran a.ran c.enter.ensures.ran (i.away before h) a.inside a.seat.1 (ap (some_event pops) b.events), turned-back before u v w x b.word b.left i.goes.ran a.ran c.enter.ensures.ran b.events);
+      helps = turns-join u v x i.helps (turns-join v w x (turns-waited v w a.helps) (turns-none w x (record { ran = c.enter.ensures.ran; apart = ap (never joins) b.events })));
+      away = λ before h. (waited-works before u v w x i.goes.ran a.ran c.enter.ensures.ran (i.away before h) a.inside a.seat.1 (ap (some_event pops_or_clears) b.events), turned-back before u v w x b.word b.left i.goes.ran a.ran c.enter.ensures.ran b.events);
       unresumed = unresumed-on u v w x i.goes.ran a.ran c.enter.ensures.ran i.unresumed a.inside a.seat.1 (ap (some_event resumes) b.events);
     }
 
@@ -172,7 +172,7 @@ returns-then-enter-clause-helps g c =
     let w : View = view_of c.await_resumed_helping.new.seat in
     let x : View = view_of c.enter.new.seat in
     turns-join (view_of c.args.seat.now) v x c.loop.invariant.helps
-    (turns-join v w x c.await_resumed_helping.ensures.helps (turns-none w x (record { ran = c.enter.ensures.ran; apart = ap (never joins) c.if-enter.ensures.enters.events })))
+    (turns-join v w x (turns-waited v w c.await_resumed_helping.ensures.helps) (turns-none w x (record { ran = c.enter.ensures.ran; apart = ap (never joins) c.if-enter.ensures.enters.events })))
 
 pub returns-then-enter-clause-numbers : goal.returns-then-enter-clause-numbers
 returns-then-enter-clause-numbers g c =
@@ -197,5 +197,5 @@ pub returns-then-enter-clause-away : goal.returns-then-enter-clause-away
 returns-then-enter-clause-away g c = λ before h.
     let i = c.loop.invariant in
     let a = c.await_resumed_helping.ensures in
-    waited-pops before (view_of c.args.seat.now) (view_of c.loop.seat) (view_of c.await_resumed_helping.new.seat) (view_of c.enter.new.seat) i.goes.ran a.ran c.enter.ensures.ran (i.away before h) a.inside a.seat.1
-    (ap (some_event pops) c.if-enter.ensures.enters.events)
+    waited-works before (view_of c.args.seat.now) (view_of c.loop.seat) (view_of c.await_resumed_helping.new.seat) (view_of c.enter.new.seat) i.goes.ran a.ran c.enter.ensures.ran (i.away before h) a.inside a.seat.1
+    (ap (some_event pops_or_clears) c.if-enter.ensures.enters.events)

@@ -7,7 +7,7 @@ use Rattle.gc_cycle.specs.Answering.{waits_helping}
 use Rattle.gc_cycle.specs.Polling.{offered_help}
 use Rattle.gc_cycle.specs.Mutating.{GoesOut, is_in_stop}
 use Rattle.gc_cycle.specs.Events.{each_after}
-use Rattle.gc_cycle.specs.Sorts.{pops, resumes}
+use Rattle.gc_cycle.specs.Sorts.{pops_or_clears, resumes}
 use Rattle.gc_cycle.specs.Standing.{IsOut}
 use Rattle.gc_cycle.specs.Statistics.{leaves_numbers}
 use Rattle.gc_cycle.specs.Turns.{HelpsInTurns}
@@ -25,6 +25,6 @@ invariant-loop g l = record {
   offered : offered_help (events (view_of l.fn.seat) (view_of l.seat)) ≡ true;
   numbers : Only leaves_numbers (view_of l.fn.seat) (view_of l.seat);
   helps : HelpsInTurns (view_of l.fn.seat) (view_of l.seat);
-  away : (before : List Entry) → is_in_stop before ≡ true → (each_after is_in_stop pops before (events (view_of l.fn.seat) (view_of l.seat)) ≡ true) × (is_in_stop (before ++ events (view_of l.fn.seat) (view_of l.seat)) ≡ true);
+  away : (before : List Entry) → is_in_stop before ≡ true → (each_after is_in_stop pops_or_clears before (events (view_of l.fn.seat) (view_of l.seat)) ≡ true) × (is_in_stop (before ++ events (view_of l.fn.seat) (view_of l.seat)) ≡ true);
   unresumed : some_event resumes (events (view_of l.fn.seat) (view_of l.seat)) ≡ false;
 }

@@ -13,3 +13,6 @@ returns-in-Some-Drain-clause-helps c = λ _. (c.help_with.result, c.help_with.en
 
 pub returns-in-Some-Sweep-clause-helps : goal.returns-in-Some-Sweep-clause-helps
 returns-in-Some-Sweep-clause-helps c = λ _. (c.help_with-in-Some-Sweep.result, c.help_with-in-Some-Sweep.ensures.helps)
+
+pub returns-in-Some-Drain-clause-passes : goal.returns-in-Some-Drain-clause-passes
+returns-in-Some-Drain-clause-passes c = c.help_with.ensures.passes

@@ -1,4 +1,6 @@
-use Rattle.std.proofs.Common.{ap, ◌∙◌, inl, inr, refl}
+use Rattle.std.proofs.Common.{ap, ◌∙◌, inl, inr, refl, Bool, false, ◌||◌}
+use Rattle.std.proofs.lemmas.Bool.{or_left}
+use Rattle.mark_core.specs.Bits.{has_flag}
 use Rattle.gc_table.specs.Seats.{view_of}
 use Rattle.gc_table.specs.declared.view.View.{View}
 use Rattle.packet_pools.specs.Seeking.{some_event}
@@ -8,7 +10,7 @@ use Rattle.gc_table.proofs.Running.{ran-events, ran-join, ran-only}
 use Rattle.mark_core.specs.declared.kinds.Step.TheVariants.{LeaveHelpStep}
 use Rattle.gc_table.proofs.History.Log.{events-after, only-after}
 use Rattle.gc_cycle.specs.Events.{never}
-use Rattle.gc_cycle.specs.Sorts.{joins, leaves}
+use Rattle.gc_cycle.specs.Sorts.{joins, leaves, lets_in}
 use Rattle.gc_cycle.proofs.Stops.Waits.{stays-join}
 use Rattle.gc_cycle.proofs.SectionKept.{out-join}
 use Rattle.gc_cycle.proofs.Stops.OutAndIn.{declines-out, is-done, joins-out, leaves-help}
@@ -92,7 +94,7 @@ returns-then-join_help-clause-helps c =
     let h = c.help_joined.ensures in
     record {
       ran = ran-join v w y c.join_help.ensures.ran (ran-join w x y h.out.ran c.leave_help.ensures.ran);
-      once = inr (record { joined = w; helped = x; enters = c.join_help.ensures.ran; let_in = c.if-join_help.ensures.joins; ran = h.out.ran; stays = h.stays; helps = h.helps; leaves = c.leave_help.ensures.step });
+      once = inr (record { joined = w; helped = x; enters = c.join_help.ensures.ran; let_in = c.if-join_help.ensures.joins; ran = h.out.ran; stays = h.stays; helps = h.helps; passes = h.passes; leaves = c.leave_help.ensures.step });
     }
 
 pub returns-clause-helps : goal.returns-clause-helps
@@ -108,6 +110,18 @@ returns-then-join_help-clause-numbers c =
     let t = c.leave_help.ensures.step in
     ran-only leaves_numbers v w y c.join_help.ensures.ran (ran-join w x y h.out.ran c.leave_help.ensures.ran) (ap (all_steps leaves_numbers) c.if-join_help.ensures.joins.events)
     (ran-only leaves_numbers w x y h.out.ran c.leave_help.ensures.ran h.numbers (only-after leaves_numbers x y LeaveHelpStep t.0 refl t.1.0))
+
+pub returns-then-join_help-clause-let_in : goal.returns-then-join_help-clause-let_in
+returns-then-join_help-clause-let_in c =
+    let v : View = view_of c.args.seat.now in
+    let w : View = view_of c.join_help.new.seat in
+    let y : View = view_of c.leave_help.new.seat in
+    let j = c.if-join_help.ensures.joins in
+    ap (some_event lets_in) (ran-events v w y c.join_help.ensures.ran (ran-join w (view_of c.help_joined.new.seat) y c.help_joined.ensures.out.ran c.leave_help.ensures.ran))
+    ∙ some-left lets_in (events v w) (events w y) (ap (some_event lets_in) j.events ∙ or_left (has_flag j.word) false j.flag)
+
+pub returns-clause-let_in : goal.returns-clause-let_in
+returns-clause-let_in c = let d = c.if-join_help.ensures.declines in ap (some_event lets_in) d.events ∙ ap (λ (b : Bool). b || false) d.closed
 
 pub returns-clause-numbers : goal.returns-clause-numbers
 returns-clause-numbers c = ap (all_steps leaves_numbers) c.if-join_help.ensures.declines.events

@@ -8,17 +8,18 @@ use Rattle.gc_table.specs.Seats.{view_of}
 use Rattle.gc_table.specs.declared.view.View.{View}
 use Rattle.packet_pools.specs.Seeking.{some_event}
 use Rattle.packet_pools.proofs.Searches.{some-left, some-right}
-use Rattle.gc_table.specs.Log.{event, events}
+use Rattle.gc_table.specs.Log.{all_steps, event, events}
 use Rattle.gc_table.proofs.History.Log.{only-more, only-after}
 use Rattle.gc_table.proofs.Running.{ran-events, ran-join, ran-only, ran-shape}
 use Rattle.stop_world.specs.Waiting.{watches}
 use Rattle.mark_core.specs.declared.kinds.Step.TheVariants.{LeaveStep, StorePosition}
-use Rattle.gc_cycle.specs.Mutating.{is_in_stop, pops_in_stops, stays_calm, tries_stopping}
+use Rattle.gc_cycle.specs.Mutating.{is_in_stop, spares_blocks, stays_calm, tries_stopping, works_in_stops}
 use Rattle.gc_cycle.specs.Events.{each_after, never}
-use Rattle.gc_cycle.specs.Sorts.{comes_in, pops, raises_flag, resumes}
+use Rattle.gc_cycle.specs.Sorts.{comes_in, pops_or_clears, raises_flag, resumes}
 use Rattle.gc_cycle.proofs.SectionKept.{calm-tries}
 use Rattle.gc_cycle.proofs.Stops.OutAndIn.{bare-parts, no-cache}
 use Rattle.gc_cycle.proofs.Stops.FlagRaised.{calm-count, count-calls, mutators-left, out-unaware, raised-event, raised-never, raised-once, raised-only, theirs-out, tries, watches-own, watches-try}
+use Rattle.gc_cycle.proofs.Stops.Spared.{spares-calm, spares-watching}
 use Rattle.stop_world.proofs.Flagged.{yours-free}
 use Rattle.gc_cycle.specs.Statistics.{leaves_numbers}
 use Rattle.gc_cycle.proofs.Leaving.{watches-leave}
@@ -219,15 +220,15 @@ returns-in-Theirs-clause-unresumed g c =
     let e = c.go_in.ensures in
     still-stopped u (view_of c.go_out.new.seat) (view_of c.raise.new.seat) (view_of c.go_in.new.seat) t.0 o.out.ran c.raise.ensures.ran e.entered.out.ran (ap (some_event resumes) o.left.1) t.1 (not-true _ e.unresumed)
 
--- it left and tried to raise the flag before all that it popped
-left-pops : (u v w x : View) (done left n : ℕ) → Ran u v → Ran v w → Ran w x → events u v ≡ event (StorePosition done) done ∷ event LeaveStep left ∷ [] → w ≡ after RaiseStep n v → each_after is_in_stop pops (event (StorePosition done) done ∷ event LeaveStep left ∷ event RaiseStep n ∷ []) (events w x) ≡ true → pops_in_stops (events u x) ≡ true
-left-pops u v w x done left n r q p e is h =
-    ap pops_in_stops (ran-events u v x r (ran-join v w x q p) ∙ ((λ i. e i ++ ran-events v w x q p i) ∙ ap (λ es. event (StorePosition done) done ∷ event LeaveStep left ∷ es) (ap (λ es. es ++ events w x) (events-after v w RaiseStep n is)))) ∙ h
+-- it left and tried to raise the flag before all that it popped and cleared
+left-works : (u v w x : View) (done left n : ℕ) → Ran u v → Ran v w → Ran w x → events u v ≡ event (StorePosition done) done ∷ event LeaveStep left ∷ [] → w ≡ after RaiseStep n v → each_after is_in_stop pops_or_clears (event (StorePosition done) done ∷ event LeaveStep left ∷ event RaiseStep n ∷ []) (events w x) ≡ true → works_in_stops (events u x) ≡ true
+left-works u v w x done left n r q p e is h =
+    ap works_in_stops (ran-events u v x r (ran-join v w x q p) ∙ ((λ i. e i ++ ran-events v w x q p i) ∙ ap (λ es. event (StorePosition done) done ∷ event LeaveStep left ∷ es) (ap (λ es. es ++ events w x) (events-after v w RaiseStep n is)))) ∙ h
 
-watches-unpopped : (step : Step) (n : ℕ) → watches step ≡ true → pops step n ≡ false
-watches-unpopped Observe n e = refl
-watches-unpopped ReadPhase n e = refl
-watches-unpopped step n e = absurd (false≢true e)
+watches-unworked : (step : Step) (n : ℕ) → watches step ≡ true → pops_or_clears step n ≡ false
+watches-unworked Observe n e = refl
+watches-unworked ReadPhase n e = refl
+watches-unworked step n e = absurd (false≢true e)
 
 pub returns-in-Yours-clause-pops : goal.returns-in-Yours-clause-pops
 returns-in-Yours-clause-pops g c =
@@ -237,7 +238,7 @@ returns-in-Yours-clause-pops g c =
     let o = c.go_out.ensures in
     let t = c.raise.ensures.step in
     let a = c.await_stopped.ensures in
-    left-pops u (view_of c.go_out.new.seat) w x c.args.done o.left.0 t.0 o.out.ran c.raise.ensures.ran a.ran o.left.1 t.1 (after-none is_in_stop pops _ (events w x) (none-of-steps watches pops watches-unpopped (events w x) a.only))
+    left-works u (view_of c.go_out.new.seat) w x c.args.done o.left.0 t.0 o.out.ran c.raise.ensures.ran a.ran o.left.1 t.1 (after-none is_in_stop pops_or_clears _ (events w x) (none-of-steps watches pops_or_clears watches-unworked (events w x) a.only))
 
 pub returns-in-Theirs-clause-pops : goal.returns-in-Theirs-clause-pops
 returns-in-Theirs-clause-pops g c =
@@ -245,5 +246,31 @@ returns-in-Theirs-clause-pops g c =
     let o = c.go_out.ensures in
     let t = c.raise.ensures.step in
     let e = c.go_in.ensures in
-    left-pops u (view_of c.go_out.new.seat) (view_of c.raise.new.seat) (view_of c.go_in.new.seat) c.args.done o.left.0 t.0 o.out.ran c.raise.ensures.ran e.entered.out.ran o.left.1 t.1
+    left-works u (view_of c.go_out.new.seat) (view_of c.raise.new.seat) (view_of c.go_in.new.seat) c.args.done o.left.0 t.0 o.out.ran c.raise.ensures.ran e.entered.out.ran o.left.1 t.1
     (e.away (event (StorePosition c.args.done) c.args.done ∷ event LeaveStep o.left.0 ∷ event RaiseStep t.0 ∷ []) refl)
+
+pub returns-in-Yours-clause-asks : goal.returns-in-Yours-clause-asks
+returns-in-Yours-clause-asks g c =
+    let o = c.go_out.ensures in
+    let t = c.raise.ensures.step in
+    let a = c.await_stopped.ensures in
+    record {
+      asking = view_of c.go_out.new.seat;
+      asked = view_of c.raise.new.seat;
+      leaves = (o.out.ran, ap (all_steps spares_blocks) o.left.1);
+      asks = (t.0, (t.1, t.2));
+      waits = (a.ran, spares-watching (view_of c.raise.new.seat) (view_of c.await_stopped.new.seat) a.only);
+    }
+
+pub returns-in-Theirs-clause-asks : goal.returns-in-Theirs-clause-asks
+returns-in-Theirs-clause-asks g c =
+    let o = c.go_out.ensures in
+    let t = c.raise.ensures.step in
+    let e = c.go_in.ensures in
+    record {
+      asking = view_of c.go_out.new.seat;
+      asked = view_of c.raise.new.seat;
+      leaves = (o.out.ran, ap (all_steps spares_blocks) o.left.1);
+      asks = (t.0, (t.1, t.2));
+      waits = (e.entered.out.ran, spares-calm (view_of c.raise.new.seat) (view_of c.go_in.new.seat) e.entered.out.only e.unresumed);
+    }

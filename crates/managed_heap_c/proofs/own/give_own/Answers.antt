@@ -14,4 +14,7 @@ returns-in-Err-clause-refused c =
       i.ensures.kept,
       c.take_mutator.ensures.rest,
       λ out. steps.rests left.outside ∙ subst (λ (p : Place). LeavesFrom p c.args.mutator.seat i.mutator.seat) out left.leaves,
+      steps.outside,
+      steps.new,
+      steps.stops ∙ left.same.stops,
     )

@@ -1,8 +1,9 @@
-use Rattle.std.proofs.Common.{◌∙◌, ap, refl, subst, sym}
+use Rattle.std.proofs.Common.{◌∙◌, ap, inl, inr, refl, subst, sym}
 use Rattle.std.specs.Arc.{arc_value}
 use Rattle.gc_table.specs.Seats.{view_of}
 use Rattle.gc_table.specs.declared.seat.HeapSeat.{HeapSeat}
 use Rattle.mutator_ops.specs.Few.{AtMost}
+use Rattle.seat_steps.specs.Handing.{StopsFrom}
 use Rattle.seat_steps.specs.Stepping.{heap_of_stepper}
 use Rattle.seat_steps.specs.declared.stepper.Stepper.{Stepper}
 use Rattle.managed_heap_c.specs.Own.{Refuses, StaysOut}
@@ -14,7 +15,7 @@ pub returns-in-Ok-clause-back : goal.returns-in-Ok-clause-back
 returns-in-Ok-clause-back c =
     let i = c.in-Ok.ensures in
     let m = i.ok in
-    on-ok c.give_own.result (λ g. (c.in-Ok.mutator, m.0, i.few, m.1, m.2, m.3, g)) c.give_own.ensures.back
+    on-ok c.give_own.result (λ g. (c.in-Ok.mutator, m.0, i.few, i.stopped, m.1, m.2, m.3, i.stops, g)) c.give_own.ensures.back
 
 pub returns-in-Ok-clause-refused : goal.returns-in-Ok-clause-refused
 returns-in-Ok-clause-refused c =
@@ -32,6 +33,7 @@ returns-in-Ok-clause-refused c =
       mutators = a.3;
       rest = a.4;
       few = subst (λ (y : HeapSeat). AtMost 5 (view_of s.seat) (view_of y)) (sym (a.5 ok.0)) i.few;
+      came = inr (record { outside = a.6; new = a.7; stops = a.8 ∙ i.stops; stopped = subst (λ (y : HeapSeat). StopsFrom s.stage (view_of s.seat) (view_of y)) (sym (a.5 ok.0)) i.stopped });
     })
     c.give_own.ensures.refused
 
@@ -44,4 +46,5 @@ returns-in-Err-clause-refused c =
       mutators = refl;
       rest = (record { heap = refl; zero = refl; sizes_are = refl }, refl);
       few = none-taken 5 c.args.stepper c.in-Err.stepper same;
+      came = inl same;
     }

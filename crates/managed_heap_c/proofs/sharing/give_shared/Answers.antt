@@ -17,4 +17,7 @@ returns-in-Err-clause-refused c =
       i.ensures.kept,
       c.take_mutator.ensures.rest,
       λ out. steps.rests r.outside ∙ subst (λ (p : Place). LeavesFrom p c.args.mutator.seat i.mutator.seat) out r.leaves,
+      steps.outside,
+      steps.new,
+      steps.stops,
     )

@@ -1,4 +1,4 @@
-use Rattle.std.proofs.Common.{◌+◌, ◌∙◌, ap, refl, subst, sym}
+use Rattle.std.proofs.Common.{◌+◌, ◌∙◌, ap, inl, inr, refl, subst, sym}
 use Rattle.std.specs.Arc.{arc_value}
 use Rattle.gc_table.specs.Seats.{view_of}
 use Rattle.gc_table.specs.declared.seat.HeapSeat.{HeapSeat}
@@ -6,6 +6,7 @@ use Rattle.mutator_ops.specs.Few.{AtMost}
 use Rattle.seat_turns.specs.Sharing.{LeavesHeap}
 use Rattle.seat_turns.specs.Standing.{flush_steps}
 use Rattle.seat_turns.proofs.Leaving.{leaves-join, leaves-none}
+use Rattle.seat_steps.specs.Handing.{StopsFrom}
 use Rattle.seat_steps.specs.declared.stepper.Stepper.{Stepper}
 use Rattle.managed_heap_c.specs.Sharing.{Refuses, StaysOut}
 use Rattle.managed_heap_c.proofs.Given.{on-err, on-ok}
@@ -23,7 +24,7 @@ returns-in-Ok-clause-refused c =
     let x = c.give_shared.new.world in
     let ok = c.in-Ok.ensures.ok in
     on-err (λ (t : Stepper). StaysOut m t w x) (λ (t : Stepper). Refuses s t w x) c.give_shared.result
-    (λ t a. record { leaves = leaves-join (view_of s.seat) (view_of m.seat) (view_of t.seat) ok.leaves a.0; of_world = (a.1 ∙ ok.world, a.2 ∙ ok.name_is); mutators = a.3; rest = a.4; few = subst (λ (y : HeapSeat). AtMost (flush_steps (view_of s.seat) + 5) (view_of s.seat) (view_of y)) (sym (a.5 ok.outside)) ok.few })
+    (λ t a. record { leaves = leaves-join (view_of s.seat) (view_of m.seat) (view_of t.seat) ok.leaves a.0; of_world = (a.1 ∙ ok.world, a.2 ∙ ok.name_is); mutators = a.3; rest = a.4; few = subst (λ (y : HeapSeat). AtMost (flush_steps (view_of s.seat) + 5) (view_of s.seat) (view_of y)) (sym (a.5 ok.outside)) ok.few; came = inr (record { outside = a.6; new = a.7; stops = a.8; stopped = subst (λ (y : HeapSeat). StopsFrom s.stage (view_of s.seat) (view_of y)) (sym (a.5 ok.outside)) ok.stopped }) })
     c.give_shared.ensures.refused
 
 pub returns-in-Err-clause-refused : goal.returns-in-Err-clause-refused
@@ -36,4 +37,5 @@ returns-in-Err-clause-refused c =
       mutators = refl;
       rest = (record { heap = refl; zero = refl; sizes_are = refl }, refl);
       few = none-taken (flush_steps (view_of s.seat) + 5) s c.in-Err.stepper same;
+      came = inl same;
     }

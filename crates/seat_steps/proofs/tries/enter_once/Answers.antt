@@ -1,5 +1,5 @@
 use Rattle.seat_turns.proofs.Leaving.{leaves-join}
-use Rattle.std.proofs.Common.{arith}
+use Rattle.std.proofs.Common.{arith, inl}
 use Rattle.gc_table.specs.Seats.{view_of}
 use Rattle.gc_table.specs.declared.view.View.{View}
 use Rattle.mutator_ops.proofs.Few.{at-most-join, at-most-more}
@@ -11,7 +11,7 @@ pub returns-in-Out-clause-found : goal.returns-in-Out-clause-found
 returns-in-Out-clause-found c =
     let v : View = view_of c.args.seat.now in
     let w : View = view_of c.try_in.new.seat in
-    ((turns-found v w c.in-Out.ensures.enters.0, at-most-more 2 10 v w (omega arith) c.try_in.ensures.few), c.try_in.ensures.paces)
+    ((turns-found v w c.in-Out.ensures.enters.0, at-most-more 2 10 v w (omega arith) c.try_in.ensures.few), c.try_in.ensures.paces, inl c.in-Out.ensures.enters.0)
 
 pub returns-in-Full-clause-found : goal.returns-in-Full-clause-found
 returns-in-Full-clause-found c =
@@ -20,11 +20,11 @@ returns-in-Full-clause-found c =
     let w : View = view_of c.leave.new.seat in
     let t = c.try_in.ensures in
     let l = c.leave.ensures in
-    (((full-left u v w t.ran l.ran c.in-Full.ensures.enters.1.read, l.full c.in-Full.ensures.tries.1), at-most-more 4 10 u w (omega arith) (at-most-join 2 2 u v w t.ran l.ran t.few l.few)), carries-join u v w t.paces (carries-out v w l.ran l.out))
+    (((full-left u v w t.ran l.ran c.in-Full.ensures.enters.1.read, l.full c.in-Full.ensures.tries.1), at-most-more 4 10 u w (omega arith) (at-most-join 2 2 u v w t.ran l.ran t.few l.few)), carries-join u v w t.paces (carries-out v w l.ran l.out), inl (record { entered = v; enters = c.in-Full.ensures.enters.0; leaves = l.out }))
 
 pub returns-in-Going-clause-found : goal.returns-in-Going-clause-found
 returns-in-Going-clause-found c =
-    enters-by c.arrive.result (view_of c.args.seat.now) (view_of c.try_in.new.seat) (view_of c.arrive.new.seat) c.try_in.ensures.ran c.in-Going.ensures.enters.0 c.arrive.ensures.ran c.arrive.ensures.found
+    enters-by c.arrive.result (view_of c.args.seat.now) (view_of c.try_in.new.seat) (view_of c.arrive.new.seat) c.try_in.ensures.ran c.in-Going.ensures.enters.0 c.arrive.ensures.ran c.arrive.ensures.found c.arrive.ensures.came
     (carries-join (view_of c.args.seat.now) (view_of c.try_in.new.seat) (view_of c.arrive.new.seat) c.try_in.ensures.paces c.arrive.ensures.paces)
 
 pub returns-in-Full-clause-arrives : goal.returns-in-Full-clause-arrives

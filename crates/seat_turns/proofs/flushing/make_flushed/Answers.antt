@@ -2,6 +2,11 @@ use Rattle.std.proofs.lemmas.Result.{IfErr-weaker, IfOk-weaker}
 use Rattle.gc_table.specs.Seats.{view_of}
 use Rattle.gc_table.specs.declared.view.View.{View}
 use Rattle.seat_turns.proofs.Leaving.{leaves-join}
+use Rattle.std.proofs.Common.{false}
+use Rattle.mark_core.specs.declared.kinds.Shape.{Shape}
+use Rattle.cache_refills.proofs.Telling.{told-more}
+use Rattle.seat_turns.specs.Telling.{TellsFills}
+use Rattle.seat_turns.proofs.Telling.{fills-first, flushed-untold}
 use Rattle.seat_turns.proofs.flushing.make_flushed.Goals as goal
 
 pub flush_turn-requires : goal.flush_turn-requires
@@ -15,6 +20,7 @@ returns g c =
     let u : View = view_of c.args.seat.now in
     let v : View = view_of c.flush_turn.new.seat in
     let w : View = view_of c.make_shared.new.seat in
+    let sh : Shape = c.args.heap.now.shape in
     let f = c.flush_turn.ensures in
     let p = c.make_shared.ensures in
     record {
@@ -23,4 +29,5 @@ returns g c =
       leaves = IfErr-weaker c.make_shared.result _ _ (λ _ k. leaves-join u v w f.leaves k) p.leaves;
       made = IfOk-weaker c.make_shared.result _ _ (λ _ k. record { flushed = v; flushes = f.flushes; later = k }) p.made;
       none = IfErr-weaker c.make_shared.result _ _ (λ e k. record { flushed = v; flushes = f.flushes; later = k }) p.none;
+      told = told-more g.W.Watch.hears (λ ns. TellsFills false sh ns v w) (λ ns. TellsFills false sh ns u w) c.args.watch.now c.make_shared.new.watch (λ ns k. fills-first false sh ns u v w (flushed-untold u v f.flushes) k) p.told;
     }

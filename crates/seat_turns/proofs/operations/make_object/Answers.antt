@@ -6,6 +6,11 @@ use Rattle.gc_table.specs.Seats.{view_of}
 use Rattle.gc_table.proofs.Running.{ran-join, ran-only}
 use Rattle.seat_turns.specs.Sharing.{spares_tracers}
 use Rattle.seat_turns.proofs.Coming.{own-cache}
+use Rattle.gc_table.specs.declared.view.View.{View}
+use Rattle.mark_core.specs.declared.kinds.Shape.{Shape}
+use Rattle.cache_refills.proofs.Telling.{told-more}
+use Rattle.seat_turns.specs.Telling.{TellsFills}
+use Rattle.seat_turns.proofs.Telling.{created-untold, fills-last, out-untold}
 use Rattle.seat_turns.proofs.operations.make_object.Goals as goal
 
 pub returns-in-Ok-clause-ran : goal.returns-in-Ok-clause-ran
@@ -49,3 +54,21 @@ returns-in-Err-Full-clause-none g c =
       leaves = c.come_to.ensures.leaves;
       ends = c.leave_full.ensures.out;
     })
+
+pub returns-in-Ok-clause-told : goal.returns-in-Ok-clause-told
+returns-in-Ok-clause-told g c =
+    let sh : Shape = c.args.heap.now.shape in
+    let u : View = view_of c.args.seat.now in
+    let v : View = view_of c.come_to.new.seat in
+    let w : View = view_of c.make_in.new.seat in
+    let made = created-untold sh.fields v.state c.args.v c.args.value c.make_in.ensures.takes.0 v w c.make_in.ensures.ran c.make_in.ensures.takes.1 in
+    told-more g.W.Watch.hears (λ ns. TellsFills c.args.in_stops sh ns u v) (λ ns. TellsFills c.args.in_stops sh ns u w) c.args.watch.now c.come_to.new.watch (λ ns k. fills-last c.args.in_stops sh ns u v w k made) c.come_to.ensures.told
+
+pub returns-in-Err-Full-clause-told : goal.returns-in-Err-Full-clause-told
+returns-in-Err-Full-clause-told g c =
+    let sh : Shape = c.args.heap.now.shape in
+    let u : View = view_of c.args.seat.now in
+    let v : View = view_of c.come_to.new.seat in
+    let w : View = view_of c.leave_full.new.seat in
+    let l = c.leave_full.ensures in
+    told-more g.W.Watch.hears (λ ns. TellsFills c.args.in_stops sh ns u v) (λ ns. TellsFills c.args.in_stops sh ns u w) c.args.watch.now c.come_to.new.watch (λ ns k. fills-last c.args.in_stops sh ns u v w k (out-untold v w l.ran l.out)) c.come_to.ensures.told

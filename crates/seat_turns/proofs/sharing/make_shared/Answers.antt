@@ -7,6 +7,11 @@ use Rattle.seat_turns.proofs.Coming.{own-cache}
 use Rattle.seat_turns.proofs.Held.{plays-holds}
 use Rattle.seat_turns.proofs.Leaving.{leaves-join}
 use Rattle.seat_turns.proofs.Seats.{whole-cache}
+use Rattle.gc_table.specs.declared.view.View.{View}
+use Rattle.mark_core.specs.declared.kinds.Shape.{Shape}
+use Rattle.cache_refills.proofs.Telling.{told-more}
+use Rattle.seat_turns.specs.Telling.{TellsFills}
+use Rattle.seat_turns.proofs.Telling.{shared-untold, fills-last, out-untold}
 use Rattle.seat_turns.proofs.sharing.make_shared.Goals as goal
 
 pub returns-in-Ok-clause-ok : goal.returns-in-Ok-clause-ok
@@ -41,3 +46,21 @@ returns-in-Err-Full-clause-none g c =
 pub make_shared_in-requires-clause-turn : goal.make_shared_in-requires-clause-turn
 make_shared_in-requires-clause-turn g c =
     let p = c.in-Ok.ensures.ok in plays-holds c.args.heap.now c.come_to.new.seat p.0 (whole-cache (Some c.in-Ok.free) (view_of c.come_to.new.seat) p.1)
+
+pub returns-in-Ok-clause-told : goal.returns-in-Ok-clause-told
+returns-in-Ok-clause-told g c =
+    let sh : Shape = c.args.heap.now.shape in
+    let u : View = view_of c.args.seat.now in
+    let v : View = view_of c.come_to.new.seat in
+    let w : View = view_of c.make_shared_in.new.seat in
+    let made = shared-untold c.args.v c.args.value v w c.make_shared_in.ensures.makes in
+    told-more g.W.Watch.hears (λ ns. TellsFills false sh ns u v) (λ ns. TellsFills false sh ns u w) c.args.watch.now c.come_to.new.watch (λ ns k. fills-last false sh ns u v w k made) c.come_to.ensures.told
+
+pub returns-in-Err-Full-clause-told : goal.returns-in-Err-Full-clause-told
+returns-in-Err-Full-clause-told g c =
+    let sh : Shape = c.args.heap.now.shape in
+    let u : View = view_of c.args.seat.now in
+    let v : View = view_of c.come_to.new.seat in
+    let w : View = view_of c.leave_full.new.seat in
+    let l = c.leave_full.ensures in
+    told-more g.W.Watch.hears (λ ns. TellsFills false sh ns u v) (λ ns. TellsFills false sh ns u w) c.args.watch.now c.come_to.new.watch (λ ns k. fills-last false sh ns u v w k (out-untold v w l.ran l.out)) c.come_to.ensures.told

@@ -1,14 +1,12 @@
 use Rattle.std.proofs.Common.{arith, ◌≤◌, sym, subst}
 use Rattle.mark_core.specs.Cards.{card_cells}
 use Rattle.mark_core.specs.Held.{Slots}
-use Rattle.gc_table.specs.Log.{events}
 use Rattle.gc_table.specs.Seats.{view_of}
 use Rattle.gc_table.specs.declared.view.View.{View}
 use Rattle.packet_pools.specs.Hands.{free_slots}
-use Rattle.packet_pools.specs.Seeking.{output_pools}
 use Rattle.cache_refills.proofs.Few.{cells-fewer}
 use Rattle.seat_turns.proofs.TracerStanding.{empty-of, marks-cleaned, marks-idle, marks-trace}
-use Rattle.seat_turns.proofs.Tending.{moves-pop, one-pops, tends-by}
+use Rattle.seat_turns.proofs.Cards.{cards-missed, cards-one}
 use Rattle.seat_turns.proofs.tracer_marking.clean.Goals as goal
 
 pub clean_one-requires-clause-seat : goal.clean_one-requires-clause-seat
@@ -32,13 +30,13 @@ pub returns-in-Some-clause-tends : goal.returns-in-Some-clause-tends
 returns-in-Some-clause-tends c =
     let v : View = view_of c.args.seat.now in
     let w : View = view_of c.clean_one.new.seat in
-    tends-by 0 v w c.clean_one.ensures.only (one-pops c.args.heap.now.shape c.args.card _ (events v w) c.in-Some.ensures.some.0)
+    cards-one c.args.heap.now.shape c.args.card _ v w c.clean_one.ensures.only c.in-Some.ensures.some.0
 
 pub returns-in-None-clause-tends : goal.returns-in-None-clause-tends
 returns-in-None-clause-tends c =
     let v : View = view_of c.args.seat.now in
     let w : View = view_of c.clean_one.new.seat in
-    tends-by 0 v w c.clean_one.ensures.only (moves-pop output_pools (events v w) c.in-None.ensures.none.2)
+    cards-missed v w c.clean_one.ensures.only c.in-None.ensures.none.2
 
 pub returns-in-Some-clause-few : goal.returns-in-Some-clause-few
 returns-in-Some-clause-few c = let e = c.in-Some.ensures in cells-fewer _ card_cells c.args.heap.now.shape _ e.some.1 e.few.0

@@ -3,17 +3,17 @@ use Rattle.gc_table.specs.Seats.{view_of}
 use Rattle.gc_table.specs.declared.view.View.{View}
 use Rattle.packet_pools.proofs.Few.{few-none}
 use Rattle.seat_turns.proofs.TurnSteps.{another-card, cards-most}
-use Rattle.seat_turns.proofs.Tending.{tends-join, tends-none}
+use Rattle.seat_turns.proofs.Cards.{cards-join, cards-none}
 use Rattle.seat_turns.proofs.tracer_marking.clean_cards.Goals as goal
 
 pub loop-card-init : goal.loop-card-init
 loop-card-init c =
     let v : View = view_of c.args.seat.now in
     let none = few-none v in
-    record { marks = c.requires; tends = tends-none v; few = omega (arith, none) }
+    record { marks = c.requires; tends = cards-none v; few = omega (arith, none) }
 
 pub returns-then-not-clean_next-clause-tends : goal.returns-then-not-clean_next-clause-tends
-returns-then-not-clean_next-clause-tends c = tends-join 0 0 0 (view_of c.args.seat.now) (view_of c.loop-card.seat) (view_of c.clean_next.new.seat) refl c.loop-card.invariant.tends c.clean_next.ensures.tends
+returns-then-not-clean_next-clause-tends c = cards-join 0 0 0 (view_of c.args.seat.now) (view_of c.loop-card.seat) (view_of c.clean_next.new.seat) refl c.loop-card.invariant.tends c.clean_next.ensures.tends
 
 pub returns-then-not-clean_next-clause-few : goal.returns-then-not-clean_next-clause-few
 returns-then-not-clean_next-clause-few c =
@@ -21,7 +21,7 @@ returns-then-not-clean_next-clause-few c =
     let e = c.clean_next.ensures in
     let test = c.loop-card-test.true in
     cards-most (c.loop-card._card + 1) c.args.heap.now.shape _ (omega (arith, test))
-    (another-card c.loop-card._card c.args.heap.now.shape (view_of c.args.seat.now) (view_of c.loop-card.seat) (view_of c.clean_next.new.seat) i.tends.ran e.tends.ran i.few e.few)
+    (another-card c.loop-card._card c.args.heap.now.shape (view_of c.args.seat.now) (view_of c.loop-card.seat) (view_of c.clean_next.new.seat) i.tends.tends.ran e.tends.tends.ran i.few e.few)
 
 pub loop-card-preserved : goal.loop-card-preserved
 loop-card-preserved c =
@@ -32,8 +32,8 @@ loop-card-preserved c =
     let e = c.clean_next.ensures in
     record {
       marks = e.seat;
-      tends = tends-join 0 0 0 v w x refl i.tends e.tends;
-      few = another-card c.loop-card._card c.args.heap.now.shape v w x i.tends.ran e.tends.ran i.few e.few;
+      tends = cards-join 0 0 0 v w x refl i.tends e.tends;
+      few = another-card c.loop-card._card c.args.heap.now.shape v w x i.tends.tends.ran e.tends.tends.ran i.few e.few;
     }
 
 pub returns-clause-few : goal.returns-clause-few

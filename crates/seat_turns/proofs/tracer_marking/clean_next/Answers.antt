@@ -1,4 +1,4 @@
-use Rattle.std.proofs.Common.{◌+◌, ap, ◌∙◌, arith, refl}
+use Rattle.std.proofs.Common.{◌+◌, ap, ◌∙◌, arith}
 use Rattle.std.specs.Prelude.{is_none}
 use Rattle.mark_core.specs.Cards.{card_cells}
 use Rattle.mark_core.specs.Held.{holds_any}
@@ -8,9 +8,9 @@ use Rattle.gc_table.specs.Seats.{view_of}
 use Rattle.packet_pools.proofs.Few.{few-join}
 use Rattle.card_clean.specs.StepBounds.{clean_one_steps}
 use Rattle.seat_turns.specs.TracerStanding.{GoesMarking}
-use Rattle.seat_turns.specs.Tending.{Tends}
+use Rattle.seat_turns.specs.Tending.{TendsCards}
 use Rattle.seat_turns.proofs.TracerStanding.{empty-of, marks-on, marks-trace, standing}
-use Rattle.seat_turns.proofs.Tending.{tends-drawn, tends-join}
+use Rattle.seat_turns.proofs.Cards.{cards-drawn, cards-drew}
 use Rattle.seat_turns.proofs.tracer_marking.clean_next.Goals as goal
 use Rattle.seat_turns.proofs.tracer_marking.clean_next.Goals.{After-next_card}
 
@@ -27,21 +27,22 @@ marks c =
     marks-on h x c.next_card.new.seat c.requires (ap standing e.state) e.seat.0 e.seat.1 (ap (λ (s : SeatState). holds_any s.held) e.state ∙ n.held)
     (ap (λ (s : SeatState). work_in_hand h.shape.fields s) e.state ∙ n.work) (ap (λ (s : SeatState). is_none s.owes) e.state ∙ n.owes)
 
-draws : (c : After-next_card) → Tends 0 (view_of c.args.seat.now) (view_of c.next_card.new.seat)
-draws c = let e = c.next_card.ensures in tends-drawn c.next_card.result (view_of c.args.seat.now) (view_of c.next_card.new.seat) e.ran e.only e.draws
+draws : (c : After-next_card) → TendsCards 0 (view_of c.args.seat.now) (view_of c.next_card.new.seat)
+draws c = let e = c.next_card.ensures in cards-drawn c.next_card.result (view_of c.args.seat.now) (view_of c.next_card.new.seat) e.ran e.only e.draws
 
 pub clean_where_dirty-requires-clause-seat : goal.clean_where_dirty-requires-clause-seat
 clean_where_dirty-requires-clause-seat c = marks (goal.at.clean_where_dirty-requires-clause-seat c).After-next_card
 
 pub returns-in-Some-clause-tends : goal.returns-in-Some-clause-tends
 returns-in-Some-clause-tends c =
-    tends-join 0 0 0 (view_of c.args.seat.now) (view_of c.next_card.new.seat) (view_of c.clean_where_dirty.new.seat) refl (draws (goal.at.returns-in-Some-clause-tends c).After-next_card) c.clean_where_dirty.ensures.tends
+    let e = c.in-Some.ensures in
+    cards-drew _ (view_of c.args.seat.now) (view_of c.next_card.new.seat) (view_of c.clean_where_dirty.new.seat) e.ran e.only e.draws c.clean_where_dirty.ensures.tends
 
 pub returns-in-Some-clause-few : goal.returns-in-Some-clause-few
 returns-in-Some-clause-few c =
     let d = c.next_card.ensures in
     let e = c.clean_where_dirty.ensures in
-    let all = few-join 2 (1 + clean_one_steps card_cells c.args.heap.now.shape) (view_of c.args.seat.now) (view_of c.next_card.new.seat) (view_of c.clean_where_dirty.new.seat) d.ran e.tends.ran d.few e.few in
+    let all = few-join 2 (1 + clean_one_steps card_cells c.args.heap.now.shape) (view_of c.args.seat.now) (view_of c.next_card.new.seat) (view_of c.clean_where_dirty.new.seat) d.ran e.tends.tends.ran d.few e.few in
     omega (arith, all)
 
 pub returns-in-None-clause-seat : goal.returns-in-None-clause-seat

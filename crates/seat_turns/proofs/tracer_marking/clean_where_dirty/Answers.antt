@@ -1,4 +1,4 @@
-use Rattle.std.proofs.Common.{ap, ◌∙◌, ◌≤◌, arith, length, refl}
+use Rattle.std.proofs.Common.{ℕ, ap, ◌∙◌, ◌≤◌, arith, length, refl}
 use Rattle.std.specs.Prelude.{is_none}
 use Rattle.mark_core.specs.Cards.{card_cells}
 use Rattle.mark_core.specs.Held.{holds_any}
@@ -15,9 +15,10 @@ use Rattle.tracer.specs.Tally.{pops}
 use Rattle.card_clean.specs.StepBounds.{clean_one_steps}
 use Rattle.gc_cycle.proofs.Stops.Looked.{looks}
 use Rattle.seat_turns.specs.TracerStanding.{GoesMarking}
-use Rattle.seat_turns.specs.Tending.{Tends}
+use Rattle.seat_turns.specs.Tending.{Tends, TendsCards}
 use Rattle.seat_turns.proofs.TracerStanding.{empty-of, marks-later, marks-trace}
-use Rattle.seat_turns.proofs.Tending.{tends-by, tends-join}
+use Rattle.seat_turns.proofs.Cards.{cards-join, cards-looked}
+use Rattle.seat_turns.proofs.Tending.{tends-by}
 use Rattle.seat_turns.proofs.tracer_marking.clean_where_dirty.Goals as goal
 use Rattle.seat_turns.proofs.tracer_marking.clean_where_dirty.Goals.{After-read_card}
 
@@ -44,6 +45,9 @@ tends c =
     let e = c.read_card.ensures.view in
     tends-by 0 v w (looked c) (ap (count_of pops) (events-after v w (ReadCard c.args.card) e.0 e.1))
 
+cards : (n : ℕ) (c : After-read_card) → TendsCards n (view_of c.args.seat.now) (view_of c.read_card.new.seat)
+cards n c = let e = c.read_card.ensures.view in cards-looked n c.args.card e.0 (view_of c.args.seat.now) (view_of c.read_card.new.seat) (tends c) e.1
+
 few : (c : After-read_card) → length (did c.args.seat.now c.read_card.new.seat) ≤ 1
 few c = few-after (view_of c.args.seat.now) (view_of c.read_card.new.seat) (ReadCard c.args.card) _ c.read_card.ensures.view.1
 
@@ -51,7 +55,7 @@ pub returns-then-not-read_card-clause-seat : goal.returns-then-not-read_card-cla
 returns-then-not-read_card-clause-seat c = marks (goal.at.returns-then-not-read_card-clause-seat c).After-read_card
 
 pub returns-then-not-read_card-clause-tends : goal.returns-then-not-read_card-clause-tends
-returns-then-not-read_card-clause-tends c = tends (goal.at.returns-then-not-read_card-clause-tends c).After-read_card
+returns-then-not-read_card-clause-tends c = cards 1 (goal.at.returns-then-not-read_card-clause-tends c).After-read_card
 
 pub returns-then-not-read_card-clause-few : goal.returns-then-not-read_card-clause-few
 returns-then-not-read_card-clause-few c = let one = few (goal.at.returns-then-not-read_card-clause-few c).After-read_card in omega (arith, one)
@@ -60,10 +64,10 @@ pub clean-requires-clause-seat : goal.clean-requires-clause-seat
 clean-requires-clause-seat c = marks (goal.at.clean-requires-clause-seat c).After-read_card
 
 pub returns-clause-tends : goal.returns-clause-tends
-returns-clause-tends c = tends-join 0 0 0 (view_of c.args.seat.now) (view_of c.read_card.new.seat) (view_of c.clean.new.seat) refl (tends (goal.at.returns-clause-tends c).After-read_card) c.clean.ensures.tends
+returns-clause-tends c = cards-join 0 1 1 (view_of c.args.seat.now) (view_of c.read_card.new.seat) (view_of c.clean.new.seat) refl (cards 0 (goal.at.returns-clause-tends c).After-read_card) c.clean.ensures.tends
 
 pub returns-clause-few : goal.returns-clause-few
 returns-clause-few c =
     let here = (goal.at.returns-clause-few c).After-read_card in
     let e = c.clean.ensures in
-    few-join 1 (clean_one_steps card_cells c.args.heap.now.shape) (view_of c.args.seat.now) (view_of c.read_card.new.seat) (view_of c.clean.new.seat) (looked here).ran e.tends.ran (few here) e.few
+    few-join 1 (clean_one_steps card_cells c.args.heap.now.shape) (view_of c.args.seat.now) (view_of c.read_card.new.seat) (view_of c.clean.new.seat) (looked here).ran e.tends.tends.ran (few here) e.few

@@ -7,7 +7,7 @@ use Rattle.mark_core.specs.declared.kinds.Shape.{Shape}
 use Rattle.gc_table.specs.Seats.{view_of}
 use Rattle.gc_table.specs.declared.view.View.{View}
 use Rattle.packet_pools.proofs.Few.{few-join}
-use Rattle.tracer.specs.StepBounds.{object_steps, recycle_steps, trace_steps, turn_steps}
+use Rattle.tracer.specs.StepBounds.{object_steps, trace_steps, turn_steps}
 use Rattle.seat_turns.specs.StepBounds.{late_steps}
 use Rattle.seat_turns.specs.Tending.{turn_quota}
 use Rattle.seat_turns.proofs.TracerStanding.{empty-of, is-none, marks-idle, marks-later, marks-trace}
@@ -20,8 +20,8 @@ trace-traced-requires-clause-seat c = (c.requires.goes.sits, marks-trace c.args.
 pub trace-traced-requires-clause-idle : goal.trace-traced-requires-clause-idle
 trace-traced-requires-clause-idle c = marks-idle c.args.heap.now c.args.seat.now c.args.seat.now.possible c.requires
 
-pub tend-requires : goal.tend-requires
-tend-requires c =
+pub clean_after-requires : goal.clean_after-requires
+clean_after-requires c =
     let h = c.args.heap.now in
     let x = c.args.seat.now in
     let y = c.trace-traced.new.seat in
@@ -37,16 +37,16 @@ returns-clause-marks c =
     record {
       between = u;
       traces = record { tends = tends-by c.trace-traced.result.done v u e.only e.tally.done; ends = ⊎_elim (λ q. inl q.1) (λ q. inr (q.1, q.2)) e.stopped; defers = e.deferral };
-      tends = c.tend.ensures.tends;
+      cards = c.clean_after.ensures.tends;
     }
 
 pub returns-clause-few : goal.returns-clause-few
 returns-clause-few c =
     let sh : Shape = c.args.heap.now.shape in
     let a = c.trace-traced.ensures in
-    let b = c.tend.ensures in
+    let b = c.clean_after.ensures in
     let traced = a.few in
     let done : c.trace-traced.result.done ≤ turn_quota = ⊎_elim (λ q. omega (arith, q.1)) (λ q. omega (arith, q.1)) a.stopped in
     let most = mul-le-mul_right {m = c.trace-traced.result.done} {n = turn_quota} (turn_steps sh + object_steps sh) done in
-    let all = few-join (trace_steps turn_quota sh) (late_steps sh + recycle_steps sh) (view_of c.args.seat.now) (view_of c.trace-traced.new.seat) (view_of c.tend.new.seat) a.only.ran b.tends.ran (omega (arith, traced, most)) b.few in
+    let all = few-join (trace_steps turn_quota sh) (late_steps sh) (view_of c.args.seat.now) (view_of c.trace-traced.new.seat) (view_of c.clean_after.new.seat) a.only.ran b.tends.tends.ran (omega (arith, traced, most)) b.few in
     omega (arith, all)

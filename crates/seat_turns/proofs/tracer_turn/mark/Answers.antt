@@ -22,7 +22,7 @@ returns-clause-marks c =
       traced = m.between;
       traces = marked-traces n (view_of c.args.seat.now) m.between m.traces;
       tended = view_of c.mark_some-traced.new.seat;
-      tends = marked-tends m.between (view_of c.mark_some-traced.new.seat) m.tends;
+      tends = marked-tends m.between (view_of c.mark_some-traced.new.seat) m.cards;
       tells = c.add_stat.ensures.view;
     }
 

@@ -5,6 +5,13 @@ use Rattle.std.proofs.Common.{ℕ, ◌≡◌, ap, subst}
 use Rattle.mark_core.specs.declared.seat.SeatState.{SeatState}
 use Rattle.gc_cycle.specs.declared.counts.Refill.TheVariants as refills
 use Rattle.cache_refills.specs.Getting.{RefillsTo}
+use Rattle.mark_core.specs.declared.kinds.Shape.{Shape}
+use Rattle.gc_table.specs.declared.view.View.{View}
+use Rattle.std.proofs.Common.{false}
+use Rattle.cache_refills.specs.Telling.{TellsRefill}
+use Rattle.cache_refills.proofs.Telling.{told-more}
+use Rattle.seat_turns.specs.Telling.{TellsFill}
+use Rattle.seat_turns.proofs.Telling.{beside-of}
 use Rattle.seat_turns.proofs.turns.fill_beside.Goals as goal
 
 pub returns-in-Cache-clause-ok : goal.returns-in-Cache-clause-ok
@@ -49,3 +56,23 @@ returns-in-Full-clause-full g c =
     let r = c.in-Full.ensures in
     let made : c.state.result.now.made ≡ (view_of c.args.seat.now).state.made = ap (λ (s : SeatState). s.made) c.state.ensures in
     record { ran = r.rules.ran; refills = subst (λ (n : ℕ). RefillsTo refills.Full n (view_of c.args.seat.now) (view_of c.refill_watched.new.seat)) made r.refills; stops = r.rules.stops; visit = r.rules.visit; again = r.rules.again; collects = r.rules.collects; cycles = r.rules.cycles; pops = r.pops; fills = r.rules.fills; due = r.due; only = r.rules.only; numbers = r.rules.numbers }
+
+pub returns-in-Cache-clause-told : goal.returns-in-Cache-clause-told
+returns-in-Cache-clause-told g c =
+    let v : View = view_of c.args.seat.now in
+    let w : View = view_of c.refill_watched.new.seat in
+    let sh : Shape = c.args.heap.now.shape in
+    let r = c.in-Cache.ensures in
+    let made : c.state.result.now.made ≡ v.state.made = ap (λ (s : SeatState). s.made) c.state.ensures in
+    let by = beside-of sh (refills.Cache c.in-Cache.cache c.in-Cache._paid) c.state.result.now.made v w made r.rules r.refills r.pops r.due in
+    told-more g.W.Watch.hears (λ ns. TellsRefill (refills.Cache c.in-Cache.cache c.in-Cache._paid) ns v w) (λ ns. TellsFill false sh ns v w) c.args.watch.now c.refill_watched.new.watch (λ ns k. ((refills.Cache c.in-Cache.cache c.in-Cache._paid), by, k)) r.told
+
+pub returns-in-Full-clause-told : goal.returns-in-Full-clause-told
+returns-in-Full-clause-told g c =
+    let v : View = view_of c.args.seat.now in
+    let w : View = view_of c.refill_watched.new.seat in
+    let sh : Shape = c.args.heap.now.shape in
+    let r = c.in-Full.ensures in
+    let made : c.state.result.now.made ≡ v.state.made = ap (λ (s : SeatState). s.made) c.state.ensures in
+    let by = beside-of sh refills.Full c.state.result.now.made v w made r.rules r.refills r.pops r.due in
+    told-more g.W.Watch.hears (λ ns. TellsRefill refills.Full ns v w) (λ ns. TellsFill false sh ns v w) c.args.watch.now c.refill_watched.new.watch (λ ns k. (refills.Full, by, k)) r.told

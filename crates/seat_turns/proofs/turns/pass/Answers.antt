@@ -13,6 +13,10 @@ use Rattle.seat_turns.proofs.Leaving.{leaves-join, leaves-looked, leaves-none, l
 use Rattle.seat_turns.specs.Coming.{hinders}
 use Rattle.seat_turns.proofs.Coming.{Calm, calm-join, calm-looked, calm-none, full-cause, passes-cause, polls-by}
 use Rattle.seat_turns.proofs.Passing.{turn-looks}
+use Rattle.gc_table.proofs.History.Log.{only-none}
+use Rattle.gc_table.proofs.Running.{ran-only}
+use Rattle.gc_cycle.specs.Mutating.{spares_blocks}
+use Rattle.seat_turns.proofs.Telling.{season-spares}
 use Rattle.seat_turns.proofs.turns.pass.Goals as goal
 
 pub returns-in-Full-clause-err : goal.returns-in-Full-clause-err
@@ -86,6 +90,9 @@ loop-preserved g c =
           (record { calm = s.calm; not_full = s.not_full; unbegun = s.unbegun; numbers = c.in-Going.ensures.numbers; pops = s.pops; helps = s.helps; cause = passes-cause c.loop.cache c.in-Going.kept _ (view_of x) (view_of y) safe })
           (calm-looked c.in-Going.kept (view_of y) (view_of z) t.looks));
       since = inr (OnFalse_at c.if-is_turn.false t.other);
+      apart =
+          ran-only spares_blocks (view_of c.args.seat.now) (view_of x) (view_of z) c.loop.invariant.ran (ran-join (view_of x) (view_of y) (view_of z) s.ran (looks-ran (view_of y) (view_of z) t.looks)) c.loop.invariant.apart
+          (ran-only spares_blocks (view_of x) (view_of y) (view_of z) s.ran (looks-ran (view_of y) (view_of z) t.looks) s.apart (season-spares (view_of y) (view_of z) t.looks));
     }
 
 pub returns-in-Full-clause-leaves : goal.returns-in-Full-clause-leaves
@@ -102,7 +109,7 @@ returns-then-is_turn-clause-leaves g c =
     leaves-join (view_of c.args.seat.now) x z c.loop.invariant.leaves (leaves-join x y z (leaves-spared x y s.ran s.spares s.keeps.0) (leaves-looked y z c.is_turn.ensures.looks))
 
 pub loop-init : goal.loop-init
-loop-init g c = record { next = tt; finite = tt; works = c.requires.works; cached = c.requires.cache; same = refl; ran = ran-refl (view_of c.args.seat.now); leaves = leaves-none (view_of c.args.seat.now); quiet = calm-none c.args.cache (view_of c.args.seat.now); since = inl refl }
+loop-init g c = record { next = tt; finite = tt; works = c.requires.works; cached = c.requires.cache; same = refl; ran = ran-refl (view_of c.args.seat.now); leaves = leaves-none (view_of c.args.seat.now); quiet = calm-none c.args.cache (view_of c.args.seat.now); since = inl refl; apart = only-none spares_blocks (view_of c.args.seat.now) }
 
 pub returns-in-Full-clause-full : goal.returns-in-Full-clause-full
 returns-in-Full-clause-full g c =
@@ -137,3 +144,25 @@ returns-then-is_turn-clause-polls g c =
     (ap (some_event polls) (ran-events a x z i.ran later)
     ∙ some-right polls (events a x) (events x z) (ap (some_event polls) (ran-events x y z s.ran looked) ∙ some-left polls (events x y) (events y z) s.polled))
     (turn-looks c.loop.cache kept _ 1 a x y z i.ran s.ran looked i.since safe t.looks t.known (t.turn c.if-is_turn.true))
+
+pub returns-in-Full-clause-untold : goal.returns-in-Full-clause-untold
+returns-in-Full-clause-untold g c =
+    let a = view_of c.args.seat.now in
+    let x = view_of c.loop.seat in
+    let y = view_of c.safe_point.new.seat in
+    let i = c.loop.invariant in
+    let s = c.safe_point.ensures in
+    (ran-join a x y i.ran s.ran, ran-only spares_blocks a x y i.ran s.ran i.apart s.apart)
+
+pub returns-then-is_turn-clause-untold : goal.returns-then-is_turn-clause-untold
+returns-then-is_turn-clause-untold g c =
+    let a = view_of c.args.seat.now in
+    let x = view_of c.loop.seat in
+    let y = view_of c.safe_point.new.seat in
+    let z = view_of c.is_turn.new.seat in
+    let i = c.loop.invariant in
+    let s = c.safe_point.ensures in
+    let t = c.is_turn.ensures in
+    let looked = looks-ran y z t.looks in
+    let later = ran-join x y z s.ran looked in
+    (ran-join a x z i.ran later, ran-only spares_blocks a x z i.ran later i.apart (ran-only spares_blocks x y z s.ran looked s.apart (season-spares y z t.looks)))

@@ -1,8 +1,10 @@
 use Rattle.std.proofs.Common.{◌≡◌}
 use Rattle.std.specs.Prelude.{◌⊎◌}
+use Rattle.gc_table.specs.Log.{Only}
 use Rattle.gc_table.specs.Running.{Ran}
 use Rattle.gc_table.specs.Seats.{view_of}
 use Rattle.gc_cycle.specs.Answering.{HasCache}
+use Rattle.gc_cycle.specs.Mutating.{spares_blocks}
 use Rattle.seat_turns.specs.Sharing.{LeavesHeap}
 use Rattle.seat_turns.specs.SeasonLooks.{SeesOther}
 use Rattle.seat_turns.specs.Standing.{Works, plain_of}
@@ -20,4 +22,5 @@ invariant-loop g l = record {
   leaves : LeavesHeap (view_of l.fn.seat) (view_of l.seat);
   quiet : Calm l.fn.cache l.cache (view_of l.fn.seat) (view_of l.seat);
   since : (view_of l.seat ≡ view_of l.fn.seat) ⊎ SeesOther 1 (view_of l.seat);
+  apart : Only spares_blocks (view_of l.fn.seat) (view_of l.seat);
 }

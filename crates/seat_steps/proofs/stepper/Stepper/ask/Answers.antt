@@ -28,7 +28,7 @@ returns-then-asks c =
     let w = view_of c.asks.new.seat in
     record {
       collects = λ most.
-          step-on c.args.precise most x _ stages.Inside stages.Stopping c.requires.inside refl
+          step-on c.args.precise most x _ stages.Inside stages.Stopping c.requires.inside refl (refl, refl, (refl, (refl, refl, refl), refl, refl, refl))
           (record { flushed = t; flushes = f.flushes; retired = v; gives = r.gives; asks = subst (λ (b : Bool). AsksOnce v.state.made b v w) c.if-asks.true a.asks }, refl)
           (record { heap = a.same ∙ r.same ∙ f.same; leaves = leaves-join u t w f.leaves (leaves-join t v w r.leaves a.leaves); world = refl; name_is = refl; stops = refl; search = record { paid_is = refl; block = refl; seen = refl } });
       bounded = λ most. bounded-on most x _ stages.Inside stages.Stopping c.requires.inside refl (flushes-do (flush_steps u) 6 u t w f.flushes f.few (ran-join t v w r.ran a.leaves.ran) (asks-few v.state.made c.asks.result t v w r.ran r.gives r.few a.leaves.ran a.asks));

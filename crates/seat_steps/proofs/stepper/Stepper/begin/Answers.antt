@@ -35,7 +35,7 @@ returns-then-not-finds_stopped c =
     let x = c.args.self.now in
     let running = c.if-not-finds_stopped.ensures.not_yet.1 in
     record {
-      collects = λ precise most. step-on precise most x _ stages.Stopping stages.Stopping c.requires.stopping c.requires.stopping (running, refl) (keeps-rest x _ (kept (goal.at.returns-then-not-finds_stopped c).After-finds_stopped) refl refl);
+      collects = λ precise most. step-on precise most x _ stages.Stopping stages.Stopping c.requires.stopping c.requires.stopping (refl, refl, (refl, (refl, refl, refl), refl, refl, refl)) (running, refl) (keeps-rest x _ (kept (goal.at.returns-then-not-finds_stopped c).After-finds_stopped) refl refl);
       bounded = λ most. bounded-on most x _ stages.Stopping stages.Stopping c.requires.stopping c.requires.stopping (looks-once (view_of x.seat) (view_of c.finds_stopped.new.seat) running);
     }
 
@@ -59,7 +59,7 @@ returns-then-begin_collection c =
     let begun = course-kept c.finds_stopped.new.seat c.begin_collection.new.seat b.ran course.only b.keeps in
     record {
       collects = λ precise most.
-          step-on precise most x _ stages.Stopping stages.Rooting c.requires.stopping refl
+          step-on precise most x _ stages.Stopping stages.Rooting c.requires.stopping refl (refl, refl)
           (record { stopped = v; finds = stopped.1; course = course; once_more = c.marks_again-self.ensures.again ∙ ap (λ (m : Bool). x.precise && m) read; exactly = c.leaves_none-self.ensures.exact ∙ ap (λ (m : Bool). x.precise || not m) read }, refl, refl, (refl, refl, refl), refl)
           (keeps-rest x _ (kept-join x.seat c.finds_stopped.new.seat c.begin_collection.new.seat found begun) refl refl);
       bounded = λ most.
@@ -108,7 +108,7 @@ returns c =
     let all = kept-join x.seat c.finds_stopped.new.seat c.begin_collection.new.seat found (course-kept c.finds_stopped.new.seat c.begin_collection.new.seat b.ran i.over.only b.keeps) in
     record {
       collects = λ precise most. (
-        inl (c.requires.stopping, record { stopped = u; finds = stopped.1; resumed = v; course = i.over; leaves = l.out; full = begins-full t u v w found.leaves.ran stopped.1 i.over known l.ran (l.full known) }),
+        inl (c.requires.stopping, record { stopped = u; finds = stopped.1; resumed = v; course = i.over; leaves = l.out; full = begins-full t u v w found.leaves.ran stopped.1 i.over known l.ran (l.full known) }, refl, (refl, (refl, refl, refl), refl, refl, refl)),
         l.full known,
         refl,
         record { heap = l.same ∙ all.same; leaves = leaves-join t v w all.leaves l.leaves; world = refl; name_is = refl; stops = refl; search = record { paid_is = refl; block = refl; seen = refl } },

@@ -50,7 +50,7 @@ returns-then-clear_step-draws c =
     let here = (goal.at.returns-then-clear_step-draws c).After-clear_step in
     let all = drawn here ∙ (c.if-clear_step-draws.true ∙ draws here) in
     record {
-      collects = λ precise. step-on precise c.args.most x _ stages.Clearing stages.Clearing c.requires.clearing c.requires.clearing (all, c.clear_step.ensures.part, ((refl, refl), refl, refl), (refl, refl, refl)) (keeps-rest x _ (kept here) refl refl);
+      collects = λ precise. step-on precise c.args.most x _ stages.Clearing stages.Clearing c.requires.clearing c.requires.clearing (refl, refl) (all, c.clear_step.ensures.part, ((refl, refl), refl, refl), (refl, refl, refl)) (keeps-rest x _ (kept here) refl refl);
       bounded = bounded-on c.args.most x _ stages.Clearing stages.Clearing c.requires.clearing c.requires.clearing (omega (arith, all), few here);
     }
 
@@ -73,7 +73,7 @@ returns-clause-collects c =
     let e = c.clear_step.ensures in
     let b = c.finish_clear.ensures in
     let fewer = fewer-of _ c.clear_step.result c.stretches_of-draws.result (draws_for c.args.most x) (drawn here) e.stretches.0 c.if-clear_step-draws.false (draws here) in
-    λ precise. step-on precise c.args.most x _ stages.Clearing stages.Rooting c.requires.clearing refl (
+    λ precise. step-on precise c.args.most x _ stages.Clearing stages.Rooting c.requires.clearing refl (refl, refl) (
       record {
         cleared = view_of y;
         part = e.part;

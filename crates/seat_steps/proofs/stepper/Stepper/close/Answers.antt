@@ -41,7 +41,7 @@ returns-then-not-finds_helpers_gone-clause-collects c =
     let x = c.args.self.now in
     let here = (goal.at.returns-then-not-finds_helpers_gone-clause-collects c).After-finds_helpers_gone in
     let s = c.finds_helpers_gone.ensures.step in
-    λ precise most. step-on precise most x _ stages.Closing stages.Closing c.requires.closing c.requires.closing (
+    λ precise most. step-on precise most x _ stages.Closing stages.Closing c.requires.closing c.requires.closing (refl, refl) (
       record { found = s.0; some = λ z. true≢false (sym (s.3 ∙ eq-eqb s.0 0 z) ∙ c.if-not-finds_helpers_gone.true); all = events-after (view_of x.seat) (view_of c.finds_helpers_gone.new.seat) SeeHelp s.0 s.1 },
       ((refl, refl), refl, refl),
       (refl, refl, refl),
@@ -81,7 +81,7 @@ returns-clause-collects c =
     let s = c.finds_helpers_gone.ensures.step in
     let b = c.return_to_roots.ensures in
     let none : s.0 ≡ 0 = eqb-true s.0 0 (sym s.3 ∙ c.if-not-finds_helpers_gone.false) in
-    λ precise most. step-on precise most x _ stages.Closing stages.Rooting c.requires.closing refl (
+    λ precise most. step-on precise most x _ stages.Closing stages.Rooting c.requires.closing refl (refl, refl) (
       record { alone = view_of y; looks = events-after (view_of x.seat) (view_of y) SeeHelp s.0 s.1 ∙ ap (λ n. event SeeHelp n ∷ []) none; course = b.course },
       refl,
       ((refl, refl), refl, refl),

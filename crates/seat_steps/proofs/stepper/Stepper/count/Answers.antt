@@ -46,7 +46,7 @@ returns-then-step-most-clause-collects c =
     let n : ℕ = c.count_step-step.result.blocks in
     let is = c.if-step-most.true in
     let count : n ≡ min c.args.most (blocks_left x) = subst (λ (h : Heap). n ≡ min c.args.most (block_count h.shape - x.next)) c.deref.ensures e.blocks in
-    λ precise. step-on precise c.args.most x _ stages.Counting stages.Counting c.requires.counting c.requires.counting
+    λ precise. step-on precise c.args.most x _ stages.Counting stages.Counting c.requires.counting c.requires.counting refl
     (as-many n c.args.most (blocks_left x) count is, subst (λ k. steps_of (did x.seat c.count_step-step.new.seat) ≡ alloc_reads x.next k) is e.reads, ap (λ k. x.next + k) is, refl, ((refl, refl), refl, refl), (refl, refl, refl))
     (keeps-rest x _ (kept (goal.at.returns-then-step-most-clause-collects c).After-count_step-step) refl refl)
 
@@ -64,7 +64,7 @@ returns-clause-collects c =
     let n : ℕ = c.count_step-step.result.blocks in
     let count : n ≡ min c.args.most (blocks_left x) = subst (λ (h : Heap). n ≡ min c.args.most (block_count h.shape - x.next)) c.deref.ensures e.blocks in
     let all = all-left n c.args.most (blocks_left x) count c.if-step-most.false in
-    λ precise. step-on precise c.args.most x _ stages.Counting stages.Ending c.requires.counting refl
+    λ precise. step-on precise c.args.most x _ stages.Counting stages.Ending c.requires.counting refl refl
     (all.0, subst (λ k. steps_of (did x.seat c.count_step-step.new.seat) ≡ alloc_reads x.next k) all.1 e.reads, refl, ((refl, refl), refl, refl), (refl, refl, refl))
     (keeps-rest x _ (kept (goal.at.returns-clause-collects c).After-count_step-step) refl refl)
 

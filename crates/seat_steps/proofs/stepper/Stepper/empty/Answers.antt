@@ -84,7 +84,7 @@ returns-then-popped-most-clause-collects c =
     let popped : count_of pops (did x.seat c.trace_shared-popped.new.seat) ≡ c.args.most = omega (arith, count, all) in
     let sum = c.saturating_add-self.ensures in
     let traced : c.saturating_add-self.result ≡ min (x.traced + count_of pops (did x.seat c.trace_shared-popped.new.seat)) greatest = omega (arith, sum, count) in
-    λ precise. step-on precise c.args.most x _ stages.Emptying stages.Emptying c.requires.emptying c.requires.emptying (inl (popped, traces here), ((refl, refl), refl, refl), (traced, refl, refl)) (keeps-rest x _ (kept here) refl refl)
+    λ precise. step-on precise c.args.most x _ stages.Emptying stages.Emptying c.requires.emptying c.requires.emptying (refl, refl) (inl (popped, traces here), ((refl, refl), refl, refl), (traced, refl, refl)) (keeps-rest x _ (kept here) refl refl)
 
 pub returns-then-popped-most-clause-bounded : goal.returns-then-popped-most-clause-bounded
 returns-then-popped-most-clause-bounded c =
@@ -121,7 +121,7 @@ returns-then-not-finds_no_work_shared-clause-collects c =
     let sum = c.saturating_add-self.ensures in
     let traced : c.saturating_add-self.result ≡ min (x.traced + count_of pops (did x.seat z)) greatest = omega (arith, sum, both, none, count) in
     let shape = (sits-in _ _ x.seat c.deref-2.ensures (x.emptying c.requires.emptying).sits).1 in
-    λ precise. step-on precise c.args.most x _ stages.Emptying stages.Emptying c.requires.emptying c.requires.emptying (
+    λ precise. step-on precise c.args.most x _ stages.Emptying stages.Emptying c.requires.emptying c.requires.emptying (refl, refl) (
       inr (
         fewer,
         record {
@@ -205,7 +205,7 @@ returns-clause-collects c =
     let traced : c.saturating_add-self.result ≡ min (x.traced + count_of pops (did x.seat q)) greatest = omega (arith, sum, all, both, none, last, count) in
     let shape = (sits-in _ _ x.seat c.deref-2.ensures (x.emptying c.requires.emptying).sits).1 in
     let found : a.0 ≡ empty_offset + u.shape.packets = eqb-true a.0 _ (sym a.3 ∙ c.if-not-finds_no_work_shared.false) ∙ ap (λ (sh : Shape). empty_offset + sh.packets) (sym shape) in
-    λ precise. step-on precise c.args.most x _ stages.Emptying stages.Closing c.requires.emptying refl (
+    λ precise. step-on precise c.args.most x _ stages.Emptying stages.Closing c.requires.emptying refl (refl, refl) (
       fewer,
       record { traced = v; traces = traces here; looked = w; looks = events-after v w ReadCount a.0 a.1 ∙ ap (λ n. event ReadCount n ∷ []) found; shuts = h.step },
       ((refl, refl), refl, refl),

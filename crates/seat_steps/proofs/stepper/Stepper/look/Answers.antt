@@ -48,7 +48,7 @@ look_step-requires c = let x = c.args.self.now in let s = x.looking c.requires.l
 pub returns-in-Dirty-clause-collects : goal.returns-in-Dirty-clause-collects
 returns-in-Dirty-clause-collects c =
     let x = c.args.self.now in
-    λ precise. step-on precise c.args.most x _ stages.Looking stages.Cleaning c.requires.looking refl
+    λ precise. step-on precise c.args.most x _ stages.Looking stages.Cleaning c.requires.looking refl (refl, refl)
     (subst (λ (h : Heap). LooksAt h.shape x.next c.args.most (looks.Dirty c.in-Dirty.card) (did x.seat c.look_step.new.seat)) c.deref.ensures c.in-Dirty.ensures.looked, ((refl, refl), refl, refl), (refl, refl, refl))
     (keeps-rest x _ (kept (goal.at.returns-in-Dirty-clause-collects c).After-look_step) refl refl)
 
@@ -62,7 +62,7 @@ pub returns-then-number-most-clause-collects : goal.returns-then-number-most-cla
 returns-then-number-most-clause-collects c =
     let x = c.args.self.now in
     let is = c.if-number-most.true in
-    λ precise. step-on precise c.args.most x _ stages.Looking stages.Looking c.requires.looking c.requires.looking (
+    λ precise. step-on precise c.args.most x _ stages.Looking stages.Looking c.requires.looking c.requires.looking (refl, refl) (
       subst (λ (h : Heap). LooksAt h.shape x.next c.args.most (looks.Clean c.args.most) (did x.seat c.look_step.new.seat)) c.deref.ensures
           (subst (λ k. LooksAt c.deref.result.now.shape x.next c.args.most (looks.Clean k) (did x.seat c.look_step.new.seat)) is c.in-Clean.ensures.looked),
       ap (λ k. x.next + k) is,
@@ -110,7 +110,7 @@ returns-then-not-finds_all_marked-clause-collects c =
     let e = c.look_step.ensures in
     let f = c.finds_all_marked.ensures in
     let shape = (sits-in _ _ x.seat c.deref.ensures (x.looking c.requires.looking).sits).1 in
-    λ precise. step-on precise c.args.most x _ stages.Looking stages.Draining c.requires.looking refl (
+    λ precise. step-on precise c.args.most x _ stages.Looking stages.Draining c.requires.looking refl (refl, refl) (
       left here,
       packet-left c.finds_all_marked.result c.deref.result.now.shape x.next c.in-Clean.number c.args.most (view_of x.seat) (view_of c.look_step.new.seat) (view_of c.finds_all_marked.new.seat) shape e.part.ran f.part.ran c.in-Clean.ensures.looked c.if-number-most.false f.reads c.if-not-finds_all_marked.true,
       ((refl, refl), refl, refl),
@@ -145,7 +145,7 @@ returns-then-self-clause-collects c =
     let f = c.finds_all_marked.ensures in
     let b = c.start_clear.ensures in
     let shape = (sits-in _ _ x.seat c.deref.ensures (x.looking c.requires.looking).sits).1 in
-    λ precise. step-on precise c.args.most x _ stages.Looking stages.Clearing c.requires.looking refl (
+    λ precise. step-on precise c.args.most x _ stages.Looking stages.Clearing c.requires.looking refl (refl, refl) (
       left here,
       record {
         drained = w;
@@ -197,7 +197,7 @@ returns-clause-collects c =
     let b = c.start_sweep.ensures in
     let o = c.open_stop.ensures in
     let shape = (sits-in _ _ x.seat c.deref.ensures (x.looking c.requires.looking).sits).1 in
-    λ precise. step-on precise c.args.most x _ stages.Looking stages.Sweeping c.requires.looking refl (
+    λ precise. step-on precise c.args.most x _ stages.Looking stages.Sweeping c.requires.looking refl refl (
       left here,
       record {
         drained = w;

@@ -58,7 +58,7 @@ returns-in_default c =
     let e = c.in_default.ensures in
     record {
       collects =
-          λ precise. step-on precise c.args.most x _ stages.Passing stages.Sharing c.requires.passing refl ((refl, e.lacks, count-none clears (did x.seat c.clean_shared.new.seat) e.uncleaned, e.unscanned, (refl, refl, refl)), ((refl, refl), refl, refl))
+          λ precise. step-on precise c.args.most x _ stages.Passing stages.Sharing c.requires.passing refl (refl, refl) ((refl, e.lacks, count-none clears (did x.seat c.clean_shared.new.seat) e.uncleaned, e.unscanned, (refl, refl, refl)), ((refl, refl), refl, refl))
           (keeps-rest x _ (kept here) refl refl);
       bounded = bounded-on c.args.most x _ stages.Passing stages.Sharing c.requires.passing refl (few here);
     }
@@ -80,7 +80,7 @@ returns-then-step-most-clause-collects c =
     let scanned = c.saturating_add-self-2.ensures in
     let objects = e.rescanned in
     let rescanned : c.saturating_add-self-2.result ≡ min (x.rescanned + rescanned_in (view_of x.seat) (did x.seat c.clean_shared.new.seat)) greatest = omega (arith, scanned, objects) in
-    λ precise. step-on precise c.args.most x _ stages.Passing stages.Passing c.requires.passing c.requires.passing
+    λ precise. step-on precise c.args.most x _ stages.Passing stages.Passing c.requires.passing c.requires.passing (refl, refl)
     ((as-many n c.args.most (cards_left x) count is, ap (λ k. x.next + k) is, subst (λ k. Across (CleansCards x.next k) x.seat c.clean_shared.new.seat) is e.cleaned.1, (refl, cleaned, rescanned)), ((refl, refl), refl, refl))
     (keeps-rest x _ (kept here) refl refl)
 
@@ -105,7 +105,7 @@ returns-clause-collects c =
     let objects = e.rescanned in
     let rescanned : c.saturating_add-self-2.result ≡ min (x.rescanned + rescanned_in (view_of x.seat) (did x.seat c.clean_shared.new.seat)) greatest = omega (arith, scanned, objects) in
     let all = all-left n c.args.most (cards_left x) count c.if-step-most.false in
-    λ precise. step-on precise c.args.most x _ stages.Passing stages.Emptying c.requires.passing refl (all.0, subst (λ k. Across (CleansCards x.next k) x.seat c.clean_shared.new.seat) all.1 e.cleaned.1, ((refl, refl), refl, refl), (refl, cleaned, rescanned)) (keeps-rest x _ (kept here) refl refl)
+    λ precise. step-on precise c.args.most x _ stages.Passing stages.Emptying c.requires.passing refl (refl, refl) (all.0, subst (λ k. Across (CleansCards x.next k) x.seat c.clean_shared.new.seat) all.1 e.cleaned.1, ((refl, refl), refl, refl), (refl, cleaned, rescanned)) (keeps-rest x _ (kept here) refl refl)
 
 pub returns-clause-bounded : goal.returns-clause-bounded
 returns-clause-bounded c =

@@ -55,7 +55,7 @@ returns-in_default c =
     let here = (goal.at.returns-in_default c).After-root_piece in
     let lacks = c.in_default.ensures.not_yet.1 in
     record {
-      collects = λ precise. step-on precise c.args.most x _ stages.Rooting stages.Rooting c.requires.rooting c.requires.rooting (inr (refl, lacks), ((refl, refl), refl, refl), (refl, refl, refl)) (keeps-rest x _ (kept here) refl refl);
+      collects = λ precise. step-on precise c.args.most x _ stages.Rooting stages.Rooting c.requires.rooting c.requires.rooting (refl, refl) (inr (refl, lacks), ((refl, refl), refl, refl), (refl, refl, refl)) (keeps-rest x _ (kept here) refl refl);
       bounded = bounded-on c.args.most x _ stages.Rooting stages.Rooting c.requires.rooting c.requires.rooting (inr lacks, few here);
     }
 
@@ -76,7 +76,7 @@ returns-then-number-most-clause-collects c =
     let n : ℕ = c.in-Some.number in
     let is = c.if-number-most.true in
     let count : n ≡ min c.args.most (roots_left x) = subst (λ (h : Heap). n ≡ min c.args.most (root_count h.shape - x.next)) c.deref.ensures c.in-Some.ensures.some.1 in
-    λ precise. step-on precise c.args.most x _ stages.Rooting stages.Rooting c.requires.rooting c.requires.rooting
+    λ precise. step-on precise c.args.most x _ stages.Rooting stages.Rooting c.requires.rooting c.requires.rooting (refl, refl)
     (inl (as-many n c.args.most (roots_left x) count is, ap (λ k. x.next + k) is, subst (λ k. Across (SeesRoots x.next k) x.seat c.root_piece.new.seat) is (sees here.In-Some)), ((refl, refl), refl, refl), (refl, refl, refl))
     (keeps-rest x _ (kept here.After-root_piece) refl refl)
 
@@ -95,7 +95,7 @@ returns-then-self-clause-collects c =
     let n : ℕ = c.in-Some.number in
     let count : n ≡ min c.args.most (roots_left x) = subst (λ (h : Heap). n ≡ min c.args.most (root_count h.shape - x.next)) c.deref.ensures c.in-Some.ensures.some.1 in
     let all = all-left n c.args.most (roots_left x) count c.if-number-most.false in
-    λ precise. step-on precise c.args.most x _ stages.Rooting stages.Draining c.requires.rooting refl (all.0, subst (λ k. Across (SeesRoots x.next k) x.seat c.root_piece.new.seat) all.1 (sees here.In-Some), ((refl, refl), refl, refl), (refl, refl, refl)) (keeps-rest x _ (kept here.After-root_piece) refl refl)
+    λ precise. step-on precise c.args.most x _ stages.Rooting stages.Draining c.requires.rooting refl (refl, refl) (all.0, subst (λ k. Across (SeesRoots x.next k) x.seat c.root_piece.new.seat) all.1 (sees here.In-Some), ((refl, refl), refl, refl), (refl, refl, refl)) (keeps-rest x _ (kept here.After-root_piece) refl refl)
 
 pub returns-then-self-clause-bounded : goal.returns-then-self-clause-bounded
 returns-then-self-clause-bounded c =
@@ -125,7 +125,7 @@ returns-clause-collects c =
     let o = c.open_stop.ensures in
     let count : n ≡ min c.args.most (roots_left x) = subst (λ (h : Heap). n ≡ min c.args.most (root_count h.shape - x.next)) c.deref.ensures c.in-Some.ensures.some.1 in
     let all = all-left n c.args.most (roots_left x) count c.if-number-most.false in
-    λ precise. step-on precise c.args.most x _ stages.Rooting stages.Sharing c.requires.rooting refl (
+    λ precise. step-on precise c.args.most x _ stages.Rooting stages.Sharing c.requires.rooting refl (refl, refl) (
       all.0,
       record { rooted = view_of y; sees = subst (λ k. Across (SeesRoots x.next k) x.seat y) all.1 (sees here.In-Some); opens = o.step },
       c.if-self.false,

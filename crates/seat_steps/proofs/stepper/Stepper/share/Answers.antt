@@ -64,7 +64,7 @@ returns-then-popped-most-clause-collects c =
     let fewer : count_of pops (did x.seat c.trace_shared-popped.new.seat) < c.args.most = omega (arith, bound, count, other) in
     let sum = c.saturating_add-self.ensures in
     let traced : c.saturating_add-self.result ≡ min (x.traced + count_of pops (did x.seat c.trace_shared-popped.new.seat)) greatest = omega (arith, sum, count) in
-    λ precise. step-on precise c.args.most x _ stages.Sharing stages.Passing c.requires.sharing refl (fewer, traces here, refl, ((refl, refl), refl, refl), (traced, refl, refl)) (keeps-rest x _ (kept here) refl refl)
+    λ precise. step-on precise c.args.most x _ stages.Sharing stages.Passing c.requires.sharing refl (refl, refl) (fewer, traces here, refl, ((refl, refl), refl, refl), (traced, refl, refl)) (keeps-rest x _ (kept here) refl refl)
 
 pub returns-then-popped-most-clause-bounded : goal.returns-then-popped-most-clause-bounded
 returns-then-popped-most-clause-bounded c =
@@ -84,7 +84,7 @@ returns-else-popped-most-clause-collects c =
     let popped : count_of pops (did x.seat c.trace_shared-popped.new.seat) ≡ c.args.most = omega (arith, count, all) in
     let sum = c.saturating_add-self.ensures in
     let traced : c.saturating_add-self.result ≡ min (x.traced + count_of pops (did x.seat c.trace_shared-popped.new.seat)) greatest = omega (arith, sum, count) in
-    λ precise. step-on precise c.args.most x _ stages.Sharing stages.Sharing c.requires.sharing c.requires.sharing (popped, traces here, refl, ((refl, refl), refl, refl), (traced, refl, refl)) (keeps-rest x _ (kept here) refl refl)
+    λ precise. step-on precise c.args.most x _ stages.Sharing stages.Sharing c.requires.sharing c.requires.sharing (refl, refl) (popped, traces here, refl, ((refl, refl), refl, refl), (traced, refl, refl)) (keeps-rest x _ (kept here) refl refl)
 
 pub returns-else-popped-most-clause-bounded : goal.returns-else-popped-most-clause-bounded
 returns-else-popped-most-clause-bounded c =

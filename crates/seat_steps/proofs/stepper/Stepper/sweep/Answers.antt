@@ -70,7 +70,7 @@ returns-then-step-draws-clause-collects c =
     let sum = c.saturating_add-self.ensures in
     let more = c.sweep_shared-step.ensures.freed in
     let freed : c.saturating_add-self.result ≡ min (x.freed + freed_in (view_of x.seat) (did x.seat c.sweep_shared-step.new.seat)) greatest = omega (arith, sum, more) in
-    λ precise. step-on precise c.args.most x _ stages.Sweeping stages.Sweeping c.requires.sweeping c.requires.sweeping (drawn here ∙ (c.if-step-draws.true ∙ draws here), c.sweep_shared-step.ensures.part, freed, ((refl, refl), refl, refl), (refl, refl, refl)) (keeps-rest x _ (kept here) refl refl)
+    λ precise. step-on precise c.args.most x _ stages.Sweeping stages.Sweeping c.requires.sweeping c.requires.sweeping refl (drawn here ∙ (c.if-step-draws.true ∙ draws here), c.sweep_shared-step.ensures.part, freed, ((refl, refl), refl, refl), (refl, refl, refl)) (keeps-rest x _ (kept here) refl refl)
 
 pub returns-then-step-draws-clause-bounded : goal.returns-then-step-draws-clause-bounded
 returns-then-step-draws-clause-bounded c =
@@ -110,7 +110,7 @@ returns-clause-collects c =
     let total = freed-run u v w e.part.ran g.ran in
     let unfreed = gate-frees v w g in
     let freed : c.saturating_add-self.result ≡ min (x.freed + freed_in u (did x.seat z)) greatest = omega (arith, sum, more, total, unfreed) in
-    λ precise. step-on precise c.args.most x _ stages.Sweeping stages.Parting c.requires.sweeping refl (drawn, freed, record { swept = v; part = e.part; shuts = h.step }, ((refl, refl), refl, refl), (refl, refl, refl))
+    λ precise. step-on precise c.args.most x _ stages.Sweeping stages.Parting c.requires.sweeping refl refl (drawn, freed, record { swept = v; part = e.part; shuts = h.step }, ((refl, refl), refl, refl), (refl, refl, refl))
     (keeps-rest x _ (kept-join x.seat c.sweep_shared-step.new.seat z (kept here) (gate-kept Sweep c.sweep_shared-step.new.seat z g h.keeps)) refl refl)
 
 pub returns-clause-bounded : goal.returns-clause-bounded

@@ -65,7 +65,7 @@ returns-then-popped-most-clause-collects c =
     let fewer : count_of pops (did x.seat c.trace_step-popped.new.seat) < c.args.most = omega (arith, bound, count, other) in
     let sum = c.saturating_add-self.ensures in
     let traced : c.saturating_add-self.result ≡ min (x.traced + count_of pops (did x.seat c.trace_step-popped.new.seat)) greatest = omega (arith, sum, count) in
-    λ precise. step-on precise c.args.most x _ stages.Draining stages.Looking c.requires.draining refl (fewer, traces here, refl, ((refl, refl), refl, refl), (traced, refl, refl)) (keeps-rest x _ (kept here) refl refl)
+    λ precise. step-on precise c.args.most x _ stages.Draining stages.Looking c.requires.draining refl (refl, refl) (fewer, traces here, refl, ((refl, refl), refl, refl), (traced, refl, refl)) (keeps-rest x _ (kept here) refl refl)
 
 pub returns-then-popped-most-clause-bounded : goal.returns-then-popped-most-clause-bounded
 returns-then-popped-most-clause-bounded c =
@@ -86,7 +86,7 @@ returns-else-popped-most-clause-collects c =
     let popped : count_of pops (did x.seat c.trace_step-popped.new.seat) ≡ c.args.most = omega (arith, count, all) in
     let sum = c.saturating_add-self.ensures in
     let traced : c.saturating_add-self.result ≡ min (x.traced + count_of pops (did x.seat c.trace_step-popped.new.seat)) greatest = omega (arith, sum, count) in
-    λ precise. step-on precise c.args.most x _ stages.Draining stages.Draining c.requires.draining c.requires.draining (popped, traces here, ((refl, refl), refl, refl), (traced, refl, refl)) (keeps-rest x _ (kept here) refl refl)
+    λ precise. step-on precise c.args.most x _ stages.Draining stages.Draining c.requires.draining c.requires.draining (refl, refl) (popped, traces here, ((refl, refl), refl, refl), (traced, refl, refl)) (keeps-rest x _ (kept here) refl refl)
 
 pub returns-else-popped-most-clause-bounded : goal.returns-else-popped-most-clause-bounded
 returns-else-popped-most-clause-bounded c =

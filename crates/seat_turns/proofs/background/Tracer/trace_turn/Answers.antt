@@ -1,6 +1,7 @@
 use Rattle.std.proofs.Common.{subst, sym}
 use Rattle.gc_table.specs.Seats.{Sits, view_of}
 use Rattle.gc_table.specs.declared.seat.Heap.{Heap}
+use Rattle.gc_cycle.proofs.Turns.{turns-waited}
 use Rattle.seat_turns.specs.TracerTries.{TriesTurn}
 use Rattle.seat_turns.specs.declared.try_turns.TryTurn.{TryTurn}
 use Rattle.seat_turns.proofs.Tallying.{tallies-join, tallies-only}
@@ -36,7 +37,7 @@ returns-in-Stopped-clause-turn g c =
     let v = view_of c.args.self.now.seat in
     let x = view_of c.try_turn.new.self.seat in
     let h = c.await_resumed_helping.ensures in
-    helped v x (view_of c.await_resumed_helping.new.seat) (subst (λ (t : TryTurn). TriesTurn t v x) c.in-Stopped.is c.try_turn.ensures.turn) h.ran h.helps h.resumed
+    helped v x (view_of c.await_resumed_helping.new.seat) (subst (λ (t : TryTurn). TriesTurn t v x) c.in-Stopped.is c.try_turn.ensures.turn) h.ran (turns-waited x (view_of c.await_resumed_helping.new.seat) h.helps) h.resumed
 
 pub returns-in-Stopped-clause-tally : goal.returns-in-Stopped-clause-tally
 returns-in-Stopped-clause-tally g c =

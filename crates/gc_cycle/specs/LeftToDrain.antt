@@ -1,0 +1,67 @@
+-- What is left to drain for a seat that is alone, by what it has noted of the words, and what a call uses up of it.
+use Rattle.std.specs.Prelude.{ℕ, ◌+◌, ◌/◌, ◌%◌, ◌≤◌, ◌==◌, if◌then◌else◌, Bool, false, Option, None, Some, unwrap_or}
+use Rattle.std.specs.List.{sum_by, range_with_len}
+use Rattle.mark_core.specs.Bits.{has_bit, reference_in}
+use Rattle.mark_core.specs.Numbers.{reference_bound}
+use Rattle.mark_core.specs.Cards.{block_cells}
+use Rattle.mark_core.specs.Held.{known_length}
+use Rattle.mark_core.specs.Layout.{card_count}
+use Rattle.mark_core.specs.Places.{card_at, head_at, mark_at}
+use Rattle.mark_core.specs.declared.kinds.Step.{Step}
+use Rattle.mark_core.specs.declared.kinds.Step.TheVariants.{ClearCard}
+use Rattle.gc_table.specs.Log.{events}
+use Rattle.gc_table.specs.Notes.{look}
+use Rattle.gc_table.specs.declared.view.View.{View}
+use Rattle.packet_pools.specs.Counts.{count_of, dirties, marks_white, pushes}
+use Rattle.gc_cycle.specs.Sorts.{pops}
+
+-- 1 unless the noted word has the bit
+abbrev pub lacks : Option ℕ → ℕ → ℕ
+lacks None i = 1
+lacks (Some word) i = if has_bit word i then 0 else 1
+
+-- 1 unless the cell is noted as marked
+abbrev pub white_left : View → ℕ → ℕ
+white_left v c = lacks (look (mark_at (c / block_cells)) v.known) (c % block_cells)
+
+-- 1 unless the noted word is 0
+abbrev pub unless_clean : Option ℕ → ℕ
+unless_clean None = 1
+unless_clean (Some word) = if word == 0 then 0 else 1
+
+-- 1 unless the card is noted as clean
+abbrev pub dirty_left : View → ℕ → ℕ
+dirty_left v card = unless_clean (look (card_at card) v.known)
+
+-- the length that a noted head says, or else more than any
+abbrev pub noted_length : Option ℕ → ℕ
+noted_length None = reference_bound
+noted_length (Some word) = reference_in word
+
+-- the entries of packet p, at most: by its length in hand, or else by its head
+abbrev pub entries_left : View → ℕ → ℕ
+entries_left v p = unwrap_or (known_length v.state.held p) (noted_length (look (head_at p) v.known))
+
+-- the cells that aren't noted as marked
+abbrev pub cells_left : View → ℕ
+cells_left v = sum_by (white_left v) (range_with_len 0 v.shape.cells)
+
+-- the entries that packets have at most
+abbrev pub queue_left : View → ℕ
+queue_left v = sum_by (entries_left v) (range_with_len 0 v.shape.packets)
+
+-- the cards that aren't noted as clean
+abbrev pub cards_left : View → ℕ
+cards_left v = sum_by (dirty_left v) (range_with_len 0 (card_count v.shape))
+
+-- a dirty card is cleaned
+abbrev pub cleans_dirty : Step → ℕ → Bool
+cleans_dirty (ClearCard card) found = found == 1
+cleans_dirty step found = false
+
+-- each white cell that was marked is one fewer; each cell that was popped is one entry fewer, but for those that were pushed; and each dirty card that was cleaned
+-- is one fewer, but for those that were dirtied
+pub record UsesUp (v w : View) : Type 0 where
+  pub cells : count_of marks_white (events v w) + cells_left w ≤ cells_left v
+  pub queue : count_of pops (events v w) + queue_left w ≤ queue_left v + count_of pushes (events v w)
+  pub cards : count_of cleans_dirty (events v w) + cards_left w ≤ cards_left v + count_of dirties (events v w)
