@@ -25,12 +25,17 @@
 #include <sys/time.h>
 #include <time.h>
 
+#if defined(__linux__) && defined(__LP64__)
+#include <sys/syscall.h>
+#define MH_FUTEX
+#endif
+
 #ifdef __cplusplus
 extern "C" {
 #endif
 
 /* The version of these calls. The first number rises if a program has to be changed or compiled again. */
-#define MH_VERSION "4.3"
+#define MH_VERSION "4.4"
 
 /* What a call came to. If it isn't MH_OK, objects and variables are as before, but for what a line here says. */
 typedef enum mh_status {
@@ -286,6 +291,12 @@ static inline mh_status mh_was_used(uint32_t *used, mh_status s) {
 
 enum { MH_CYCLE_NUMBERS = 16 };
 
+/* What threads wait for: that a mutator has left, that a stop ends, and that a cycle begins to mark. */
+enum { MH_LEAVING = 0, MH_GOING_ON = 1, MH_MARKING = 2, MH_BELLS = 3 };
+
+/* How often it has come while a thread slept that waits for it, and how many sleep. */
+typedef struct mh_bell { uint32_t rung, sleepers; } mh_bell;
+
 typedef struct mh_book {
     uint64_t (*watch)(void);
     mh_sink *sink;                   /* what is called with each cycle that has ended, */
@@ -299,12 +310,55 @@ typedef struct mh_book {
     uint64_t traced, traced_before;  /* what all tracers have told, and had as the last cycle ended */
     uint64_t paid, paid_before;      /* and all mutators */
     uint64_t cells;
+    mh_bell bells[MH_BELLS];
     uint64_t pressure, most_pressure; /* bytes told by mh_pressure since the last cycle, and how many bring a collection: 0 if none do */
 } mh_book;
 
 static inline uint64_t mh_noted(const uint64_t *number) { return __atomic_load_n(number, __ATOMIC_ACQUIRE); }
 static inline void mh_note(uint64_t *number, uint64_t n) { __atomic_store_n(number, n, __ATOMIC_RELEASE); }
 static inline void mh_add(uint64_t *number, uint64_t n) { __atomic_fetch_add(number, n, __ATOMIC_SEQ_CST); }
+
+/* How long a thread that waits sleeps at most, in microseconds, though it isn't woken; and what it sleeps by, if the program sets that: it is handed how long, in
+   microseconds. No call of the library is under way then, so a program may leave by longjmp from there, or let in a signal that is blocked elsewhere. Each file
+   that includes this has the variable, and the linker keeps one. */
+enum { MH_LONGEST = 1000 };
+extern void (*mh_sleeps_by)(uint32_t microseconds);
+__attribute__((weak)) void (*mh_sleeps_by)(uint32_t microseconds) = 0;
+
+static inline void mh_sleep(uint32_t microseconds) {
+    struct timeval t;
+    if (mh_sleeps_by) { mh_sleeps_by(microseconds); return; }
+    t.tv_sec = 0;
+    t.tv_usec = (suseconds_t)microseconds;
+    select(0, 0, 0, 0, &t);
+}
+
+/* Threads that sleep until something has come, and who wakes them. A thread that begins to sleep just as it comes may sleep as long as it does otherwise. */
+#ifdef MH_FUTEX
+extern long mh_system(long number, ...) __asm__("syscall");
+enum { MH_WAIT = 128, MH_WAKE = 129, MH_ALL = 0x7fffffff };
+static inline void mh_ring(mh_book *book, int which) {
+    mh_bell *bell = &book->bells[which];
+    if (!__atomic_load_n(&bell->sleepers, __ATOMIC_SEQ_CST)) return;
+    __atomic_fetch_add(&bell->rung, 1u, __ATOMIC_SEQ_CST);
+    mh_system(SYS_futex, &bell->rung, (long)MH_WAKE, (long)MH_ALL, 0l, 0l, 0l);
+}
+static inline void mh_sleep_until(mh_book *book, int which, uint32_t microseconds) {
+    mh_bell *bell = &book->bells[which];
+    struct { long seconds, nanoseconds; } most;
+    uint32_t rung = __atomic_load_n(&bell->rung, __ATOMIC_SEQ_CST);
+    if (mh_sleeps_by) { mh_sleeps_by(microseconds); return; }
+    most.seconds = 0;
+    most.nanoseconds = (long)microseconds * 1000;
+    __atomic_fetch_add(&bell->sleepers, 1u, __ATOMIC_SEQ_CST);
+    mh_system(SYS_futex, &bell->rung, (long)MH_WAIT, (long)rung, &most, 0l, 0l);
+    __atomic_fetch_sub(&bell->sleepers, 1u, __ATOMIC_SEQ_CST);
+    mh_sleep(0); /* where a thread may be cancelled */
+}
+#else
+static inline void mh_ring(mh_book *book, int which) { (void)book; (void)which; }
+static inline void mh_sleep_until(mh_book *book, int which, uint32_t microseconds) { (void)book; (void)which; mh_sleep(microseconds); }
+#endif
 
 /* The time, in nanoseconds: by a clock that nobody sets, if <time.h> has it, as under -std=gnu11 or with _POSIX_C_SOURCE. */
 static inline uint64_t mh_now(void) {
@@ -462,7 +516,11 @@ static inline mh_status mh_given_tracer(mh_tracer *t, mh_status s) {
 /* Gives a tracer back. Its handle is all zero afterwards. */
 static inline mh_status mh_give_back_tracer(mh_world *w, mh_tracer *t) { return MH_BY(t, w->at ? mh_given_tracer(t, mhl_give_back_tracer(w, t)) : MH_GIVEN_BACK); }
 /* Tells the tracers that they are dismissed, for good; MH_STOPPED if a stop is under way, and nothing is told. */
-static inline mh_status mh_dismiss_step(mh_world *w) { return w->at ? mhl_dismiss_step(w) : MH_GIVEN_BACK; }
+static inline mh_status mh_dismiss_step(mh_world *w) {
+    mh_status s = w->at ? mhl_dismiss_step(w) : MH_GIVEN_BACK;
+    if (s == MH_OK) mh_ring(w->book, MH_MARKING);
+    return s;
+}
 /* Frees the heap; MH_STILL_LENT if a mutator or a tracer isn't back. The handle is all zero afterwards. */
 static inline mh_status mh_close(mh_world *w) {
     mh_status s = w->at ? mh_emptied(&w->at, mhl_close(w)) : MH_GIVEN_BACK;
@@ -530,9 +588,18 @@ static inline mh_status mh_log_cycles(mh_world *w, mh_sink *sink, void *context)
 /* Enters the world, if no stop is under way. */
 static inline mh_status mh_enter_step(mh_mutator *m) { return MH_BY(m, mhl_enter_step(m)); }
 /* Leaves the world. What its variables refer to is kept. */
-static inline mh_status mh_leave(mh_mutator *m) { return MH_BY(m, (mh_tell_paid(m), mhl_leave(m))); }
+static inline mh_status mh_left(mh_mutator *m, mh_status s) {
+    if (s == MH_OK) mh_ring(m->book, MH_LEAVING);
+    return s;
+}
+static inline mh_status mh_leave(mh_mutator *m) { return MH_BY(m, (mh_tell_paid(m), mh_left(m, mhl_leave(m)))); }
+/* What it has paid is told by a call that wasn't done, and that it left if it did. */
+static inline void mh_tell_undone(mh_mutator *m, mh_status s) {
+    mh_tell_paid(m);
+    if (s == MH_STOPPED || s == MH_FULL) mh_ring(m->book, MH_LEAVING);
+}
 static inline mh_status mh_told_unless_done(mh_mutator *m, mh_status s) {
-    if (s != MH_OK) mh_tell_paid(m);
+    if (s != MH_OK) mh_tell_undone(m, s);
     return s;
 }
 /* A safe point: MH_STOPPED if the mutator left, as a stop is under way. */
@@ -544,12 +611,13 @@ static inline void mh_see_marking(mh_mutator *m) {
     uint64_t none = 0;
     if (mh_noted(&m->book->began) || mhl_course(m, &course) != MH_OK || !course.marking) return;
     __atomic_compare_exchange_n(&m->book->began, &none, m->book->watch(), 0, __ATOMIC_RELEASE, __ATOMIC_RELAXED);
+    mh_ring(m->book, MH_MARKING);
 }
 /* An object is counted within the call that made it, so that no other call by the handle comes between. */
 static inline mh_status mh_counted(mh_mutator *m, mh_status s) {
     if (s == MH_OK && ++m->made % 64u) return s;
     if (s == MH_OK) mh_see_marking(m);
-    mh_tell_paid(m);
+    mh_tell_undone(m, s);
     return s;
 }
 
@@ -558,7 +626,7 @@ static inline mh_status mh_make_step(mh_mutator *m, uint32_t v, uint32_t value) 
 /* As mh_make_step, but it looks for no cell: MH_NO_CACHE if no cell of the mutator's cache is free. So it takes few steps, whatever the heap's size. */
 static inline mh_status mh_make_cached(mh_mutator *m, uint32_t v, uint32_t value) { return MH_BY(m, mh_counted(m, mhl_make_cached(m, v, value))); }
 static inline mh_status mh_told_at_end(mh_mutator *m, mh_status s) {
-    if (s != MH_NOT_YET) mh_tell_paid(m);
+    if (s != MH_NOT_YET) mh_tell_undone(m, s);
     return s;
 }
 /* The next step on the way to a cache with a free cell: MH_OK if the mutator has one, and MH_NOT_YET if there are more blocks to look at. It looks at no
@@ -600,7 +668,8 @@ static inline mh_status mh_fields(mh_mutator *m, uint32_t v, uint32_t first, uin
 static inline mh_status mh_noted_step(mh_mutator *m, mh_status s, uint64_t why) {
     mh_course course;
     mh_work work;
-    if (s == MH_STOPPED) mh_tell_paid(m);
+    if (s == MH_STOPPED) mh_tell_undone(m, s);
+    if (s == MH_OK || s == MH_FULL) mh_ring(m->book, MH_GOING_ON);
     if (s != MH_NOT_YET || mhl_course(m, &course) != MH_OK || mhl_work(m, &work) != MH_OK) return s;
     mh_tell(m, &work);
     mh_note_course(m->book, &course, &work, why);
@@ -713,31 +782,27 @@ static inline mh_status mh_help_turn(mh_tracer *t, uint32_t most) { return MH_BY
 
 /* The calls that wait. Each goes on until it is done, and so rests on the other threads' safe points. */
 
-/* How often a thread that waits yields, how often it then sleeps shortest, since most stops take some milliseconds and may want help later on, and how long it
-   sleeps, at first and at most, in microseconds. */
-enum { MH_YIELDS = 16, MH_NAPS = 64, MH_SHORTEST = 50, MH_LONGEST = 1000 };
+/* How often a thread that waits yields, how often it then sleeps shortest, since most stops take some milliseconds and may want help later on, and how long
+   that is, in microseconds. */
+enum { MH_YIELDS = 16, MH_NAPS = 64, MH_SHORTEST = 50 };
 
-/* What a waiting thread sleeps by, if the program sets it: it is handed how long, in microseconds. No call of the library is under way then, so a program may
-   leave by longjmp from there, or let in a signal that is blocked elsewhere. Each file that includes this has the variable, and the linker keeps one. */
-extern void (*mh_sleeps_by)(uint32_t microseconds);
-__attribute__((weak)) void (*mh_sleeps_by)(uint32_t microseconds) = 0;
-
-static inline void mh_sleep(uint32_t microseconds) {
-    struct timeval t;
-    if (mh_sleeps_by) { mh_sleeps_by(microseconds); return; }
-    t.tv_sec = 0;
-    t.tv_usec = (suseconds_t)microseconds;
-    select(0, 0, 0, 0, &t);
+/* A rest of a thread that waits begins: it yields, or else this is how long it sleeps at most. The count says how many went before, and is 0 at first. */
+static inline uint32_t mh_begin_rest(uint32_t *count) {
+    uint32_t before = *count, naps = MH_YIELDS + MH_NAPS;
+    if (before < naps + 4) ++*count;
+    if (before < MH_YIELDS) { sched_yield(); return 0; }
+    if (before < naps) return MH_SHORTEST;
+    return before < naps + 4 ? (uint32_t)MH_SHORTEST << (before - naps + 1) : (uint32_t)MH_LONGEST;
 }
-
-/* One rest of a thread that waits. The count says how many went before, and is 0 at first. */
+/* One rest of a thread that waits for what rings no bell. */
 static inline void mh_rest(uint32_t *count) {
-    uint32_t naps = MH_YIELDS + MH_NAPS, sleep = MH_LONGEST;
-    if (*count < naps) sleep = MH_SHORTEST;
-    else if (*count < naps + 4) sleep = (uint32_t)MH_SHORTEST << (*count - naps + 1);
-    if (*count < MH_YIELDS) sched_yield();
-    else mh_sleep(sleep);
-    if (*count < naps + 4) ++*count;
+    uint32_t sleep = mh_begin_rest(count);
+    if (sleep) mh_sleep(sleep);
+}
+/* One rest of a thread that waits until a bell rings. */
+static inline void mh_rest_until(mh_book *book, int which, uint32_t *count) {
+    uint32_t sleep = mh_begin_rest(count);
+    if (sleep) mh_sleep_until(book, which, sleep);
 }
 
 /* How many objects or blocks a step of help does. */
@@ -749,7 +814,7 @@ static inline mh_status mh_enter(mh_mutator *m) {
     mh_status s;
     while ((s = mh_enter_step(m)) == MH_STOPPED) {
         if (mh_help_step(m, MH_HELP) == MH_OK) rests = 0;
-        else mh_rest(&rests);
+        else mh_rest_until(m->book, MH_GOING_ON, &rests);
     }
     return s;
 }
@@ -771,7 +836,7 @@ static inline mh_status mh_collect_once(mh_mutator *m, int precise, uint64_t why
     last->stage = MH_AT_OUTSIDE;
     while ((s = mh_step_for(m, precise, MH_STEP, why)) == MH_NOT_YET) {
         (void)MH_BY(m, mhl_course(m, last));
-        if (mh_is_stopping(m, &stopping) == MH_OK && stopping) mh_rest(&rests);
+        if (mh_is_stopping(m, &stopping) == MH_OK && stopping) mh_rest_until(m->book, MH_LEAVING, &rests);
         else if (last->stage == MH_AT_PART || last->stage == MH_AT_CLOSE) sched_yield();
     }
     return s == MH_STOPPED ? mh_enter(m) : s;
@@ -858,7 +923,8 @@ static inline mh_status mh_abandon(mh_world *w, mh_mutator *m, int keeps) {
     uint32_t rests = 0, stopping;
     mh_status s;
     while ((s = mh_abandon_step(w, m, keeps, MH_STEP)) == MH_NOT_YET || s == MH_STOPPED)
-        if (s == MH_STOPPED || (mh_is_stopping(m, &stopping) == MH_OK && stopping)) mh_rest(&rests);
+        if (s == MH_STOPPED) mh_rest_until(w->book, MH_GOING_ON, &rests);
+        else if (mh_is_stopping(m, &stopping) == MH_OK && stopping) mh_rest_until(w->book, MH_LEAVING, &rests);
     return s;
 }
 
@@ -879,6 +945,8 @@ static inline mh_status mh_trace(mh_tracer *t) {
     mh_status s;
     while ((s = mh_trace_turn(t)) == MH_OK || s == MH_IDLE || s == MH_STOPPED) {
         if (s == MH_STOPPED && mh_help_turn(t, MH_HELP) == MH_OK) rests = 0;
+        else if (s == MH_STOPPED) mh_rest_until(t->book, MH_GOING_ON, &rests);
+        else if (s == MH_IDLE) mh_sleep_until(t->book, MH_MARKING, MH_LONGEST);
         else mh_rest_turn(s, &rests);
     }
     return s;
@@ -888,7 +956,7 @@ static inline mh_status mh_trace(mh_tracer *t) {
 static inline mh_status mh_dismiss(mh_world *w) {
     uint32_t rests = 0;
     mh_status s;
-    while ((s = mh_dismiss_step(w)) == MH_STOPPED) mh_rest(&rests);
+    while ((s = mh_dismiss_step(w)) == MH_STOPPED) mh_rest_until(w->book, MH_GOING_ON, &rests);
     return s;
 }
 

@@ -422,7 +422,8 @@ private:
         detail::house *at = seat_->at;
         uint32_t stopping = 0;
         mh_status s = at->by_one([&] { return mh_abandon_step(&at->w, &seat_->m, 0, MH_STEP); });
-        if (s == MH_STOPPED || (s == MH_NOT_YET && mh_is_stopping(&seat_->m, &stopping) == MH_OK && stopping)) mh_rest(&rests);
+        if (s == MH_STOPPED) mh_rest_until(at->w.book, MH_GOING_ON, &rests);
+        else if (s == MH_NOT_YET && mh_is_stopping(&seat_->m, &stopping) == MH_OK && stopping) mh_rest_until(at->w.book, MH_LEAVING, &rests);
         return s == MH_STOPPED ? MH_NOT_YET : s;
     }
 
@@ -523,7 +524,7 @@ public:
     status dismiss() {
         if (!at_) return status::empty;
         mh_status s;
-        for (uint32_t rests = 0; (s = at_->by_one([&] { return mh_dismiss_step(&at_->w); })) == MH_STOPPED;) mh_rest(&rests);
+        for (uint32_t rests = 0; (s = at_->by_one([&] { return mh_dismiss_step(&at_->w); })) == MH_STOPPED;) mh_rest_until(at_->w.book, MH_GOING_ON, &rests);
         return detail::said(s);
     }
     status statistics(mh_numbers &out) { return by([&](mh_world *w) { return mh_statistics(w, &out); }); }
