@@ -595,8 +595,9 @@ static inline mh_status mh_left(mh_mutator *m, mh_status s) {
 static inline mh_status mh_leave(mh_mutator *m) { return MH_BY(m, (mh_tell_paid(m), mh_left(m, mhl_leave(m)))); }
 /* What it has paid is told by a call that wasn't done, and that it left if it did. */
 static inline void mh_tell_undone(mh_mutator *m, mh_status s) {
+    mh_book *book = m->book; /* read before s is looked at: gcc 12 has -fsanitize=null test a thread's variable by flags that a comparison left */
     mh_tell_paid(m);
-    if (s == MH_STOPPED || s == MH_FULL) mh_ring(m->book, MH_LEAVING);
+    if (s == MH_STOPPED || s == MH_FULL) mh_ring(book, MH_LEAVING);
 }
 static inline mh_status mh_told_unless_done(mh_mutator *m, mh_status s) {
     if (s != MH_OK) mh_tell_undone(m, s);
