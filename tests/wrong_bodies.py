@@ -207,19 +207,24 @@ def judge(body, said):
     return "UNKNOWN", line.partition(": ")[2]
 
 
-def try_some(crate, bodies, most):
-    """Tries as many bodies as go together, and so many at most. What became of each of these, and those that are left."""
-    with tempfile.TemporaryDirectory() as copy:
-        copy_crates(crate, copy)
-        folder = os.path.join(copy, "crates", crate)
-        for body in bodies:
-            if body.texts(folder) is None:
-                sys.exit(f"{crate}, {body.what}: an old text doesn't stand once in {body.function}")
-        done, left = apply_some(bodies, folder, most)
-        said = check(folder).split("\n")
+def try_some(crate, bodies, most, copy):
+    """Tries as many bodies as go together in this copy, and so many at most. What became of each of these, and those that are left."""
+    folder = os.path.join(copy, "crates", crate)
+    for body in bodies:
+        if body.texts(folder) is None:
+            sys.exit(f"{crate}, {body.what}: an old text doesn't stand once in {body.function}")
+    done, left = apply_some(bodies, folder, most)
+    said = check(folder).split("\n")
+    take_back(done, crate, folder)
     fault = compile_fault(said)
     judged = [(body, "NO BODY", fault) if fault else (body, *judge(body, said)) for body in done]
     return judged, left
+
+
+def take_back(bodies, crate, folder):
+    """Makes the files that these bodies changed what they were."""
+    for file in {file for body in bodies for file, _, _ in body.changes}:
+        shutil.copy(os.path.join(TOP, "crates", crate, file), os.path.join(folder, file))
 
 
 def look_at(crate, body):
@@ -230,16 +235,11 @@ def look_at(crate, body):
     return ("by a test", body.test) if shown.has_test(other, name) else ("UNKNOWN", f"no test {body.test}")
 
 
-def try_crate(crate):
-    """Tries all bodies of a crate, and prints what became of each. How many weren't refused."""
-    bodies, wrong = read_bodies(crate), 0
-    for body in (it for it in bodies if it.test):
-        came, why = look_at(crate, body)
-        print(f"{crate}: {came}: {body.what} ({body.function}): {why}", flush=True)
-        wrong += came == "UNKNOWN"
-    left, most = [it for it in bodies if not it.test], len(bodies)
+def try_all(crate, bodies, copy):
+    """Tries these bodies of a crate in a copy of it, and prints what became of each. How many weren't refused."""
+    left, most, wrong = bodies, len(bodies), 0
     while left:
-        judged, left = try_some(crate, left, most)
+        judged, left = try_some(crate, left, most, copy)
         # (which of several doesn't compile is seen if each is tried alone)
         if any(came == "NO BODY" for _, came, _ in judged):
             most = 1
@@ -252,6 +252,19 @@ def try_crate(crate):
             print(f"{crate}: {came}: {body.what} ({body.function}): {why}", flush=True)
             wrong += came not in ("refused", "by names", "free")
     return wrong
+
+
+def try_crate(crate):
+    """Tries all bodies of a crate, and prints what became of each. How many weren't refused."""
+    bodies, wrong = read_bodies(crate), 0
+    for body in (it for it in bodies if it.test):
+        came, why = look_at(crate, body)
+        print(f"{crate}: {came}: {body.what} ({body.function}): {why}", flush=True)
+        wrong += came == "UNKNOWN"
+    # (in one copy, so that crates below whose libraries aren't there are built once)
+    with tempfile.TemporaryDirectory() as copy:
+        copy_crates(crate, copy)
+        return wrong + try_all(crate, [it for it in bodies if not it.test], copy)
 
 
 if __name__ == "__main__":
