@@ -15,6 +15,7 @@ from utilisation import WINDOWS, utilisation
 TOP = pathlib.Path(__file__).resolve().parent.parent
 SERIES = "bench/results/2026-11-30-pauses.md"
 CALLS = "bench/results/2026-12-pauses-c.md"
+WORK = "bench/results/2026-12-work.md"
 CYCLE = TOP / "bench/results/2026-11-30-cycle.txt"
 
 
@@ -125,6 +126,17 @@ def longest_call():
     return drawing.page(720, 340, parts)
 
 
+def cycle_work():
+    """What marking and cleaning come to for each cell in a cycle, beside the bound that is proved, by the cells of the heap: four mutators and a tracer."""
+    header, rows = table(WORK, "Cells", "All four", "Bound")
+    rows = [row for row in rows if (row[1], row[2]) == ("4", "1")]
+    lines = [(told, [number(row[header.index(it)]) for row in rows])
+             for it, told in (("Bound", "bound"), ("Bound, packets found", "bound, if packets are found"), ("All four", "counted"))]
+    parts = [drawing.text(340, 22, "Objects popped, cards cleaned, references read and marks tried", size=15)]
+    panel = drawing.curves("for each cell in a cycle", "cells", [f"{int(row[0]):,}" for row in rows], lines, (60, 64, 490, 286), log=True)
+    return drawing.page(700, 340, parts + panel)
+
+
 def mutator_utilisation():
     """The minimum mutator utilisation of the cycle of the picture `cycle`, and what it can be at most by the longest stop where all is marked in stops."""
     lanes = timeline.read(CYCLE)
@@ -144,7 +156,7 @@ def cycle():
 
 
 FIGURES = {
-    "cycle": cycle, "longest_call": longest_call, "mutator_utilisation": mutator_utilisation, "to_floor": to_floor, "speed_up": speed_up, "pauses": pauses,
+    "cycle": cycle, "cycle_work": cycle_work, "longest_call": longest_call, "mutator_utilisation": mutator_utilisation, "to_floor": to_floor, "speed_up": speed_up, "pauses": pauses,
     "pauses_from_c": pauses_from_c, "pauses_rate": pauses_rate,
 }
 
