@@ -1,10 +1,11 @@
 -- Cards are looked at, one after another.
-use Rattle.std.proofs.Common.{ℕ, zero, suc, ◌≡◌, ◌≢◌, ◌<◌, ◌≤◌, ◌+◌, ◌-◌, List, [], ◌∷◌, ◌++◌, map, arith, refl, sym, ap, ◌∙◌, subst, true, false, Some, eq-eqb, eqb-true, ⊎_elim, Bool}
+use Rattle.std.proofs.Common.{ℕ, zero, suc, ◌≡◌, ◌≢◌, ◌<◌, ◌≤◌, ◌+◌, ◌-◌, ◌/◌, List, [], ◌∷◌, ◌++◌, map, arith, refl, sym, ap, ◌∙◌, subst, true, false, Some, eq-eqb, eqb-true, ⊎_elim, Bool}
 use Rattle.std.specs.List.{range_with_len}
 use Rattle.std.proofs.lemmas.Bool.{true≢false, cases_eq}
 use Rattle.mark_core.specs.Layout.{card_count}
 use Rattle.mark_core.specs.Notes.{steady}
-use Rattle.mark_core.specs.Places.{card_at, the_empty_count}
+use Rattle.mark_core.specs.Numbers.{word_bits}
+use Rattle.mark_core.specs.Places.{card_at, pool_at, the_empty_count}
 use Rattle.mark_core.specs.declared.kinds.Shape.{Shape}
 use Rattle.mark_core.specs.declared.kinds.Step.TheVariants.{ReadCard, ReadCount}
 use Rattle.gc_table.specs.declared.view.Entry.{Entry}
@@ -16,6 +17,7 @@ use Rattle.gc_table.proofs.History.Log.{events-after, events-join}
 use Rattle.gc_table.proofs.Noticing.{alone-steady, note-left}
 use Rattle.packet_pools.specs.Fields.{fields_read, picked}
 use Rattle.packet_pools.specs.OnlyTraced.{OnlyTraced}
+use Rattle.packet_pools.specs.Outside.{AreNotedOutside}
 use Rattle.card_clean.specs.Drained.{AreNotedClean}
 use Rattle.card_clean.specs.Leaving.{rescanned_in}
 use Rattle.card_clean.specs.Looking.{KeepsAllNotes, looks_clean, looks_dirty}
@@ -40,6 +42,12 @@ keeps-join u v w a b at n h = b at n (a at n h)
 -- the notes of cards stay while the seat only looks
 pub clean-kept : (from to : ℕ) (v w : View) → KeepsAllNotes v w → AreNotedClean from to v → AreNotedClean from to w
 clean-kept from to v w k c card low high = k (card_at card) 0 (c card low high)
+
+-- so do those of packets outside a pool
+pub outside-kept : (q : ℕ) (v w : View) → w.shape ≡ v.shape → KeepsAllNotes v w → AreNotedOutside q v → AreNotedOutside q w
+outside-kept q v w e k h = λ p l.
+    let o = h p (subst (λ (sh : Shape). p < sh.packets) e l) in
+    (o.0, subst (λ (sh : Shape). look (pool_at sh q (p / word_bits)) w.known ≡ Some o.0) (sym e) (k (pool_at v.shape q (p / word_bits)) o.0 o.1), o.2)
 
 -- a card that isn't dirty
 pub card-word : (v : View) (card n : ℕ) → card < card_count v.shape → Finds (ReadCard card) n v → won (ReadCard card) n ≡ false → n ≡ 0

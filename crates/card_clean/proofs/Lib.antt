@@ -15,3 +15,5 @@ pub mod Drawn
 pub mod DrainEnds
 mod RootReads
 pub mod Paying
+mod Settling
+mod Spilled

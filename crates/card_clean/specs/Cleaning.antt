@@ -1,5 +1,5 @@
 -- What the events of a cleaning tell.
-use Rattle.std.specs.Prelude.{ℕ, ◌≡◌, ◌⊎◌, ◌==◌, ◌||◌, not, if◌then◌else◌, nat_lt, List, [], ◌∷◌, ◌++◌, length, Bool, true, false, Some, bit_and}
+use Rattle.std.specs.Prelude.{ℕ, ◌≡◌, ◌+◌, ◌*◌, ◌≤◌, ◌⊎◌, ◌==◌, ◌||◌, not, if◌then◌else◌, nat_lt, List, [], ◌∷◌, ◌++◌, length, Bool, true, false, Some, bit_and}
 use Rattle.mark_core.specs.Bits.{complement}
 use Rattle.mark_core.specs.declared.kinds.Shape.{Shape}
 use Rattle.mark_core.specs.declared.kinds.Step.{Step}
@@ -7,6 +7,7 @@ use Rattle.mark_core.specs.declared.kinds.Step.TheVariants.{ClearCard, DirtyCard
 use Rattle.gc_table.specs.declared.view.Entry.{Entry}
 use Rattle.gc_table.specs.declared.view.View.{View}
 use Rattle.gc_table.specs.Log.{events, event}
+use Rattle.packet_pools.specs.Counts.{count_of, dirties, marks_white, pushes}
 use Rattle.card_clean.specs.declared.cleaned.Cleaned.{Cleaned}
 use Rattle.card_clean.specs.Cells.{cells_of_card}
 use Rattle.card_clean.specs.Rescanning.{Rescans, seen_cells}
@@ -17,6 +18,10 @@ use Rattle.mark_core.specs.Cards.{block_of_card, card_bits}
 abbrev pub clears : Step → ℕ → Bool
 clears (ClearCard card) found = true
 clears step found = false
+
+-- what went into packets, and was left to cards that were dirtied, is at most twice what was found white
+abbrev pub SpillsWhite : List Entry → Type 0
+SpillsWhite es = count_of pushes es + count_of dirties es ≤ 2 * count_of marks_white es
 
 -- the card has a marked cell that isn't published, by the mark and allocation bits of its block
 abbrev pub has_unpublished : ℕ → ℕ → ℕ → Bool

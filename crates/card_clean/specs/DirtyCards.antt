@@ -27,6 +27,12 @@ CleansDirty sh n es =
     ((n ≡ 0) × (es ≡ looks_clean 0 (card_count sh)))
     ⊎ ((card : ℕ) × (card < card_count sh) × (rest : List Entry) × (es ≡ looks_dirty 0 card ++ rest) × (((n ≡ 0) × NoPacket sh rest × IsTrue (only_moves output_pools rest)) ⊎ CleansWithPacket (CleanedFrom sh card (card_count sh - card) n) rest))
 
+-- every card was seen clean; or one was seen dirty, and then each card from it on was cleaned if it was dirty
+abbrev pub CleansAllDirty : Shape → ℕ → List Entry → Type 0
+CleansAllDirty sh n es =
+    ((n ≡ 0) × (es ≡ looks_clean 0 (card_count sh)))
+    ⊎ ((card : ℕ) × (card < card_count sh) × (rest : List Entry) × (es ≡ looks_dirty 0 card ++ rest) × CleansWithPacket (CleanedFrom sh card (card_count sh - card) n) rest)
+
 -- this many cards are passed with one packet
 abbrev pub stretch_cards : ℕ
 stretch_cards = 4096

@@ -1,9 +1,9 @@
 -- What a seat that is alone has noted by the end of a drain.
-use Rattle.std.specs.Prelude.{ℕ, ◌≡◌, ◌≢◌, ◌≤◌, ◌<◌, ◌+◌, ◌-◌, ◌*◌, ◌⊎◌, List, [], ◌∷◌, ◌++◌, Bool, true, false, Some, IsFalse}
+use Rattle.std.specs.Prelude.{ℕ, ◌≡◌, ◌≢◌, ◌≤◌, ◌<◌, ◌+◌, ◌-◌, ◌*◌, ◌⊎◌, List, [], ◌∷◌, ◌++◌, Bool, true, false, Some, IsTrue, IsFalse}
 use Rattle.mark_core.specs.Layout.{card_count, root_count}
-use Rattle.mark_core.specs.Numbers.{empty_offset, section_variables}
+use Rattle.mark_core.specs.Numbers.{deferred_pool_number, empty_offset, high_pool_number, low_pool_number, section_variables}
 use Rattle.mark_core.specs.Places.{the_empty_count, the_next_block, card_at}
-use Rattle.mark_core.specs.Seats.{work_in_hand}
+use Rattle.mark_core.specs.Seats.{empty_handed, work_in_hand}
 use Rattle.mark_core.specs.declared.kinds.Phase.TheVariants.{Drain}
 use Rattle.mark_core.specs.declared.kinds.Shape.{Shape}
 use Rattle.mark_core.specs.declared.kinds.Step.{Step}
@@ -15,6 +15,7 @@ use Rattle.gc_table.specs.Notes.{look}
 use Rattle.gc_table.specs.Running.{Alone}
 use Rattle.packet_pools.specs.Counts.{scans_object}
 use Rattle.packet_pools.specs.OnlyTraced.{IsNotedMarked}
+use Rattle.packet_pools.specs.Outside.{AreNotedOutside}
 use Rattle.card_clean.specs.Looking.{looks_clean, looks_dirty}
 
 -- the cards from this one on and below that one are noted as clean
@@ -68,6 +69,14 @@ pub record IsDrained (v : View) : Type 0 where
   pub cards : AreNotedClean 0 (card_count v.shape) v
   pub empty : look the_empty_count v.known ≡ Some (empty_offset + v.shape.packets)
   pub work : IsFalse (work_in_hand v.shape.fields v.state)
+
+-- the seat has noted that each card is clean, and that no packet is in a pool for those with entries; it has none in hand, and none is reserved or owed
+pub record IsSettled (v : View) : Type 0 where
+  pub cards : AreNotedClean 0 (card_count v.shape) v
+  pub low : AreNotedOutside low_pool_number v
+  pub high : AreNotedOutside high_pool_number v
+  pub deferred : AreNotedOutside deferred_pool_number v
+  pub hands : IsTrue (empty_handed v.state)
 
 -- a dirty card was found, or no dirty card and another count of empty packets than that of all
 abbrev pub FindsWork : Shape → List Entry → Type 0

@@ -12,7 +12,7 @@ ghost use Rattle.packet_pools.specs.Tracing.{IsTracer};
 ghost use Rattle.packet_pools.specs.Counts.{count_of, dirties};
 ghost use Rattle.packet_pools.specs.Hands.{HoldsPacket};
 ghost use Rattle.packet_pools.specs.Scanning.{Fills, InHand, owes_redirty};
-ghost use Rattle.card_clean.specs.Cleaning.{Cleans, LearnsCells, RescansCard};
+ghost use Rattle.card_clean.specs.Cleaning.{Cleans, LearnsCells, RescansCard, SpillsWhite};
 ghost use Rattle.card_clean.specs.Leaving.{rescanned_in};
 ghost use Rattle.card_clean.specs.Rescanning.{OnlyOwes, just_cleared, left_word};
 ghost use Rattle.card_clean.specs.StepBounds.{clean_steps, rescan_steps};
@@ -132,6 +132,7 @@ pub fn clean_card(heap: &Heap, seat: &mut HeapSeat, card: u32, out: &mut Held) -
     ensures most { result.rescanned ≤ card_cells }
     ensures left { rescanned_in (view_of seat.old) (did seat.old seat.new) ≡ result.rescanned }
     ensures cleans { Cleans heap.now.shape card result (did seat.old seat.new) }
+    ensures spills { IsFalse (state_of seat.old).active → SpillsWhite (did seat.old seat.new) }
     ensures clean { IsFalse (state_of seat.old).active → IsTrue result.redirtied → 2 ≤ count_of dirties (did seat.old seat.new) }
     ensures few { length (did seat.old seat.new) ≤ clean_steps result.rescanned heap.now.shape }
 {

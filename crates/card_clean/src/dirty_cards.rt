@@ -2,20 +2,24 @@
 //!
 //! A public call that cleans takes a packet for it. The seat may trace, has no work in hand, and holds at most two
 //! packets. A card may be dirty again afterwards, as [`clean_card`](crate::clean_card) says.
-ghost use Rattle.std.specs.Prelude.{◌≡◌, ◌<◌, ◌≤◌, ◌-◌, ◌*◌, IsTrue, IsFalse, IfSome, IfNone, length, min};
+ghost use Rattle.std.specs.Prelude.{◌≡◌, ◌≢◌, ◌<◌, ◌≤◌, ◌-◌, ◌*◌, Some, IsTrue, IsFalse, IfSome, IfNone, length, min};
 ghost use Rattle.mark_core.specs.Cards.{card_cells};
 ghost use Rattle.mark_core.specs.Layout.{card_count};
-ghost use Rattle.mark_core.specs.Held.{has_free_slot};
+ghost use Rattle.mark_core.specs.Held.{has_free_slot, holds_any};
+ghost use Rattle.mark_core.specs.Numbers.{deferred_pool_number};
+ghost use Rattle.mark_core.specs.Places.{card_at};
 ghost use Rattle.mark_core.specs.Seats.{work_in_hand};
 ghost use Rattle.gc_table.specs.Seats.{Across, did, Sits, state_of, view_of};
+ghost use Rattle.gc_table.specs.Notes.{look};
 ghost use Rattle.packet_pools.specs.OnlyTraced.{OnlyTraced, OnlyCleaned};
+ghost use Rattle.packet_pools.specs.Outside.{AreNotedOutside};
 ghost use Rattle.packet_pools.specs.Tracing.{IsTracer};
 ghost use Rattle.packet_pools.specs.Hands.{HoldsPacket};
 ghost use Rattle.packet_pools.specs.Counts.{count_of};
 ghost use Rattle.packet_pools.specs.Scanning.{Fills};
-ghost use Rattle.card_clean.specs.Cleaning.{clears};
+ghost use Rattle.card_clean.specs.Cleaning.{SpillsWhite, clears};
 ghost use Rattle.card_clean.specs.Leaving.{rescanned_in};
-ghost use Rattle.card_clean.specs.DirtyCards.{CleanedFrom, CleanedWhereDirty, CleansDirty, CleansRound, CleansStretch, stretch_cards, stretch_count};
+ghost use Rattle.card_clean.specs.DirtyCards.{CleanedFrom, CleanedWhereDirty, CleansAllDirty, CleansDirty, CleansRound, CleansStretch, stretch_cards, stretch_count};
 ghost use Rattle.card_clean.specs.Drained.{AreNotedClean};
 ghost use Rattle.card_clean.specs.Looking.{KeepsAllNotes, looks_clean, looks_dirty};
 ghost use Rattle.card_clean.specs.Taking.{CleansWithPacket, NoPacket};
@@ -42,6 +46,7 @@ pub fn dirty_between(heap: &Heap, seat: &mut HeapSeat, from: u32, end: u32) -> O
     ensures dirty { IfSome result (λ card. (from ≤ card) × (card < end) × (did seat.old seat.new ≡ looks_dirty from card)) }
     ensures clean { IfNone result (did seat.old seat.new ≡ looks_clean from end) }
     ensures noted { IfNone result (IsTrue (state_of seat.old).alone → AreNotedClean from end (view_of seat.new)) }
+    ensures unnoted { IfSome result (λ card. look (card_at card) (view_of seat.old).known ≢ Some 0) }
     ensures few { length (did seat.old seat.new) ≤ end - from }
 {
     for card in from..end {
@@ -61,6 +66,7 @@ pub(crate) fn first_dirty(heap: &Heap, seat: &mut HeapSeat, from: u32) -> Option
     ensures dirty { IfSome result (λ card. (from ≤ card) × (card < card_count heap.now.shape) × (did seat.old seat.new ≡ looks_dirty from card)) }
     ensures clean { IfNone result (did seat.old seat.new ≡ looks_clean from (card_count heap.now.shape)) }
     ensures noted { IfNone result (IsTrue (state_of seat.old).alone → AreNotedClean from (card_count heap.now.shape) (view_of seat.new)) }
+    ensures unnoted { IfSome result (λ card. look (card_at card) (view_of seat.old).known ≢ Some 0) }
     ensures few { length (did seat.old seat.new) ≤ card_count heap.now.shape - from }
 {
     dirty_between(heap, seat, from, heap.shape().cells / CARD_CELLS)
@@ -78,6 +84,7 @@ fn clean_where_dirty(heap: &Heap, seat: &mut HeapSeat, card: u32, out: &mut Held
     ensures most { (result.rescanned ≤ card_cells) × (result.cards ≤ 1) }
     ensures left { rescanned_in (view_of seat.old) (did seat.old seat.new) ≡ result.rescanned }
     ensures cleared { count_of clears (did seat.old seat.new) ≡ result.cards }
+    ensures spills { IsFalse (state_of seat.old).active → SpillsWhite (did seat.old seat.new) }
     ensures cleans { CleanedWhereDirty heap.now.shape card result.rescanned (did seat.old seat.new) }
     ensures few { length (did seat.old seat.new) ≤ pass_steps 1 result.rescanned heap.now.shape }
 {
@@ -112,6 +119,7 @@ fn clean_between(
     ensures most { (result.rescanned ≤ card_cells * (end - first)) × (result.cards ≤ end - first) }
     ensures left { rescanned_in (view_of seat.old) (did seat.old seat.new) ≡ result.rescanned }
     ensures cleared { count_of clears (did seat.old seat.new) ≡ result.cards }
+    ensures spills { IsFalse (state_of seat.old).active → SpillsWhite (did seat.old seat.new) }
     ensures cleans { CleanedFrom heap.now.shape first (end - first) result.rescanned (did seat.old seat.new) }
     ensures few { length (did seat.old seat.new) ≤ pass_steps (end - first) result.rescanned heap.now.shape }
 {
@@ -125,7 +133,8 @@ fn clean_between(
     CleanedCards { rescanned, cards }
 }
 
-/// Cleans every dirty card, if it finds a packet: how many cells were scanned again.
+/// Cleans every dirty card, if it finds a packet: how many cells were scanned again. A seat that is alone, holds none and
+/// knows that none is deferred finds one.
 pub fn clean_dirty(heap: &Heap, seat: &mut HeapSeat) -> u32
     requires seat { IsTracer heap.now seat.old }
     requires free { 2 ≤ free_slots (state_of seat.old).held }
@@ -135,7 +144,9 @@ pub fn clean_dirty(heap: &Heap, seat: &mut HeapSeat) -> u32
     ensures held { (state_of seat.new).held ≡ (state_of seat.old).held }
     ensures work { IsFalse (work_in_hand heap.now.shape.fields (state_of seat.new)) }
     ensures left { rescanned_in (view_of seat.old) (did seat.old seat.new) ≡ result }
+    ensures spills { IsFalse (state_of seat.old).active → SpillsWhite (did seat.old seat.new) }
     ensures cleans { CleansDirty heap.now.shape result (did seat.old seat.new) }
+    ensures packet { IsTrue (state_of seat.old).alone → IsFalse (holds_any (state_of seat.old).held) → AreNotedOutside deferred_pool_number (view_of seat.old) → CleansAllDirty heap.now.shape result (did seat.old seat.new) }
     ensures few { length (did seat.old seat.new) ≤ clean_dirty_steps result heap.now.shape }
 {
     let Some(card) = first_dirty(heap, seat, 0) else {

@@ -6,7 +6,7 @@ ghost use Rattle.std.specs.Prelude.{◌≡◌, IsTrue, IsFalse, ◌≤◌, ◌+�
 ghost use Rattle.mark_core.specs.Seats.{work_in_hand};
 ghost use Rattle.gc_table.specs.Seats.{Across, did, Sits, state_of, view_of};
 ghost use Rattle.packet_pools.specs.OnlyTraced.{OnlyTraced};
-ghost use Rattle.card_clean.specs.Drained.{FindsNoDirtyCard, FindsWork, IsDrained, IsRooted};
+ghost use Rattle.card_clean.specs.Drained.{FindsNoDirtyCard, FindsWork, IsDrained, IsRooted, IsSettled};
 ghost use Rattle.card_clean.specs.Leaving.{rescanned_in};
 ghost use Rattle.mark_core.specs.Layout.{card_count};
 
@@ -14,7 +14,8 @@ use crate::dirty_cards::first_dirty;
 use gc_table::{Heap, HeapSeat};
 use packet_pools::all_empty;
 
-/// For a seat that is alone and has seen to all roots: true only if no card is dirty and no packet has an entry.
+/// For a seat that is alone and has seen to all roots: true only if no card is dirty and no packet has an entry. It is
+/// true if the seat knows already that each card is clean, and that each packet is in the pool of empty ones.
 pub fn is_drained(heap: &Heap, seat: &mut HeapSeat) -> bool
     requires seat { Sits heap.now seat.old }
     requires rooted { IsRooted (view_of seat.old) }
@@ -25,6 +26,7 @@ pub fn is_drained(heap: &Heap, seat: &mut HeapSeat) -> bool
     ensures rooted { IsRooted (view_of seat.new) }
     ensures drained { IsTrue result → IsDrained (view_of seat.new) }
     ensures over { IsTrue result → FindsNoDirtyCard heap.now.shape (did seat.old seat.new) }
+    ensures settled { IsSettled (view_of seat.old) → IsTrue result }
     ensures undrained { IsFalse result → FindsWork heap.now.shape (did seat.old seat.new) }
     ensures left { rescanned_in (view_of seat.old) (did seat.old seat.new) ≡ 0 }
     ensures few { length (did seat.old seat.new) ≤ card_count heap.now.shape + 1 }

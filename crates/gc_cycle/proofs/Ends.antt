@@ -15,3 +15,6 @@ pub mod Funds
 pub mod Whitens
 pub mod Empties
 pub mod Uses
+pub mod CardRounds
+pub mod Rounds
+pub mod Settled

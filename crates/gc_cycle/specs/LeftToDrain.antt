@@ -1,5 +1,5 @@
 -- What is left to drain for a seat that is alone, by what it has noted of the words, and what a call uses up of it.
-use Rattle.std.specs.Prelude.{ℕ, ◌+◌, ◌/◌, ◌%◌, ◌≤◌, ◌==◌, if◌then◌else◌, Bool, false, Option, None, Some, unwrap_or}
+use Rattle.std.specs.Prelude.{ℕ, ◌+◌, ◌*◌, ◌/◌, ◌%◌, ◌<◌, ◌≤◌, ◌⊎◌, ◌==◌, if◌then◌else◌, Bool, false, Option, None, Some, unwrap_or}
 use Rattle.std.specs.List.{sum_by, range_with_len}
 use Rattle.mark_core.specs.Bits.{has_bit, reference_in}
 use Rattle.mark_core.specs.Numbers.{reference_bound}
@@ -13,6 +13,7 @@ use Rattle.gc_table.specs.Log.{events}
 use Rattle.gc_table.specs.Notes.{look}
 use Rattle.gc_table.specs.declared.view.View.{View}
 use Rattle.packet_pools.specs.Counts.{count_of, dirties, marks_white, pushes}
+use Rattle.card_clean.specs.Drained.{IsSettled}
 use Rattle.gc_cycle.specs.Sorts.{pops}
 
 -- 1 unless the noted word has the bit
@@ -54,6 +55,10 @@ queue_left v = sum_by (entries_left v) (range_with_len 0 v.shape.packets)
 abbrev pub cards_left : View → ℕ
 cards_left v = sum_by (dirty_left v) (range_with_len 0 (card_count v.shape))
 
+-- all together: a cell counts for three, since what is found white may come into a packet, and have two cards dirtied
+abbrev pub left_to_drain : View → ℕ
+left_to_drain v = 3 * cells_left v + queue_left v + cards_left v
+
 -- a dirty card is cleaned
 abbrev pub cleans_dirty : Step → ℕ → Bool
 cleans_dirty (ClearCard card) found = found == 1
@@ -65,3 +70,7 @@ pub record UsesUp (v w : View) : Type 0 where
   pub cells : count_of marks_white (events v w) + cells_left w ≤ cells_left v
   pub queue : count_of pops (events v w) + queue_left w ≤ queue_left v + count_of pushes (events v w)
   pub cards : count_of cleans_dirty (events v w) + cards_left w ≤ cards_left v + count_of dirties (events v w)
+
+-- less is left to drain; or no more is, and each card is known to be clean, and each packet to be empty
+abbrev pub Shrinks : View → View → Type 0
+Shrinks v w = (left_to_drain w < left_to_drain v) ⊎ ((left_to_drain w ≤ left_to_drain v) × IsSettled w)

@@ -2,6 +2,7 @@
 ghost use Rattle.std.specs.Prelude.{◌≡◌, ◌<◌, ◌≤◌, ◌+◌, IsTrue, IsFalse, IfSome, IfNone, false, ◌*◌, ◌-◌, length};
 ghost use Rattle.mark_core.specs.Cards.{card_cells};
 ghost use Rattle.mark_core.specs.Layout.{card_count};
+ghost use Rattle.mark_core.specs.Numbers.{deferred_pool_number};
 ghost use Rattle.gc_table.specs.Log.{Only};
 ghost use Rattle.gc_table.specs.Running.{Ran};
 ghost use Rattle.gc_table.specs.Seats.{Across, did, Sits, state_of, view_of};
@@ -10,9 +11,10 @@ ghost use Rattle.packet_pools.specs.Seeking.{some_event};
 ghost use Rattle.packet_pools.specs.Tracing.{traces};
 ghost use Rattle.packet_pools.specs.StepBounds.{output_steps};
 ghost use Rattle.card_clean.specs.declared.cleaned.Cleaned.{Cleaned};
-ghost use Rattle.card_clean.specs.Cleaning.{CleansOne};
-ghost use Rattle.card_clean.specs.DirtyCards.{CleansDirty, CleansRound};
-ghost use Rattle.card_clean.specs.Drained.{FindsNoDirtyCard, FindsWork};
+ghost use Rattle.packet_pools.specs.Outside.{AreNotedOutside};
+ghost use Rattle.card_clean.specs.Cleaning.{CleansOne, SpillsWhite};
+ghost use Rattle.card_clean.specs.DirtyCards.{CleansAllDirty, CleansDirty, CleansRound};
+ghost use Rattle.card_clean.specs.Drained.{FindsNoDirtyCard, FindsWork, IsSettled};
 ghost use Rattle.card_clean.specs.Passing.{card_floor};
 ghost use Rattle.card_clean.specs.Leaving.{rescanned_in};
 ghost use Rattle.card_clean.specs.StepBounds.{clean_one_steps, clean_some_steps};
@@ -33,6 +35,8 @@ pub(crate) fn clean_dirty(heap: &Heap, seat: &mut HeapSeat) -> u32
     ensures traced { Across HasTraced seat.old seat.new }
     ensures rescanned { rescanned_in (view_of seat.old) (did seat.old seat.new) ≡ result }
     ensures cleans { CleansDirty heap.now.shape result (did seat.old seat.new) }
+    ensures packet { IsTrue (state_of seat.old).alone → AreNotedOutside deferred_pool_number (view_of seat.old) → CleansAllDirty heap.now.shape result (did seat.old seat.new) }
+    ensures spills { IsFalse (state_of seat.old).active → SpillsWhite (did seat.old seat.new) }
 {
     card_clean::clean_dirty(heap, seat)
 }
@@ -124,6 +128,7 @@ pub(crate) fn is_drained(heap: &Heap, seat: &mut HeapSeat) -> bool
     ensures traced { Across HasTraced seat.old seat.new }
     ensures rescanned { rescanned_in (view_of seat.old) (did seat.old seat.new) ≡ 0 }
     ensures drained { IsTrue result → DrainedAlone (view_of seat.new) }
+    ensures settled { IsSettled (view_of seat.old) → IsTrue result }
     ensures over { IsTrue result → FindsNoDirtyCard heap.now.shape (did seat.old seat.new) }
     ensures undrained { IsFalse result → FindsWork heap.now.shape (did seat.old seat.new) }
 {

@@ -13,7 +13,7 @@ ghost use Rattle.card_clean.specs.Leaving.{rescanned_in};
 ghost use Rattle.gc_cycle.specs.DrainRounds.{BringsAtLast, DrainsAlone, DrainsTogether};
 ghost use Rattle.gc_cycle.specs.Drained.{DrainedAlone};
 ghost use Rattle.gc_cycle.specs.Finishing.{DrainsInStop, IsAloneIn, IsMove, most};
-ghost use Rattle.gc_cycle.specs.LeftToDrain.{UsesUp};
+ghost use Rattle.gc_cycle.specs.LeftToDrain.{Shrinks, UsesUp};
 ghost use Rattle.gc_cycle.specs.Lower.{HasTraced};
 ghost use Rattle.gc_cycle.specs.Sorts.{sees_all_empty as says_all_empty};
 ghost use Rattle.gc_cycle.specs.RoundParts.{BringsBack, CleansLast};
@@ -52,6 +52,7 @@ fn drain_round(heap: &Heap, seat: &mut HeapSeat, quota: u32) -> u32
     ensures traced { Across HasTraced seat.old seat.new }
     ensures rescanned { rescanned_in (view_of seat.old) (did seat.old seat.new) ≡ result }
     ensures uses { IsAloneIn Drain (view_of seat.old) → Across UsesUp seat.old seat.new }
+    ensures shrinks { IsAloneIn Drain (view_of seat.old) → 0 < quota → Across Shrinks seat.old seat.new }
     ensures worked { Across (DrainsFor quota) seat.old seat.new }
     ensures brings { Across BringsBack seat.old seat.new }
     ensures cleans { Across CleansLast seat.old seat.new }
@@ -125,8 +126,9 @@ pub(crate) fn drain_together<R: Wait>(rt: &R, heap: &Heap, seat: &mut HeapSeat) 
 }
 
 /// Helpers dirty cards and mark cells, so what was noted before help was opened ended with it: the roots, the cards
-/// and the count are looked at again. What is read now stays. A look that finds work is followed by another round.
-pub(crate) fn drain_alone<R: Wait>(rt: &R, heap: &Heap, seat: &mut HeapSeat) -> u32
+/// and the count are looked at again. What is read now stays. A look that finds work is followed by another round,
+/// which leaves less to drain, or nothing: so this ends.
+pub(crate) fn drain_alone(heap: &Heap, seat: &mut HeapSeat) -> u32
     requires seat { Sits heap.now seat.old }
     requires alone { IsAloneIn Drain (view_of seat.old) }
     ensures seat { Sits heap.now seat.new }
@@ -136,13 +138,10 @@ pub(crate) fn drain_alone<R: Wait>(rt: &R, heap: &Heap, seat: &mut HeapSeat) -> 
     heap.reset(seat, BLOCK_COUNTER);
     see_to_roots(heap, seat);
     let mut rescanned: u32 = 0;
-    for _ in rt.forever() {
-        if is_drained(heap, seat) {
-            return rescanned;
-        }
+    'rounds: while !is_drained(heap, seat) {
         rescanned = rescanned.saturating_add(drain_round(heap, seat, ROUND));
     }
-    unreachable!()
+    rescanned
 }
 
 pub(crate) fn begin_sweep(heap: &Heap, seat: &mut HeapSeat)

@@ -35,7 +35,7 @@ fn complete<R: Wait>(rt: &R, heap: &Heap, seat: &mut HeapSeat, before: u32) -> C
     ensures freed { result.freed ≡ freed_in (view_of seat.old) (did seat.old seat.new) }
 {
     let together = before.saturating_add(drain_together(rt, heap, seat));
-    let rescanned = together.saturating_add(drain_alone(rt, heap, seat));
+    let rescanned = together.saturating_add(drain_alone(heap, seat));
     begin_sweep(heap, seat);
     let freed = sweep_together(rt, heap, seat);
     end_sweep(heap, seat);
@@ -57,7 +57,7 @@ fn finds_idle(heap: &Heap, seat: &mut HeapSeat) -> bool
 }
 
 /// Begins a drain in which no cell is marked.
-fn begin_exactly<R: Wait>(rt: &R, heap: &Heap, seat: &mut HeapSeat) -> u32
+fn begin_exactly(heap: &Heap, seat: &mut HeapSeat) -> u32
     requires seat { Sits heap.now seat.old }
     requires alone { IsAloneIn Idle (view_of seat.old) ⊎ IsAloneIn Marking (view_of seat.old) }
     ensures seat { Sits heap.now seat.new }
@@ -71,7 +71,7 @@ fn begin_exactly<R: Wait>(rt: &R, heap: &Heap, seat: &mut HeapSeat) -> u32
     if idle {
         return 0;
     }
-    let rescanned = drain_alone(rt, heap, seat);
+    let rescanned = drain_alone(heap, seat);
     clear_all_marks(heap, seat);
     rescanned
 }
@@ -101,6 +101,6 @@ pub fn precise<R: Wait>(rt: &R, heap: &Heap, seat: &mut HeapSeat) -> Counts
     ensures known { IsTrue (state_of seat.new).exact }
     ensures exact { InEach IsExact (view_of seat.new) }
 {
-    let first = begin_exactly(rt, heap, seat);
+    let first = begin_exactly(heap, seat);
     complete(rt, heap, seat, first)
 }

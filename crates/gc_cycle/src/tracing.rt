@@ -1,11 +1,15 @@
 //! Tracing, and what waits to be traced.
-ghost use Rattle.std.specs.Prelude.{◌==◌, ◌≡◌, ◌≤◌, ◌+◌, IsTrue, IsFalse, length};
+ghost use Rattle.std.specs.Prelude.{◌<◌, ◌==◌, ◌≡◌, ◌≤◌, ◌+◌, IsTrue, IsFalse, length};
 ghost use Rattle.mark_core.specs.Numbers.{deferred_pool_number, empty_offset};
 ghost use Rattle.mark_core.specs.declared.kinds.Step.TheVariants.{ReadCount};
 ghost use Rattle.gc_table.specs.Seats.{Across, Answered, did, Sits, state_of, view_of};
 ghost use Rattle.packet_pools.specs.Seeking.{some_event};
 ghost use Rattle.packet_pools.specs.Outside.{AreNotedOutside};
 ghost use Rattle.packet_pools.specs.Tracing.{traces};
+ghost use Rattle.mark_core.specs.declared.kinds.Phase.TheVariants.{Drain};
+ghost use Rattle.gc_table.specs.Running.{Alone};
+ghost use Rattle.packet_pools.specs.Counts.{count_of, dirties, marks_white, pushes};
+ghost use Rattle.tracer.specs.Causes.{NotesNoInput};
 ghost use Rattle.tracer.specs.Deferral.{Defers};
 ghost use Rattle.tracer.specs.Recycling.{Recycled};
 ghost use Rattle.tracer.specs.Tally.{Tally};
@@ -31,6 +35,8 @@ pub fn trace(heap: &Heap, seat: &mut HeapSeat, quota: u32) -> Traced
     ensures tally { Across (Tally result.done result.deferred result.overflowed) seat.old seat.new }
     ensures undeferred { IsFalse (state_of seat.old).active → result.deferred ≡ 0 }
     ensures deferral { Across Defers seat.old seat.new }
+    ensures noted { 0 < quota → result.done ≡ 0 → Across NotesNoInput seat.old seat.new }
+    ensures spills { Alone Drain (view_of seat.old) → IsFalse (state_of seat.old).active → count_of pushes (did seat.old seat.new) + count_of dirties (did seat.old seat.new) ≤ count_of marks_white (did seat.old seat.new) }
     ensures rescanned { rescanned_in (view_of seat.old) (did seat.old seat.new) ≡ 0 }
     ensures uncleaned { IsTrue (never draws_or_clears (did seat.old seat.new)) }
     ensures unrooted { IsTrue (never reads_root (did seat.old seat.new)) }

@@ -25,7 +25,7 @@ use Rattle.work_laws.proofs.Sums.{one-is}
 use Rattle.tracer.specs.Parts.{HasPopped}
 
 -- the allocation bit of the popped cell isn't found clear
-none-lacks : (v : View) (b n : ℕ) → Finds (ReadAlloc b) n v → traces v ≡ true → v.state.active ≡ false → lacks_bit v.state.popped b n ≡ false
+pub none-lacks : (v : View) (b n : ℕ) → Finds (ReadAlloc b) n v → traces v ≡ true → v.state.active ≡ false → lacks_bit v.state.popped b n ≡ false
 none-lacks v b n f t still =
     let c : Core = f.state.core in
     let e : Event = record { seat = f.index; step = ReadAlloc b } in

@@ -12,3 +12,4 @@ pub mod RootScans
 pub mod Recycled
 pub mod Emptied
 pub mod TraceRows
+mod Spills

@@ -131,6 +131,7 @@ pub(crate) fn share_in_turn(heap: &Heap, seat: &mut HeapSeat, packets: &mut Pack
     ensures packets { Carries (packets_of packets.new) (view_of seat.new) × (packets.new.deferred ≡ packets.old.deferred) }
     ensures work { IsFalse (work_in_hand heap.now.shape.fields (state_of seat.new)) }
     ensures part { (o : Option ℕ) → Part heap.now.shape o o 0 0 0 (view_of seat.old) (did seat.old seat.new) }
+    ensures first { turn ≡ 0 → packets.new ≡ packets.old }
     ensures few { length (did seat.old seat.new) ≤ share_steps heap.now.shape }
 {
     if turn % SHARE_EACH == SHARE_EACH - 1 {

@@ -2,11 +2,14 @@
 ghost use Rattle.std.specs.Prelude.{ℕ, ◌≡◌, ◌<◌, ◌≤◌, ◌+◌, ◌⊎◌, Option, Some, None, false, IsTrue, IsFalse, IfSome, IfNone, ◌*◌, length};
 ghost use Rattle.mark_core.specs.Seats.{cleaning_left, work_in_hand};
 ghost use Rattle.gc_table.specs.Seats.{Across, did, state_of, view_of};
+ghost use Rattle.mark_core.specs.declared.kinds.Phase.TheVariants.{Drain};
+ghost use Rattle.gc_table.specs.Running.{Alone};
+ghost use Rattle.packet_pools.specs.Counts.{count_of, dirties, marks_white, pushes};
 ghost use Rattle.packet_pools.specs.OnlyTraced.{OnlyTraced};
 ghost use Rattle.packet_pools.specs.Tracing.{IsTracer};
 ghost use Rattle.packet_pools.specs.Scanning.{InHand};
 ghost use Rattle.packet_pools.specs.Seeking.{NoInput, input_pools, only_moves};
-ghost use Rattle.tracer.specs.Causes.{FoundNoWork};
+ghost use Rattle.tracer.specs.Causes.{FoundNoWork, NotesNoInput};
 ghost use Rattle.tracer.specs.Deferral.{Defers};
 ghost use Rattle.tracer.specs.Ends.{all_end_well};
 ghost use Rattle.tracer.specs.Hands.{Carries, HasCellAndRoom, IsIdle, KeepsRecord, no_packets, packet_of, packets_of};
@@ -82,6 +85,7 @@ fn trace_all(heap: &Heap, seat: &mut HeapSeat, packets: &mut Packets, quota: u32
     ensures part { Part heap.now.shape (packet_of packets.old.deferred) (packet_of packets.new.deferred) result.done result.deferred result.overflowed (view_of seat.old) (did seat.old seat.new) }
     ensures undeferred { IsFalse (state_of seat.old).active → result.deferred ≡ 0 }
     ensures stopped { ((result.stopped ≡ Stopped.Quota) × (result.done ≡ quota)) ⊎ ((result.stopped ≡ Stopped.NoWork) × (result.done < quota) × Across (SearchedInVain heap.now.shape packets.new) seat.old seat.new) }
+    ensures works { 0 < packets.old.input.length → 0 < quota → 0 < result.done }
     ensures few { length (did seat.old seat.new) ≤ result.done * (turn_steps heap.now.shape + object_steps heap.now.shape) + turn_steps heap.now.shape }
 {
     let mut traced = Traced::started();
@@ -107,7 +111,9 @@ fn begin(heap: &Heap, seat: &mut HeapSeat) -> Option<Packets>
     ensures idle { IsFalse (work_in_hand heap.now.shape.fields (state_of seat.new)) × ((state_of seat.new).block ≡ None) }
     ensures part { Part heap.now.shape None None 0 0 0 (view_of seat.old) (did seat.old seat.new) }
     ensures some { IfSome result (λ x. Carries (packets_of x) (view_of seat.new) × (x.deferred ≡ None)) }
+    ensures full { IfSome result (λ x. 0 < x.input.length) }
     ensures none { IfNone result ((state_of seat.new ≡ state_of seat.old) × NoInput heap.now.shape (did seat.old seat.new) × IsTrue (only_moves input_pools (did seat.old seat.new))) }
+    ensures noted { IfNone result (Across NotesNoInput seat.old seat.new) }
     ensures few { length (did seat.old seat.new) ≤ input_steps heap.now.shape }
 {
     let input = take_input(heap, seat)?;
@@ -140,7 +146,9 @@ fn finish(heap: &Heap, seat: &mut HeapSeat, packets: Packets)
 }
 
 /// Traces at most `quota` objects: each is popped, and what it refers to is marked and pushed. The answer is Quota
-/// exactly if `done` is the quota, and never NoPacket. While the world is stopped nothing is deferred.
+/// exactly if `done` is the quota, and never NoPacket. While the world is stopped nothing is deferred. A seat that is
+/// alone, and popped none, knows that no packet waits to be read; in a drain it pushes, and leaves to cards, no more
+/// cells than it found white.
 pub fn trace(heap: &Heap, seat: &mut HeapSeat, quota: u32) -> Traced
     requires seat { IsTracer heap.now seat.old }
     requires idle { IsIdle (view_of seat.old) }
@@ -152,6 +160,8 @@ pub fn trace(heap: &Heap, seat: &mut HeapSeat, quota: u32) -> Traced
     ensures tally { Across (Tally result.done result.deferred result.overflowed) seat.old seat.new }
     ensures undeferred { IsFalse (state_of seat.old).active → result.deferred ≡ 0 }
     ensures deferral { Across Defers seat.old seat.new }
+    ensures spills { Alone Drain (view_of seat.old) → IsFalse (state_of seat.old).active → count_of pushes (did seat.old seat.new) + count_of dirties (did seat.old seat.new) ≤ count_of marks_white (did seat.old seat.new) }
+    ensures noted { 0 < quota → result.done ≡ 0 → Across NotesNoInput seat.old seat.new }
     ensures ends { IsTrue (all_end_well (view_of seat.old) (did seat.old seat.new)) }
     ensures few { length (did seat.old seat.new) ≤ trace_steps result.done heap.now.shape }
 {

@@ -1,6 +1,6 @@
 -- Each white cell that a seat marks while it is alone is one fewer that it hasn't noted as marked, and each dirty card that it cleans is one fewer that it
 -- hasn't noted as clean.
-use Rattle.std.proofs.Common.{ℕ, ◌≡◌, ◌≢◌, ◌+◌, ◌<◌, ◌≤◌, ◌/◌, ◌%◌, ◌⊎◌, inl, inr, arith, refl, sym, ap, ◌∙◌, subst, Bool, true, false, cond, not, Option, None, Some, eqb-true}
+use Rattle.std.proofs.Common.{ℕ, ◌≡◌, ◌+◌, ◌<◌, ◌≤◌, ◌/◌, ◌%◌, ◌⊎◌, inl, inr, arith, refl, sym, ap, ◌∙◌, subst, Bool, true, false, cond, not, Option, None, Some, eqb-true}
 use Rattle.std.specs.Prelude.{◌==◌}
 use Rattle.std.proofs.lemmas.Bool.{and_parts, false≢true, ltb-true, ne_eqb}
 use Rattle.mark_core.specs.Bits.{has_bit}
@@ -128,7 +128,7 @@ abbrev pub IsClean : View → ℕ → Type 0
 IsClean v card = look (card_at card) v.known ≡ Some 0
 
 -- the step dirties this card
-abbrev dirties_this : Step → ℕ → Bool
+abbrev pub dirties_this : Step → ℕ → Bool
 dirties_this (DirtyCard k) card = k == card
 dirties_this step card = false
 
@@ -153,7 +153,7 @@ unless-most : (o : Option ℕ) → unless_clean o ≤ 1
 unless-most None = omega arith
 unless-most (Some n) = by_bit (n == 0)
 
-unless-none : (o : Option ℕ) → o ≡ Some 0 → unless_clean o ≡ 0
+pub unless-none : (o : Option ℕ) → o ≡ Some 0 → unless_clean o ≡ 0
 unless-none o e = ap unless_clean e
 
 unless-fewer : (o q : Option ℕ) → (o ≡ Some 0 → q ≡ Some 0) → unless_clean q ≤ unless_clean o
@@ -168,7 +168,7 @@ unless-fewer (Some n) q h = by_word (n == 0) refl
 pub dirty-most : (v w : View) (card : ℕ) → (IsClean v card → IsClean w card) → dirty_left w card ≤ dirty_left v card
 dirty-most v w card h = unless-fewer (look (card_at card) v.known) (look (card_at card) w.known) h
 
-unless-dirty : (o : Option ℕ) (n : ℕ) → n ≡ 1 → ((m : ℕ) → o ≡ Some m → n ≡ m) → unless_clean o ≡ 1
+pub unless-dirty : (o : Option ℕ) (n : ℕ) → n ≡ 1 → ((m : ℕ) → o ≡ Some m → n ≡ m) → unless_clean o ≡ 1
 unless-dirty None n one h = refl
 unless-dirty (Some m) n one h = ap (λ (b : Bool). cond b 0 1) (ne_eqb m 0 (λ z. let is = h m refl in omega (arith, z, is, one)))
 

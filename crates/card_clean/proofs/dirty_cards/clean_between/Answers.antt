@@ -1,4 +1,6 @@
-use Rattle.std.proofs.Common.{ℕ, suc, ◌≡◌, ◌+◌, ◌-◌, arith, refl, subst}
+use Rattle.std.proofs.Common.{ℕ, suc, ◌≡◌, ◌+◌, ◌-◌, arith, refl, ap, ◌∙◌, subst}
+use Rattle.mark_core.specs.declared.seat.SeatState.{SeatState}
+use Rattle.card_clean.proofs.Spilled.{spills-join}
 use Rattle.mark_core.specs.declared.kinds.Shape.{Shape}
 use Rattle.gc_table.specs.declared.view.View.{View}
 use Rattle.gc_table.specs.Seats.{view_of}
@@ -49,6 +51,7 @@ loop-card-preserved c =
       most = (omega (arith, i.most.0, e.most.0, i.order), omega (arith, i.most.1, e.most.1, i.order));
       cleared = let j = cleared-join v w x i.only.ran e.only.ran in omega (arith, j, i.cleared, e.cleared);
       left = let j = rescanned-join v w x i.only.ran e.only.ran in omega (arith, j, i.left, e.left);
+      spills = λ still. spills-join (events v w) (events w x) (events v x) (events-join v w x i.only.log e.only.log) (i.spills still) (e.spills (ap (λ (s : SeatState). s.active) i.only.rest ∙ still));
       cleans =
           subst (λ k. CleanedFrom sh from k (done + one) (events v x)) more
           (done, one, events v w, events w x, events-join v w x i.only.log e.only.log, refl, i.cleans, subst (λ k. CleanedWhereDirty sh k one (events w x)) at e.cleans);

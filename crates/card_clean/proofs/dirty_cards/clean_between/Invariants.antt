@@ -8,7 +8,7 @@ use Rattle.gc_table.specs.Log.{events}
 use Rattle.packet_pools.specs.Tracing.{Traces}
 use Rattle.packet_pools.specs.Scanning.{Fills}
 use Rattle.packet_pools.specs.Counts.{count_of}
-use Rattle.card_clean.specs.Cleaning.{clears}
+use Rattle.card_clean.specs.Cleaning.{SpillsWhite, clears}
 use Rattle.card_clean.specs.Leaving.{rescanned_in}
 use Rattle.card_clean.specs.DirtyCards.{CleanedFrom}
 use Rattle.card_clean.specs.StepBounds.{pass_steps}
@@ -26,6 +26,7 @@ invariant-loop-card l = record {
   most : (l.rescanned ≤ card_cells * (l.card - l.fn.first)) × (l.cards ≤ l.card - l.fn.first);
   cleared : count_of clears (events (view_of l.fn.seat) (view_of l.seat)) ≡ l.cards;
   left : rescanned_in (view_of l.fn.seat) (events (view_of l.fn.seat) (view_of l.seat)) ≡ l.rescanned;
+  spills : IsFalse (view_of l.fn.seat).state.active → SpillsWhite (events (view_of l.fn.seat) (view_of l.seat));
   cleans : CleanedFrom l.heap.shape l.fn.first (l.card - l.fn.first) l.rescanned (events (view_of l.fn.seat) (view_of l.seat));
   few : length (events (view_of l.fn.seat) (view_of l.seat)) ≤ pass_steps (l.card - l.fn.first) l.rescanned l.heap.shape;
 }

@@ -1,5 +1,11 @@
-use Rattle.std.proofs.Common.{◌≡◌, ◌++◌, ◌-◌, ◌≤◌, ◌==◌, arith, refl, sym, ap, ◌∙◌, subst, inl, inr, ℕ, ◌+◌, false, length}
-use Rattle.mark_core.specs.Held.{has_free_slot, drop_packet}
+use Rattle.std.proofs.Common.{◌≡◌, ◌++◌, ◌-◌, ◌≤◌, ◌==◌, arith, refl, sym, ap, ◌∙◌, subst, inl, inr, ℕ, ◌+◌, ◌<◌, true, false, length, List}
+use Rattle.std.proofs.lemmas.Bool.{false≢true}
+use Rattle.gc_table.specs.declared.view.Entry.{Entry}
+use Rattle.packet_pools.specs.OnlyTraced.{OnlyTraced, OnlyCleaned}
+use Rattle.card_clean.specs.Looking.{looks_dirty}
+use Rattle.card_clean.specs.Taking.{CleansWithPacket}
+use Rattle.mark_core.specs.Numbers.{deferred_pool_number}
+use Rattle.mark_core.specs.Held.{has_free_slot, holds_any, drop_packet}
 use Rattle.mark_core.specs.Layout.{card_count}
 use Rattle.mark_core.specs.declared.kinds.Shape.{Shape}
 use Rattle.mark_core.specs.declared.seat.SeatState.{SeatState}
@@ -14,13 +20,15 @@ use Rattle.packet_pools.proofs.Exchanged.{drop-with}
 use Rattle.packet_pools.proofs.TracedSteps.{cleaned-join, traced-cleaned, traced-join}
 use Rattle.card_clean.specs.Leaving.{rescanned_in}
 use Rattle.packet_pools.specs.Hands.{free_slots}
-use Rattle.packet_pools.specs.Seeking.{output_pools}
+use Rattle.packet_pools.specs.Seeking.{only_moves, output_pools}
 use Rattle.card_clean.proofs.Leavings.{rescanned-join, rescanned-moves}
 use Rattle.card_clean.proofs.Takings.{some-free, with-free}
-use Rattle.card_clean.proofs.CardLooks.{rescanned-clean, rescanned-dirty}
+use Rattle.card_clean.proofs.CardLooks.{outside-kept, rescanned-clean, rescanned-dirty}
 use Rattle.packet_pools.specs.StepBounds.{any_steps, give_steps}
 use Rattle.card_clean.specs.StepBounds.{pass_steps}
 use Rattle.packet_pools.proofs.Few.{few-join, few-steps, given-few}
+use Rattle.card_clean.specs.Cleaning.{SpillsWhite}
+use Rattle.card_clean.proofs.Spilled.{spills-clean, spills-dirty, spills-join, spills-moves}
 use Rattle.card_clean.proofs.dirty_cards.clean_dirty.Goals as goal
 
 pub returns-in_default-clause-seat : goal.returns-in_default-clause-seat
@@ -122,37 +130,58 @@ returns-in_default-take_some-clause-cleans c =
     let d = c.in-Some.ensures.dirty in
     inr (c.in-Some.card, d.1, events w x, events-join v w x c.first_dirty.ensures.only.log c.take_some.ensures.only.log ∙ ap (λ es. es ++ events w x) d.2, inl (refl, c.in_default-take_some.ensures.none.1, c.take_some.ensures.moves))
 
-pub returns-clause-cleans : goal.returns-clause-cleans
-returns-clause-cleans c =
-    let v : View = view_of c.args.seat.now in
-    let w : View = view_of c.first_dirty.new.seat in
-    let x : View = view_of c.take_some.new.seat in
+-- a packet was taken, the cards were passed, and the packet was given back
+passed : (sh : Shape) (card n : ℕ) (v w x y z : View) → card < card_count sh → OnlyTraced v w → OnlyTraced w x → OnlyCleaned x y → OnlyTraced y z → events v w ≡ looks_dirty 0 card → only_moves output_pools (events w x) ≡ true → CleanedFrom sh card (card_count sh - card) n (events x y) → only_moves output_pools (events y z) ≡ true
+    → (k : ℕ) × (k < card_count sh) × (rest : List Entry) × (events v z ≡ looks_dirty 0 k ++ rest) × CleansWithPacket (CleanedFrom sh k (card_count sh - k) n) rest
+passed sh card n v w x y z l a b d g dirty takes cleans gives =
+    let end = cleaned-join x y z d (traced-cleaned y z g) in
+    let rest = cleaned-join w x z (traced-cleaned w x b) end in (
+      card,
+      l,
+      events w z,
+      events-join v w z a.log rest.log ∙ ap (λ es. es ++ events w z) dirty,
+      record {
+        taking = events w x;
+        cleaning = events x y;
+        giving = events y z;
+        events_are = events-join w x z b.log end.log ∙ ap (λ es. events w x ++ es) (events-join x y z d.log g.log);
+        takes = takes;
+        cleans = cleans;
+        gives = gives;
+      },
+    )
+
+pub returns-clause-packet : goal.returns-clause-packet
+returns-clause-packet c = λ alone none deferred.
+    let sh : Shape = c.args.heap.now.shape in
     let y : View = view_of c.clean_between-cleaned.new.seat in
     let z : View = view_of c.give.new.seat in
+    let n : ℕ = c.clean_between-cleaned.result.rescanned in
     let k = c.clean_between-cleaned.new.out in
-    let a = c.first_dirty.ensures.only in
     let b = c.take_some.ensures in
     let d = c.clean_between-cleaned.ensures in
     let g = c.give.ensures in
-    let end = cleaned-join x y z d.only (traced-cleaned y z g.only) in
-    let rest = cleaned-join w x z (traced-cleaned w x b.only) end in
-    inr (
-      c.in-Some.card,
-      c.in-Some.ensures.dirty.1,
-      events w z,
-      events-join v w z a.log rest.log ∙ ap (λ es. es ++ events w z) c.in-Some.ensures.dirty.2,
-      inr (
-          record {
-            taking = events w x;
-            cleaning = events x y;
-            giving = events y z;
-            events_are = events-join w x z b.only.log end.log ∙ ap (λ es. events w x ++ es) (events-join x y z d.only.log g.only.log);
-            takes = b.moves;
-            cleans = subst (λ (sh : Shape). CleanedFrom c.args.heap.now.shape c.in-Some.card (card_count sh - c.in-Some.card) c.clean_between-cleaned.result.rescanned (events x y)) c.shape.ensures d.cleans;
-            gives = given-moves output_pools k.packet (k.length == 0) (events y z) g.steps;
-          }
-          ),
-    )
+    let first = c.in-Some.ensures.dirty in
+    inr (passed sh c.in-Some.card n (view_of c.args.seat.now) (view_of c.first_dirty.new.seat) (view_of c.take_some.new.seat) y z first.1 c.first_dirty.ensures.only b.only d.only g.only first.2 b.moves
+    (subst (λ (s : Shape). CleanedFrom sh c.in-Some.card (card_count s - c.in-Some.card) n (events (view_of c.take_some.new.seat) y)) c.shape.ensures d.cleans)
+    (given-moves output_pools k.packet (k.length == 0) (events y z) g.steps))
+
+pub returns-clause-cleans : goal.returns-clause-cleans
+returns-clause-cleans c =
+    let sh : Shape = c.args.heap.now.shape in
+    let y : View = view_of c.clean_between-cleaned.new.seat in
+    let z : View = view_of c.give.new.seat in
+    let n : ℕ = c.clean_between-cleaned.result.rescanned in
+    let k = c.clean_between-cleaned.new.out in
+    let b = c.take_some.ensures in
+    let d = c.clean_between-cleaned.ensures in
+    let g = c.give.ensures in
+    let first = c.in-Some.ensures.dirty in
+    let all =
+    passed sh c.in-Some.card n (view_of c.args.seat.now) (view_of c.first_dirty.new.seat) (view_of c.take_some.new.seat) y z first.1 c.first_dirty.ensures.only b.only d.only g.only first.2 b.moves
+    (subst (λ (s : Shape). CleanedFrom sh c.in-Some.card (card_count s - c.in-Some.card) n (events (view_of c.take_some.new.seat) y)) c.shape.ensures d.cleans)
+    (given-moves output_pools k.packet (k.length == 0) (events y z) g.steps) in
+    inr (all.0, all.1, all.2, all.3, inr all.4)
 
 pub returns-in_default-clause-few : goal.returns-in_default-clause-few
 returns-in_default-clause-few c = let few = c.first_dirty.ensures.few in omega (arith, few)
@@ -186,3 +215,50 @@ returns-clause-few c =
     let part = few-join (card_count sh - 0 + any_steps sh) n v x y two.ran d.only.ran one passed in
     let all = few-join (card_count sh - 0 + any_steps sh + n) give_steps v y z three.ran g.only.ran part (few-steps give_steps y z _ g.steps (given-few k.packet false (k.length == 0))) in
     omega (arith, all)
+
+pub returns-in_default-clause-packet : goal.returns-in_default-clause-packet
+returns-in_default-clause-packet c = λ alone none deferred. inl (refl, c.in_default.ensures.clean)
+
+-- a packet is found
+pub returns-in_default-take_some-clause-packet : goal.returns-in_default-take_some-clause-packet
+returns-in_default-take_some-clause-packet c = λ alone none deferred.
+    let v : View = view_of c.args.seat.now in
+    let w : View = view_of c.first_dirty.new.seat in
+    let e = c.first_dirty.ensures in
+    absurd (false≢true (c.in_default-take_some.ensures.pooled (ap (λ (t : SeatState). t.alone) e.state ∙ alone) (ap (λ (t : SeatState). holds_any t.held) e.state ∙ none) (outside-kept deferred_pool_number v w e.only.shape e.notes deferred)))
+
+pub returns-in_default-clause-spills : goal.returns-in_default-clause-spills
+returns-in_default-clause-spills c = λ still. subst SpillsWhite (sym c.in_default.ensures.clean) (spills-clean 0 (card_count c.args.heap.now.shape))
+
+pub returns-in_default-take_some-clause-spills : goal.returns-in_default-take_some-clause-spills
+returns-in_default-take_some-clause-spills c = λ still.
+    let v : View = view_of c.args.seat.now in
+    let w : View = view_of c.first_dirty.new.seat in
+    let x : View = view_of c.take_some.new.seat in
+    spills-join (events v w) (events w x) (events v x) (events-join v w x c.first_dirty.ensures.only.log c.take_some.ensures.only.log)
+    (subst SpillsWhite (sym c.in-Some.ensures.dirty.2) (spills-dirty 0 c.in-Some.card))
+    (spills-moves c.args.heap.now.shape (events w x) c.take_some.ensures.moves)
+
+pub returns-clause-spills : goal.returns-clause-spills
+returns-clause-spills c = λ still.
+    let sh : Shape = c.args.heap.now.shape in
+    let v : View = view_of c.args.seat.now in
+    let w : View = view_of c.first_dirty.new.seat in
+    let x : View = view_of c.take_some.new.seat in
+    let y : View = view_of c.clean_between-cleaned.new.seat in
+    let z : View = view_of c.give.new.seat in
+    let k = c.clean_between-cleaned.new.out in
+    let a = c.first_dirty.ensures.only in
+    let b = c.take_some.ensures.only in
+    let d = c.clean_between-cleaned.ensures in
+    let g = c.give.ensures in
+    let end = cleaned-join x y z d.only (traced-cleaned y z g.only) in
+    let rest = cleaned-join w x z (traced-cleaned w x b) end in
+    let quiet = ap (λ (s : SeatState). s.active) b.rest ∙ (ap (λ (s : SeatState). s.active) a.rest ∙ still) in
+    spills-join (events v w) (events w z) (events v z) (events-join v w z a.log rest.log)
+    (subst SpillsWhite (sym c.in-Some.ensures.dirty.2) (spills-dirty 0 c.in-Some.card))
+    (spills-join (events w x) (events x z) (events w z) (events-join w x z b.log end.log)
+    (spills-moves sh (events w x) c.take_some.ensures.moves)
+    (spills-join (events x y) (events y z) (events x z) (events-join x y z d.only.log g.only.log)
+    (d.spills quiet)
+    (spills-moves sh (events y z) (given-moves output_pools k.packet (k.length == 0) (events y z) g.steps))))

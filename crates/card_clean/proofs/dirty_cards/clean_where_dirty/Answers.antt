@@ -17,6 +17,7 @@ use Rattle.card_clean.proofs.Leavings.{rescanned-join}
 use Rattle.card_clean.proofs.Steps.{traced-read_card, card-small}
 use Rattle.card_clean.specs.StepBounds.{clean_steps}
 use Rattle.packet_pools.proofs.Few.{few-after, few-join}
+use Rattle.card_clean.proofs.Spilled.{spills-join, spills-look}
 use Rattle.card_clean.proofs.dirty_cards.clean_where_dirty.Goals as goal
 
 pub returns-then-not-read_card-clause-only : goal.returns-then-not-read_card-clause-only
@@ -118,3 +119,21 @@ returns-clause-few c =
     let d = c.clean_card-cleaned.ensures in
     let all = few-join 1 (clean_steps c.clean_card-cleaned.result.rescanned c.args.heap.now.shape) v w (view_of c.clean_card-cleaned.new.seat) (traced-read_card v w e.0 c.args.card e.2 e.1).ran d.only.ran (few-after v w _ _ e.1) d.few in
     omega (arith, all)
+
+pub returns-then-not-read_card-clause-spills : goal.returns-then-not-read_card-clause-spills
+returns-then-not-read_card-clause-spills c = λ still.
+    let v : View = view_of c.args.seat.now in
+    let w : View = view_of c.read_card.new.seat in
+    let e = c.read_card.ensures.view in
+    spills-look c.args.card e.0 (events v w) (events-after v w (ReadCard c.args.card) e.0 e.1)
+
+pub returns-clause-spills : goal.returns-clause-spills
+returns-clause-spills c = λ still.
+    let v : View = view_of c.args.seat.now in
+    let w : View = view_of c.read_card.new.seat in
+    let x : View = view_of c.clean_card-cleaned.new.seat in
+    let e = c.read_card.ensures.view in
+    let f = c.clean_card-cleaned.ensures in
+    spills-join (events v w) (events w x) (events v x) (events-join v w x (traced-read_card v w e.0 c.args.card e.2 e.1).log f.only.log)
+    (spills-look c.args.card e.0 (events v w) (events-after v w (ReadCard c.args.card) e.0 e.1))
+    (f.spills (ap (λ (z : View). z.state.active) e.1 ∙ still))

@@ -1,4 +1,6 @@
-use Rattle.std.proofs.Common.{ℕ, ◌<◌, ◌+◌, arith, refl, sym, ap, ◌∙◌, subst, ◌≤◌, ◌-◌, ⊎_elim}
+use Rattle.std.proofs.Common.{ℕ, ◌≡◌, ◌<◌, ◌+◌, arith, refl, sym, ap, ◌∙◌, subst, ◌≤◌, ◌-◌, ⊎_elim, eqb-true}
+use Rattle.mark_core.specs.Places.{card_at}
+use Rattle.gc_table.proofs.Noticing.{found-noted}
 use Rattle.mark_core.specs.Layout.{card_count}
 use Rattle.mark_core.specs.declared.kinds.Shape.{Shape}
 use Rattle.mark_core.specs.declared.kinds.Step.TheVariants.{ReadCard}
@@ -6,7 +8,7 @@ use Rattle.mark_core.specs.declared.seat.SeatState.{SeatState}
 use Rattle.gc_table.specs.declared.view.View.{View}
 use Rattle.gc_table.specs.Seats.{view_of}
 use Rattle.packet_pools.specs.OnlyTraced.{OnlyTraced}
-use Rattle.packet_pools.proofs.TracedSteps.{traced-join}
+use Rattle.packet_pools.proofs.TracedSteps.{place-again, traced-join}
 use Rattle.card_clean.specs.Drained.{AreNotedClean}
 use Rattle.card_clean.specs.Looking.{KeepsAllNotes}
 use Rattle.card_clean.proofs.CardLooks.{clean-look, clean-more, dirty-look, look-keeps, keeps-join}
@@ -83,3 +85,13 @@ returns-clause-few c =
     (λ (l : c.args.end < c.args.from). let still = i.still (omega (arith, l)) in omega (arith, few, still))
     (λ (l : c.args.from ≤ c.args.end). let most = c.loop-card.auto.card-end l in omega (arith, few, most))
     (cases_lt c.args.end c.args.from)
+
+-- a card that is noted as clean isn't found dirty
+pub returns-then-read_card-clause-unnoted : goal.returns-then-read_card-clause-unnoted
+returns-then-read_card-clause-unnoted c = λ clean.
+    let e = c.read_card.ensures.view in
+    let i = c.loop-card.invariant in
+    let w : View = view_of c.loop-card.seat in
+    let one : e.0 ≡ 1 = eqb-true e.0 1 (sym e.3 ∙ c.if-read_card.true) in
+    let none : e.0 ≡ 0 = found-noted w (ReadCard c.loop-card.card) e.0 0 (card_at c.loop-card.card) e.2 (place-again (card_at c.loop-card.card)) (i.notes (card_at c.loop-card.card) 0 clean) in
+    absurd (omega (arith, one, none))

@@ -30,3 +30,6 @@ returns-clause-few c =
     let few = c.dirty_between.ensures.few in
     let cells : c.shape.result.cells ≡ c.args.heap.now.shape.cells = ap (λ (s : Shape). s.cells) c.shape.ensures in
     omega (arith, few, cells)
+
+pub returns-clause-unnoted : goal.returns-clause-unnoted
+returns-clause-unnoted c = c.dirty_between.ensures.unnoted

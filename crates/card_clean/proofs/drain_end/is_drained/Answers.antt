@@ -1,9 +1,9 @@
-use Rattle.std.proofs.Common.{◌≡◌, ◌+◌, [], ◌∷◌, ◌++◌, arith, refl, sym, ap, ◌∙◌, subst, true, Some, eqb-true, eq-eqb, inl, inr, ◌-◌}
+use Rattle.std.proofs.Common.{◌≡◌, ◌+◌, [], ◌∷◌, ◌++◌, arith, refl, sym, ap, ◌∙◌, subst, true, Some, eqb-true, eq-eqb, inl, inr, ◌-◌, ◌<◌}
 use Rattle.std.proofs.lemmas.Bool.{true≢false}
 use Rattle.mark_core.specs.Layout.{card_count}
 use Rattle.mark_core.specs.Numbers.{empty_offset}
 use Rattle.mark_core.specs.Places.{the_empty_count}
-use Rattle.mark_core.specs.Seats.{work_in_hand}
+use Rattle.mark_core.specs.Seats.{empty_handed, work_in_hand}
 use Rattle.mark_core.specs.declared.kinds.Shape.{Shape}
 use Rattle.mark_core.specs.declared.kinds.Step.TheVariants.{ReadCount}
 use Rattle.mark_core.specs.declared.seat.SeatState.{SeatState}
@@ -16,8 +16,9 @@ use Rattle.packet_pools.proofs.TracedSteps.{traced-join}
 use Rattle.card_clean.specs.Drained.{AreNotedClean}
 use Rattle.card_clean.specs.Leaving.{rescanned_in}
 use Rattle.card_clean.specs.Looking.{KeepsAllNotes, looks_clean}
-use Rattle.card_clean.proofs.CardLooks.{clean-kept, count-noted, rescanned-clean, rescanned-dirty, look-keeps}
+use Rattle.card_clean.proofs.CardLooks.{clean-kept, count-noted, rescanned-clean, rescanned-dirty, look-keeps, outside-kept}
 use Rattle.card_clean.proofs.Staying.{rooted-stays}
+use Rattle.card_clean.proofs.Settling.{settled-count}
 use Rattle.card_clean.proofs.Leavings.{rescanned-join}
 use Rattle.packet_pools.proofs.Few.{few-after, few-join}
 use Rattle.card_clean.proofs.drain_end.is_drained.Goals as goal
@@ -109,3 +110,20 @@ returns-in-None-clause-few c =
     let f = c.first_dirty.ensures in
     let all = few-join (card_count c.args.heap.now.shape - 0) 1 (view_of c.args.seat.now) w x f.only.ran c.all_empty.ensures.only.ran f.few (few-after w x ReadCount n.0 n.1) in
     omega (arith, all)
+
+pub returns-in-Some-clause-settled : goal.returns-in-Some-clause-settled
+returns-in-Some-clause-settled c = λ s.
+    let v : View = view_of c.args.seat.now in
+    let below : c.in-Some.field-0 < card_count v.shape = subst (λ (sh : Shape). c.in-Some.field-0 < card_count sh) (sym c.requires.seat.1) c.in-Some.ensures.dirty.1 in
+    absurd (c.in-Some.ensures.unnoted (s.cards c.in-Some.field-0 (omega arith) below))
+
+pub returns-in-None-clause-settled : goal.returns-in-None-clause-settled
+returns-in-None-clause-settled c = λ s.
+    let v : View = view_of c.args.seat.now in
+    let w : View = view_of c.first_dirty.new.seat in
+    let e = c.first_dirty.ensures in
+    let n = c.all_empty.ensures.count in
+    let all : n.0 ≡ empty_offset + w.shape.packets =
+    settled-count w n.0 n.2 (ap (λ (z : SeatState). z.alone) e.state ∙ c.requires.rooted.ready.drains.alone) (ap empty_handed e.state ∙ s.hands)
+    (outside-kept 1 v w e.only.shape e.notes s.low) (outside-kept 2 v w e.only.shape e.notes s.high) (outside-kept 3 v w e.only.shape e.notes s.deferred) in
+    n.3 ∙ eq-eqb _ _ (all ∙ ap (λ (sh : Shape). empty_offset + sh.packets) e.seat.1)

@@ -32,3 +32,6 @@ returns-clause-traced c =
 
 pub returns-clause-rescanned : goal.returns-clause-rescanned
 returns-clause-rescanned c = c.clean_dirty.ensures.left
+
+pub returns-clause-packet : goal.returns-clause-packet
+returns-clause-packet c = λ alone deferred. c.clean_dirty.ensures.packet alone (rest-parts c.args.heap.now.shape (view_of c.args.seat.now).state c.requires.rest).packets deferred

@@ -7,7 +7,11 @@ use Rattle.gc_table.specs.Seats.{view_of}
 use Rattle.gc_table.specs.declared.view.View.{View}
 use Rattle.gc_cycle.specs.Standing.{is_at_rest}
 use Rattle.gc_cycle.proofs.Turns.{has-traced, brings-back, traced-within}
-use Rattle.gc_cycle.proofs.Traced.{drains-on, drains-rest, drains-trace, rescans-last}
+use Rattle.mark_core.specs.declared.seat.SeatState.{SeatState}
+use Rattle.packet_pools.specs.Seeking.{deferred_pools}
+use Rattle.gc_cycle.proofs.Ends.Rounds.{shrinks}
+use Rattle.gc_cycle.proofs.Ends.Settled.{knows-still}
+use Rattle.gc_cycle.proofs.Traced.{drains-on, drains-rest, drains-trace, rescans-last, traced-part}
 use Rattle.gc_cycle.proofs.Ends.Uses.{uses-up}
 use Rattle.gc_cycle.proofs.draining.drain_round.Goals as goal
 
@@ -72,3 +76,18 @@ returns-clause-brings c =
 
 pub returns-clause-uses : goal.returns-clause-uses
 returns-clause-uses c = λ alone. let t = returns-clause-traced c in uses-up (view_of c.args.seat.now) (view_of c.clean_dirty.new.seat) t.ran t.only alone
+
+pub returns-clause-shrinks : goal.returns-clause-shrinks
+returns-clause-shrinks c = λ alone some.
+    let v : View = view_of c.args.seat.now in
+    let w : View = view_of c.recycle_deferred.new.seat in
+    let x : View = view_of c.trace.new.seat in
+    let r = c.recycle_deferred.ensures in
+    let t = c.trace.ensures in
+    let d = c.clean_dirty.ensures in
+    let aw = (traced-part v w alone r.traced).alone in
+    let ax = (traced-part w x aw t.traced).alone in
+    let still = knows-still v c.args.seat.now.possible alone.rest.knows in
+    let still' = ap (λ (s : SeatState). s.active) r.traced.record_is ∙ still in
+    shrinks c.args.heap.now.shape c.args.quota c.trace.result.done c.clean_dirty.result deferred_pools v w x (view_of c.clean_dirty.new.seat) c.requires.seat.1 alone still some r.traced r.recycled.moves (r.outside alone.rest.alone) t.traced t.ends.done t.noted
+    (t.spills aw.alone still') d.traced (d.packet ax.rest.alone) (d.spills (ap (λ (s : SeatState). s.active) t.traced.record_is ∙ still'))

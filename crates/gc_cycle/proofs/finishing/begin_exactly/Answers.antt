@@ -17,7 +17,7 @@ use Rattle.gc_cycle.proofs.Ends.Starting.{drain-no-full, either-untold, idle-beg
 use Rattle.gc_cycle.proofs.finishing.begin_exactly.Goals as goal
 
 pub returns-then-idle-clause-begun : goal.returns-then-idle-clause-begun
-returns-then-idle-clause-begun g c =
+returns-then-idle-clause-begun c =
     let v : View = view_of c.args.seat.now in
     let w : View = view_of c.finds_idle-idle.new.seat in
     let x : View = view_of c.begin_drain.new.seat in
@@ -27,7 +27,7 @@ returns-then-idle-clause-begun g c =
     begins-later v w x (look-ran v w t) (look-finishes v w t) (either-untold v w t c.requires.alone) (ap (never tries_marking) (look-event v w t)) (ap (never ends_cycle) (look-event v w t)) (idle-begins w x b.ran (b.events Idle a) b.alone (b.exact a))
 
 pub returns-then-idle-clause-rescanned : goal.returns-then-idle-clause-rescanned
-returns-then-idle-clause-rescanned g c =
+returns-then-idle-clause-rescanned c =
     let v : View = view_of c.args.seat.now in
     let w : View = view_of c.finds_idle-idle.new.seat in
     let x : View = view_of c.begin_drain.new.seat in
@@ -36,7 +36,7 @@ returns-then-idle-clause-rescanned g c =
     omega (arith, none)
 
 pub returns-then-idle-clause-freed : goal.returns-then-idle-clause-freed
-returns-then-idle-clause-freed g c =
+returns-then-idle-clause-freed c =
     let v : View = view_of c.args.seat.now in
     let w : View = view_of c.finds_idle-idle.new.seat in
     let x : View = view_of c.begin_drain.new.seat in
@@ -44,7 +44,7 @@ returns-then-idle-clause-freed g c =
     ap (freed_in v) (look-drain-events v w x 0 c.finds_idle-idle.ensures.read b.ran (b.events Idle c.if-idle.ensures.idle))
 
 pub returns-clause-begun : goal.returns-clause-begun
-returns-clause-begun g c =
+returns-clause-begun c =
     let v : View = view_of c.args.seat.now in
     let w : View = view_of c.finds_idle-idle.new.seat in
     let x : View = view_of c.begin_drain.new.seat in
@@ -63,7 +63,7 @@ returns-clause-begun g c =
     c.clear_all_marks.ensures.begun
 
 pub returns-clause-rescanned : goal.returns-clause-rescanned
-returns-clause-rescanned g c =
+returns-clause-rescanned c =
     let v : View = view_of c.args.seat.now in
     let w : View = view_of c.finds_idle-idle.new.seat in
     let x : View = view_of c.begin_drain.new.seat in
@@ -81,7 +81,7 @@ returns-clause-rescanned g c =
     omega (arith, all, later, one, two, three)
 
 pub returns-clause-freed : goal.returns-clause-freed
-returns-clause-freed g c =
+returns-clause-freed c =
     let v : View = view_of c.args.seat.now in
     let w : View = view_of c.finds_idle-idle.new.seat in
     let x : View = view_of c.begin_drain.new.seat in
@@ -99,14 +99,14 @@ returns-clause-freed g c =
     omega (arith, all, later, one, two, three)
 
 pub returns-then-idle-clause-first : goal.returns-then-idle-clause-first
-returns-then-idle-clause-first g c a =
+returns-then-idle-clause-first c a =
     let v : View = view_of c.args.seat.now in
     let w : View = view_of c.finds_idle-idle.new.seat in
     let t = c.finds_idle-idle.ensures.read in
     absurd (idle-or-marking w c.if-idle.ensures.idle (looked Marking v w t.0 t.1 a))
 
 pub returns-clause-first : goal.returns-clause-first
-returns-clause-first g c a =
+returns-clause-first c a =
     let v : View = view_of c.args.seat.now in
     let w : View = view_of c.finds_idle-idle.new.seat in
     let x : View = view_of c.begin_drain.new.seat in

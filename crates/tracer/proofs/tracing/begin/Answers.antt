@@ -1,4 +1,7 @@
-use Rattle.std.proofs.Common.{None, [], refl, arith}
+use Rattle.std.proofs.Common.{Option, None, Some, [], refl, arith}
+use Rattle.std.specs.Prelude.{IfNone}
+use Rattle.tracer.specs.Causes.{NotesNoInput}
+use Rattle.tracer.specs.declared.packets.Packets.{Packets}
 use Rattle.packet_pools.specs.Seeking.{input_pools}
 use Rattle.tracer.proofs.Carried.{carries-free, carries-none, carries-take}
 use Rattle.tracer.proofs.Moves.{input-moves}
@@ -30,3 +33,18 @@ returns-clause-some c =
     let e = c.in_ok-input.ensures in
     let none = carries-none v c.requires.idle.held in
     (carries-take v w e.only.shape input_pools c.in_ok-input.input [] e.some.0 (carries-free [] v (omega arith) none) none, refl)
+
+any-none : (o : Option Packets) (P : Type 0) → P → IfNone o P
+any-none None P p = p
+any-none (Some x) P p = tt
+
+pub returns-in_err-input-clause-noted : goal.returns-in_err-input-clause-noted
+returns-in_err-input-clause-noted c =
+    let v : View = view_of c.args.seat.now in
+    let w : View = view_of c.take_input.new.seat in
+    let e = c.in_err-input.ensures in
+    let none : NotesNoInput v w = record { high = λ alone. (e.noted alone).0; low = λ alone. (e.noted alone).1; others = e.outside } in
+    any-none c.from_residual.result (NotesNoInput v w) none
+
+pub returns-clause-full : goal.returns-clause-full
+returns-clause-full c = c.in_ok-input.ensures.some.1

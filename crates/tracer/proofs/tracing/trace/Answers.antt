@@ -27,6 +27,7 @@ use Rattle.gc_table.specs.Log.{events}
 use Rattle.packet_pools.specs.StepBounds.{give_steps, input_steps}
 use Rattle.tracer.specs.StepBounds.{object_steps, turn_steps}
 use Rattle.packet_pools.proofs.Few.{few-join}
+use Rattle.tracer.proofs.Spills.{trace-spills}
 use Rattle.tracer.proofs.tracing.trace.Goals as goal
 
 -- Cells in hand end as they may, since no step loses one.
@@ -245,3 +246,23 @@ returns-clause-few c =
 
 pub returns-clause-undeferred : goal.returns-clause-undeferred
 returns-clause-undeferred c = λ still. c.trace_all-traced.ensures.undeferred (ap (λ (s : SeatState). s.active) c.in-Some.ensures.only.rest ∙ still)
+
+pub returns-in_default-clause-noted : goal.returns-in_default-clause-noted
+returns-in_default-clause-noted c = λ some none. c.in_default.ensures.noted
+
+pub returns-clause-noted : goal.returns-clause-noted
+returns-clause-noted c = λ some none. let done = c.trace_all-traced.ensures.works c.in-Some.ensures.full some in absurd (omega (arith, done, none))
+
+pub returns-in_default-clause-spills : goal.returns-in_default-clause-spills
+returns-in_default-clause-spills c = λ alone still.
+    let v : View = view_of c.args.seat.now in
+    let w : View = view_of c.begin.new.seat in
+    let e = c.in_default.ensures in
+    trace-spills 0 0 v w e.only (tally-of c.args.heap.now.shape 0 0 0 v w c.requires.seat.0.1 e.only e.part) c.requires.idle alone still
+
+pub returns-clause-spills : goal.returns-clause-spills
+returns-clause-spills c = λ alone still.
+    let v : View = view_of c.args.seat.now in
+    let y : View = view_of c.finish.new.seat in
+    let t : Traced = c.trace_all-traced.result in
+    trace-spills t.done t.overflowed v y (returns-clause-only c) (subst (λ n. Tally t.done n t.overflowed v y) (returns-clause-undeferred c still) (returns-clause-tally c)) c.requires.idle alone still

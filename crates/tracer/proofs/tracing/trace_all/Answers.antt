@@ -1,4 +1,5 @@
-use Rattle.std.proofs.Common.{ℕ, ◌≡◌, ◌+◌, inr, Option, sym, ap, ◌∙◌, subst, refl, arith, ◌*◌}
+use Rattle.std.proofs.Common.{ℕ, ◌≡◌, ◌+◌, ◌<◌, inr, Option, sym, ap, ◌∙◌, subst, refl, arith, ◌*◌, ⊎_elim}
+use Rattle.std.proofs.lemmas.Bool.{cases_eq}
 use Rattle.mark_core.specs.Seats.{is_the}
 use Rattle.mark_core.specs.declared.kinds.Shape.{Shape}
 use Rattle.mark_core.specs.declared.seat.SeatState.{SeatState}
@@ -125,6 +126,7 @@ loop-turn-preserved c =
       work = f.work;
       done = omega (arith, i.done);
       stopped = i.stopped;
+      first = λ e. absurd (omega (arith, e));
       undeferred =
           λ still.
           let before = i.undeferred still in
@@ -151,3 +153,16 @@ returns-in_default-clause-few c =
     let last = few-join (share_steps sh) (find_steps sh + 1) w u x g.only.ran e.only.ran g.few e.few in
     let all = few-join (c.loop-turn.traced.done * (turn_steps sh + object_steps sh)) (share_steps sh + (find_steps sh + 1)) (view_of c.args.seat.now) w x i.only.ran (traced-join w u x g.only e.only).ran i.few last in
     omega (arith, all)
+
+-- the first turn finds the input as it was
+pub returns-in_default-clause-works : goal.returns-in_default-clause-works
+returns-in_default-clause-works c = λ some many.
+    let i = c.loop-turn.invariant in
+    ⊎_elim
+    (λ (z : c.loop-turn.turn ≡ 0).
+    let same = c.share_in_turn.ensures.first z ∙ i.first z in
+    let full = ap (λ (x : Packets). x.input.length) same in
+    let none = c.in_default.ensures.none.0.input in
+    absurd (omega (arith, some, full, none)))
+    (λ (d : c.loop-turn.turn ≡ 0 → ⊥). let done = i.done in let on : 0 < c.loop-turn.turn = grind (arith, d) in omega (arith, done, on))
+    (cases_eq c.loop-turn.turn 0)
