@@ -12,6 +12,7 @@ mod TurnSteps
 pub mod TracerStanding
 pub mod Tending
 mod Cards
+mod CardPass
 mod Sparing
 mod Tallying
 mod Visiting

@@ -7,7 +7,7 @@ use Rattle.gc_table.specs.Running.{Ran}
 use Rattle.gc_table.specs.declared.view.View.{View}
 use Rattle.packet_pools.proofs.Few.{another, few-join}
 use Rattle.seat_turns.specs.StepBounds.{card_steps, cards_steps}
-use Rattle.seat_turns.specs.Tending.{turn_cards}
+use Rattle.seat_turns.specs.CardPass.{turn_cards}
 
 -- one more card
 pub another-card : (k : ℕ) (sh : Shape) (u v w : View) → Ran u v → Ran v w → length (events u v) ≤ k * card_steps sh → length (events v w) ≤ card_steps sh → length (events u w) ≤ (k + 1) * card_steps sh

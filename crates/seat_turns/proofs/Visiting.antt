@@ -30,7 +30,7 @@ unmarked p sh other = refl
 
 -- what a marking traced, and what it tended to
 pub marked-traces : (n : ℕ) (v u : View) → TracesSome n v u → TracesForTurn n v u
-marked-traces n v u t = record { ran = t.tends.ran; only = t.tends.only; done = t.tends.done; ends = t.ends; defers = t.defers }
+marked-traces n v u t = record { ran = t.tends.ran; only = t.only; done = t.tends.done; ends = t.ends; defers = t.defers }
 
 pub marked-tends : (u w : View) → TendsCards 0 u w → Tended u w
 marked-tends u w t = record { ran = t.tends.ran; only = t.tends.only; none = t.tends.done; untaken = t.untaken; once = let few = t.once in omega (arith, few) }

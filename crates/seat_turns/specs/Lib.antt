@@ -1,3 +1,4 @@
+pub mod CardPass
 pub mod Clearing
 pub mod Coming
 pub mod Exchanging

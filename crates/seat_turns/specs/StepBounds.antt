@@ -4,7 +4,8 @@ use Rattle.mark_core.specs.Cards.{card_cells}
 use Rattle.mark_core.specs.declared.kinds.Shape.{Shape}
 use Rattle.tracer.specs.StepBounds.{trace_steps}
 use Rattle.card_clean.specs.StepBounds.{clean_one_steps}
-use Rattle.seat_turns.specs.Tending.{turn_cards, turn_quota}
+use Rattle.seat_turns.specs.CardPass.{turn_cards}
+use Rattle.seat_turns.specs.Tending.{turn_quota}
 
 -- the next card is drawn, looked at and cleaned
 abbrev pub card_steps : Shape → ℕ

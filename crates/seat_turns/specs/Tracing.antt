@@ -14,6 +14,7 @@ use Rattle.gc_table.specs.Running.{Ran}
 use Rattle.gc_table.specs.Seats.{Answered, Found, Took}
 use Rattle.gc_table.specs.declared.view.View.{View}
 use Rattle.packet_pools.specs.Counts.{count_of}
+use Rattle.packet_pools.specs.OnlyTraced.{traces_cells}
 use Rattle.stop_world.specs.Gates.{Enters, TurnsBack}
 use Rattle.card_clean.specs.Cleaning.{clears}
 use Rattle.tracer.specs.Causes.{FoundNoWork}
@@ -25,7 +26,7 @@ use Rattle.gc_cycle.specs.Sorts.{draws, takes_deferred}
 use Rattle.gc_cycle.specs.Turns.{HelpsInTurns}
 use Rattle.mutator_ops.specs.Few.{AtMost}
 use Rattle.seat_turns.specs.StepBounds.{turn_steps}
-use Rattle.seat_turns.specs.Tending.{tends_inside, turn_quota}
+use Rattle.seat_turns.specs.Tending.{PassesAfter, tends_inside, turn_quota}
 use Rattle.seat_turns.specs.declared.background.Turn.{Turn}
 use Rattle.seat_turns.specs.declared.background.Turn.TheVariants as turns
 
@@ -38,22 +39,23 @@ pub record Tended (v w : View) : Type 0 where
   pub untaken : IsTrue (never takes_deferred (events v w))
   pub once : count_of clears (events v w) ≤ count_of draws (events v w)
 
--- the seat traced this many objects inside the world: as many as a turn traces; or fewer, and then at some moment nothing was left in hand
+-- the seat traced this many objects inside the world, by steps of tracing alone: as many as a turn traces; or fewer, and then at some moment nothing was left in hand
 -- and no packet with a cell was found; no cell that it deferred was popped again (`Defers`)
 pub record TracesForTurn (traced : ℕ) (v w : View) : Type 0 where
   pub ran : Ran v w
-  pub only : Only tends_inside v w
+  pub only : Only traces_cells v w
   pub done : count_of pops (events v w) ≡ traced
   pub ends : (traced ≡ turn_quota) ⊎ ((traced < turn_quota) × FoundNoWork v w)
   pub defers : Defers v w
 
--- the seat traced, then cleaned cards, and told by one step how many objects it traced; what is deferred stays where it is
+-- the seat traced, then passed cards if that was called for (`PassesAfter`), and told by one step how many objects it traced; what is deferred stays where it is
 pub record HasMarked (v w : View) : Type 0 where
   pub count : ℕ
   pub traced : View
   pub traces : TracesForTurn count v traced
   pub tended : View
   pub tends : Tended traced tended
+  pub passes : PassesAfter count traced tended
   pub tells : Took (AddStat traced_count count false) tended w
 
 -- in Marking the seat traced, cleaned cards and told how many objects it traced (`HasMarked`); in any other phase it took no step

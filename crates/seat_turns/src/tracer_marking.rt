@@ -8,6 +8,7 @@ ghost use Rattle.gc_table.specs.Seats.{Across, Answered, did, state_of};
 ghost use Rattle.card_clean.specs.StepBounds.{clean_one_steps};
 ghost use Rattle.tracer.specs.StepBounds.{recycle_steps};
 ghost use Rattle.seat_turns.specs.TracerStanding.{Goes, GoesMarking};
+ghost use Rattle.seat_turns.specs.CardPass.{CleansCard, LooksAtCard, PassesCards, PassesFor, PassesLate, PassesNext};
 ghost use Rattle.seat_turns.specs.StepBounds.{card_steps, cards_steps, late_steps, turn_steps};
 ghost use Rattle.seat_turns.specs.Tending.{MarksAndRecycles, MarksSome, TendsCards};
 
@@ -36,6 +37,7 @@ fn clean(heap: &Heap, seat: &mut HeapSeat, card: u32) -> bool
     requires card { card < card_count heap.now.shape }
     ensures seat { GoesMarking heap.now seat.new }
     ensures tends { Across (TendsCards 1) seat.old seat.new }
+    ensures cleans { Across (CleansCard result card) seat.old seat.new }
     ensures few { length (did seat.old seat.new) ≤ clean_one_steps card_cells heap.now.shape }
 {
     match clean_one(heap, seat, card) {
@@ -50,6 +52,7 @@ fn clean_where_dirty(heap: &Heap, seat: &mut HeapSeat, card: u32) -> bool
     requires card { card < card_count heap.now.shape }
     ensures seat { GoesMarking heap.now seat.new }
     ensures tends { Across (TendsCards 1) seat.old seat.new }
+    ensures looks { Across (LooksAtCard result card) seat.old seat.new }
     ensures few { length (did seat.old seat.new) ≤ 1 + clean_one_steps card_cells heap.now.shape }
 {
     if !heap.read_card(seat, card) {
@@ -63,6 +66,7 @@ fn clean_next(heap: &Heap, seat: &mut HeapSeat) -> bool
     requires { GoesMarking heap.now seat.old }
     ensures seat { GoesMarking heap.now seat.new }
     ensures tends { Across (TendsCards 0) seat.old seat.new }
+    ensures passes { Across (PassesNext result) seat.old seat.new }
     ensures few { length (did seat.old seat.new) ≤ card_steps heap.now.shape }
 {
     match next_card(heap, seat) {
@@ -75,6 +79,7 @@ fn clean_cards(heap: &Heap, seat: &mut HeapSeat)
     requires { GoesMarking heap.now seat.old }
     ensures seat { GoesMarking heap.now seat.new }
     ensures tends { Across (TendsCards 0) seat.old seat.new }
+    ensures passes { Across PassesCards seat.old seat.new }
     ensures few { length (did seat.old seat.new) ≤ cards_steps heap.now.shape }
 {
     for _card in 0..CARDS {
@@ -88,6 +93,7 @@ fn clean_late(heap: &Heap, seat: &mut HeapSeat)
     requires { GoesMarking heap.now seat.old }
     ensures seat { GoesMarking heap.now seat.new }
     ensures tends { Across (TendsCards 0) seat.old seat.new }
+    ensures passes { Across PassesLate seat.old seat.new }
     ensures few { length (did seat.old seat.new) ≤ late_steps heap.now.shape }
 {
     if is_far_on(heap, seat) {
@@ -100,6 +106,7 @@ fn clean_after(heap: &Heap, seat: &mut HeapSeat, stopped: Stopped)
     requires { GoesMarking heap.now seat.old }
     ensures seat { GoesMarking heap.now seat.new }
     ensures tends { Across (TendsCards 0) seat.old seat.new }
+    ensures passes { Across (PassesFor stopped) seat.old seat.new }
     ensures few { length (did seat.old seat.new) ≤ late_steps heap.now.shape }
 {
     if let Stopped::NoWork = stopped {

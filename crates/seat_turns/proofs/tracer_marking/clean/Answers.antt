@@ -7,6 +7,10 @@ use Rattle.packet_pools.specs.Hands.{free_slots}
 use Rattle.cache_refills.proofs.Few.{cells-fewer}
 use Rattle.seat_turns.proofs.TracerStanding.{empty-of, marks-cleaned, marks-idle, marks-trace}
 use Rattle.seat_turns.proofs.Cards.{cards-missed, cards-one}
+use Rattle.mark_core.specs.declared.kinds.Shape.{Shape}
+use Rattle.gc_table.specs.Log.{events}
+use Rattle.card_clean.specs.Cleaning.{CleansOne}
+use Rattle.packet_pools.specs.Seeking.{NoOutput}
 use Rattle.seat_turns.proofs.tracer_marking.clean.Goals as goal
 
 pub clean_one-requires-clause-seat : goal.clean_one-requires-clause-seat
@@ -43,3 +47,12 @@ returns-in-Some-clause-few c = let e = c.in-Some.ensures in cells-fewer _ card_c
 
 pub returns-in-None-clause-few : goal.returns-in-None-clause-few
 returns-in-None-clause-few c = let few = c.in-None.ensures.few.1 in omega (arith, few)
+
+pub returns-in-Some-clause-cleans : goal.returns-in-Some-clause-cleans
+returns-in-Some-clause-cleans c =
+    (c.in-Some.field-0, subst (λ (sh : Shape). CleansOne sh c.args.card c.in-Some.field-0 (events (view_of c.args.seat.now) (view_of c.clean_one.new.seat))) (sym c.requires.seat.goes.sits.1) c.in-Some.ensures.some.0)
+
+pub returns-in-None-clause-cleans : goal.returns-in-None-clause-cleans
+returns-in-None-clause-cleans c =
+    let e = c.in-None.ensures.none in
+    (subst (λ (sh : Shape). NoOutput sh (events (view_of c.args.seat.now) (view_of c.clean_one.new.seat))) (sym c.requires.seat.goes.sits.1) e.1, e.2)

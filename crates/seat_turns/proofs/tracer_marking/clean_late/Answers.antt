@@ -1,8 +1,10 @@
-use Rattle.std.proofs.Common.{refl}
+use Rattle.std.proofs.Common.{Bool, refl, subst, sym}
+use Rattle.gc_table.specs.declared.view.View.{View}
 use Rattle.gc_table.specs.Seats.{view_of}
 use Rattle.packet_pools.proofs.Few.{few-join}
 use Rattle.seat_turns.specs.TracerStanding.{GoesMarking}
 use Rattle.seat_turns.specs.StepBounds.{cards_steps}
+use Rattle.seat_turns.specs.CardPass.{PassesIf}
 use Rattle.seat_turns.specs.Tending.{TendsCards}
 use Rattle.seat_turns.proofs.TracerStanding.{marks-same}
 use Rattle.seat_turns.proofs.Cards.{cards-join, cards-read}
@@ -34,3 +36,24 @@ returns-else-is_far_on-clause-seat c = marks (goal.at.returns-else-is_far_on-cla
 
 pub returns-else-is_far_on-clause-tends : goal.returns-else-is_far_on-clause-tends
 returns-else-is_far_on-clause-tends c = looks (goal.at.returns-else-is_far_on-clause-tends c).After-is_far_on
+
+pub returns-then-is_far_on-clause-passes : goal.returns-then-is_far_on-clause-passes
+returns-then-is_far_on-clause-passes c =
+    let r : View = view_of c.is_far_on.new.seat in
+    let w : View = view_of c.clean_cards.new.seat in
+    let e = c.is_far_on.ensures in
+    record {
+      late = c.is_far_on.result;
+      read = r;
+      ran = e.ran;
+      only = e.only;
+      sees = e.late;
+      few = e.few;
+      passes = subst (λ (b : Bool). PassesIf b r w) (sym c.if-is_far_on.true) c.clean_cards.ensures.passes;
+    }
+
+pub returns-else-is_far_on-clause-passes : goal.returns-else-is_far_on-clause-passes
+returns-else-is_far_on-clause-passes c =
+    let r : View = view_of c.is_far_on.new.seat in
+    let e = c.is_far_on.ensures in
+    record { late = c.is_far_on.result; read = r; ran = e.ran; only = e.only; sees = e.late; few = e.few; passes = subst (λ (b : Bool). PassesIf b r r) (sym c.if-is_far_on.false) refl }

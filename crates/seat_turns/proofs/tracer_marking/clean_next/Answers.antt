@@ -1,4 +1,4 @@
-use Rattle.std.proofs.Common.{◌+◌, ap, ◌∙◌, arith}
+use Rattle.std.proofs.Common.{◌+◌, ap, ◌∙◌, arith, None, Some, refl}
 use Rattle.std.specs.Prelude.{is_none}
 use Rattle.mark_core.specs.Cards.{card_cells}
 use Rattle.mark_core.specs.Held.{holds_any}
@@ -50,3 +50,9 @@ returns-in-None-clause-seat c = marks (goal.at.returns-in-None-clause-seat c).Af
 
 pub returns-in-None-clause-tends : goal.returns-in-None-clause-tends
 returns-in-None-clause-tends c = draws (goal.at.returns-in-None-clause-tends c).After-next_card
+
+pub returns-in-Some-clause-passes : goal.returns-in-Some-clause-passes
+returns-in-Some-clause-passes c = record { card = Some c.in-Some.card; drawn = view_of c.next_card.new.seat; draws = c.in-Some.ensures.draws; looks = c.clean_where_dirty.ensures.looks }
+
+pub returns-in-None-clause-passes : goal.returns-in-None-clause-passes
+returns-in-None-clause-passes c = record { card = None; drawn = view_of c.next_card.new.seat; draws = c.in-None.ensures.draws; looks = (refl, refl) }

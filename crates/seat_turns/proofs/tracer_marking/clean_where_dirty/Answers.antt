@@ -1,4 +1,4 @@
-use Rattle.std.proofs.Common.{ℕ, ap, ◌∙◌, ◌≤◌, arith, length, refl}
+use Rattle.std.proofs.Common.{ℕ, ap, ◌∙◌, ◌≤◌, arith, Bool, true, length, refl, subst, sym}
 use Rattle.std.specs.Prelude.{is_none}
 use Rattle.mark_core.specs.Cards.{card_cells}
 use Rattle.mark_core.specs.Held.{holds_any}
@@ -20,6 +20,7 @@ use Rattle.seat_turns.proofs.TracerStanding.{empty-of, marks-later, marks-trace}
 use Rattle.seat_turns.proofs.Cards.{cards-join, cards-looked}
 use Rattle.seat_turns.proofs.Tending.{tends-by}
 use Rattle.seat_turns.proofs.tracer_marking.clean_where_dirty.Goals as goal
+use Rattle.seat_turns.specs.CardPass.{CleansDirty}
 use Rattle.seat_turns.proofs.tracer_marking.clean_where_dirty.Goals.{After-read_card}
 
 -- the look at the card
@@ -71,3 +72,20 @@ returns-clause-few c =
     let here = (goal.at.returns-clause-few c).After-read_card in
     let e = c.clean.ensures in
     few-join 1 (clean_one_steps card_cells c.args.heap.now.shape) (view_of c.args.seat.now) (view_of c.read_card.new.seat) (view_of c.clean.new.seat) (looked here).ran e.tends.tends.ran (few here) e.few
+
+pub returns-then-not-read_card-clause-looks : goal.returns-then-not-read_card-clause-looks
+returns-then-not-read_card-clause-looks c =
+    let w : View = view_of c.read_card.new.seat in
+    record { dirty = c.read_card.result; read = w; reads = c.read_card.ensures.view; cleans = subst (λ (b : Bool). CleansDirty b true c.args.card w w) (sym c.if-not-read_card.true) (refl, refl) }
+
+pub returns-clause-looks : goal.returns-clause-looks
+returns-clause-looks c =
+    let w : View = view_of c.read_card.new.seat in
+    let x : View = view_of c.clean.new.seat in
+    let e = c.clean.ensures in
+    record {
+      dirty = c.read_card.result;
+      read = w;
+      reads = c.read_card.ensures.view;
+      cleans = subst (λ (b : Bool). CleansDirty b c.clean.result c.args.card w x) (sym c.if-not-read_card.false) (e.tends.tends.ran, e.cleans);
+    }

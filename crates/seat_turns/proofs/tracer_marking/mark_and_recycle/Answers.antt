@@ -44,6 +44,7 @@ returns-clause-marks c =
       tends = tends-join 0 0 0 m.between u w refl m.cards.tends (tends-by 0 u w e.only (moves-pop deferred_pools (events u w) e.recycled.moves));
       tended = u;
       cards = m.cards;
+      passes = m.passes;
       ran = e.only.ran;
       brings = (c.recycle_deferred.result, subst (λ (sh : Shape). Recycled sh c.recycle_deferred.result (events u w)) (sym c.requires.goes.sits.1) e.recycled);
     }

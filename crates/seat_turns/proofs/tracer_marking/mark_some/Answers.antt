@@ -10,6 +10,7 @@ use Rattle.packet_pools.proofs.Few.{few-join}
 use Rattle.tracer.specs.StepBounds.{object_steps, trace_steps, turn_steps}
 use Rattle.seat_turns.specs.StepBounds.{late_steps}
 use Rattle.seat_turns.specs.Tending.{turn_quota}
+use Rattle.seat_turns.proofs.CardPass.{passes-after}
 use Rattle.seat_turns.proofs.TracerStanding.{empty-of, is-none, marks-idle, marks-later, marks-trace}
 use Rattle.seat_turns.proofs.Tending.{tends-by}
 use Rattle.seat_turns.proofs.tracer_marking.mark_some.Goals as goal
@@ -36,8 +37,9 @@ returns-clause-marks c =
     let e = c.trace-traced.ensures in
     record {
       between = u;
-      traces = record { tends = tends-by c.trace-traced.result.done v u e.only e.tally.done; ends = ⊎_elim (λ q. inl q.1) (λ q. inr (q.1, q.2)) e.stopped; defers = e.deferral };
+      traces = record { tends = tends-by c.trace-traced.result.done v u e.only e.tally.done; only = e.only.only; ends = ⊎_elim (λ q. inl q.1) (λ q. inr (q.1, q.2)) e.stopped; defers = e.deferral };
       cards = c.clean_after.ensures.tends;
+      passes = passes-after c.trace-traced.result.stopped c.trace-traced.result.done v u (view_of c.clean_after.new.seat) e.stopped c.clean_after.ensures.passes;
     }
 
 pub returns-clause-few : goal.returns-clause-few

@@ -23,6 +23,7 @@ returns-clause-marks c =
       traces = marked-traces n (view_of c.args.seat.now) m.between m.traces;
       tended = view_of c.mark_some-traced.new.seat;
       tends = marked-tends m.between (view_of c.mark_some-traced.new.seat) m.cards;
+      passes = m.passes;
       tells = c.add_stat.ensures.view;
     }
 
