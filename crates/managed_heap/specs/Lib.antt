@@ -8,3 +8,4 @@ pub mod Gathering
 pub mod Numbers
 pub mod WorldOpening
 pub mod Sizing
+pub mod Working

@@ -46,6 +46,7 @@
 #![tactic(auto)]
 
 ghost use Rattle.managed_heap.specs.Threads.{ThreadsRun, WordsStand};
+ghost use Rattle.managed_heap.specs.Working.{CollectionsAreBounded};
 
 mod calls;
 mod closing;
@@ -92,4 +93,12 @@ pub fn threads_run()
 /// what the mutator's calls made of them.
 pub fn words_stand()
     ensures { WordsStand }
+{}
+
+/// Between two of a mutator's collections all that marking and cleaning come to, of all threads together, is bounded by
+/// numbers: cells marked, deferred and popped, fields read, cards dirtied and cleaned. So is it until each end of a cycle
+/// since any earlier moment without one.
+#[tactic(auto, using(crate::proofs::Ends::collections_bounded))]
+pub fn collections_bounded()
+    ensures { CollectionsAreBounded }
 {}
