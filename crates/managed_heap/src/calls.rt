@@ -21,12 +21,14 @@ use std::sync::Wait;
 
 impl Mutator {
     /// Enters the world as soon as no collection is under way, and helps meanwhile. Refused if the heap is full.
+    #[tactic(auto, using(crate::proofs::Runs::runs))]
     pub fn enter<R: Wait>(&mut self, rt: &R) -> Result<(), Refused>
         ensures entered { IfOk result (λ _. MutatorEntered self.old self.new) }
         ensures refused { IfErr result (λ e. CantEnter e self.old self.new) }
         ensures full { IfErr result (λ e. RefusedBy (λ _. EntersFull) e self.old self.new) }
         ensures tracers { Across (Only spares_tracers) self.old.seat self.new.seat }
         ensures world { arc_value self.new.heap ≡ arc_value self.old.heap }
+        ensures ran { Across Ran self.old.seat self.new.seat }
     {
         match self.place {
             Place::Inside => Ok(()),
@@ -59,6 +61,7 @@ impl Mutator {
 
     /// A safe point: if a collection is under way the mutator helps. Refused if the mutator is outside, or the heap
     /// is full: then it is outside afterwards.
+    #[tactic(auto, using(crate::proofs::Runs::runs))]
     pub fn safe_point<R: Wait>(&mut self, rt: &R) -> Result<(), Refused>
         ensures passed { IfOk result (λ _. HasPassed self.old self.new) }
         ensures refused { IfErr result (λ e. StaysOut e self.old self.new) }
@@ -66,6 +69,7 @@ impl Mutator {
         ensures full { IfErr result (λ e. RefusedBy (λ _. WithOwn PollsOutWith) e self.old self.new) }
         ensures tracers { Across (Only spares_tracers) self.old.seat self.new.seat }
         ensures world { arc_value self.new.heap ≡ arc_value self.old.heap }
+        ensures ran { Across Ran self.old.seat self.new.seat }
     {
         match self.place {
             Place::Outside => Err(Refused::Outside),
@@ -81,6 +85,7 @@ impl Mutator {
 
     /// A precise collection, and a safe point: afterwards the cells in use are those of the objects that were
     /// reachable while the world stood still. Refused as a safe point is.
+    #[tactic(auto, using(crate::proofs::Runs::runs))]
     pub fn collect<R: Wait>(&mut self, rt: &R) -> Result<(), Refused>
         ensures passed { IfOk result (λ _. HasPassed self.old self.new) }
         ensures collected { IfOk result (λ _. MutatorCollected self.old self.new) }
@@ -89,6 +94,7 @@ impl Mutator {
         ensures full { IfErr result (λ e. RefusedBy (λ _. CollectsNone) e self.old self.new) }
         ensures tracers { Across (Only spares_tracers) self.old.seat self.new.seat }
         ensures world { arc_value self.new.heap ≡ arc_value self.old.heap }
+        ensures ran { Across Ran self.old.seat self.new.seat }
     {
         match self.place {
             Place::Outside => Err(Refused::Outside),
@@ -112,11 +118,13 @@ impl Mutator {
         ensures none { IfErr result (λ e. RefusedBy (λ e. MakesNoneAtTurn e self.old.in_stops (arc_value self.old.heap).shape) e self.old self.new) }
         ensures tracers { Across (Only spares_tracers) self.old.seat self.new.seat }
         ensures world { arc_value self.new.heap ≡ arc_value self.old.heap }
+        ensures ran { Across Ran self.old.seat self.new.seat }
     {
         self.make_watched(rt, v, value, &mut Unwatched)
     }
 
     /// [`make`](Mutator::make) that tells `watch` of each stop that it makes, and of what it traces.
+    #[tactic(auto, using(crate::proofs::Runs::runs))]
     pub fn make_watched<R: Wait, W: Watch>(
         &mut self,
         rt: &R,
@@ -130,6 +138,7 @@ impl Mutator {
         ensures none { IfErr result (λ e. RefusedBy (λ e. MakesNoneAtTurn e self.old.in_stops (arc_value self.old.heap).shape) e self.old self.new) }
         ensures tracers { Across (Only spares_tracers) self.old.seat self.new.seat }
         ensures world { arc_value self.new.heap ≡ arc_value self.old.heap }
+        ensures ran { Across Ran self.old.seat self.new.seat }
         ensures told { IsTold W.hears (λ ns. Across (TellsFills self.old.in_stops (arc_value self.old.heap).shape ns) self.old.seat self.new.seat) watch.old watch.new }
     {
         if v >= VARIABLES {
@@ -158,7 +167,7 @@ impl Mutator {
 
     /// Reference i of variable v's object becomes what variable w refers to. Nothing happens if v refers to
     /// nothing. Refused if a number is out of range, or the mutator is outside.
-    #[tactic(auto, using(seat_turns::proofs::Done::operating))]
+    #[tactic(auto, using(seat_turns::proofs::Done::operating, crate::proofs::Runs::runs))]
     pub fn set(&mut self, v: u8, i: u8, w: u8) -> Result<(), Refused>
         ensures done { IfOk result (λ _. MutatorDoes (ops.Set v i w) self.old self.new) }
         ensures refused { IfErr result (λ e. MutatorRefused e (ops.Set v i w) self.old self.new) }
@@ -166,6 +175,7 @@ impl Mutator {
         ensures few { IfOk result (λ _. Across (AtMost 4) self.old.seat self.new.seat) }
         ensures tracers { Across (Only spares_tracers) self.old.seat self.new.seat }
         ensures world { arc_value self.new.heap ≡ arc_value self.old.heap }
+        ensures ran { Across Ran self.old.seat self.new.seat }
     {
         if v >= VARIABLES || w >= VARIABLES || u32::from(i) >= self.heap.shape().fields {
             return Err(Refused::OutOfRange);
@@ -181,7 +191,7 @@ impl Mutator {
 
     /// Variable w becomes what reference i of variable v's object refers to, or refers to nothing if v does. Refused as
     /// `set` is.
-    #[tactic(auto, using(seat_turns::proofs::Done::operating))]
+    #[tactic(auto, using(seat_turns::proofs::Done::operating, crate::proofs::Runs::runs))]
     pub fn get(&mut self, w: u8, v: u8, i: u8) -> Result<(), Refused>
         ensures done { IfOk result (λ _. MutatorDoes (ops.Get w v i) self.old self.new) }
         ensures refused { IfErr result (λ e. MutatorRefused e (ops.Get w v i) self.old self.new) }
@@ -189,6 +199,7 @@ impl Mutator {
         ensures few { IfOk result (λ _. Across (AtMost 2) self.old.seat self.new.seat) }
         ensures tracers { Across (Only spares_tracers) self.old.seat self.new.seat }
         ensures world { arc_value self.new.heap ≡ arc_value self.old.heap }
+        ensures ran { Across Ran self.old.seat self.new.seat }
     {
         if w >= VARIABLES || v >= VARIABLES || u32::from(i) >= self.heap.shape().fields {
             return Err(Refused::OutOfRange);
@@ -203,7 +214,7 @@ impl Mutator {
     }
 
     /// Variable w becomes what variable v is. Refused as `set` is.
-    #[tactic(auto, using(seat_turns::proofs::Done::operating))]
+    #[tactic(auto, using(seat_turns::proofs::Done::operating, crate::proofs::Runs::runs))]
     pub fn copy(&mut self, w: u8, v: u8) -> Result<(), Refused>
         ensures done { IfOk result (λ _. MutatorDoes (ops.Let w v) self.old self.new) }
         ensures refused { IfErr result (λ e. MutatorRefused e (ops.Let w v) self.old self.new) }
@@ -211,6 +222,7 @@ impl Mutator {
         ensures few { IfOk result (λ _. Across (AtMost 1) self.old.seat self.new.seat) }
         ensures tracers { Across (Only spares_tracers) self.old.seat self.new.seat }
         ensures world { arc_value self.new.heap ≡ arc_value self.old.heap }
+        ensures ran { Across Ran self.old.seat self.new.seat }
     {
         if w >= VARIABLES || v >= VARIABLES {
             return Err(Refused::OutOfRange);
@@ -225,7 +237,7 @@ impl Mutator {
     }
 
     /// Variable v refers to nothing any more. What only it reached is garbage from then on. Refused as `set` is.
-    #[tactic(auto, using(seat_turns::proofs::Done::operating))]
+    #[tactic(auto, using(seat_turns::proofs::Done::operating, crate::proofs::Runs::runs))]
     pub fn forget(&mut self, v: u8) -> Result<(), Refused>
         ensures done { IfOk result (λ _. MutatorDoes (ops.Nil v) self.old self.new) }
         ensures refused { IfErr result (λ e. MutatorRefused e (ops.Nil v) self.old self.new) }
@@ -233,6 +245,7 @@ impl Mutator {
         ensures few { IfOk result (λ _. Across (AtMost 1) self.old.seat self.new.seat) }
         ensures tracers { Across (Only spares_tracers) self.old.seat self.new.seat }
         ensures world { arc_value self.new.heap ≡ arc_value self.old.heap }
+        ensures ran { Across Ran self.old.seat self.new.seat }
     {
         if v >= VARIABLES {
             return Err(Refused::OutOfRange);
@@ -247,7 +260,7 @@ impl Mutator {
     }
 
     /// The value of variable v's object becomes this one. Nothing happens if v refers to nothing. Refused as `set` is.
-    #[tactic(auto, using(seat_turns::proofs::Done::operating))]
+    #[tactic(auto, using(seat_turns::proofs::Done::operating, crate::proofs::Runs::runs))]
     pub fn put(&mut self, v: u8, value: u32) -> Result<(), Refused>
         ensures done { IfOk result (λ _. MutatorDoes (ops.Put v value) self.old self.new) }
         ensures refused { IfErr result (λ e. MutatorRefused e (ops.Put v value) self.old self.new) }
@@ -255,6 +268,7 @@ impl Mutator {
         ensures few { IfOk result (λ _. Across (AtMost 2) self.old.seat self.new.seat) }
         ensures tracers { Across (Only spares_tracers) self.old.seat self.new.seat }
         ensures world { arc_value self.new.heap ≡ arc_value self.old.heap }
+        ensures ran { Across Ran self.old.seat self.new.seat }
     {
         if v >= VARIABLES {
             return Err(Refused::OutOfRange);

@@ -6,6 +6,7 @@ ghost use Rattle.plain_heap.specs.PlainHeap.{variable};
 ghost use Rattle.plain_heap.specs.declared.object.Ref.TheVariants.{Nil};
 ghost use Rattle.plain_heap.specs.declared.operation.Op.TheVariants as ops;
 ghost use Rattle.gc_table.specs.Log.{Only};
+ghost use Rattle.gc_table.specs.Running.{Ran};
 ghost use Rattle.gc_table.specs.Seats.{Across};
 ghost use Rattle.managed_heap.specs.Calls.{HasPassed, IsSame, ReadsNone, Refuses, heap_of};
 ghost use Rattle.managed_heap.specs.declared.mutator.Place.TheVariants as places;
@@ -19,6 +20,7 @@ use seat_turns::{Refused, read_value, refer_to_one, refers_to_nothing};
 
 impl Mutator {
     /// The value of variable v's object. Refused if v refers to nothing or is out of range, or the mutator is outside.
+    #[tactic(auto, using(crate::proofs::Runs::runs))]
     pub fn value(&mut self, v: u8) -> Result<u32, Refused>
         ensures value { IfOk result (λ value. (value_in (heap_of self.old) v ≡ Some value) × (v < section_variables) × HasPassed self.old self.new) }
         ensures refused { IfErr result (λ e. ReadsNone e v self.old × IsSame self.old self.new) }
@@ -27,6 +29,7 @@ impl Mutator {
         ensures few { Across (AtMost 1) self.old.seat self.new.seat }
         ensures tracers { Across (Only spares_tracers) self.old.seat self.new.seat }
         ensures world { arc_value self.new.heap ≡ arc_value self.old.heap }
+        ensures ran { Across Ran self.old.seat self.new.seat }
     {
         if v >= VARIABLES {
             return Err(Refused::OutOfRange);
