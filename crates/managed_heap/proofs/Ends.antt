@@ -1,6 +1,6 @@
 -- A call that ended a cycle has the entry of that end; so has each of a mutator's collections.
 use Rattle.std.proofs.Common.{ℕ, ◌≡◌, ◌∙◌, List, [], ◌∷◌, ap, refl, sym, ⊎_elim, Bool, true, false, not}
-use Rattle.std.specs.Prelude.{◌&&◌}
+use Rattle.std.specs.Prelude.{◌&&◌, IsTrue}
 use Rattle.std.proofs.lemmas.Bool.{and_parts, false≢true, or_cases}
 use Rattle.mark_core.specs.declared.kinds.Phase.TheVariants.{Idle}
 use Rattle.mark_core.specs.declared.kinds.Step.{Step}
@@ -9,14 +9,13 @@ use Rattle.packet_pools.specs.Seeking.{some_event}
 use Rattle.gc_table.specs.Log.{all_steps}
 use Rattle.gc_table.specs.Running.{Ran}
 use Rattle.gc_table.specs.Seats.{Across, did, view_of}
+use Rattle.gc_table.specs.declared.seat.HeapSeat.{HeapSeat}
 use Rattle.gc_table.specs.declared.view.Entry.{Entry}
 use Rattle.garbage_laws.specs.Calls.{ended_cycle}
 use Rattle.garbage_laws.specs.Garbage.{ends_cycle}
 use Rattle.gc_cycle.specs.Cycles.{collects}
 use Rattle.gc_cycle.specs.Sorts.{begins_exactly, ends_cycle as moves_back}
-use Rattle.managed_heap.specs.Calls.{MutatorCollected}
 use Rattle.managed_heap.specs.Working.{CollectionsAreBounded, IsEndIn, WorksAgain}
-use Rattle.managed_heap.specs.declared.mutator.Mutator.{Mutator}
 use Rattle.managed_heap.proofs.Working.{works-again, works-since, works-until}
 
 abbrev HasEnd : List Entry → Type 0
@@ -60,10 +59,10 @@ end_collected (e ∷ es) c =
     (λ (later : collects es ≡ true). end_next e es (end_collected es later))
     (or_cases (begins_exactly e.step e.found && some_event moves_back es) (collects es) c)
 
-works_collected : (m n p q : Mutator) → Across Ran m.seat n.seat → MutatorCollected m n → Across Ran n.seat p.seat → Across Ran p.seat q.seat → MutatorCollected p q → WorksAgain m n p q
-works_collected m n p q ran one between again two =
-    let a : HasEnd (did m.seat n.seat) = end_collected (did m.seat n.seat) one in
-    let b : HasEnd (did p.seat q.seat) = end_collected (did p.seat q.seat) two in
+works_collected : (s t x y : HeapSeat) → Across Ran s t → IsTrue (collects (did s t)) → Across Ran t x → Across Ran x y → IsTrue (collects (did x y)) → WorksAgain s t x y
+works_collected s t x y ran one between again two =
+    let a : HasEnd (did s t) = end_collected (did s t) one in
+    let b : HasEnd (did x y) = end_collected (did x y) two in
     record {
       own = a.0;
       end = a.1;
@@ -71,7 +70,7 @@ works_collected m n p q ran one between again two =
       more = b.0;
       next = b.1;
       ends = b.2;
-      works = works-again (view_of m.seat) (view_of n.seat) (view_of p.seat) (view_of q.seat) ran between again a.0 b.0 a.1 b.1 a.2 b.2;
+      works = works-again (view_of s) (view_of t) (view_of x) (view_of y) ran between again a.0 b.0 a.1 b.1 a.2 b.2;
     }
 
 pub collections_bounded : CollectionsAreBounded

@@ -12,12 +12,12 @@ use Rattle.gc_table.specs.Past.{log_of}
 use Rattle.gc_table.specs.Running.{Ran}
 use Rattle.gc_table.specs.Seats.{Across, did, view_of}
 use Rattle.gc_table.specs.Taking.{after, Finds}
+use Rattle.gc_table.specs.declared.seat.HeapSeat.{HeapSeat}
 use Rattle.gc_table.specs.declared.view.Entry.{Entry}
 use Rattle.gc_table.specs.declared.view.View.{View}
 use Rattle.garbage_laws.specs.Calls.{ended_cycle}
 use Rattle.work_laws.specs.Cycles.{IsBoundedCycle, IsIdle}
-use Rattle.managed_heap.specs.Calls.{MutatorCollected}
-use Rattle.managed_heap.specs.declared.mutator.Mutator.{Mutator}
+use Rattle.gc_cycle.specs.Cycles.{collects}
 
 -- among these entries is e, which ended a cycle, behind the entries `own`
 pub record IsEndIn (own : List Entry) (e : Entry) (es : List Entry) : Type 0 where
@@ -61,15 +61,15 @@ pub record WorksFrom (u : View) (own : List Entry) (e : Entry) (x y : View) (mor
   pub until : WorksUntil more d x y
   pub since : WorksSince (u.log ++ own) e (StorePhase Idle) d.found until.before until.finds
 
--- one of a mutator's collections, from m to n, ended a cycle, and so did a later one, from p to q: from the one end to the other
-pub record WorksAgain (m n p q : Mutator) : Type 0 where
+-- a collection from s to t ended a cycle, and so did a later one, from x to y: from the one end to the other
+pub record WorksAgain (s t x y : HeapSeat) : Type 0 where
   pub own : List Entry
   pub end : Entry
-  pub ended : IsEndIn own end (did m.seat n.seat)
+  pub ended : IsEndIn own end (did s t)
   pub more : List Entry
   pub next : Entry
-  pub ends : IsEndIn more next (did p.seat q.seat)
-  pub works : WorksFrom (view_of m.seat) own end (view_of p.seat) (view_of q.seat) more next
+  pub ends : IsEndIn more next (did x y)
+  pub works : WorksFrom (view_of s) own end (view_of x) (view_of y) more next
 
 pub record CollectionsAreBounded : Type 0 where
   -- a call that ended a cycle has an entry that did
@@ -80,5 +80,5 @@ pub record CollectionsAreBounded : Type 0 where
   pub since_own : (step : Step) (n : ℕ) (v : View) (f : Finds step n v) (own : List Entry) (e : Entry) → IsEndIn own e v.log → WorksSince own e step n v f
   -- until each end in a call, since each end in an earlier one
   pub again : (u w x y : View) → Ran u w → Ran w x → Ran x y → (own more : List Entry) (e d : Entry) → IsEndIn own e (events u w) → IsEndIn more d (events x y) → WorksFrom u own e x y more d
-  -- so of two of a mutator's collections, whatever it did in between
-  pub collected : (m n p q : Mutator) → Across Ran m.seat n.seat → MutatorCollected m n → Across Ran n.seat p.seat → Across Ran p.seat q.seat → MutatorCollected p q → WorksAgain m n p q
+  -- so of two collections of a mutator's seat, as the clauses `ran` and `collected` tell them, whatever it did in between
+  pub collected : (s t x y : HeapSeat) → Across Ran s t → IsTrue (collects (did s t)) → Across Ran t x → Across Ran x y → IsTrue (collects (did x y)) → WorksAgain s t x y

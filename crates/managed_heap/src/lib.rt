@@ -98,7 +98,6 @@ pub fn words_stand()
 /// Between two of a mutator's collections all that marking and cleaning come to, of all threads together, is bounded by
 /// numbers: cells marked, deferred and popped, fields read, cards dirtied and cleaned. So is it until each end of a cycle
 /// since any earlier moment without one.
-#[tactic(auto, using(crate::proofs::Ends::collections_bounded))]
 pub fn collections_bounded()
     ensures { CollectionsAreBounded }
 {}
