@@ -1,5 +1,5 @@
 -- How many steps a payment takes.
-use Rattle.std.proofs.Common.{ℕ, ◌≡◌, ◌≤◌, ◌+◌, ◌-◌, ◌*◌, length, arith, ap, Bool, true, false, Option, Some, None}
+use Rattle.std.proofs.Common.{ℕ, ◌≤◌, ◌+◌, ◌-◌, ◌*◌, length, arith, Bool, true, false, Option, Some, None}
 use Rattle.std.specs.Prelude.{IfSome, IfNone}
 use Rattle.std.proofs.Math.Nat.{mul-le-mul_right}
 use Rattle.mark_core.specs.Cards.{card_cells}
@@ -9,9 +9,9 @@ use Rattle.gc_table.specs.Running.{Ran}
 use Rattle.gc_table.specs.declared.view.View.{View}
 use Rattle.packet_pools.specs.StepBounds.{output_steps, scan_steps}
 use Rattle.packet_pools.proofs.Few.{another}
-use Rattle.tracer.specs.StepBounds.{object_steps, trace_steps, turn_steps}
+use Rattle.tracer.specs.StepBounds.{trace_steps}
+use Rattle.tracer.proofs.Few.{traces-apart, traces-fewer}
 use Rattle.card_clean.specs.StepBounds.{clean_one_steps}
-use Rattle.card_clean.proofs.Few.{sum-cells as sum-objects}
 use Rattle.gc_cycle.specs.declared.counts.Paid.{Paid}
 use Rattle.gc_cycle.specs.declared.counts.Refill.{Refill}
 use Rattle.gc_cycle.proofs.Few.{few-join}
@@ -23,19 +23,11 @@ use Rattle.cache_refills.specs.Pace.StepBounds.{look_steps, payment_steps, quota
 pub cells-fewer : (m n : ℕ) (sh : Shape) (k : ℕ) → m ≤ n → k ≤ clean_one_steps m sh → k ≤ clean_one_steps n sh
 cells-fewer m n sh k l few = let most = mul-le-mul_right {m = m} {n = n} (scan_steps sh.fields sh) l in omega (arith, few, most)
 
-pub more-traced : (m n : ℕ) (sh : Shape) → m ≤ n → trace_steps m sh + trace_steps (n - m) sh ≡ trace_steps n sh + trace_steps 0 sh
-more-traced m n sh l =
-    let each : ℕ = turn_steps sh + object_steps sh in
-    let sum = sum-objects m (n - m) each in
-    let all : m + (n - m) ≡ n = omega (arith, l) in
-    let same = ap (λ k. k * each) all in
-    omega (arith, sum, same)
-
 -- one more look
 pub look-more : (m n look : ℕ) (sh : Shape) (u v w : View) → Ran u v → Ran v w → m ≤ n → length (events u v) ≤ trace_steps m sh + look * look_steps sh → length (events v w) ≤ 3 + clean_one_steps card_cells sh + trace_steps (n - m) sh → length (events u w) ≤ trace_steps n sh + (look + 1) * look_steps sh
 look-more m n look sh u v w a b l p q =
     let all = few-join (trace_steps m sh + look * look_steps sh) (3 + clean_one_steps card_cells sh + trace_steps (n - m) sh) u v w a b p q in
-    let more = more-traced m n sh l in
+    let more = traces-apart m n sh l in
     let grown = another look (look_steps sh) in
     omega (arith, all, more, grown)
 
@@ -52,7 +44,7 @@ pub quota-fewer : (m a b : ℕ) (sh : Shape) (k : ℕ) → a ≤ b → k ≤ quo
 quota-fewer m a b sh k l few = let most = mul-le-mul_right {m = a} {n = b} (look_steps sh) l in omega (arith, few, most)
 
 pub payment-fewer : (a b looks : ℕ) (sh : Shape) (k : ℕ) → a ≤ b → k ≤ payment_steps a looks sh → k ≤ payment_steps b looks sh
-payment-fewer a b looks sh k l few = let most = mul-le-mul_right {m = a} {n = b} (turn_steps sh + object_steps sh) l in omega (arith, few, most)
+payment-fewer a b looks sh k l few = let most = traces-fewer a b sh l in omega (arith, few, most)
 
 pub looks-most : (late : Bool) → looks_by (Some late) ≤ card_looks
 looks-most true = omega arith

@@ -1,11 +1,12 @@
 //! The numbers that pace a cycle, and its beginning.
-ghost use Rattle.std.specs.Prelude.{◌≡◌, ◌≤◌, ◌∷◌, [], length, Some, IsTrue};
+ghost use Rattle.std.specs.Prelude.{◌≡◌, ◌≤◌, ◌+◌, ◌∷◌, [], length, Some, IsTrue};
 ghost use Rattle.mark_core.specs.Numbers.{free_count, last_count};
 ghost use Rattle.mark_core.specs.declared.kinds.Step.TheVariants.{ReadStat};
 ghost use Rattle.gc_table.specs.Seats.{Across, Answered, did, Sits, state_of};
 ghost use Rattle.gc_table.specs.Log.{Only};
 ghost use Rattle.gc_table.specs.Running.{Ran};
-ghost use Rattle.cache_refills.specs.Pace.Pacing.{KicksOff, begins_where_due, kicks, late, late_seen, most_told, statistic as statistic_of};
+ghost use Rattle.packet_pools.specs.Counts.{count_of};
+ghost use Rattle.cache_refills.specs.Pace.Pacing.{KicksOff, begins_where_due, kicks, late, late_seen, most_told, statistic as statistic_of, tries_marking};
 ghost use Rattle.cache_refills.specs.Pace.Payment.{reads_number};
 
 use gc_table::{Heap, HeapSeat};
@@ -74,6 +75,7 @@ pub(crate) fn begin_due(heap: &Heap, seat: &mut HeapSeat) -> bool
     ensures due { IsTrue (begins_where_due (did seat.old seat.new)) }
     ensures state { state_of seat.new ≡ state_of seat.old }
     ensures only { Across (Only kicks) seat.old seat.new }
+    ensures reads { length (did seat.old seat.new) ≤ 3 + count_of tries_marking (did seat.old seat.new) }
     ensures few { length (did seat.old seat.new) ≤ 4 }
 {
     let last = read_statistic(heap, seat, LAST);
@@ -96,6 +98,7 @@ pub fn kick_off(heap: &Heap, seat: &mut HeapSeat) -> bool
     ensures due { IsTrue (begins_where_due (did seat.old seat.new)) }
     ensures state { state_of seat.new ≡ state_of seat.old }
     ensures only { Across (Only kicks) seat.old seat.new }
+    ensures reads { length (did seat.old seat.new) ≤ 3 + count_of tries_marking (did seat.old seat.new) }
 {
     if begin_due(heap, seat) {
         heap.wake_resting();

@@ -24,6 +24,7 @@ ghost use Rattle.cache_refills.specs.Pace.Payment.{HasPaid, MarksAndTraces, Trac
 ghost use Rattle.cache_refills.specs.Pace.Pacing.{card_looks, looks_by, looks_seen, owed_seen};
 ghost use Rattle.gc_cycle.specs.CardLooks.{looks_at_card};
 ghost use Rattle.gc_cycle.specs.Events.{never};
+ghost use Rattle.gc_cycle.specs.Sorts.{reads_counter};
 ghost use Rattle.gc_cycle.specs.Standing.{Mutates};
 ghost use Rattle.gc_cycle.specs.Turns.{SeesToRoots};
 ghost use Rattle.cache_refills.specs.Pace.Others.{SeesToNext, turn_seen};
@@ -92,6 +93,7 @@ fn owed_now(heap: &Heap, seat: &mut HeapSeat, cells: u32) -> Owed
     ensures seat { Sits heap.now seat.new }
     ensures ran { Across Ran seat.old seat.new }
     ensures only { Across (Only reads_number) seat.old seat.new }
+    ensures uncounted { IsTrue (never reads_counter (did seat.old seat.new)) }
     ensures state { state_of seat.new ≡ state_of seat.old }
     ensures owed { owed_seen cells (did seat.old seat.new) ≡ Some result.objects }
     ensures most { result.objects ≤ 1024 }

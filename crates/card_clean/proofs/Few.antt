@@ -7,6 +7,7 @@ use Rattle.gc_table.specs.Log.{events}
 use Rattle.gc_table.specs.Running.{Ran}
 use Rattle.gc_table.specs.declared.view.View.{View}
 use Rattle.packet_pools.proofs.Few.{another, few-join}
+use Rattle.packet_pools.proofs.RoomLeft.{room-join}
 use Rattle.packet_pools.specs.StepBounds.{scan_steps}
 use Rattle.card_clean.specs.StepBounds.{clean_some_steps, pass_steps, rescan_steps}
 
@@ -14,16 +15,16 @@ use Rattle.card_clean.specs.StepBounds.{clean_some_steps, pass_steps, rescan_ste
 pub sum-cells : (m n each : ℕ) → (m + n) * each ≡ m * each + n * each
 sum-cells m n each = omega arith
 
-pub rescans-few : (m n : ℕ) (sh : Shape) (u v w : View) → Ran u v → Ran v w → length (events u v) ≤ rescan_steps m sh → length (events v w) ≤ rescan_steps n sh → length (events u w) ≤ rescan_steps (m + n) sh
-rescans-few m n sh u v w a b p q =
-    let all = few-join (rescan_steps m sh) (rescan_steps n sh) u v w a b p q in
+pub rescans-few : (m n a b c : ℕ) (sh : Shape) (u v w : View) → Ran u v → Ran v w → length (events u v) + b ≤ a + rescan_steps m sh → length (events v w) + c ≤ b + rescan_steps n sh → length (events u w) + c ≤ a + rescan_steps (m + n) sh
+rescans-few m n a b c sh u v w q r d e =
+    let all = room-join a b c (rescan_steps m sh) (rescan_steps n sh) u v w q r d e in
     let sum = sum-cells m n (scan_steps sh.fields sh) in
     omega (arith, all, sum)
 
 -- another card of a pass
-pub pass-few : (first card m n : ℕ) (sh : Shape) (u v w : View) → first ≤ card → Ran u v → Ran v w → length (events u v) ≤ pass_steps (card - first) m sh → length (events v w) ≤ pass_steps 1 n sh → length (events u w) ≤ pass_steps (card + 1 - first) (m + n) sh
-pass-few first card m n sh u v w l a b p q =
-    let all = few-join (pass_steps (card - first) m sh) (pass_steps 1 n sh) u v w a b p q in
+pub pass-few : (first card m n a b c : ℕ) (sh : Shape) (u v w : View) → first ≤ card → Ran u v → Ran v w → length (events u v) + b ≤ a + pass_steps (card - first) m sh → length (events v w) + c ≤ b + pass_steps 1 n sh → length (events u w) + c ≤ a + pass_steps (card + 1 - first) (m + n) sh
+pass-few first card m n a b c sh u v w l q r d e =
+    let all = room-join a b c (pass_steps (card - first) m sh) (pass_steps 1 n sh) u v w q r d e in
     let sum = sum-cells m n (scan_steps sh.fields sh) in
     omega (arith, all, sum, l)
 

@@ -6,6 +6,7 @@ mod Learning
 pub mod Drawing
 pub mod CardLooks
 mod Rooting
+mod Searched
 pub mod Leavings
 pub mod Takings
 mod Cleared

@@ -15,13 +15,15 @@ ghost use Rattle.packet_pools.specs.Scanning.{Fills, InHand, owes_redirty};
 ghost use Rattle.card_clean.specs.Cleaning.{Cleans, LearnsCells, RescansCard, SpillsWhite};
 ghost use Rattle.card_clean.specs.Leaving.{rescanned_in};
 ghost use Rattle.card_clean.specs.Rescanning.{OnlyOwes, just_cleared, left_word};
+ghost use Rattle.packet_pools.specs.StepBounds.{room_left, room_steps};
+ghost use Rattle.packet_pools.specs.Tried.{Leads};
 ghost use Rattle.card_clean.specs.StepBounds.{clean_steps, rescan_steps};
 
 use crate::cleaned::Cleaned;
 use crate::rescanning::rescan_cells;
 use gc_table::{Heap, HeapSeat};
 use mark_core::BLOCK_CARDS;
-use packet_pools::Held;
+use packet_pools::{Held, Search};
 
 fn what_is_left(seat: &HeapSeat) -> (u64, bool)
     ensures { (result.0 ≡ left_word (state_of seat.now).cleaning) × (result.1 ≡ owes_redirty (state_of seat.now).cleaning) }
@@ -72,7 +74,13 @@ fn redirty(heap: &Heap, seat: &mut HeapSeat, card: u32, redirtied: bool)
     }
 }
 
-fn rescan_card(heap: &Heap, seat: &mut HeapSeat, card: u32, out: &mut Held) -> Cleaned
+fn rescan_card(
+    heap: &Heap,
+    seat: &mut HeapSeat,
+    card: u32,
+    out: &mut Held,
+    search: &mut Search,
+) -> Cleaned
     requires seat { IsTracer heap.now seat.old }
     requires card { card < card_count heap.now.shape }
     requires out { HoldsPacket out.old (view_of seat.old) × IsTrue (has_free_slot (state_of seat.old).held) }
@@ -88,16 +96,48 @@ fn rescan_card(heap: &Heap, seat: &mut HeapSeat, card: u32, out: &mut Held) -> C
     ensures left { rescanned_in (view_of seat.old) (did seat.old seat.new) ≡ result.rescanned }
     ensures rescans { RescansCard heap.now.shape card result (did seat.old seat.new) }
     ensures clean { IsFalse (state_of seat.old).active → IsTrue result.redirtied → 2 ≤ count_of dirties (did seat.old seat.new) }
-    ensures few { length (did seat.old seat.new) ≤ rescan_steps result.rescanned heap.now.shape + 3 }
+    ensures leads { Leads heap.now.shape search.old search.new out.old out.new (did seat.old seat.new) }
+    ensures few { length (did seat.old seat.new) + room_left heap.now.shape search.new out.new.length ≤ room_left heap.now.shape search.old out.old.length + rescan_steps result.rescanned heap.now.shape + 3 }
 {
     let (left, owes) = read_block(heap, seat, card);
-    let all = rescan_cells(heap, seat, out, card, left);
+    let all = rescan_cells(heap, seat, out, search, card, left);
     let redirtied = is_dirty_again(owes, all.overflowed);
     redirty(heap, seat, card, redirtied);
     Cleaned {
         rescanned: all.cells,
         redirtied,
     }
+}
+
+/// Cleans a card as [`clean_card`] does, with what the call has tried of the packets so far.
+pub(crate) fn clean_card_on(
+    heap: &Heap,
+    seat: &mut HeapSeat,
+    card: u32,
+    out: &mut Held,
+    search: &mut Search,
+) -> Cleaned
+    requires seat { IsTracer heap.now seat.old }
+    requires card { card < card_count heap.now.shape }
+    requires out { HoldsPacket out.old (view_of seat.old) × IsTrue (has_free_slot (state_of seat.old).held) }
+    requires work { IsFalse (work_in_hand heap.now.shape.fields (state_of seat.old)) }
+    ensures seat { IsTracer heap.now seat.new }
+    ensures only { Across OnlyCleaned seat.old seat.new }
+    ensures out { Across (Fills out.old out.new) seat.old seat.new }
+    ensures work { IsFalse (work_in_hand heap.now.shape.fields (state_of seat.new)) }
+    ensures owes { ((state_of seat.new).owes ≡ (state_of seat.old).owes) ⊎ ((state_of seat.new).owes ≡ None) }
+    ensures most { result.rescanned ≤ card_cells }
+    ensures left { rescanned_in (view_of seat.old) (did seat.old seat.new) ≡ result.rescanned }
+    ensures cleans { Cleans heap.now.shape card result (did seat.old seat.new) }
+    ensures spills { IsFalse (state_of seat.old).active → SpillsWhite (did seat.old seat.new) }
+    ensures clean { IsFalse (state_of seat.old).active → IsTrue result.redirtied → 2 ≤ count_of dirties (did seat.old seat.new) }
+    ensures leads { Leads heap.now.shape search.old search.new out.old out.new (did seat.old seat.new) }
+    ensures few { length (did seat.old seat.new) + room_left heap.now.shape search.new out.new.length ≤ room_left heap.now.shape search.old out.old.length + clean_steps result.rescanned heap.now.shape }
+{
+    if !heap.clear_card(seat, card) {
+        return Cleaned::nothing();
+    }
+    rescan_card(heap, seat, card, out, search)
 }
 
 /// Cleans a card: if it is dirty it is cleared, and then its marked published cells are scanned again, into packet
@@ -134,10 +174,7 @@ pub fn clean_card(heap: &Heap, seat: &mut HeapSeat, card: u32, out: &mut Held) -
     ensures cleans { Cleans heap.now.shape card result (did seat.old seat.new) }
     ensures spills { IsFalse (state_of seat.old).active → SpillsWhite (did seat.old seat.new) }
     ensures clean { IsFalse (state_of seat.old).active → IsTrue result.redirtied → 2 ≤ count_of dirties (did seat.old seat.new) }
-    ensures few { length (did seat.old seat.new) ≤ clean_steps result.rescanned heap.now.shape }
+    ensures few { length (did seat.old seat.new) ≤ clean_steps result.rescanned heap.now.shape + room_steps heap.now.shape }
 {
-    if !heap.clear_card(seat, card) {
-        return Cleaned::nothing();
-    }
-    rescan_card(heap, seat, card, out)
+    clean_card_on(heap, seat, card, out, &mut Search::open())
 }

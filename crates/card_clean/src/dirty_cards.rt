@@ -2,7 +2,7 @@
 //!
 //! A public call that cleans takes a packet for it. The seat may trace, has no work in hand, and holds at most two
 //! packets. A card may be dirty again afterwards, as [`clean_card`](crate::clean_card) says.
-ghost use Rattle.std.specs.Prelude.{◌≡◌, ◌≢◌, ◌<◌, ◌≤◌, ◌-◌, ◌*◌, Some, IsTrue, IsFalse, IfSome, IfNone, length, min};
+ghost use Rattle.std.specs.Prelude.{◌≡◌, ◌≢◌, ◌<◌, ◌≤◌, ◌-◌, ◌*◌, Some, IsTrue, IsFalse, IfSome, IfNone, length, min, ◌+◌};
 ghost use Rattle.mark_core.specs.Cards.{card_cells};
 ghost use Rattle.mark_core.specs.Layout.{card_count};
 ghost use Rattle.mark_core.specs.Held.{has_free_slot, holds_any};
@@ -25,15 +25,16 @@ ghost use Rattle.card_clean.specs.Looking.{KeepsAllNotes, looks_clean, looks_dir
 ghost use Rattle.card_clean.specs.Taking.{CleansWithPacket, NoPacket};
 ghost use Rattle.packet_pools.specs.Seeking.{only_moves, output_pools};
 ghost use Rattle.packet_pools.specs.Hands.{free_slots};
-ghost use Rattle.packet_pools.specs.StepBounds.{any_steps};
+ghost use Rattle.packet_pools.specs.StepBounds.{any_steps, room_left};
+ghost use Rattle.packet_pools.specs.Tried.{Leads};
 ghost use Rattle.card_clean.specs.StepBounds.{clean_dirty_steps, clean_round_steps, clean_some_steps, pass_steps};
 
 use crate::cleaned::CleanedCards;
-use crate::cleaning::clean_card;
+use crate::cleaning::clean_card_on;
 use crate::taking::take_some;
 use gc_table::{Heap, HeapSeat};
 use mark_core::CARD_CELLS;
-use packet_pools::{Held, give};
+use packet_pools::{Held, Search, give};
 
 /// The first dirty card from this one on and before `end`. If there is none a seat that is alone knows them all clean.
 pub fn dirty_between(heap: &Heap, seat: &mut HeapSeat, from: u32, end: u32) -> Option<u32>
@@ -72,7 +73,13 @@ pub(crate) fn first_dirty(heap: &Heap, seat: &mut HeapSeat, from: u32) -> Option
     dirty_between(heap, seat, from, heap.shape().cells / CARD_CELLS)
 }
 
-fn clean_where_dirty(heap: &Heap, seat: &mut HeapSeat, card: u32, out: &mut Held) -> CleanedCards
+fn clean_where_dirty(
+    heap: &Heap,
+    seat: &mut HeapSeat,
+    card: u32,
+    out: &mut Held,
+    search: &mut Search,
+) -> CleanedCards
     requires seat { IsTracer heap.now seat.old }
     requires card { card < card_count heap.now.shape }
     requires out { HoldsPacket out.old (view_of seat.old) × IsTrue (has_free_slot (state_of seat.old).held) }
@@ -86,7 +93,8 @@ fn clean_where_dirty(heap: &Heap, seat: &mut HeapSeat, card: u32, out: &mut Held
     ensures cleared { count_of clears (did seat.old seat.new) ≡ result.cards }
     ensures spills { IsFalse (state_of seat.old).active → SpillsWhite (did seat.old seat.new) }
     ensures cleans { CleanedWhereDirty heap.now.shape card result.rescanned (did seat.old seat.new) }
-    ensures few { length (did seat.old seat.new) ≤ pass_steps 1 result.rescanned heap.now.shape }
+    ensures leads { Leads heap.now.shape search.old search.new out.old out.new (did seat.old seat.new) }
+    ensures few { length (did seat.old seat.new) + room_left heap.now.shape search.new out.new.length ≤ room_left heap.now.shape search.old out.old.length + pass_steps 1 result.rescanned heap.now.shape }
 {
     if !heap.read_card(seat, card) {
         return CleanedCards {
@@ -94,7 +102,7 @@ fn clean_where_dirty(heap: &Heap, seat: &mut HeapSeat, card: u32, out: &mut Held
             cards: 0,
         };
     }
-    let cleaned = clean_card(heap, seat, card, out);
+    let cleaned = clean_card_on(heap, seat, card, out, search);
     CleanedCards {
         rescanned: cleaned.rescanned,
         cards: 1,
@@ -107,6 +115,7 @@ fn clean_between(
     first: u32,
     end: u32,
     out: &mut Held,
+    search: &mut Search,
 ) -> CleanedCards
     requires seat { IsTracer heap.now seat.old }
     requires cards { (first ≤ end) × (end ≤ card_count heap.now.shape) }
@@ -121,12 +130,13 @@ fn clean_between(
     ensures cleared { count_of clears (did seat.old seat.new) ≡ result.cards }
     ensures spills { IsFalse (state_of seat.old).active → SpillsWhite (did seat.old seat.new) }
     ensures cleans { CleanedFrom heap.now.shape first (end - first) result.rescanned (did seat.old seat.new) }
-    ensures few { length (did seat.old seat.new) ≤ pass_steps (end - first) result.rescanned heap.now.shape }
+    ensures leads { Leads heap.now.shape search.old search.new out.old out.new (did seat.old seat.new) }
+    ensures few { length (did seat.old seat.new) + room_left heap.now.shape search.new out.new.length ≤ room_left heap.now.shape search.old out.old.length + pass_steps (end - first) result.rescanned heap.now.shape }
 {
     let mut rescanned = 0;
     let mut cards = 0;
     for card in first..end {
-        let one = clean_where_dirty(heap, seat, card, out);
+        let one = clean_where_dirty(heap, seat, card, out, search);
         rescanned += one.rescanned;
         cards += one.cards;
     }
@@ -155,7 +165,14 @@ pub fn clean_dirty(heap: &Heap, seat: &mut HeapSeat) -> u32
     let Some(mut out) = take_some(heap, seat) else {
         return 0;
     };
-    let cleaned = clean_between(heap, seat, card, heap.shape().cells / CARD_CELLS, &mut out);
+    let cleaned = clean_between(
+        heap,
+        seat,
+        card,
+        heap.shape().cells / CARD_CELLS,
+        &mut out,
+        &mut Search::open(),
+    );
     give(heap, seat, out, false);
     cleaned.rescanned
 }
@@ -179,7 +196,7 @@ pub fn clean_some(heap: &Heap, seat: &mut HeapSeat, first: u32, end: u32) -> Opt
     let Some(mut out) = take_some(heap, seat) else {
         return None;
     };
-    let cleaned = clean_between(heap, seat, first, end, &mut out);
+    let cleaned = clean_between(heap, seat, first, end, &mut out, &mut Search::open());
     give(heap, seat, out, false);
     Some(cleaned)
 }

@@ -17,17 +17,25 @@ ghost use Rattle.card_clean.specs.Drained.{IsNotedRoot, IsBeforeSweep, IsRooted,
 ghost use Rattle.packet_pools.specs.Hands.{free_slots};
 ghost use Rattle.card_clean.specs.Leaving.{rescanned_in};
 ghost use Rattle.card_clean.specs.Taking.{NoPacket};
-ghost use Rattle.packet_pools.specs.StepBounds.{follow_steps};
+ghost use Rattle.packet_pools.specs.StepBounds.{follow_steps, room_left};
+ghost use Rattle.packet_pools.specs.Tried.{SearchesOn};
 ghost use Rattle.card_clean.specs.StepBounds.{see_to_steps};
 
 use crate::taking::take_some;
 use gc_table::{Heap, HeapSeat};
 use mark_core::{VARIABLES, cell_of};
-use packet_pools::{Held, give, mark_cell};
+use packet_pools::{Held, Search, give, mark_cell};
 
 const ROW: u32 = VARIABLES as u32;
 
-fn mark_root(heap: &Heap, seat: &mut HeapSeat, out: &mut Held, section: u32, v: u8)
+fn mark_root(
+    heap: &Heap,
+    seat: &mut HeapSeat,
+    out: &mut Held,
+    search: &mut Search,
+    section: u32,
+    v: u8,
+)
     requires seat { IsTracer heap.now seat.old }
     requires out { HoldsPacket out.old (view_of seat.old) × IsTrue (has_free_slot (state_of seat.old).held) }
     requires root { (section < heap.now.shape.sections) × (v < section_variables) }
@@ -40,15 +48,23 @@ fn mark_root(heap: &Heap, seat: &mut HeapSeat, out: &mut Held, section: u32, v: 
     ensures steps { Across (Only sees_roots) seat.old seat.new }
     ensures noted { IsTrue (state_of seat.old).alone → IsNotedRoot (section * section_variables + v) (view_of seat.new) }
     ensures reads { picked (roots_read heap.now.shape) (did seat.old seat.new) ≡ (section * section_variables + v) ∷ [] }
-    ensures few { length (did seat.old seat.new) ≤ follow_steps heap.now.shape }
+    ensures tried { SearchesOn heap.now.shape search.old search.new out.old out.new (did seat.old seat.new) }
+    ensures few { length (did seat.old seat.new) + room_left heap.now.shape search.new out.new.length ≤ room_left heap.now.shape search.old out.old.length + follow_steps heap.now.shape }
 {
     let word = heap.read_root(seat, section, v);
     if word != 0 {
-        mark_cell(heap, seat, out, cell_of(word));
+        mark_cell(heap, seat, out, search, cell_of(word));
     }
 }
 
-fn mark_slot(heap: &Heap, seat: &mut HeapSeat, out: &mut Held, section: u32, k: u16)
+fn mark_slot(
+    heap: &Heap,
+    seat: &mut HeapSeat,
+    out: &mut Held,
+    search: &mut Search,
+    section: u32,
+    k: u16,
+)
     requires seat { IsTracer heap.now seat.old }
     requires out { HoldsPacket out.old (view_of seat.old) × IsTrue (has_free_slot (state_of seat.old).held) }
     requires root { (section < heap.now.shape.sections) × (k < heap.now.shape.slots) }
@@ -61,15 +77,16 @@ fn mark_slot(heap: &Heap, seat: &mut HeapSeat, out: &mut Held, section: u32, k: 
     ensures steps { Across (Only sees_roots) seat.old seat.new }
     ensures noted { IsTrue (state_of seat.old).alone → IsNotedRoot (slot_index heap.now.shape section k) (view_of seat.new) }
     ensures reads { picked (roots_read heap.now.shape) (did seat.old seat.new) ≡ slot_index heap.now.shape section k ∷ [] }
-    ensures few { length (did seat.old seat.new) ≤ follow_steps heap.now.shape }
+    ensures tried { SearchesOn heap.now.shape search.old search.new out.old out.new (did seat.old seat.new) }
+    ensures few { length (did seat.old seat.new) + room_left heap.now.shape search.new out.new.length ≤ room_left heap.now.shape search.old out.old.length + follow_steps heap.now.shape }
 {
     let word = heap.load_slot(seat, section, k);
     if word != 0 {
-        mark_cell(heap, seat, out, cell_of(word));
+        mark_cell(heap, seat, out, search, cell_of(word));
     }
 }
 
-fn mark_one(heap: &Heap, seat: &mut HeapSeat, out: &mut Held, i: u32)
+fn mark_one(heap: &Heap, seat: &mut HeapSeat, out: &mut Held, search: &mut Search, i: u32)
     requires seat { IsTracer heap.now seat.old }
     requires out { HoldsPacket out.old (view_of seat.old) × IsTrue (has_free_slot (state_of seat.old).held) }
     requires root { i < root_count heap.now.shape }
@@ -82,12 +99,13 @@ fn mark_one(heap: &Heap, seat: &mut HeapSeat, out: &mut Held, i: u32)
     ensures steps { Across (Only sees_roots) seat.old seat.new }
     ensures noted { IsTrue (state_of seat.old).alone → IsNotedRoot i (view_of seat.new) }
     ensures reads { picked (roots_read heap.now.shape) (did seat.old seat.new) ≡ i ∷ [] }
-    ensures few { length (did seat.old seat.new) ≤ follow_steps heap.now.shape }
+    ensures tried { SearchesOn heap.now.shape search.old search.new out.old out.new (did seat.old seat.new) }
+    ensures few { length (did seat.old seat.new) + room_left heap.now.shape search.new out.new.length ≤ room_left heap.now.shape search.old out.old.length + follow_steps heap.now.shape }
 {
     let shape = heap.shape();
     let variables = shape.sections * ROW;
     if i < variables {
-        mark_root(heap, seat, out, i / ROW, (i % ROW) as u8);
+        mark_root(heap, seat, out, search, i / ROW, (i % ROW) as u8);
         return;
     }
     let slot = i - variables;
@@ -95,12 +113,20 @@ fn mark_one(heap: &Heap, seat: &mut HeapSeat, out: &mut Held, i: u32)
         heap,
         seat,
         out,
+        search,
         slot / shape.slots,
         (slot % shape.slots) as u16,
     );
 }
 
-fn mark_between(heap: &Heap, seat: &mut HeapSeat, out: &mut Held, from: u32, end: u32)
+fn mark_between(
+    heap: &Heap,
+    seat: &mut HeapSeat,
+    out: &mut Held,
+    search: &mut Search,
+    from: u32,
+    end: u32,
+)
     requires seat { IsTracer heap.now seat.old }
     requires out { HoldsPacket out.old (view_of seat.old) × IsTrue (has_free_slot (state_of seat.old).held) }
     requires roots { (from ≤ end) × (end ≤ root_count heap.now.shape) }
@@ -113,10 +139,11 @@ fn mark_between(heap: &Heap, seat: &mut HeapSeat, out: &mut Held, from: u32, end
     ensures steps { Across (Only sees_roots) seat.old seat.new }
     ensures noted { IsTrue (state_of seat.old).alone → RootsBetween from end (view_of seat.new) }
     ensures reads { picked (roots_read heap.now.shape) (did seat.old seat.new) ≡ range_with_len from (end - from) }
-    ensures few { length (did seat.old seat.new) ≤ (end - from) * follow_steps heap.now.shape }
+    ensures tried { SearchesOn heap.now.shape search.old search.new out.old out.new (did seat.old seat.new) }
+    ensures few { length (did seat.old seat.new) + room_left heap.now.shape search.new out.new.length ≤ room_left heap.now.shape search.old out.old.length + (end - from) * follow_steps heap.now.shape }
 {
     for i in from..end {
-        mark_one(heap, seat, out, i);
+        mark_one(heap, seat, out, search, i);
     }
 }
 
@@ -142,7 +169,7 @@ pub fn see_to_some(heap: &Heap, seat: &mut HeapSeat, from: u32, end: u32) -> boo
     let Some(mut out) = take_some(heap, seat) else {
         return false;
     };
-    mark_between(heap, seat, &mut out, from, end);
+    mark_between(heap, seat, &mut out, &mut Search::open(), from, end);
     give(heap, seat, out, false);
     true
 }

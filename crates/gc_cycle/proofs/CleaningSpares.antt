@@ -23,7 +23,7 @@ use Rattle.packet_pools.specs.OnlyTraced.{OnlyTracedBy, traces_cells}
 use Rattle.card_clean.specs.Drained.{sees_roots}
 use Rattle.tracer.specs.Roots.{only_roots, scans_roots}
 use Rattle.tracer.specs.Tally.{only_traces, is_trace_step}
-use Rattle.gc_cycle.specs.Sorts.{draws_or_clears, pops, reads_pace, reads_root, takes_deferred}
+use Rattle.gc_cycle.specs.Sorts.{draws_or_clears, pops, reads_counter, reads_pace, reads_root, takes_deferred}
 use Rattle.gc_cycle.proofs.Sequences.{none-of-steps}
 
 -- Steps that the calls which trace don't take.
@@ -129,6 +129,14 @@ packets-unread step n e = refl
 -- a call that traces reads none of the numbers that pace a cycle
 pub unread-of : {b : Bool} (v w : View) → OnlyTracedBy b v w → never reads_pace (events v w) ≡ true
 unread-of v w l = untaken traces_cells reads_pace packets-unread (events v w) l.only
+
+packets-uncounted : Spares traces_cells reads_counter
+packets-uncounted (ReadStat which) n e = absurd (false≢true e)
+packets-uncounted step n e = refl
+
+-- nor the counter of cards
+pub uncounted-of : {b : Bool} (v w : View) → OnlyTracedBy b v w → never reads_counter (events v w) ≡ true
+uncounted-of v w l = untaken traces_cells reads_counter packets-uncounted (events v w) l.only
 
 -- the card is dirtied again if it has to be
 abbrev ending : ℕ → Bool → List Entry

@@ -213,6 +213,15 @@ abbrev pub reads_pace : Step → ℕ → Bool
 reads_pace (ReadStat which) found = nat_le last_count which
 reads_pace step found = false
 
+-- the counter of cards was read
+abbrev pub reads_counter : Step → ℕ → Bool
+reads_counter (ReadStat which) found = which == card_counter
+reads_counter step found = false
+
+-- the counter of cards was read below this number
+abbrev pub reads_card_left : ℕ → Step → ℕ → Bool
+reads_card_left cards step found = reads_counter step found && nat_lt found cards
+
 -- by how much the number of traced cells was raised
 abbrev pub raises_traced : Step → ℕ → List ℕ
 raises_traced (AddStat which by down) found = if (which == traced_count) && not down then by ∷ [] else []

@@ -23,7 +23,7 @@ ghost use Rattle.gc_cycle.specs.Drained.{DrainedAlone, RootedAlone};
 ghost use Rattle.gc_cycle.specs.Events.{never};
 ghost use Rattle.gc_cycle.specs.Lower.{GivesCard, HasTraced, traces_or_cleans};
 ghost use Rattle.gc_cycle.specs.Moments.{at_some_moment, begins, finds_no_room};
-ghost use Rattle.gc_cycle.specs.Sorts.{clears, clears_card, draws, pops, reads_pace, reads_root, takes_deferred};
+ghost use Rattle.gc_cycle.specs.Sorts.{clears, clears_card, draws, pops, reads_card_left, reads_counter, reads_pace, reads_root, takes_deferred};
 ghost use Rattle.gc_cycle.specs.Standing.{is_at_rest};
 
 use gc_table::{Heap, HeapSeat};
@@ -66,6 +66,7 @@ pub fn next_card(heap: &Heap, seat: &mut HeapSeat) -> Option<u32>
     ensures draws { Across (GivesCard result) seat.old seat.new }
     ensures rises { IfSome result (λ card. IsTrue (state_of seat.old).admitted → (card_floor (view_of seat.old) ≤ card) × (card_floor (view_of seat.new) ≡ card + 1)) }
     ensures once { count_of draws (did seat.old seat.new) ≤ 1 }
+    ensures counted { count_of (reads_card_left (card_count heap.now.shape)) (did seat.old seat.new) ≤ count_of draws (did seat.old seat.new) }
     ensures rescanned { rescanned_in (view_of seat.old) (did seat.old seat.new) ≡ 0 }
     ensures uncleared { IsTrue (never clears (did seat.old seat.new)) }
     ensures unpopped { IsTrue (never pops (did seat.old seat.new)) }
@@ -95,6 +96,7 @@ pub fn clean(heap: &Heap, seat: &mut HeapSeat, card: u32) -> Option<u32>
     ensures undrawn { IsTrue (never draws (did seat.old seat.new)) }
     ensures undeferred { IsTrue (never takes_deferred (did seat.old seat.new)) }
     ensures unread { IsTrue (never reads_pace (did seat.old seat.new)) }
+    ensures uncounted { IsTrue (never reads_counter (did seat.old seat.new)) }
     ensures unlooked { IsTrue (never looks_at_card (did seat.old seat.new)) }
     ensures few { IfSome result (λ n. length (did seat.old seat.new) ≤ clean_one_steps n heap.now.shape) × IfNone result (length (did seat.old seat.new) ≤ output_steps heap.now.shape) }
 {
@@ -117,6 +119,7 @@ pub fn clean_between(heap: &Heap, seat: &mut HeapSeat, first: u32, end: u32)
     ensures unrooted { IsTrue (never reads_root (did seat.old seat.new)) }
     ensures undeferred { IsTrue (never takes_deferred (did seat.old seat.new)) }
     ensures unread { IsTrue (never reads_pace (did seat.old seat.new)) }
+    ensures uncounted { IsTrue (never reads_counter (did seat.old seat.new)) }
     ensures few { length (did seat.old seat.new) ≤ clean_some_steps (end - first) (card_cells * (end - first)) heap.now.shape }
 {
     let _ = card_clean::clean_some(heap, seat, first, end);

@@ -20,7 +20,7 @@ ghost use Rattle.gc_cycle.specs.Drained.{RootedAlone};
 ghost use Rattle.gc_cycle.specs.Events.{never};
 ghost use Rattle.gc_cycle.specs.Finishing.{IsAloneIn, IsPart};
 ghost use Rattle.gc_cycle.specs.Lower.{HasTraced, ScansRoots};
-ghost use Rattle.gc_cycle.specs.Sorts.{draws_or_clears, pops, reads_pace, takes_deferred};
+ghost use Rattle.gc_cycle.specs.Sorts.{draws_or_clears, pops, reads_counter, reads_pace, takes_deferred};
 ghost use Rattle.gc_cycle.specs.Standing.{is_at_rest};
 ghost use Rattle.gc_cycle.specs.Statistics.{leaves_numbers};
 ghost use Rattle.gc_cycle.specs.RoundParts.{LacksPacket};
@@ -41,6 +41,7 @@ pub fn scan_roots(heap: &Heap, seat: &mut HeapSeat, section: u32) -> RootScan
     ensures unpopped { IsTrue (never pops (did seat.old seat.new)) }
     ensures undeferred { IsTrue (never takes_deferred (did seat.old seat.new)) }
     ensures unread { IsTrue (never reads_pace (did seat.old seat.new)) }
+    ensures uncounted { IsTrue (never reads_counter (did seat.old seat.new)) }
     ensures unlooked { IsTrue (never looks_at_card (did seat.old seat.new)) }
     ensures scans { Across (ScansRoots section result) seat.old seat.new }
     ensures few { length (did seat.old seat.new) ≤ section_steps heap.now.shape }

@@ -18,7 +18,7 @@ ghost use Rattle.card_clean.specs.Leaving.{rescanned_in};
 ghost use Rattle.gc_cycle.specs.CardLooks.{looks_at_card};
 ghost use Rattle.gc_cycle.specs.Events.{never};
 ghost use Rattle.gc_cycle.specs.Lower.{EndsTrace, HasTraced};
-ghost use Rattle.gc_cycle.specs.Sorts.{sees_all_empty as says_all_empty, clears, draws_or_clears, pops, reads_pace, reads_root};
+ghost use Rattle.gc_cycle.specs.Sorts.{sees_all_empty as says_all_empty, clears, draws_or_clears, pops, reads_counter, reads_pace, reads_root};
 ghost use Rattle.gc_cycle.specs.Standing.{is_at_rest};
 
 use gc_table::{Heap, HeapSeat};
@@ -41,6 +41,7 @@ pub fn trace(heap: &Heap, seat: &mut HeapSeat, quota: u32) -> Traced
     ensures uncleaned { IsTrue (never draws_or_clears (did seat.old seat.new)) }
     ensures unrooted { IsTrue (never reads_root (did seat.old seat.new)) }
     ensures unread { IsTrue (never reads_pace (did seat.old seat.new)) }
+    ensures uncounted { IsTrue (never reads_counter (did seat.old seat.new)) }
     ensures unlooked { IsTrue (never looks_at_card (did seat.old seat.new)) }
     ensures few { length (did seat.old seat.new) ≤ trace_steps result.done heap.now.shape }
 {

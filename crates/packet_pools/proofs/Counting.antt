@@ -9,8 +9,8 @@ use Rattle.mark_core.specs.declared.kinds.Step.{Step}
 use Rattle.mark_core.specs.declared.kinds.Step.TheVariants.{Push, ReadField, SetMark, DirtyCard, Give, Credit, StoreLength}
 use Rattle.gc_table.specs.declared.view.Entry.{Entry}
 use Rattle.gc_table.specs.Log.{steps_of}
-use Rattle.packet_pools.specs.Seeking.{moves_packet, only_moves, NoOutput, some_event, output_pools}
-use Rattle.packet_pools.specs.Counts.{marks_white, pushes, dirties, dirties_after_search, scans_object, searches_in_vain, count_of, only_scans, CountsMarked}
+use Rattle.packet_pools.specs.Seeking.{moves_packet, only_moves, some_event, output_pools}
+use Rattle.packet_pools.specs.Counts.{marks_white, pushes, dirties, scans_object, count_of, only_scans, CountsMarked}
 use Rattle.packet_pools.specs.Orders.{each_after, some_end}
 use Rattle.gc_table.proofs.History.Log.{entry_of}
 use Rattle.packet_pools.proofs.Searches.{moves-steps, all_move}
@@ -61,26 +61,6 @@ pub scans-join : (xs ys : List Entry) → only_scans xs ≡ true → only_scans 
 scans-join [] ys a b = b
 scans-join (x ∷ xs) ys a b = let h = and_parts (scans_object x.step) (only_scans xs) a in and_from _ _ h.0 (scans-join xs ys h.1 b)
 
--- cards that were dirtied after searches in two calls
-pub searched-join : (sh : Shape) (xs ys es : List Entry) → es ≡ xs ++ ys → dirties_after_search sh xs ≡ true → dirties_after_search sh ys ≡ true → dirties_after_search sh es ≡ true
-searched-join sh xs ys es all a b =
-    ap (dirties_after_search sh) all
-    ∙ after-join test dirties [] xs ys a (subst (λ (zs : List Entry). each_after test dirties zs ys ≡ true) (append-nil xs) (after-earlier test test dirties xs (end-more (searches_in_vain sh) xs) [] ys b))
-  where
-    test : List Entry → Bool
-    test = some_end (searches_in_vain sh)
-
--- no card was dirtied
-pub searched-none : (sh : Shape) (es : List Entry) → some_event dirties es ≡ false → dirties_after_search sh es ≡ true
-searched-none sh es n = after-none (some_end (searches_in_vain sh)) dirties [] es n
-
--- a card that was dirtied right after a search in vain
-pub searched-one : (sh : Shape) (card n : ℕ) (xs es : List Entry) → es ≡ xs ++ entry_of (DirtyCard card) n ∷ [] → some_event dirties xs ≡ false → NoOutput sh xs → only_moves output_pools xs ≡ true → dirties_after_search sh es ≡ true
-searched-one sh card n xs es all quiet none moves =
-    ap (dirties_after_search sh) all
-    ∙ after-join (some_end (searches_in_vain sh)) dirties [] xs (entry_of (DirtyCard card) n ∷ []) (searched-none sh xs quiet)
-    (and_from _ _ (end-whole (searches_in_vain sh) xs (and_from _ _ none moves)) refl)
-
 -- one part of a scan after another
 pub counts-join : (sh : Shape) (a b s k l r m n t : ℕ) (xs ys es : List Entry) → es ≡ xs ++ ys → a + b ≡ s → k + l ≡ r → m + n ≡ t → CountsMarked sh a k m xs → CountsMarked sh b l n ys → CountsMarked sh s r t es
 counts-join sh a b s k l r m n t xs ys es all white kept lost f g =
@@ -88,12 +68,11 @@ counts-join sh a b s k l r m n t xs ys es all white kept lost f g =
       marked = ap (count_of marks_white) all ∙ (count-join marks_white xs ys ∙ ((λ i. f.marked i + g.marked i) ∙ white));
       pushed = ap (count_of pushes) all ∙ (count-join pushes xs ys ∙ ((λ i. f.pushed i + g.pushed i) ∙ kept));
       overflowed = ap (count_of dirties) all ∙ (count-join dirties xs ys ∙ ((λ i. f.overflowed i + g.overflowed i) ∙ lost));
-      cause = searched-join sh xs ys es all f.cause g.cause;
       scans = ap only_scans all ∙ scans-join xs ys f.scans g.scans;
     }
 
 pub counts-none : (sh : Shape) → CountsMarked sh 0 0 0 []
-counts-none sh = record { marked = refl; pushed = refl; overflowed = refl; cause = refl; scans = refl }
+counts-none sh = record { marked = refl; pushed = refl; overflowed = refl; scans = refl }
 
 -- a step that moves a packet is none that counts
 idle : (step : Step) (found : ℕ) → moves_packet output_pools step ≡ true → (marks_white step found ≡ false) × (pushes step found ≡ false) × (dirties step found ≡ false) × (scans_object step ≡ true)
@@ -118,7 +97,6 @@ counts-moves sh (e ∷ es) m =
       marked = (λ i. cond (k.0 i) 1 0 + r.marked i);
       pushed = (λ i. cond (k.1 i) 1 0 + r.pushed i);
       overflowed = (λ i. cond (k.2 i) 1 0 + r.overflowed i);
-      cause = searched-none sh (e ∷ es) (or_from _ _ k.2 (quiet es h.1));
       scans = and_from _ _ k.3 r.scans;
     }
 
@@ -132,30 +110,21 @@ given-moves qs p b es e = moves-steps qs es ∙ (ap (all_move qs) e ∙ moving b
 
 -- a cell that was pushed
 pub counts-push : (sh : Shape) (p c n : ℕ) → CountsMarked sh 0 1 0 (entry_of (Push p c) n ∷ [])
-counts-push sh p c n = record { marked = refl; pushed = refl; overflowed = refl; cause = refl; scans = refl }
+counts-push sh p c n = record { marked = refl; pushed = refl; overflowed = refl; scans = refl }
 
 -- a field that was read
 pub counts-read : (sh : Shape) (c i n : ℕ) → CountsMarked sh 0 0 0 (entry_of (ReadField c i) n ∷ [])
-counts-read sh c i n = record { marked = refl; pushed = refl; overflowed = refl; cause = refl; scans = refl }
+counts-read sh c i n = record { marked = refl; pushed = refl; overflowed = refl; scans = refl }
 
 -- a cell that was tried
 pub counts-mark : (sh : Shape) (c n : ℕ) (b : Bool) → has_bit n (c % block_cells) ≡ b → CountsMarked sh (cond b 0 1) 0 0 (entry_of (SetMark c) n ∷ [])
 counts-mark sh c n b e =
-    record { marked = ap (λ d. cond (not d) 1 0 + 0) e ∙ either b; pushed = refl; overflowed = refl; cause = refl; scans = refl }
+    record { marked = ap (λ d. cond (not d) 1 0 + 0) e ∙ either b; pushed = refl; overflowed = refl; scans = refl }
   where
     either : (d : Bool) → cond (not d) 1 0 + 0 ≡ cond d 0 1
     either true = refl
     either false = refl
 
--- a cell that found no packet, after a search that found none
-pub counts-lost : (sh : Shape) (card n : ℕ) (xs es : List Entry) → es ≡ xs ++ (entry_of (DirtyCard card) n ∷ []) → NoOutput sh xs → only_moves output_pools xs ≡ true → CountsMarked sh 0 0 1 es
-counts-lost sh card n xs es all none moves =
-    let c = counts-moves sh xs moves in
-    let one : List Entry = entry_of (DirtyCard card) n ∷ [] in
-    record {
-      marked = ap (count_of marks_white) all ∙ (count-join marks_white xs one ∙ (λ i. c.marked i + 0));
-      pushed = ap (count_of pushes) all ∙ (count-join pushes xs one ∙ (λ i. c.pushed i + 0));
-      overflowed = ap (count_of dirties) all ∙ (count-join dirties xs one ∙ (λ i. c.overflowed i + 1));
-      cause = searched-one sh card n xs es all (quiet xs moves) none moves;
-      scans = ap only_scans all ∙ scans-join xs one c.scans refl;
-    }
+-- a card that was dirtied
+pub counts-dirty : (sh : Shape) (card n : ℕ) → CountsMarked sh 0 0 1 (entry_of (DirtyCard card) n ∷ [])
+counts-dirty sh card n = record { marked = refl; pushed = refl; overflowed = refl; scans = refl }

@@ -20,6 +20,7 @@ use Rattle.mark_core.specs.declared.kinds.Shape.{Shape}
 use Rattle.mark_core.specs.declared.seat.SeatState.{SeatState}
 use Rattle.gc_table.specs.Fetching.{is_in_range}
 use Rattle.packet_pools.specs.Gains.{Gains, Seeks}
+use Rattle.packet_pools.specs.StepBounds.{had_steps}
 
 module _ (v w : View) (n : ℕ) where
   pub traced-reserve : Finds Reserve n v → w ≡ after Reserve n v → OnlyTraced v w
@@ -108,6 +109,15 @@ traces-either q not_full X (Some h) v w l t some none = traces-gained q not_full
 pub low-some : (sh : Shape) (n : ℕ) → is_in_range sh low_pool_number n ≡ true → 0 < n
 low-some sh n e = ltb-true 0 n (and_parts (nat_lt 0 n) (nat_lt (2 * n) sh.entries) e).0
 
--- a packet with room
-pub low-room : (sh : Shape) (n : ℕ) → is_in_range sh low_pool_number n ≡ true → n < sh.entries
-low-room sh n e = let l = ltb-true (2 * n) sh.entries (and_parts (nat_lt 0 n) (nat_lt (2 * n) sh.entries) e).1 in omega (arith, l)
+-- a packet that is more than half free
+pub low-half : (sh : Shape) (n : ℕ) → is_in_range sh low_pool_number n ≡ true → 2 * n < sh.entries
+low-half sh n e = ltb-true (2 * n) sh.entries (and_parts (nat_lt 0 n) (nat_lt (2 * n) sh.entries) e).1
+
+-- two facts of a packet that was taken, and the steps of a search that found none
+pub some-both : (o : Option Held) (P Q R : Held → Type 0) → ((h : Held) → P h → Q h → R h) → IfSome o P → IfSome o Q → IfSome o R
+some-both None P Q R f p q = p
+some-both (Some h) P Q R f p q = f h p q
+
+pub none-had : (o : Option Held) (m n : ℕ) → m ≤ n + had_steps o → IfNone o (m ≤ n)
+none-had None m n l = omega (arith, l)
+none-had (Some h) m n l = tt

@@ -20,8 +20,11 @@ use Rattle.packet_pools.specs.declared.held.Held.{Held}
 use Rattle.packet_pools.specs.StepBounds.{TriesPackets, give_steps, had_steps, pool_steps, try_steps}
 
 -- one call after another
+pub few-sum : (u v w : View) → Ran u v → Ran v w → length (events u w) ≡ length (events u v) + length (events v w)
+few-sum u v w a b = ap length (ran-events u v w a b) ∙ length-append (events u v) (events v w)
+
 pub few-join : (j k : ℕ) (u v w : View) → Ran u v → Ran v w → length (events u v) ≤ j → length (events v w) ≤ k → length (events u w) ≤ j + k
-few-join j k u v w a b p q = let both = ap length (ran-events u v w a b) ∙ length-append (events u v) (events v w) in omega (arith, both, p, q)
+few-join j k u v w a b p q = let both = few-sum u v w a b in omega (arith, both, p, q)
 
 -- one step
 pub few-after : (v w : View) (step : Step) (n : ℕ) → w ≡ after step n v → length (events v w) ≤ 1
@@ -119,14 +122,6 @@ first-more n each l =
     let next : n - 1 + 1 ≡ n = omega (arith, l) in
     let grown = sym (ap (λ k. k * each) next) ∙ another (n - 1) each in
     omega (arith, grown)
-
--- one more field
-pub more-fields : (first i each : ℕ) (u v w : View) → first ≤ i → Ran u v → Ran v w → length (events u v) ≤ (i - first) * each → length (events v w) ≤ each → length (events u w) ≤ (i + 1 - first) * each
-more-fields first i each u v w l a b p q =
-    let all = few-join ((i - first) * each) each u v w a b p q in
-    let next : i + 1 - first ≡ i - first + 1 = omega (arith, l) in
-    let grown = ap (λ k. k * each) next ∙ another (i - first) each in
-    omega (arith, all, grown)
 
 -- no field beyond these is read
 pub last-fields : (first i end each n : ℕ) → i ≤ end → n ≤ (i - first) * each → n ≤ (end - first) * each

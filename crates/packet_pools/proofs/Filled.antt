@@ -1,12 +1,12 @@
 -- The packet in hand is filled, or changed for another.
-use Rattle.std.proofs.Common.{ℕ, ◌≡◌, ◌≢◌, ◌<◌, ◌≤◌, ◌+◌, List, sym, ap, ◌∙◌, subst, arith, Bool, true}
+use Rattle.std.proofs.Common.{◌≡◌, ◌≢◌, ◌<◌, ◌≤◌, ◌+◌, sym, ap, ◌∙◌, subst, arith, Bool, true}
 use Rattle.mark_core.specs.Held.{has_free_slot, drop_packet, set_length, length_in_hand, known_length}
 use Rattle.mark_core.specs.declared.kinds.Shape.{Shape}
 use Rattle.mark_core.specs.declared.seat.SeatState.{SeatState}
 use Rattle.gc_table.specs.declared.view.View.{View}
 use Rattle.packet_pools.specs.declared.held.Held.{Held}
 use Rattle.packet_pools.specs.Hands.{HoldsPacket, free_slots}
-use Rattle.packet_pools.specs.Gains.{Takes}
+use Rattle.packet_pools.specs.Gains.{Brings}
 use Rattle.packet_pools.specs.Scanning.{Fills}
 use Rattle.packet_pools.proofs.Exchanged.{drop-set, known-held, with-other, drop-free, drop-frees, exchanged, held-apart, known-came, set-free, set-frees, with-frees}
 use Rattle.packet_pools.proofs.Doing.{held-again}
@@ -39,7 +39,7 @@ pub fills-join : (u v w : View) (h k l : Held) → Fills h k u v → Fills k l v
 fills-join u v w h k l a b = record { held = b.held; free = b.free; frees = omega (arith, a.frees, b.frees); slots = b.slots ∙ a.slots }
 
 -- another packet was taken
-module _ (v w : View) (qs : List ℕ) (h k : Held) (shape : w.shape ≡ v.shape) (mine : HoldsPacket h v) (t : Takes qs k v w) where
+module _ (v w : View) (h k : Held) (shape : w.shape ≡ v.shape) (mine : HoldsPacket h v) (t : Brings k v w) where
   pub apart : k.packet ≢ h.packet
   apart = held-apart v.state.held h.packet k.packet h.length mine.known t.unheld
 

@@ -6,12 +6,15 @@ pub mod Doing
 pub mod TakenOne
 pub mod TakenRead
 pub mod WordSearch
+pub mod HighSearch
+pub mod Spare
 pub mod Given
 pub mod Outside
 pub mod Pooled
 pub mod Exchanged
 pub mod Filled
 pub mod Few
+pub mod RoomLeft
 pub mod Counting
 pub mod ScanSteps
 pub mod Settled
@@ -19,3 +22,5 @@ pub mod Pushed
 pub mod Rounds
 pub mod Reading
 pub mod SearchRows
+pub mod Tried
+pub mod TriedFirst

@@ -1,12 +1,14 @@
 -- Searches for packets, computed: two packets of four entries, which lie in the low pool with one cell and in the high pool with two.
-use Rattle.std.specs.Prelude.{◌≡◌, List, [], ◌∷◌, ◌++◌, true, false, refl}
+use Rattle.std.specs.Prelude.{ℕ, ◌≡◌, List, [], ◌∷◌, ◌++◌, Bool, true, false, refl}
 use Rattle.mark_core.specs.Numbers.{deferred_pool_number, empty_pool_number, high_pool_number, low_pool_number}
 use Rattle.mark_core.specs.declared.kinds.Shape.{Shape}
 use Rattle.mark_core.specs.declared.kinds.Step.TheVariants.{DirtyCard, Give, Look, Push, ReadLength, StoreLength, Take}
 use Rattle.gc_table.specs.declared.view.Entry.{Entry}
 use Rattle.gc_table.specs.Log.{event}
 use Rattle.packet_pools.specs.Seeking.{all_missed, deferred_pools, no_input, no_output}
-use Rattle.packet_pools.specs.Counts.{dirties_after_search}
+use Rattle.packet_pools.specs.Counts.{dirties}
+use Rattle.packet_pools.specs.Orders.{each_after, some_end}
+use Rattle.packet_pools.specs.Tried.{all_tried}
 
 abbrev pub roomy : Shape
 roomy = record { cells = 64; packets = 2; entries = 4; sections = 2; fields = 1; objects = 2000000; sharing = false; slots = 0; stretch = 1 }
@@ -75,24 +77,55 @@ none_deferred = refl
 another_pool : all_missed roomy deferred_pools (event (Look low_pool_number 0) 0 ∷ []) ≡ false
 another_pool = refl
 
--- a card is dirtied right after a search that found no packet with room
-abbrev search : List Entry
+-- no packet has room: the first search of a call
+abbrev pub search : List Entry
 search = event (Look empty_pool_number 0) 0 ∷ event (Look low_pool_number 0) 0 ∷ event (Look high_pool_number 0) 0 ∷ []
 
-searched_first : dirties_after_search roomy (search ++ event (DirtyCard 0) 0 ∷ []) ≡ true
+abbrev pub excused_none : ℕ → Bool
+excused_none p = false
+
+-- the events of a call dirtied each card after all packets were tried
+abbrev pub dirties_last : List Entry → Bool
+dirties_last es = each_after (some_end (all_tried roomy excused_none)) dirties [] es
+
+searched_first : dirties_last (search ++ event (DirtyCard 0) 0 ∷ []) ≡ true
 searched_first = refl
 
-each_searched : dirties_after_search roomy (search ++ (event (DirtyCard 0) 0 ∷ search ++ event (DirtyCard 1) 0 ∷ [])) ≡ true
-each_searched = refl
-
-searched_last : dirties_after_search roomy (event (DirtyCard 0) 0 ∷ search) ≡ false
-searched_last = refl
-
-one_search_for_two : dirties_after_search roomy (search ++ event (DirtyCard 0) 0 ∷ event (DirtyCard 1) 0 ∷ []) ≡ false
+-- one search of a call does for all its cards
+one_search_for_two : dirties_last (search ++ event (DirtyCard 0) 0 ∷ event (DirtyCard 1) 0 ∷ []) ≡ true
 one_search_for_two = refl
 
-pushed_between : dirties_after_search roomy (search ++ event (Push 0 5) 0 ∷ event (DirtyCard 0) 0 ∷ []) ≡ false
-pushed_between = refl
+searched_last : dirties_last (event (DirtyCard 0) 0 ∷ search) ≡ false
+searched_last = refl
 
-found_room : dirties_after_search roomy (event (Look empty_pool_number 0) 1 ∷ event (Look low_pool_number 0) 0 ∷ event (Look high_pool_number 0) 0 ∷ event (DirtyCard 0) 0 ∷ []) ≡ false
+one_before : dirties_last (event (DirtyCard 0) 0 ∷ search ++ event (DirtyCard 1) 0 ∷ []) ≡ false
+one_before = refl
+
+-- the empty pool has a packet
+found_room : dirties_last (event (Look empty_pool_number 0) 1 ∷ event (Look low_pool_number 0) 0 ∷ event (Look high_pool_number 0) 0 ∷ event (DirtyCard 0) 0 ∷ []) ≡ false
 found_room = refl
+
+-- packet 0 has room for one cell in the high pool, and packet 1 is outside
+abbrev pub taken : List Entry
+taken = event (Look empty_pool_number 0) 0 ∷ event (Look low_pool_number 0) 0 ∷ event (Look high_pool_number 0) 1 ∷ event (Take high_pool_number 0) 1 ∷ event (ReadLength 0) 3 ∷ []
+
+-- a cell is pushed into it, and it is given back full
+filled : dirties_last (taken ++ event (Push 0 5) 0 ∷ event (StoreLength 0) 4 ∷ event (Give 0 false) 0 ∷ event (DirtyCard 0) 0 ∷ []) ≡ true
+filled = refl
+
+-- it is still in hand
+filled_in_hand : dirties_last (taken ++ event (Push 0 5) 0 ∷ event (DirtyCard 0) 0 ∷ []) ≡ true
+filled_in_hand = refl
+
+-- it has room
+room_in_hand : dirties_last (taken ++ event (DirtyCard 0) 0 ∷ []) ≡ false
+room_in_hand = refl
+
+given_with_room : dirties_last (taken ++ event (StoreLength 0) 3 ∷ event (Give 0 false) 0 ∷ event (DirtyCard 0) 0 ∷ []) ≡ false
+given_with_room = refl
+
+filled_too_late : dirties_last (taken ++ event (DirtyCard 0) 0 ∷ event (Push 0 5) 0 ∷ []) ≡ false
+filled_too_late = refl
+
+another_filled : dirties_last (taken ++ event (Push 1 5) 0 ∷ event (DirtyCard 0) 0 ∷ []) ≡ false
+another_filled = refl

@@ -165,8 +165,16 @@ pub all-more : (f g : ℕ → Bool) → ((p : ℕ) → f p ≡ true → g p ≡ 
 all-more f g h [] a = refl
 all-more f g h (p ∷ ps) a = let q = and_parts (f p) (list_all f ps) a in and_from _ _ (h p q.0) (all-more f g h ps q.1)
 
+-- two facts of each
+pub all-both : (f g h : ℕ → Bool) → ((p : ℕ) → f p ≡ true → g p ≡ true → h p ≡ true) → (ps : List ℕ) → list_all f ps ≡ true → list_all g ps ≡ true → list_all h ps ≡ true
+all-both f g h k [] a b = refl
+all-both f g h k (p ∷ ps) a b =
+    let x = and_parts (f p) (list_all f ps) a in
+    let y = and_parts (g p) (list_all g ps) b in
+    and_from _ _ (k p x.0 y.0) (all-both f g h k ps x.1 y.1)
+
 -- one packet, with events after and before
-missed-in-left : (qs : List ℕ) (p : ℕ) (xs ys : List Entry) → was_missed_in qs p xs ≡ true → was_missed_in qs p (xs ++ ys) ≡ true
+pub missed-in-left : (qs : List ℕ) (p : ℕ) (xs ys : List Entry) → was_missed_in qs p xs ≡ true → was_missed_in qs p (xs ++ ys) ≡ true
 missed-in-left [] p xs ys m = refl
 missed-in-left (q ∷ qs) p xs ys m = let h = and_parts (was_missed q p xs) (was_missed_in qs p xs) m in and_from _ _ (was-missed-left q p xs ys h.0) (missed-in-left qs p xs ys h.1)
 
@@ -207,7 +215,7 @@ pub all-missed : (sh : Shape) (q : ℕ) (es : List Entry) → MissesPackets sh q
 all-missed sh q es m = all-range (λ p. was_missed_in (q ∷ []) p es) 0 sh.packets (λ p l. and_from _ _ (pool-missed sh q es m p (omega (arith, l))) refl)
 
 -- where a packet came from, with events before it that got none
-comes-right : (sh : Shape) (qs : List ℕ) (h : Held) (xs ys : List Entry) → ((p : ℕ) → was_got p xs ≡ false) → ComesFrom sh qs h ys → ComesFrom sh qs h (xs ++ ys)
+pub comes-right : (sh : Shape) (qs : List ℕ) (h : Held) (xs ys : List Entry) → ((p : ℕ) → was_got p xs ≡ false) → ComesFrom sh qs h ys → ComesFrom sh qs h (xs ++ ys)
 comes-right sh [] h xs ys n c = c
 comes-right sh (q ∷ qs) h xs ys n c = ⊎_elim (λ a. inl (a.0, some-right (gets_from q h.packet) xs ys a.1)) (λ b. inr (all-missed-right sh (q ∷ []) xs ys n b.0, comes-right sh qs h xs ys n b.1)) c
 
@@ -252,3 +260,7 @@ misses-within sh q room lo hi xs es ys nx ny mx my m =
           (some-parts (gets p) xs (es ++ ys) e);
       moves = moves-join (q ∷ []) xs (es ++ ys) mx (moves-join (q ∷ []) es ys m.moves my);
     }
+
+-- events that get no packet
+pub got-neither : (p : ℕ) (xs ys : List Entry) → was_got p xs ≡ false → was_got p ys ≡ false → was_got p (xs ++ ys) ≡ false
+got-neither p xs ys a b = false_from_ne_true (was_got p (xs ++ ys)) (λ e. ⊎_elim (λ x. true≢false (sym x ∙ a)) (λ y. true≢false (sym y ∙ b)) (some-parts (gets p) xs ys e))

@@ -11,7 +11,7 @@ use Rattle.mark_core.specs.Seats.{work_in_hand}
 use Rattle.mark_core.specs.Cells.{or_else}
 use Rattle.mark_core.specs.declared.kinds.Shape.{Shape}
 use Rattle.mark_core.specs.declared.kinds.Step.{Step}
-use Rattle.mark_core.specs.declared.kinds.Step.TheVariants.{Take, ReadLength}
+use Rattle.mark_core.specs.declared.kinds.Step.TheVariants.{Credit, Give, ReadLength, StoreLength, Take}
 use Rattle.mark_core.specs.declared.seat.SeatState.{SeatState}
 use Rattle.mark_core.proofs.Basics.{whole-length}
 use Rattle.gc_table.specs.declared.view.Entry.{Entry}
@@ -111,3 +111,34 @@ none-taken x [] e = refl
 none-taken x (y ∷ ys) e =
     let b = or_parts (is_take y.step) (some_take (steps_of ys)) e in
     or_from _ _ (gets-take x y.step y.found b.0) (none-taken x ys b.1)
+
+-- a packet that is given back
+pub none-given : (x p : ℕ) (b : Bool) (es : List Entry) → steps_of es ≡ StoreLength p ∷ Give p false ∷ (cond b (Credit ∷ []) []) → was_got x es ≡ false
+none-given x p b es e = none-taken x es (ap some_take e ∙ nothing b)
+  where
+    nothing : (c : Bool) → some_take (StoreLength p ∷ Give p false ∷ (cond c (Credit ∷ []) [])) ≡ false
+    nothing true = refl
+    nothing false = refl
+
+-- no other packet than this one is taken
+abbrev takes_just : ℕ → Step → Bool
+takes_just p (Take q x) = eqb x p
+takes_just p step = true
+
+abbrev all_take_just : ℕ → List Step → Bool
+all_take_just p [] = true
+all_take_just p (x ∷ xs) = takes_just p x && all_take_just p xs
+
+got-just : (x p : ℕ) (step : Step) (n : ℕ) → takes_just p step ≡ true → gets x step n ≡ true → x ≡ p
+got-just x p (Take q y) n a g = sym (eqb-true y x (and_parts (eqb y x) (has_bit n (x % word_bits)) g).0) ∙ eqb-true y p a
+got-just x p step n a g = absurd (false≢true g)
+
+all-got-just : (x p : ℕ) (es : List Entry) → all_take_just p (steps_of es) ≡ true → was_got x es ≡ true → x ≡ p
+all-got-just x p [] a g = absurd (false≢true g)
+all-got-just x p (y ∷ ys) a g =
+    let b = and_parts (takes_just p y.step) (all_take_just p (steps_of ys)) a in
+    ⊎_elim (λ h. got-just x p y.step y.found b.0 h) (λ h. all-got-just x p ys b.1 h) (or_cases (gets x y.step y.found) (was_got x ys) g)
+
+-- a packet that is taken, whose length is read
+pub one-taken : (x q p : ℕ) (es : List Entry) → steps_of es ≡ Take q p ∷ ReadLength p ∷ [] → was_got x es ≡ true → x ≡ p
+one-taken x q p es e g = all-got-just x p es (ap (all_take_just p) e ∙ and_from _ _ (eq-eqb p p refl) refl) g

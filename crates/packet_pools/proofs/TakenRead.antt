@@ -19,13 +19,14 @@ use Rattle.packet_pools.specs.Tracing.{Traces}
 use Rattle.packet_pools.specs.Hands.{HoldsPacket, with_packet}
 use Rattle.packet_pools.specs.Seeking.{gets, gets_from, some_event, was_full, was_got, only_moves}
 use Rattle.packet_pools.specs.Gains.{Seeks, Gains, MissesPackets, missed}
+use Rattle.packet_pools.specs.Tried.{was_filled}
 use Rattle.gc_table.proofs.History.Log.{entry_of, events-after, events-join, grows-after, grows-join}
 use Rattle.packet_pools.proofs.TracedSteps.{traced-join}
 use Rattle.packet_pools.proofs.Conditions.{traces-later}
 use Rattle.packet_pools.proofs.Exchanged.{known-with, unread-put, drop-with}
 use Rattle.packet_pools.proofs.Doing.{traced-take, traced-read_length}
 use Rattle.packet_pools.proofs.Searches.{some-parts, full-left, moves-join, moves-steps, all_move, take-moves}
-use Rattle.packet_pools.proofs.TakenOne.{won-state, got-asked, got-from, fetched-range, range-fits, last-taken, none-taken, some_take}
+use Rattle.packet_pools.proofs.TakenOne.{won-state, got-asked, got-from, fetched-range, range-fits, last-taken, none-given}
 
 module _ (v w : View) (q p n : ℕ) (k : Seeks q v) (there : p < v.shape.packets) (unheld : holds v.state.held p ≡ false) (taken : w ≡ after (Take q p) n v) (bit : has_bit n (p % word_bits) ≡ true) where
   w-state : w.state ≡ record v.state { held = put_packet v.state.held p; reserved = false }
@@ -93,6 +94,7 @@ module _ (v w : View) (q p n : ℕ) (k : Seeks q v) (there : p < v.shape.packets
           range = in-range;
           roomy = roomy;
           got = ap (some_event (gets_from q p)) both ∙ or_left _ _ (got-from q p n bit);
+          read = ap (was_filled len p) both ∙ or_left _ false (and_from _ _ (eq-eqb p p refl) (le-leb len (reference_in m + 0) (omega (arith, is))));
           moves = ap (only_moves (q ∷ [])) both ∙ and_from _ _ (take-moves q p) refl;
         }
 
@@ -114,11 +116,7 @@ module _ (v w : View) (q p n : ℕ) (k : Seeks q v) (there : p < v.shape.packets
           ∙ (λ i. record v.state { held = drop-with v.state.held p len unheld i; reserved = sym (k.reserved ∙ ap (λ z. z == 0) high) i }))
 
       none-else : (z : ℕ) → was_got z (events x y) ≡ false
-      none-else z = none-taken z (events x y) (ap some_take steps ∙ nothing d)
-        where
-          nothing : (b : Bool) → some_take (StoreLength p ∷ Give p false ∷ (cond b (Credit ∷ []) [])) ≡ false
-          nothing true = refl
-          nothing false = refl
+      none-else z = none-given z p d (events x y) steps
 
       moving : (b : Bool) → all_move (q ∷ []) (StoreLength p ∷ Give p false ∷ (cond b (Credit ∷ []) [])) ≡ true
       moving true = refl

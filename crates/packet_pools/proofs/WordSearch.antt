@@ -37,6 +37,8 @@ use Rattle.gc_table.proofs.History.Log.{entry_of, events-after, events-join}
 use Rattle.packet_pools.proofs.TracedSteps.{traced-join}
 use Rattle.packet_pools.proofs.Conditions.{traces-later}
 use Rattle.packet_pools.proofs.Doing.{traced-look}
+use Rattle.packet_pools.specs.Tried.{was_filled}
+use Rattle.packet_pools.proofs.Tried.{filled-right}
 use Rattle.packet_pools.proofs.Searches.{before-left, missed-left, missed-right, some-parts, some-right, ungot, moves-join}
 
 -- a packet that a look found in a pool isn't in the seat's hand
@@ -90,6 +92,7 @@ gains-from q not_full h v w u a b e before g =
       range = ap (λ (s : Shape). is_in_range s q h.length) (sym a.shape) ∙ g.range;
       roomy = λ r. subst (λ (s : Shape). h.length < s.entries) a.shape (g.roomy r);
       got = ap (some_event (gets_from q h.packet)) (events-join v w u a.log b.log) ∙ some-right (gets_from q h.packet) (events v w) (events w u) g.got;
+      read = ap (was_filled h.length h.packet) (events-join v w u a.log b.log) ∙ filled-right h.packet h.length (events v w) (events w u) g.read;
       moves = ap (only_moves (q ∷ [])) (events-join v w u a.log b.log) ∙ moves-join (q ∷ []) (events v w) (events w u) before g.moves;
     }
 

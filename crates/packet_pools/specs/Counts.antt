@@ -6,8 +6,7 @@ use Rattle.mark_core.specs.declared.kinds.Shape.{Shape}
 use Rattle.mark_core.specs.declared.kinds.Step.{Step}
 use Rattle.mark_core.specs.declared.kinds.Step.TheVariants.{Push, ReadField, SetMark, DirtyCard}
 use Rattle.gc_table.specs.declared.view.Entry.{Entry}
-use Rattle.packet_pools.specs.Seeking.{moves_packet, no_output, only_moves, output_pools}
-use Rattle.packet_pools.specs.Orders.{each_after, some_end}
+use Rattle.packet_pools.specs.Seeking.{moves_packet, output_pools}
 use Rattle.packet_pools.specs.declared.scanned.Scanned.{Scanned}
 
 -- a cell was marked that was white
@@ -43,20 +42,11 @@ abbrev pub only_scans : List Entry → Bool
 only_scans [] = true
 only_scans (e ∷ es) = scans_object e.step && only_scans es
 
--- a search for a packet with room that found none
-abbrev pub searches_in_vain : Shape → List Entry → Bool
-searches_in_vain sh es = no_output sh es && only_moves output_pools es
-
--- each card that was dirtied was so right after such a search
-abbrev pub dirties_after_search : Shape → List Entry → Bool
-dirties_after_search sh es = each_after (some_end (searches_in_vain sh)) dirties [] es
-
--- this many white cells were marked; this many went into packets, and this many found no packet with room, each after a search of its own
+-- this many white cells were marked; this many went into packets, and this many found no packet with room
 pub record CountsMarked (sh : Shape) (white kept lost : ℕ) (es : List Entry) : Type 0 where
   pub marked : count_of marks_white es ≡ white
   pub pushed : count_of pushes es ≡ kept
   pub overflowed : count_of dirties es ≡ lost
-  pub cause : IsTrue (dirties_after_search sh es)
   pub scans : IsTrue (only_scans es)
 
 -- what a scan answers is what its events count

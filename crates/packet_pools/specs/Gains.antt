@@ -1,5 +1,5 @@
 -- A packet that was taken, and the search for one.
-use Rattle.std.specs.Prelude.{ℕ, ◌≡◌, ◌<◌, ◌≤◌, ◌⊎◌, ◌==◌, ◌&&◌, ◌||◌, List, [], ◌∷◌, Bool, false, IsTrue, IsFalse}
+use Rattle.std.specs.Prelude.{ℕ, ◌≡◌, ◌<◌, ◌≤◌, ◌⊎◌, ◌==◌, ◌&&◌, ◌||◌, List, [], ◌∷◌, Bool, true, false, IsTrue, IsFalse}
 use Rattle.mark_core.specs.Held.{holds, has_free_slot}
 use Rattle.mark_core.specs.Numbers.{empty_pool_number, pools_in_all}
 use Rattle.mark_core.specs.declared.kinds.Shape.{Shape}
@@ -11,6 +11,7 @@ use Rattle.gc_table.specs.Log.{events}
 use Rattle.packet_pools.specs.Tracing.{traces}
 use Rattle.packet_pools.specs.Hands.{HoldsPacket, with_packet}
 use Rattle.packet_pools.specs.Seeking.{was_missed, was_full, was_got, was_got_from, all_missed, only_moves}
+use Rattle.packet_pools.specs.Tried.{was_filled}
 
 -- the packet came from the first of these pools that had one to take
 abbrev pub ComesFrom : Shape → List ℕ → Held → List Entry → Type 0
@@ -25,6 +26,12 @@ pub record Takes (qs : List ℕ) (h : Held) (v w : View) : Type 0 where
   pub from : ComesFrom v.shape qs h (events v w)
   pub moves : IsTrue (only_moves qs (events v w))
 
+-- the seat holds a packet that it hadn't, and nothing else of its record changed
+pub record Brings (h : Held) (v w : View) : Type 0 where
+  pub unheld : IsFalse (holds v.state.held h.packet)
+  pub held : HoldsPacket h w
+  pub state : w.state ≡ record v.state { held = with_packet v.state.held h.packet h.length }
+
 -- the seat may take packets out of pool q: the empty one with a reservation
 pub record Seeks (q : ℕ) (v : View) : Type 0 where
   pub may : IsTrue (traces v)
@@ -33,7 +40,7 @@ pub record Seeks (q : ℕ) (v : View) : Type 0 where
   pub uncredited : IsFalse v.state.credit
   pub free : IsTrue (has_free_slot v.state.held)
 
--- the seat took this packet out of pool q; if room was asked for, the packet has room
+-- the seat took this packet out of pool q, and read its length; if room was asked for, the packet has room
 pub record Gains (q : ℕ) (not_full : Bool) (h : Held) (v w : View) : Type 0 where
   pub unheld : IsFalse (holds v.state.held h.packet)
   pub held : HoldsPacket h w
@@ -41,6 +48,7 @@ pub record Gains (q : ℕ) (not_full : Bool) (h : Held) (v w : View) : Type 0 wh
   pub range : IsTrue (is_in_range v.shape q h.length)
   pub roomy : IsTrue not_full → h.length < v.shape.entries
   pub got : IsTrue (was_got_from q h.packet (events v w))
+  pub read : IsTrue (was_filled h.length h.packet (events v w))
   pub moves : IsTrue (only_moves (q ∷ []) (events v w))
 
 -- packet p couldn't be taken out of pool q, or had no room though it should
@@ -57,6 +65,13 @@ pub record MissesPackets (sh : Shape) (q : ℕ) (not_full : Bool) (lo hi : ℕ) 
 -- each packet from lo on and below hi was missed, or had no room though it should, and the seat's record is as it was
 abbrev pub FindsNone : Shape → ℕ → Bool → ℕ → ℕ → View → View → Type 0
 FindsNone sh q not_full lo hi v w = (w.state ≡ v.state) × MissesPackets sh q not_full lo hi (events v w)
+
+-- the seat took packet h, which is the first from this one on that could be had out of pool q with room; a packet was got only up to it
+pub record GainsFirst (sh : Shape) (q from : ℕ) (h : Held) (v w : View) : Type 0 where
+  pub gains : Gains q true h v w
+  pub late : from ≤ h.packet
+  pub all : (p : ℕ) → from ≤ p → p < h.packet → IsTrue (missed sh.entries q true p (events v w))
+  pub got : (p : ℕ) → IsTrue (was_got p (events v w)) → p ≤ h.packet
 
 -- a search of these pools took nothing: this is true of its events, and the seat's record is as it was
 abbrev pub TakesNone : (List Entry → Type 0) → List ℕ → View → View → Type 0

@@ -11,3 +11,4 @@ pub mod Scanning
 pub mod Orders
 pub mod Counts
 pub mod Fields
+pub mod Tried

@@ -1,9 +1,12 @@
 -- How many steps a call takes at most, by the words of a pool, the packets and the fields.
-use Rattle.std.specs.Prelude.{ℕ, ◌≤◌, ◌+◌, ◌*◌, List, length, Bool, true, false, Option, Some, None}
+use Rattle.std.specs.Prelude.{ℕ, ◌≤◌, ◌+◌, ◌-◌, ◌*◌, ◌/◌, max, min, List, length, Bool, true, false, Option, Some, None}
 use Rattle.mark_core.specs.Layout.{pool_words}
 use Rattle.mark_core.specs.declared.kinds.Shape.{Shape}
 use Rattle.gc_table.specs.declared.view.Entry.{Entry}
 use Rattle.packet_pools.specs.declared.held.Held.{Held}
+use Rattle.packet_pools.specs.declared.search.Search.{Search}
+use Rattle.packet_pools.specs.declared.search.Search.TheVariants.{Open, Tried}
+use Rattle.std.specs.Int.{div_ceil}
 
 -- a packet that isn't had: its take is lost; or, if it must not be full, it is taken, read as full, and given back
 abbrev pub try_steps : Bool → ℕ
@@ -42,15 +45,40 @@ output_steps sh = 2 * pool_steps false sh + pool_steps true sh + 3
 abbrev pub give_steps : ℕ
 give_steps = 3
 
--- a cell is marked and pushed, or its card dirtied, after a full packet was changed for another
+-- a search for an empty packet or one of the low pool, with a reservation that is taken and given up
+abbrev pub spare_steps : Shape → ℕ
+spare_steps sh = 2 * pool_steps false sh + 3
+
+-- this many of its free entries are counted, of which it has as many at least
+abbrev pub spare_room : Shape → ℕ
+spare_room sh = max 1 (min (sh.entries / 2) (spare_steps sh + give_steps))
+
+-- a cell's part of the next such search, if one comes for each packet that was filled
+abbrev pub filling_steps : Shape → ℕ
+filling_steps sh = div_ceil (spare_steps sh + give_steps) (spare_room sh)
+
+-- how many steps the searches of a call may still take: one in vain among empty and low packets, and one pass over the high pool
+abbrev pub left_steps : Shape → Search → ℕ
+left_steps sh Open = spare_steps sh + 5 * sh.packets
+left_steps sh (Tried n) = 5 * (sh.packets - n)
+
+-- and what cells in a packet of this length have put aside for the next search
+abbrev pub room_left : Shape → Search → ℕ → ℕ
+room_left sh search length = left_steps sh search + filling_steps sh * (length + spare_room sh - sh.entries)
+
+-- that is this much at most
+abbrev pub room_steps : Shape → ℕ
+room_steps sh = left_steps sh Open + filling_steps sh * spare_room sh
+
+-- a cell is marked and pushed, or its card dirtied
 abbrev pub mark_steps : Shape → ℕ
-mark_steps sh = output_steps sh + give_steps + 2
+mark_steps sh = filling_steps sh + 2
 
 -- a search for any packet: for one with room, and then for one to read from
 abbrev pub any_steps : Shape → ℕ
 any_steps sh = output_steps sh + input_steps sh
 
--- a field or a root is read, and what it refers to is marked
+-- a field or a root is read, and what it refers to is marked; besides it takes what the searches of the call take
 abbrev pub follow_steps : Shape → ℕ
 follow_steps sh = 1 + mark_steps sh
 

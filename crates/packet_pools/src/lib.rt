@@ -23,6 +23,14 @@
 //! A search that answers None *missed* each packet in each pool that it asked (`specs/Seeking.antt`): it saw the packet
 //! outside, lost it to another seat, or (only [`take_output`], in the high pool) took it and found it full.
 //!
+//! # What a call tries
+//!
+//! A full packet is changed for one with room: at first as [`take_output`] finds it. Once the empty and the low pool had
+//! none, the call goes through the high pool, from where it stopped, and fills each packet with room; then marks go to
+//! their cards. So each search but two, the last among empty and low packets and the pass over the high pool, is paid by
+//! cells that fill a packet (`room_left` in `specs/StepBounds.antt`), and a card is dirtied only after each packet was
+//! missed or filled in this call (`all_tried` in `specs/Tried.antt`).
+//!
 //! docs/CYCLE.md says why one count tells that nothing is left ([`all_empty`]).
 #![tactic(auto)]
 
@@ -36,6 +44,7 @@ mod quiet;
 mod room;
 mod scanned;
 mod scanning;
+mod search;
 mod seeking;
 mod taking;
 
@@ -45,6 +54,8 @@ pub use giving::give;
 pub use held::{Held, PacketFull};
 pub use marking::mark_cell;
 pub use quiet::all_empty;
+pub use room::take_other;
 pub use scanned::Scanned;
 pub use scanning::{scan_again, scan_cell, scan_whole};
+pub use search::Search;
 pub use taking::{take_deferred, take_input, take_output};

@@ -8,17 +8,25 @@ ghost use Rattle.packet_pools.specs.Hands.{HoldsPacket};
 ghost use Rattle.packet_pools.specs.Scanning.{InHand, Pushes};
 ghost use Rattle.packet_pools.specs.Counts.{CountsMarked, CountsScanned};
 ghost use Rattle.packet_pools.specs.Fields.{AsksToMark};
-ghost use Rattle.packet_pools.specs.StepBounds.{give_steps, mark_steps, output_steps};
+ghost use Rattle.packet_pools.specs.StepBounds.{filling_steps, mark_steps, room_left};
+ghost use Rattle.packet_pools.specs.Tried.{SearchesOn};
 
 use crate::entries::push;
 use crate::held::{Held, PacketFull};
 use crate::room::make_room;
 use crate::scanned::Scanned;
+use crate::search::Search;
 use gc_table::{Heap, HeapSeat};
 use mark_core::{Cell, card_of};
 
 #[inline(always)]
-fn push_marked(heap: &Heap, seat: &mut HeapSeat, out: &mut Held, cell: Cell) -> bool
+fn push_marked(
+    heap: &Heap,
+    seat: &mut HeapSeat,
+    out: &mut Held,
+    search: &mut Search,
+    cell: Cell,
+) -> bool
     requires seat { IsTracer heap.now seat.old }
     requires out { HoldsPacket out.old (view_of seat.old) × IsTrue (has_free_slot (state_of seat.old).held) }
     requires hand { InHand None (Some cell) (state_of seat.old) }
@@ -27,9 +35,10 @@ fn push_marked(heap: &Heap, seat: &mut HeapSeat, out: &mut Held, cell: Cell) -> 
     ensures pushes { Across (Pushes out.old out.new (state_of seat.old).scan (state_of seat.old).cleaning) seat.old seat.new }
     ensures counts { CountsMarked heap.now.shape 0 (if result then 0 else 1) (if result then 1 else 0) (did seat.old seat.new) }
     ensures asks { AsksToMark [] (did seat.old seat.new) }
-    ensures few { length (did seat.old seat.new) ≤ output_steps heap.now.shape + give_steps + 1 }
+    ensures tried { SearchesOn heap.now.shape search.old search.new out.old out.new (did seat.old seat.new) }
+    ensures few { length (did seat.old seat.new) + room_left heap.now.shape search.new out.new.length ≤ room_left heap.now.shape search.old out.old.length + filling_steps heap.now.shape + 1 }
 {
-    make_room(heap, seat, out);
+    make_room(heap, seat, out, search);
     match push(heap, seat, out, cell) {
         Ok(()) => false,
         Err(PacketFull) => {
@@ -41,7 +50,13 @@ fn push_marked(heap: &Heap, seat: &mut HeapSeat, out: &mut Held, cell: Cell) -> 
 
 /// Marks the cell that the seat loaded, and pushes it if it was white, as [`scan_cell`](crate::scan_cell) does.
 #[inline(always)]
-pub fn mark_cell(heap: &Heap, seat: &mut HeapSeat, out: &mut Held, cell: Cell) -> Scanned
+pub fn mark_cell(
+    heap: &Heap,
+    seat: &mut HeapSeat,
+    out: &mut Held,
+    search: &mut Search,
+    cell: Cell,
+) -> Scanned
     requires seat { IsTracer heap.now seat.old }
     requires out { HoldsPacket out.old (view_of seat.old) × IsTrue (has_free_slot (state_of seat.old).held) }
     requires hand { InHand (Some cell) None (state_of seat.old) }
@@ -52,12 +67,13 @@ pub fn mark_cell(heap: &Heap, seat: &mut HeapSeat, out: &mut Held, cell: Cell) -
     ensures counts { CountsScanned heap.now.shape result (did seat.old seat.new) }
     ensures asks { AsksToMark (cell ∷ []) (did seat.old seat.new) }
     ensures noted { IsTrue (state_of seat.old).alone → IsNotedMarked (view_of seat.new) cell }
-    ensures few { length (did seat.old seat.new) ≤ mark_steps heap.now.shape }
+    ensures tried { SearchesOn heap.now.shape search.old search.new out.old out.new (did seat.old seat.new) }
+    ensures few { length (did seat.old seat.new) + room_left heap.now.shape search.new out.new.length ≤ room_left heap.now.shape search.old out.old.length + mark_steps heap.now.shape }
 {
     if !heap.set_mark(seat, cell) {
         return Scanned::none();
     }
-    let overflowed = push_marked(heap, seat, out, cell);
+    let overflowed = push_marked(heap, seat, out, search, cell);
     Scanned {
         marked: 1,
         overflowed: u32::from(overflowed),

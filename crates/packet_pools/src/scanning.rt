@@ -10,16 +10,25 @@ ghost use Rattle.packet_pools.specs.Hands.{HoldsPacket};
 ghost use Rattle.packet_pools.specs.Scanning.{InHand, Pushes, scan_end, cleaning_end};
 ghost use Rattle.packet_pools.specs.Counts.{CountsScanned};
 ghost use Rattle.packet_pools.specs.Fields.{Follows, fields_from, fields_left};
-ghost use Rattle.packet_pools.specs.StepBounds.{follow_steps, scan_steps};
+ghost use Rattle.packet_pools.specs.StepBounds.{follow_steps, room_left, room_steps, scan_steps};
+ghost use Rattle.packet_pools.specs.Tried.{DirtiesLast, SearchesOn};
 
 use crate::held::Held;
 use crate::marking::mark_cell;
 use crate::scanned::Scanned;
+use crate::search::Search;
 use gc_table::{Heap, HeapSeat};
 use mark_core::{Cell, cell_of};
 
 #[inline(always)]
-fn scan_field(heap: &Heap, seat: &mut HeapSeat, out: &mut Held, cell: Cell, i: u8) -> Scanned
+fn scan_field(
+    heap: &Heap,
+    seat: &mut HeapSeat,
+    out: &mut Held,
+    search: &mut Search,
+    cell: Cell,
+    i: u8,
+) -> Scanned
     requires seat { IsTracer heap.now seat.old }
     requires out { HoldsPacket out.old (view_of seat.old) × IsTrue (has_free_slot (state_of seat.old).held) }
     requires hand { InHand None None (state_of seat.old) }
@@ -30,17 +39,25 @@ fn scan_field(heap: &Heap, seat: &mut HeapSeat, out: &mut Held, cell: Cell, i: u
     ensures most { (result.overflowed ≤ result.marked) × (result.marked ≤ 1) }
     ensures counts { CountsScanned heap.now.shape result (did seat.old seat.new) }
     ensures follows { Follows ((cell, i) ∷ []) (did seat.old seat.new) }
-    ensures few { length (did seat.old seat.new) ≤ follow_steps heap.now.shape }
+    ensures tried { SearchesOn heap.now.shape search.old search.new out.old out.new (did seat.old seat.new) }
+    ensures few { length (did seat.old seat.new) + room_left heap.now.shape search.new out.new.length ≤ room_left heap.now.shape search.old out.old.length + follow_steps heap.now.shape }
 {
     let word = heap.read_field(seat, cell, i);
     if word == 0 {
         return Scanned::none();
     }
-    mark_cell(heap, seat, out, cell_of(word))
+    mark_cell(heap, seat, out, search, cell_of(word))
 }
 
 #[inline(always)]
-fn scan_fields(heap: &Heap, seat: &mut HeapSeat, out: &mut Held, cell: Cell, next: u8) -> Scanned
+fn scan_fields(
+    heap: &Heap,
+    seat: &mut HeapSeat,
+    out: &mut Held,
+    search: &mut Search,
+    cell: Cell,
+    next: u8,
+) -> Scanned
     requires seat { IsTracer heap.now seat.old }
     requires out { HoldsPacket out.old (view_of seat.old) × IsTrue (has_free_slot (state_of seat.old).held) }
     requires hand { InHand None None (state_of seat.old) }
@@ -51,11 +68,12 @@ fn scan_fields(heap: &Heap, seat: &mut HeapSeat, out: &mut Held, cell: Cell, nex
     ensures most { (result.overflowed ≤ result.marked) × (result.marked ≤ heap.now.shape.fields - next) }
     ensures counts { CountsScanned heap.now.shape result (did seat.old seat.new) }
     ensures follows { Follows (fields_from cell next (heap.now.shape.fields - next)) (did seat.old seat.new) }
-    ensures few { length (did seat.old seat.new) ≤ scan_steps (heap.now.shape.fields - next) heap.now.shape }
+    ensures tried { SearchesOn heap.now.shape search.old search.new out.old out.new (did seat.old seat.new) }
+    ensures few { length (did seat.old seat.new) + room_left heap.now.shape search.new out.new.length ≤ room_left heap.now.shape search.old out.old.length + scan_steps (heap.now.shape.fields - next) heap.now.shape }
 {
     let mut scanned = Scanned::none();
     for i in next..heap.shape().fields as u8 {
-        let one = scan_field(heap, seat, out, cell, i);
+        let one = scan_field(heap, seat, out, search, cell, i);
         scanned.marked += one.marked;
         scanned.overflowed += one.overflowed;
     }
@@ -76,17 +94,24 @@ pub fn scan_cell(heap: &Heap, seat: &mut HeapSeat, out: &mut Held) -> Scanned
     ensures most { (result.overflowed ≤ result.marked) × (result.marked ≤ heap.now.shape.fields) }
     ensures counts { CountsScanned heap.now.shape result (did seat.old seat.new) }
     ensures follows { Follows (fields_left heap.now.shape.fields (state_of seat.old).scan) (did seat.old seat.new) }
-    ensures few { length (did seat.old seat.new) ≤ scan_steps heap.now.shape.fields heap.now.shape }
+    ensures cause { DirtiesLast heap.now.shape (did seat.old seat.new) }
+    ensures few { length (did seat.old seat.new) ≤ scan_steps heap.now.shape.fields heap.now.shape + room_steps heap.now.shape }
 {
     match seat.state().scan {
         None => Scanned::none(),
-        Some((cell, next)) => scan_fields(heap, seat, out, cell, next),
+        Some((cell, next)) => scan_fields(heap, seat, out, &mut Search::open(), cell, next),
     }
 }
 
 /// Scans the object in scan, `cell`, from its first field on, as [`scan_cell`] does.
 #[inline(always)]
-pub fn scan_whole(heap: &Heap, seat: &mut HeapSeat, out: &mut Held, cell: Cell) -> Scanned
+pub fn scan_whole(
+    heap: &Heap,
+    seat: &mut HeapSeat,
+    out: &mut Held,
+    search: &mut Search,
+    cell: Cell,
+) -> Scanned
     requires seat { IsTracer heap.now seat.old }
     requires out { HoldsPacket out.old (view_of seat.old) × IsTrue (has_free_slot (state_of seat.old).held) }
     requires hand { InHand None None (state_of seat.old) }
@@ -98,13 +123,20 @@ pub fn scan_whole(heap: &Heap, seat: &mut HeapSeat, out: &mut Held, cell: Cell) 
     ensures most { (result.overflowed ≤ result.marked) × (result.marked ≤ heap.now.shape.fields) }
     ensures counts { CountsScanned heap.now.shape result (did seat.old seat.new) }
     ensures follows { Follows (fields_left heap.now.shape.fields (state_of seat.old).scan) (did seat.old seat.new) }
-    ensures few { length (did seat.old seat.new) ≤ scan_steps heap.now.shape.fields heap.now.shape }
+    ensures tried { SearchesOn heap.now.shape search.old search.new out.old out.new (did seat.old seat.new) }
+    ensures few { length (did seat.old seat.new) + room_left heap.now.shape search.new out.new.length ≤ room_left heap.now.shape search.old out.old.length + scan_steps heap.now.shape.fields heap.now.shape }
 {
-    scan_fields(heap, seat, out, cell, 0)
+    scan_fields(heap, seat, out, search, cell, 0)
 }
 
 /// Scans a cell that is left in the seat's cleaning, as [`scan_cell`] does.
-pub fn scan_again(heap: &Heap, seat: &mut HeapSeat, out: &mut Held, cell: Cell) -> Scanned
+pub fn scan_again(
+    heap: &Heap,
+    seat: &mut HeapSeat,
+    out: &mut Held,
+    search: &mut Search,
+    cell: Cell,
+) -> Scanned
     requires seat { IsTracer heap.now seat.old }
     requires out { HoldsPacket out.old (view_of seat.old) × IsTrue (has_free_slot (state_of seat.old).held) }
     requires hand { InHand None None (state_of seat.old) }
@@ -115,10 +147,11 @@ pub fn scan_again(heap: &Heap, seat: &mut HeapSeat, out: &mut Held, cell: Cell) 
     ensures most { (result.overflowed ≤ result.marked) × (result.marked ≤ heap.now.shape.fields) }
     ensures counts { CountsScanned heap.now.shape result (did seat.old seat.new) }
     ensures follows { Follows (fields_from cell 0 heap.now.shape.fields) (did seat.old seat.new) }
-    ensures few { length (did seat.old seat.new) ≤ scan_steps heap.now.shape.fields heap.now.shape }
+    ensures tried { SearchesOn heap.now.shape search.old search.new out.old out.new (did seat.old seat.new) }
+    ensures few { length (did seat.old seat.new) + room_left heap.now.shape search.new out.new.length ≤ room_left heap.now.shape search.old out.old.length + scan_steps heap.now.shape.fields heap.now.shape }
 {
-    let first = scan_field(heap, seat, out, cell, 0);
-    let rest = scan_fields(heap, seat, out, cell, 1);
+    let first = scan_field(heap, seat, out, search, cell, 0);
+    let rest = scan_fields(heap, seat, out, search, cell, 1);
     Scanned {
         marked: first.marked + rest.marked,
         overflowed: first.overflowed + rest.overflowed,

@@ -1,5 +1,5 @@
 //! A packet is looked for in one pool.
-ghost use Rattle.std.specs.Prelude.{ℕ, ◌≡◌, [], ◌∷◌, ◌<◌, ◌+◌, ◌*◌, ◌/◌, ◌%◌, ◌≤◌, length, Some, IsTrue, IsFalse, IfSome, IfNone};
+ghost use Rattle.std.specs.Prelude.{ℕ, ◌≡◌, [], ◌∷◌, ◌<◌, ◌+◌, ◌-◌, ◌*◌, ◌/◌, ◌%◌, ◌≤◌, length, Some, true, IsTrue, IsFalse, IfSome, IfNone};
 ghost use Rattle.mark_core.specs.Bits.{has_bit as has_bit_of};
 ghost use Rattle.mark_core.specs.Held.{holds};
 ghost use Rattle.mark_core.specs.Layout.{pool_words};
@@ -7,17 +7,19 @@ ghost use Rattle.mark_core.specs.Numbers.{high_pool_number, word_bits};
 ghost use Rattle.gc_table.specs.Seats.{Across, did, Sits, state_of, view_of};
 ghost use Rattle.packet_pools.specs.OnlyTraced.{OnlyTraced};
 ghost use Rattle.packet_pools.specs.Seeking.{only_moves, was_got};
-ghost use Rattle.packet_pools.specs.Gains.{FindsNone, Gains, Seeks, missed};
+ghost use Rattle.packet_pools.specs.Gains.{FindsNone, Gains, GainsFirst, Seeks, missed};
 ghost use Rattle.packet_pools.specs.Outside.{AreNotedOutside, KeepsOutside, LooksInVain};
 ghost use Rattle.mark_core.specs.Places.{pool_at};
 ghost use Rattle.gc_table.specs.Notes.{look};
+ghost use Rattle.gc_table.specs.Log.{steps_of};
+ghost use Rattle.mark_core.specs.declared.kinds.Step.TheVariants.{ReadLength, Take};
 ghost use Rattle.packet_pools.specs.StepBounds.{TriesPackets, had_steps, pool_steps, try_steps};
 
 use crate::giving::give;
 use crate::held::Held;
 use crate::lengths::read_length;
 use gc_table::{Heap, HeapSeat};
-use mark_core::{WORD_BITS, has_bit};
+use mark_core::{HIGH_POOL, WORD_BITS, has_bit};
 
 fn take_packet(heap: &Heap, seat: &mut HeapSeat, q: u8, p: u32, not_full: bool) -> Option<Held>
     requires seat { Sits heap.now seat.old × Seeks q (view_of seat.old) }
@@ -26,6 +28,7 @@ fn take_packet(heap: &Heap, seat: &mut HeapSeat, q: u8, p: u32, not_full: bool) 
     ensures seat { Sits heap.now seat.new }
     ensures only { Across OnlyTraced seat.old seat.new }
     ensures some { IfSome result (λ h. Across (Gains q not_full h) seat.old seat.new) }
+    ensures taken { IfSome result (λ h. (h.packet ≡ p) × (steps_of (did seat.old seat.new) ≡ Take q p ∷ ReadLength p ∷ [])) }
     ensures none { IfNone result (Across (FindsNone heap.now.shape q not_full p (p + 1)) seat.old seat.new) }
     ensures outside { IfNone result (Across (KeepsOutside (q ∷ [])) seat.old seat.new) }
     ensures clear { IfNone result (IsFalse not_full → (n : ℕ) → look (pool_at (view_of seat.old).shape q (p / word_bits)) (view_of seat.old).known ≡ Some n → IsFalse (has_bit_of n (p % word_bits))) }
@@ -57,6 +60,7 @@ fn take_shown(
     ensures seat { Sits heap.now seat.new }
     ensures only { Across OnlyTraced seat.old seat.new }
     ensures some { IfSome result (λ h. Across (Gains q not_full h) seat.old seat.new) }
+    ensures taken { IfSome result (λ h. (h.packet ≡ p) × (steps_of (did seat.old seat.new) ≡ Take q p ∷ ReadLength p ∷ [])) }
     ensures none { IfNone result ((state_of seat.new ≡ state_of seat.old) × ((x : ℕ) → IsTrue (was_got x (did seat.old seat.new)) → IsTrue not_full × (x < p + 1)) × (p < heap.now.shape.packets → IsTrue (has_bit_of word (p % word_bits)) → IsTrue (missed heap.now.shape.entries q not_full p (did seat.old seat.new))) × IsTrue (only_moves (q ∷ []) (did seat.old seat.new))) }
     ensures outside { IfNone result (Across (KeepsOutside (q ∷ [])) seat.old seat.new) }
     ensures clear { IfNone result (IsFalse not_full → p < heap.now.shape.packets → look (pool_at (view_of seat.old).shape q (p / word_bits)) (view_of seat.old).known ≡ Some word → IsFalse (has_bit_of word (p % word_bits))) }
@@ -85,6 +89,36 @@ fn take_in_word(heap: &Heap, seat: &mut HeapSeat, q: u8, g: u32, not_full: bool)
     let word = heap.look(seat, q, g);
     for p in WORD_BITS * g + word.trailing_zeros()..WORD_BITS * g + WORD_BITS {
         if let Some(held) = take_shown(heap, seat, q, p, word, not_full) {
+            return Some(held);
+        }
+    }
+    None
+}
+
+fn take_high_at(heap: &Heap, seat: &mut HeapSeat, p: u32) -> Option<Held>
+    requires seat { Sits heap.now seat.old × Seeks high_pool_number (view_of seat.old) }
+    requires packet { p < heap.now.shape.packets }
+    ensures seat { Sits heap.now seat.new }
+    ensures only { Across OnlyTraced seat.old seat.new }
+    ensures some { IfSome result (λ h. Across (GainsFirst heap.now.shape high_pool_number p h) seat.old seat.new × (h.packet ≡ p)) }
+    ensures none { IfNone result (Across (FindsNone heap.now.shape high_pool_number true p (p + 1)) seat.old seat.new) }
+    ensures few { IfSome result (λ h. length (did seat.old seat.new) ≤ 3) × IfNone result (length (did seat.old seat.new) ≤ 5) }
+{
+    let word = heap.look(seat, HIGH_POOL, p / WORD_BITS);
+    take_shown(heap, seat, HIGH_POOL, p, word, true)
+}
+
+/// Takes a packet with room from the high pool, the first from this one on.
+pub(crate) fn take_high_from(heap: &Heap, seat: &mut HeapSeat, from: u32) -> Option<Held>
+    requires seat { Sits heap.now seat.old × Seeks high_pool_number (view_of seat.old) }
+    ensures seat { Sits heap.now seat.new }
+    ensures only { Across OnlyTraced seat.old seat.new }
+    ensures some { IfSome result (λ h. Across (GainsFirst heap.now.shape high_pool_number from h) seat.old seat.new) }
+    ensures none { IfNone result (Across (FindsNone heap.now.shape high_pool_number true from heap.now.shape.packets) seat.old seat.new) }
+    ensures few { IfSome result (λ h. length (did seat.old seat.new) ≤ 5 * (h.packet - from) + 3) × IfNone result (length (did seat.old seat.new) ≤ 5 * (heap.now.shape.packets - from)) }
+{
+    for p in from..heap.shape().packets {
+        if let Some(held) = take_high_at(heap, seat, p) {
             return Some(held);
         }
     }

@@ -9,7 +9,8 @@ ghost use Rattle.packet_pools.specs.Tracing.{IsTracer};
 ghost use Rattle.packet_pools.specs.Seeking.{NoDeferred, NoInput, NoOutput, deferred_pools, input_pools, output_pools};
 ghost use Rattle.packet_pools.specs.Gains.{FindsNone, Takes, TakesNone};
 ghost use Rattle.packet_pools.specs.Outside.{AreNotedOutside, KeepsOutside};
-ghost use Rattle.packet_pools.specs.StepBounds.{deferred_steps, input_steps, output_steps, pool_steps};
+ghost use Rattle.packet_pools.specs.StepBounds.{deferred_steps, had_steps, input_steps, output_steps, pool_steps, spare_steps};
+ghost use Rattle.packet_pools.specs.Tried.{NoSpare, spare_pools};
 
 use crate::held::Held;
 use crate::seeking::take_any;
@@ -69,6 +70,24 @@ fn take_empty(heap: &Heap, seat: &mut HeapSeat) -> Option<Held>
     }
 }
 
+/// Takes a packet from the empty pool, or else from the low one. More than half of it is free.
+pub(crate) fn take_spare(heap: &Heap, seat: &mut HeapSeat) -> Option<Held>
+    requires seat { IsTracer heap.now seat.old }
+    requires free { IsTrue (has_free_slot (state_of seat.old).held) }
+    ensures seat { IsTracer heap.now seat.new }
+    ensures only { Across OnlyTraced seat.old seat.new }
+    ensures some { IfSome result (λ h. Across (Takes spare_pools h) seat.old seat.new × (2 * h.length < heap.now.shape.entries)) }
+    ensures none { IfNone result (Across (TakesNone (NoSpare heap.now.shape) spare_pools) seat.old seat.new) }
+    ensures outside { IfNone result (Across (KeepsOutside spare_pools) seat.old seat.new) }
+    ensures noted { IfNone result (IsTrue (state_of seat.old).alone → AreNotedOutside empty_pool_number (view_of seat.new) × AreNotedOutside low_pool_number (view_of seat.new)) }
+    ensures few { length (did seat.old seat.new) + 1 ≤ spare_steps heap.now.shape + had_steps result }
+{
+    if let Some(held) = take_empty(heap, seat) {
+        return Some(held);
+    }
+    take_any(heap, seat, LOW_POOL, false)
+}
+
 /// Takes a packet with room, from the empty pool, else the low or the high one. The answer is None only if this call
 /// missed each packet in all of them.
 pub fn take_output(heap: &Heap, seat: &mut HeapSeat) -> Option<Held>
@@ -82,10 +101,7 @@ pub fn take_output(heap: &Heap, seat: &mut HeapSeat) -> Option<Held>
     ensures noted { IfNone result (IsTrue (state_of seat.old).alone → AreNotedOutside empty_pool_number (view_of seat.new) × AreNotedOutside low_pool_number (view_of seat.new)) }
     ensures few { length (did seat.old seat.new) ≤ output_steps heap.now.shape }
 {
-    if let Some(held) = take_empty(heap, seat) {
-        return Some(held);
-    }
-    if let Some(held) = take_any(heap, seat, LOW_POOL, false) {
+    if let Some(held) = take_spare(heap, seat) {
         return Some(held);
     }
     take_any(heap, seat, HIGH_POOL, true)

@@ -36,7 +36,7 @@ use Rattle.seat_turns.specs.Coming.{GivesCache, StepsOut, WithOwn}
 use Rattle.seat_turns.proofs.Held.{flushes-only}
 use Rattle.seat_steps.specs.Filling.{PopsNone}
 use Rattle.seat_steps.specs.Amounts.{DrawsNone, DoesFew, DoesNeither}
-use Rattle.std.proofs.Math.Nat.{mul-le-mul_left, mul-le-mul_right}
+use Rattle.std.proofs.Math.Nat.{mul-le-mul_left}
 use Rattle.mark_core.specs.Layout.{block_count, card_count, root_count}
 use Rattle.mark_core.specs.Shapes.{IsShape}
 use Rattle.mark_core.specs.declared.kinds.Phase.TheVariants.{Drain, Idle}
@@ -44,7 +44,8 @@ use Rattle.gc_table.specs.Seats.{Sits, did, view_of}
 use Rattle.gc_table.specs.declared.seat.Heap.{Heap}
 use Rattle.gc_table.specs.declared.seat.HeapSeat.{HeapSeat}
 use Rattle.card_clean.specs.Drained.{roots_read, sees_roots}
-use Rattle.tracer.specs.StepBounds.{object_steps, recycle_steps, trace_steps, turn_steps}
+use Rattle.tracer.specs.StepBounds.{recycle_steps, trace_steps}
+use Rattle.tracer.proofs.Few.{traces-fewer}
 use Rattle.gc_cycle.proofs.Changes.{part-unpopped}
 use Rattle.seat_steps.specs.Passes.{SeesRoots}
 use Rattle.seat_steps.proofs.Undrawn.{IsApart, all_apart, alone-apart, course-draws-none, open-apart, part-draws-none, stays-draws-none}
@@ -236,7 +237,7 @@ blocks-small sh s = let cells = s.cells.1 in omega (arith, cells)
 
 -- fewer objects take fewer steps
 pub traced-more : (n most : ℕ) (sh : Shape) → n ≤ most → recycle_steps sh + trace_steps n sh ≤ recycle_steps sh + trace_steps most sh
-traced-more n most sh le = let all = mul-le-mul_right (turn_steps sh + object_steps sh) le in omega (arith, all)
+traced-more n most sh le = let all = traces-fewer n most sh le in omega (arith, all)
 
 -- a piece that did as many as it was to, or all that were left
 pub as-many : (n most left : ℕ) → n ≡ min most left → n ≡ most → most ≤ left

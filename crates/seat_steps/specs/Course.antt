@@ -43,14 +43,17 @@ pub record BeginsMarking (precise exact again : Bool) (v w : View) : Type 0 wher
   pub once_more : again ≡ precise && saw stopped.state.phase_seen Marking
   pub exactly : exact ≡ precise || not (saw stopped.state.phase_seen Marking)
 
--- the world was found stopped, and the phase read as Full; then the world went on, the position was stored, and the seat left
-pub record FindsHeapFull (v w : View) : Type 0 where
+-- the world was found stopped, and the phase read as Full; then the world went on, the position was stored, and the seat left. Whether its collection was to mark once
+-- more, and was exact, is told as if the drain had begun
+pub record FindsHeapFull (precise exact again : Bool) (v w : View) : Type 0 where
   pub stopped : View
   pub finds : FindsStopped v stopped
   pub resumed : View
   pub course : TakesCourse [] [] stopped resumed
   pub leaves : StepsOut resumed w
   pub full : FoundFull v w
+  pub once_more : again ≡ precise && saw stopped.state.phase_seen Marking
+  pub exactly : exact ≡ precise || not (saw stopped.state.phase_seen Marking)
 
 -- the numbers for the next cycle were set, by how many cells are in use, were scanned again, and were freed, and the world went on: so one cycle ended since the
 -- seat asked for its stop; if it was to be exact, its drain began with no cell marked; then the seat came to its turn, or left

@@ -1,5 +1,5 @@
 -- How a stepper is made of a resting seat, and comes apart into one.
-use Rattle.std.specs.Prelude.{◌≡◌, ◌+◌, IsTrue}
+use Rattle.std.specs.Prelude.{◌≡◌, ◌+◌, IsFalse, IsTrue}
 use Rattle.gc_table.specs.Seats.{Across}
 use Rattle.gc_table.specs.declared.view.View.{View}
 use Rattle.mutator_ops.specs.Few.{AtMost}
@@ -7,16 +7,20 @@ use Rattle.seat_turns.specs.Coming.{FlushesFirst, LeavesTurn}
 use Rattle.seat_turns.specs.Sharing.{LeavesHeap}
 use Rattle.seat_turns.specs.Standing.{flush_steps, plain_of}
 use Rattle.seat_steps.specs.Stepping.{heap_of_stepper, is_collecting}
+use Rattle.seat_steps.specs.Steps.{CountsNone}
 use Rattle.seat_steps.specs.declared.resting.RestingSeat.{RestingSeat}
 use Rattle.seat_steps.specs.declared.stepper.Stage.{Stage}
 use Rattle.seat_steps.specs.declared.stepper.Stage.TheVariants.{Inside, Outside}
 use Rattle.seat_steps.specs.declared.stepper.Stepper.{Stepper}
 
--- the stepper has paid nothing, and its search for a free cell begins at the first block and has seen none
+-- the stepper has paid nothing, its search for a free cell begins at the first block and has seen none, and it tells of no collection: of none that was to be
+-- precise, or left no garbage, or was to mark once more, and of nothing that one has counted
 pub record IsNewStepper (s : Stepper) : Type 0 where
   pub unpaid : s.paid ≡ 0
   pub first : s.block ≡ 0
   pub unseen : s.seen ≡ 0
+  pub aimless : IsFalse s.precise × IsFalse s.exact × IsFalse s.again
+  pub uncounted : CountsNone s × (s.freed ≡ 0) × (s.counted ≡ 0)
 
 -- the stepper is this seat's, outside the world; it has paid nothing, and its search for a free cell has seen no block
 pub record IsSteppedBy (r : RestingSeat) (s : Stepper) : Type 0 where

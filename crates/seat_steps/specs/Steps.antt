@@ -161,7 +161,7 @@ KeepsTold stage x y = (y.freed ≡ x.freed) × (y.counted ≡ x.counted)
 
 -- the stop was reached, but the heap was full: the world went on, and the stepper left, and counted nothing
 abbrev pub FindsFull : Stepper → Stepper → Type 0
-FindsFull x y = (x.stage ≡ stages.Stopping) × Across FindsHeapFull x.seat y.seat × (y.precise ≡ x.precise) × KeepsTally x y
+FindsFull x y = (x.stage ≡ stages.Stopping) × Across (FindsHeapFull x.precise y.exact y.again) x.seat y.seat × (y.precise ≡ x.precise) × KeepsTally x y
 
 -- what its collection has counted
 abbrev pub counts_of : Stepper → Counts

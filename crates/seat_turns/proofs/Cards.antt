@@ -25,7 +25,7 @@ use Rattle.gc_cycle.specs.Sorts.{draws, takes_deferred}
 use Rattle.gc_cycle.proofs.CleaningSpares.{Spares, moved-untaken, moves-undeferred, none-one, scan-undeferred, untaken}
 use Rattle.gc_cycle.proofs.Stops.Admitted.{count-none}
 use Rattle.cache_refills.specs.Pace.Payment.{reads_number}
-use Rattle.cache_refills.proofs.Refills.Apart.{leaves-looked, leaves-read}
+use Rattle.cache_refills.proofs.Refills.Apart.{leaves-looked, read-untaken}
 use Rattle.cache_refills.proofs.Refills.Payment.{never-run}
 use Rattle.seat_turns.specs.Tending.{Tends, TendsCards}
 use Rattle.seat_turns.proofs.Tending.{moves-pop, one-pops, tends-by, tends-drawn, tends-join, tends-none, tends-read}
@@ -123,7 +123,7 @@ number-uncleared step n e = refl
 pub cards-read : (v w : View) → Ran v w → Only reads_number v w → TendsCards 0 v w
 cards-read v w ran only =
     let none : count_of clears (events v w) ≡ 0 = count-none clears (events v w) (untaken reads_number clears number-uncleared (events v w) only) in
-    record { tends = tends-read v w ran only; untaken = (leaves-read v w ran only).untaken; once = omega (arith, none) }
+    record { tends = tends-read v w ran only; untaken = read-untaken v w only; once = omega (arith, none) }
 
 -- a card is drawn
 draw-undeferred : Spares draws_card takes_deferred

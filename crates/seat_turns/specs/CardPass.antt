@@ -43,7 +43,7 @@ LooksAtDrawn None more v w = (more ≡ false) × (w ≡ v)
 LooksAtDrawn (Some card) more v w = LooksAtCard more card v w
 
 -- a round: the next card was drawn and looked at. False if none was left, or no packet with room was found
-pub record PassesNext (more : Bool) (v w : View) : Type 0 where
+pub record PassesOne (more : Bool) (v w : View) : Type 0 where
   pub card : Option ℕ
   pub drawn : View
   pub draws : DrawsCard card v drawn
@@ -52,18 +52,18 @@ pub record PassesNext (more : Bool) (v w : View) : Type 0 where
 -- a list of rounds, each of which starts where the last one ended and was to be followed by another; the list has the views before them, latest first
 abbrev pub PassesEach : List View → View → View → Type 0
 PassesEach [] v w = w ≡ v
-PassesEach (u ∷ us) v w = PassesEach us v u × PassesNext true u w
+PassesEach (u ∷ us) v w = PassesEach us v u × PassesOne true u w
 
 -- as many rounds as a turn has; or fewer, and then the last found no card or no packet
-pub record PassesCards (v w : View) : Type 0 where
+pub record PassesSome (v w : View) : Type 0 where
   pub rounds : List View
   pub last : View
   pub before : PassesEach rounds v last
-  pub ends : ((length rounds ≡ turn_cards) × (w ≡ last)) ⊎ ((length rounds < turn_cards) × PassesNext false last w)
+  pub ends : ((length rounds ≡ turn_cards) × (w ≡ last)) ⊎ ((length rounds < turn_cards) × PassesOne false last w)
 
 -- cards were passed if the cycle was far on
 abbrev pub PassesIf : Bool → View → View → Type 0
-PassesIf true v w = PassesCards v w
+PassesIf true v w = PassesSome v w
 PassesIf false v w = w ≡ v
 
 -- by three reads the seat saw whether the cycle was far on, which takes three numbers; and it passed cards if so

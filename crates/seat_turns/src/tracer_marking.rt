@@ -8,7 +8,7 @@ ghost use Rattle.gc_table.specs.Seats.{Across, Answered, did, state_of};
 ghost use Rattle.card_clean.specs.StepBounds.{clean_one_steps};
 ghost use Rattle.tracer.specs.StepBounds.{recycle_steps};
 ghost use Rattle.seat_turns.specs.TracerStanding.{Goes, GoesMarking};
-ghost use Rattle.seat_turns.specs.CardPass.{CleansCard, LooksAtCard, PassesCards, PassesFor, PassesLate, PassesNext};
+ghost use Rattle.seat_turns.specs.CardPass.{CleansCard, LooksAtCard, PassesSome, PassesFor, PassesLate, PassesOne};
 ghost use Rattle.seat_turns.specs.StepBounds.{card_steps, cards_steps, late_steps, turn_steps};
 ghost use Rattle.seat_turns.specs.Tending.{MarksAndRecycles, MarksSome, TendsCards};
 
@@ -66,7 +66,7 @@ fn clean_next(heap: &Heap, seat: &mut HeapSeat) -> bool
     requires { GoesMarking heap.now seat.old }
     ensures seat { GoesMarking heap.now seat.new }
     ensures tends { Across (TendsCards 0) seat.old seat.new }
-    ensures passes { Across (PassesNext result) seat.old seat.new }
+    ensures passes { Across (PassesOne result) seat.old seat.new }
     ensures few { length (did seat.old seat.new) ≤ card_steps heap.now.shape }
 {
     match next_card(heap, seat) {
@@ -79,7 +79,7 @@ fn clean_cards(heap: &Heap, seat: &mut HeapSeat)
     requires { GoesMarking heap.now seat.old }
     ensures seat { GoesMarking heap.now seat.new }
     ensures tends { Across (TendsCards 0) seat.old seat.new }
-    ensures passes { Across PassesCards seat.old seat.new }
+    ensures passes { Across PassesSome seat.old seat.new }
     ensures few { length (did seat.old seat.new) ≤ cards_steps heap.now.shape }
 {
     for _card in 0..CARDS {

@@ -10,7 +10,7 @@ use Rattle.mark_core.proofs.Pool.PoolSlots.{drop-other, holds-drop_same}
 use Rattle.gc_table.specs.declared.view.View.{View}
 use Rattle.packet_pools.specs.declared.held.Held.{Held}
 use Rattle.packet_pools.specs.Hands.{HoldsPacket, free_slots}
-use Rattle.packet_pools.specs.Gains.{Takes}
+use Rattle.packet_pools.specs.Gains.{Brings, Takes}
 use Rattle.packet_pools.specs.Scanning.{Fills}
 use Rattle.packet_pools.proofs.Exchanged.{drop-set, drop-with, known-held, drop-either, drop-frees, set-frees, some-free, with-frees}
 use Rattle.tracer.specs.declared.packets.Packets.{Packets}
@@ -92,13 +92,16 @@ module _ (v w : View) (shape : w.shape ≡ v.shape) where
       }
 
   -- one more is taken
-  pub carries-take : (qs : List ℕ) (h : Held) (hs : List Held) → Takes qs h v w → has_free_slot v.state.held ≡ true → Carries hs v → Carries (h ∷ hs) w
-  carries-take qs h hs t room c =
+  pub carries-bring : (h : Held) (hs : List Held) → Brings h v w → has_free_slot v.state.held ≡ true → Carries hs v → Carries (h ∷ hs) w
+  carries-bring h hs t room c =
       record {
         fit = (t.held.there, t.held.fits, subst (λ (sh : Shape). AllFit sh hs) (sym shape) c.fit);
         held = (t.held.known, subst (AreHeld hs) (sym (ap (λ (s : SeatState). drop_packet s.held h.packet) t.state ∙ drop-with v.state.held h.packet h.length t.unheld)) c.held);
         free = (let n : free_slots w.state.held + 1 ≡ free_slots v.state.held = ap (λ (s : SeatState). free_slots s.held + 1) t.state ∙ with-frees v.state.held h.packet h.length room in omega (arith, n, c.free));
       }
+
+  pub carries-take : (qs : List ℕ) (h : Held) (hs : List Held) → Takes qs h v w → has_free_slot v.state.held ≡ true → Carries hs v → Carries (h ∷ hs) w
+  carries-take qs h hs t room c = carries-bring h hs (record { unheld = t.unheld; held = t.held; state = t.state }) room c
 
   -- one is given back
   pub carries-give : (h : Held) (hs : List Held) → w.state.held ≡ drop_packet v.state.held h.packet → Carries (h ∷ hs) v → Carries hs w
@@ -157,6 +160,10 @@ deferred-last i (Some k) h v c = carries-back (i ∷ k ∷ []) h [] v c
 pub taken-either : (qs : List ℕ) (r : Option Held) (hs : List Held) (v w : View) → w.shape ≡ v.shape → has_free_slot v.state.held ≡ true → IfSome r (λ h. Takes qs h v w) → IfNone r (w.state ≡ v.state) → Carries hs v → Carries (in_front r hs) w
 taken-either qs None hs v w shape room some none c = carries-same v w shape hs (ap (λ (s : SeatState). s.held) none) c
 taken-either qs (Some h) hs v w shape room some none c = carries-take v w shape qs h hs some room c
+
+pub brought-either : (r : Option Held) (hs : List Held) (v w : View) → w.shape ≡ v.shape → has_free_slot v.state.held ≡ true → IfSome r (λ h. Brings h v w) → IfNone r (w.state ≡ v.state) → Carries hs v → Carries (in_front r hs) w
+brought-either None hs v w shape room some none c = carries-same v w shape hs (ap (λ (s : SeatState). s.held) none) c
+brought-either (Some h) hs v w shape room some none c = carries-bring v w shape h hs some room c
 
 -- the packet that is being filled with deferred cells, if it is there, before the others
 pub deferred-front : (i : Held) (o d : Option Held) (v : View) → Carries (i ∷ in_front o (in_front d [])) v → Carries (in_front d (i ∷ in_front o [])) v

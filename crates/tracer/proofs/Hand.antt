@@ -6,7 +6,7 @@ use Rattle.std.proofs.lemmas.Bool.{and_from, false≢true, lt-ltb, or_from, or_p
 use Rattle.mark_core.specs.Bits.{cell_of, complement, has_bit}
 use Rattle.mark_core.specs.Layout.{block_count, card_count}
 use Rattle.mark_core.specs.Seats.{cleaning_left, is_the, scan_left, work_in_hand}
-use Rattle.mark_core.specs.Steps.ColourSteps.{cleaning_after, popped_after, popped_off, scan_after, seen_in, with_alloc_word}
+use Rattle.mark_core.specs.Steps.ColourSteps.{cleaning_after, fresh_off, popped_after, popped_off, redirty_off, scan_after, seen_in, with_alloc_word}
 use Rattle.mark_core.specs.declared.kinds.Shape.{Shape}
 use Rattle.mark_core.specs.declared.kinds.Step.TheVariants.{DirtyCard, Pop, Push, ReadAlloc}
 use Rattle.mark_core.specs.declared.seat.Cleaning.{Cleaning}
@@ -170,3 +170,26 @@ was-popped v w q c n idle block is e =
       others = ap (λ (z : View). work_in_hand z.shape.fields (record z.state { popped = None })) e ∙ others-of v.shape.fields v.state idle;
       block = ap (λ (z : View). z.state.block) e ∙ block;
     }
+
+off-left : (o : Option Cleaning) (card : ℕ) → cleaning_left o ≡ false → cleaning_left (redirty_off o card) ≡ false
+off-left None card h = h
+off-left (Some x) card h = either (x.card == card)
+  where
+    either : (b : Bool) → cleaning_left (Some (cond b (record x { redirty = false }) x)) ≡ false
+    either true = or_from _ _ (or_parts (not x.known || not (x.left == 0)) x.redirty h).0 refl
+    either false = h
+
+-- the card of a popped cell was dirtied
+pub dirtied-work : (v w : View) (c card n : ℕ) → v.state.popped ≡ Some (c, true) → card_of c ≡ card → work_in_hand v.shape.fields (record v.state { popped = None }) ≡ false → w ≡ after (DirtyCard card) n v → work_in_hand w.shape.fields w.state ≡ false
+dirtied-work v w c card n popped same others e =
+    let f = free-of v.shape.fields (record v.state { popped = None }) others in
+    let none : v.state.fresh ≡ None = none-of v.state.fresh f.fresh in
+    work-of w.shape.fields w.state
+    (ap (λ (z : View). is_some z.state.popped) e
+    ∙ (ap (λ (o : Option (ℕ × Bool)). is_some (popped_off o card)) popped ∙ ap (λ (d : Bool). is_some {T = ℕ × Bool} (cond (true && d) None (Some (c, true)))) (eq-eqb (card_of c) card same)))
+    (record {
+      scan = ap (λ (z : View). scan_left z.shape.fields z.state.scan) e ∙ f.scan;
+      value = ap (λ (z : View). is_some z.state.value) e ∙ f.value;
+      fresh = ap (λ (z : View). is_some z.state.fresh) e ∙ ap (λ (o : Option ℕ). is_some (fresh_off o card)) none;
+      cleaning = ap (λ (z : View). cleaning_left z.state.cleaning) e ∙ off-left v.state.cleaning card f.cleaning;
+    })

@@ -2,7 +2,6 @@
 use Rattle.std.proofs.Common.{ℕ, ◌≡◌, ◌+◌, List, ◌++◌, sym, ap, ◌∙◌, Option}
 use Rattle.mark_core.specs.Numbers.{deferred_pool_number}
 use Rattle.mark_core.specs.Seats.{is_the}
-use Rattle.mark_core.specs.declared.kinds.Shape.{Shape}
 use Rattle.gc_table.specs.declared.view.Entry.{Entry}
 use Rattle.gc_table.specs.declared.view.View.{View}
 use Rattle.gc_table.specs.Running.{after_all}
@@ -11,10 +10,10 @@ use Rattle.gc_table.specs.Log.{events}
 use Rattle.packet_pools.specs.Seeking.{gets_from, was_got_from}
 use Rattle.packet_pools.specs.Counts.{count_of, dirties}
 use Rattle.gc_table.proofs.History.Log.{events-join}
-use Rattle.packet_pools.proofs.Counting.{count-join, searched-join}
+use Rattle.packet_pools.proofs.Counting.{count-join}
 use Rattle.tracer.specs.Deferral.{waits, pops_waiting, defers}
 use Rattle.tracer.specs.Tally.{pops, count_by, only_traces}
-use Rattle.tracer.specs.Parts.{Did, Part}
+use Rattle.tracer.specs.Parts.{Did}
 use Rattle.tracer.proofs.Whole.{by-join, none-join, popped-join, traces-join, waits-join}
 
 module _ (o q r : Option ℕ) (d e f g l m x y z : ℕ) (u v : View) (xs ys es : List Entry) (all : es ≡ xs ++ ys) (at : v ≡ after_all xs u) (dx : d + e ≡ x) (fy : f + g ≡ y) (lz : l + m ≡ z) where
@@ -36,13 +35,6 @@ module _ (o q r : Option ℕ) (d e f g l m x y z : ℕ) (u v : View) (xs ys es :
         steps = ap only_traces all ∙ traces-join xs ys a.steps b.steps;
       }
 
-  pub part-join : (sh : Shape) → Part sh o q d f l u xs → Part sh q r e g m v ys → Part sh o r x y z u es
-  part-join sh a b =
-      record {
-        did = did-join a.did b.did;
-        cause = searched-join sh xs ys es all a.cause b.cause;
-      }
-
 -- one call after another
-pub part-then : (sh : Shape) (o q r : Option ℕ) (d e f g l m x y z : ℕ) (u v w : View) → OnlyTraced u v → OnlyTraced v w → d + e ≡ x → f + g ≡ y → l + m ≡ z → Part sh o q d f l u (events u v) → Part sh q r e g m v (events v w) → Part sh o r x y z u (events u w)
-part-then sh o q r d e f g l m x y z u v w a b dx fy lz = part-join o q r d e f g l m x y z u v (events u v) (events v w) (events u w) (events-join u v w a.log b.log) a.ran.steps dx fy lz sh
+pub did-then : (o q r : Option ℕ) (d e f g l m x y z : ℕ) (u v w : View) → OnlyTraced u v → OnlyTraced v w → d + e ≡ x → f + g ≡ y → l + m ≡ z → Did o q d f l u (events u v) → Did q r e g m v (events v w) → Did o r x y z u (events u w)
+did-then o q r d e f g l m x y z u v w a b dx fy lz = did-join o q r d e f g l m x y z u v (events u v) (events v w) (events u w) (events-join u v w a.log b.log) a.ran.steps dx fy lz

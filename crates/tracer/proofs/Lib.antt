@@ -8,6 +8,7 @@ pub mod InStop
 pub mod Moves
 pub mod Moments
 pub mod Whole
+pub mod Searched
 pub mod RootScans
 pub mod Recycled
 pub mod Emptied

@@ -1,9 +1,8 @@
 -- Single steps as parts of a trace, and packets that are given back.
-use Rattle.std.proofs.Common.{ℕ, ◌≡◌, ◌⊎◌, ◌+◌, ◌++◌, List, [], ◌∷◌, refl, sym, ap, ◌∙◌, subst, cond, Bool, true, false, not, Some, None, Option, eqb-true, ⊎_elim}
+use Rattle.std.proofs.Common.{ℕ, ◌≡◌, ◌⊎◌, ◌+◌, List, [], ◌∷◌, refl, sym, ap, ◌∙◌, subst, cond, Bool, true, false, not, Some, None, Option, eqb-true, ⊎_elim}
 use Rattle.std.specs.Prelude.{◌&&◌, ◌||◌, ◌==◌}
 use Rattle.std.proofs.lemmas.Bool.{and_parts, cases_Bool, false≢true, or_from}
 use Rattle.mark_core.specs.Seats.{is_the}
-use Rattle.mark_core.specs.declared.kinds.Shape.{Shape}
 use Rattle.mark_core.specs.declared.kinds.Step.{Step}
 use Rattle.mark_core.specs.declared.kinds.Step.TheVariants.{Credit, DirtyCard, Give, Pop, Push, ReadAlloc, StoreLength}
 use Rattle.mark_core.specs.declared.seat.SeatState.{SeatState}
@@ -12,18 +11,17 @@ use Rattle.gc_table.specs.declared.view.View.{View}
 use Rattle.gc_table.specs.Taking.{after}
 use Rattle.packet_pools.specs.OnlyTraced.{OnlyTraced}
 use Rattle.gc_table.specs.Log.{events, steps_of}
-use Rattle.packet_pools.specs.Seeking.{only_moves, NoOutput, some_event, output_pools}
+use Rattle.packet_pools.specs.Seeking.{only_moves, output_pools}
 use Rattle.packet_pools.specs.Counts.{count_of, dirties}
 use Rattle.gc_table.proofs.History.Log.{entry_of, events-after, events-join}
-use Rattle.packet_pools.proofs.Counting.{quiet, searched-none, searched-one}
 use Rattle.tracer.specs.Deferral.{waits, waits_on}
-use Rattle.tracer.specs.Parts.{Did, Part}
-use Rattle.tracer.proofs.Quiet.{AllCalm, IsCalm, and-false, calm-got, calm-off, calm-popped, calm-pops, calm-traces, did-quiet, part-moves}
+use Rattle.tracer.specs.Parts.{Did}
+use Rattle.tracer.proofs.Quiet.{AllCalm, IsCalm, and-false, calm-got, calm-off, calm-popped, calm-pops, calm-traces, did-quiet, did-moves}
 use Rattle.tracer.proofs.Joined.{did-join}
 
 -- no step
-pub part-none : (sh : Shape) (o : Option ℕ) (v : View) (es : List Entry) → es ≡ [] → Part sh o o 0 0 0 v es
-part-none sh o v es e = part-moves sh o v es (ap (only_moves output_pools) e)
+pub did-none : (o : Option ℕ) (v : View) (es : List Entry) → es ≡ [] → Did o o 0 0 0 v es
+did-none o v es e = did-moves o v es (ap (only_moves output_pools) e)
 
 other-popped : (o : Option ℕ) (p x : ℕ) → is_the o p ≡ false → (is_the o x && (p == x)) ≡ false
 other-popped o p x f =
@@ -33,28 +31,24 @@ other-popped o p x f =
     (cases_Bool (p == x))
 
 -- a cell was popped out of a packet that doesn't wait
-pub part-pop : (sh : Shape) (o : Option ℕ) (p n : ℕ) (v w : View) → w ≡ after (Pop p) n v → is_the o p ≡ false → Part sh o o 1 0 0 v (events v w)
-part-pop sh o p n v w e f =
-    subst (Part sh o o 1 0 0 v) (sym (events-after v w (Pop p) n e))
+pub did-pop : (o : Option ℕ) (p n : ℕ) (v w : View) → w ≡ after (Pop p) n v → is_the o p ≡ false → Did o o 1 0 0 v (events v w)
+did-pop o p n v w e f =
+    subst (Did o o 1 0 0 v) (sym (events-after v w (Pop p) n e))
     (record {
-      did =
-          record {
-            waiting = λ x. refl;
-            kept = λ x. or_from _ _ (other-popped o p x f) refl;
-            undeferred = λ x. refl;
-            done = refl;
-            deferred = refl;
-            dirtied = refl;
-            steps = refl;
-          };
-      cause = refl;
+      waiting = λ x. refl;
+      kept = λ x. or_from _ _ (other-popped o p x f) refl;
+      undeferred = λ x. refl;
+      done = refl;
+      deferred = refl;
+      dirtied = refl;
+      steps = refl;
     })
 
 -- its allocation bit was read
-pub part-alloc : (sh : Shape) (o : Option ℕ) (b n : ℕ) (v w : View) → w ≡ after (ReadAlloc b) n v → Part sh o o 0 0 0 v (events v w)
-part-alloc sh o b n v w e =
-    subst (Part sh o o 0 0 0 v) (sym (events-after v w (ReadAlloc b) n e))
-    (record { did = did-quiet o 0 v (entry_of (ReadAlloc b) n ∷ []) (calm, tt) (λ p x. refl, tt) refl; cause = refl })
+pub did-alloc : (o : Option ℕ) (b n : ℕ) (v w : View) → w ≡ after (ReadAlloc b) n v → Did o o 0 0 0 v (events v w)
+did-alloc o b n v w e =
+    subst (Did o o 0 0 0 v) (sym (events-after v w (ReadAlloc b) n e))
+    (did-quiet o 0 v (entry_of (ReadAlloc b) n ∷ []) (calm, tt) (λ p x. refl, tt) refl)
   where
     calm : IsCalm v.state (ReadAlloc b) n
     calm = record { from = λ p. refl; pop = refl; off = refl; got = λ p. refl; trace = refl }
@@ -68,40 +62,32 @@ goes-on true = refl
 goes-on false = refl
 
 -- a popped cell was pushed
-pub part-push : (sh : Shape) (o : Option ℕ) (q c n : ℕ) (v w : View) → w ≡ after (Push q c) n v → v.state.fresh ≡ None → (o ≡ None) ⊎ (o ≡ Some q) → Part sh o (Some q) 0 1 0 v (events v w)
-part-push sh o q c n v w e f either =
-    subst (Part sh o (Some q) 0 1 0 v) (sym (events-after v w (Push q c) n e))
+pub did-push : (o : Option ℕ) (q c n : ℕ) (v w : View) → w ≡ after (Push q c) n v → v.state.fresh ≡ None → (o ≡ None) ⊎ (o ≡ Some q) → Did o (Some q) 0 1 0 v (events v w)
+did-push o q c n v w e f either =
+    subst (Did o (Some q) 0 1 0 v) (sym (events-after v w (Push q c) n e))
     (record {
-      did =
-          record {
-            waiting =
-                λ x.
-                ap (λ (y : Option ℕ). is_the o x || ((q == x) && not (is_the y c))) f
-                ∙ ⊎_elim
-                (λ (z : o ≡ None). ap (λ y. is_the y x || ((q == x) && true)) z ∙ begins (q == x))
-                (λ (z : o ≡ Some q). ap (λ y. is_the y x || ((q == x) && true)) z ∙ goes-on (q == x))
-                either;
-            kept = λ x. or_from _ _ (and-false (is_the o x)) refl;
-            undeferred = λ x. refl;
-            done = refl;
-            deferred = ap (λ (y : Option ℕ). cond (not (is_the y c)) 1 0 + 0) f;
-            dirtied = refl;
-            steps = refl;
-          };
-      cause = refl;
+      waiting =
+          λ x.
+          ap (λ (y : Option ℕ). is_the o x || ((q == x) && not (is_the y c))) f
+          ∙ ⊎_elim
+          (λ (z : o ≡ None). ap (λ y. is_the y x || ((q == x) && true)) z ∙ begins (q == x))
+          (λ (z : o ≡ Some q). ap (λ y. is_the y x || ((q == x) && true)) z ∙ goes-on (q == x))
+          either;
+      kept = λ x. or_from _ _ (and-false (is_the o x)) refl;
+      undeferred = λ x. refl;
+      done = refl;
+      deferred = ap (λ (y : Option ℕ). cond (not (is_the y c)) 1 0 + 0) f;
+      dirtied = refl;
+      steps = refl;
     })
 
--- a card was dirtied after a search that found no packet with room
-pub part-spill : (sh : Shape) (o : Option ℕ) (card n : ℕ) (u v w : View) → OnlyTraced u v → OnlyTraced v w → only_moves output_pools (events u v) ≡ true → NoOutput sh (events u v) → w ≡ after (DirtyCard card) n v → Part sh o o 0 0 1 u (events u w)
-part-spill sh o card n u v w a b m none e =
+-- packets were looked for, and a card was dirtied
+pub did-spill : (o : Option ℕ) (card n : ℕ) (u v w : View) → OnlyTraced u v → OnlyTraced v w → only_moves output_pools (events u v) ≡ true → w ≡ after (DirtyCard card) n v → Did o o 0 0 1 u (events u w)
+did-spill o card n u v w a b m e =
     let one : List Entry = entry_of (DirtyCard card) n ∷ [] in
     let last : events v w ≡ one = events-after v w (DirtyCard card) n e in
-    record {
-      did =
-          did-join o o o 0 0 0 0 0 1 0 0 1 u v (events u v) (events v w) (events u w) (events-join u v w a.log b.log) a.ran.steps refl refl refl (part-moves sh o u (events u v) m).did
-          (subst (Did o o 0 0 1 v) (sym last) (did-quiet o 1 v one (calm, tt) (λ p x. refl, tt) refl));
-      cause = searched-one sh card n (events u v) (events u w) (events-join u v w a.log b.log ∙ ap (λ (es : List Entry). events u v ++ es) last) (quiet (events u v) m) none m;
-    }
+    did-join o o o 0 0 0 0 0 1 0 0 1 u v (events u v) (events v w) (events u w) (events-join u v w a.log b.log) a.ran.steps refl refl refl (did-moves o u (events u v) m)
+    (subst (Did o o 0 0 1 v) (sym last) (did-quiet o 1 v one (calm, tt) (λ p x. refl, tt) refl))
   where
     calm : IsCalm v.state (DirtyCard card) n
     calm = record { from = λ p. refl; pop = refl; off = refl; got = λ p. refl; trace = refl }
@@ -162,26 +148,18 @@ no-dirty (e ∷ es) g =
     let h = and_parts (gives_back e.step) (all_give (steps_of es)) g in
     λ i. cond (clean e.step e.found h.0 i) 1 0 + no-dirty es h.1 i
 
-no-dirt : (es : List Entry) → all_give (steps_of es) ≡ true → some_event dirties es ≡ false
-no-dirt [] g = refl
-no-dirt (e ∷ es) g = let h = and_parts (gives_back e.step) (all_give (steps_of es)) g in or_from _ _ (clean e.step e.found h.0) (no-dirt es h.1)
-
 -- a packet was given as deferred, and waits no more
-pub part-deferred : (sh : Shape) (p : ℕ) (c : Bool) (v : View) (es : List Entry) → steps_of es ≡ StoreLength p ∷ Give p true ∷ (cond c (Credit ∷ []) []) → Part sh (Some p) None 0 0 0 v es
-part-deferred sh p c v es e =
+pub did-deferred : (p : ℕ) (c : Bool) (v : View) (es : List Entry) → steps_of es ≡ StoreLength p ∷ Give p true ∷ (cond c (Credit ∷ []) []) → Did (Some p) None 0 0 0 v es
+did-deferred p c v es e =
     let calm = gives-calm v es (ap all_give e ∙ giving c) in
     record {
-      did =
-          record {
-            waiting = λ x. given-all x v es (p == x) (ap all_give e ∙ giving c) ∙ (ap (λ l. given_all x l (p == x)) e ∙ over x c);
-            kept = λ x. calm-popped x v es (p == x) calm;
-            undeferred = λ x. calm-got x v es calm;
-            done = calm-pops v es calm;
-            deferred = calm-off v es calm;
-            dirtied = no-dirty es (ap all_give e ∙ giving c);
-            steps = calm-traces v es calm;
-          };
-      cause = searched-none sh es (no-dirt es (ap all_give e ∙ giving c));
+      waiting = λ x. given-all x v es (p == x) (ap all_give e ∙ giving c) ∙ (ap (λ l. given_all x l (p == x)) e ∙ over x c);
+      kept = λ x. calm-popped x v es (p == x) calm;
+      undeferred = λ x. calm-got x v es calm;
+      done = calm-pops v es calm;
+      deferred = calm-off v es calm;
+      dirtied = no-dirty es (ap all_give e ∙ giving c);
+      steps = calm-traces v es calm;
     }
   where
     giving : (b : Bool) → all_give (StoreLength p ∷ Give p true ∷ (cond b (Credit ∷ []) [])) ≡ true

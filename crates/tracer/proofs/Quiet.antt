@@ -18,7 +18,7 @@ use Rattle.packet_pools.specs.Seeking.{moves_packet, only_moves, output_pools, g
 use Rattle.packet_pools.specs.Counts.{count_of, dirties, only_scans, scans_object, CountsMarked}
 use Rattle.packet_pools.proofs.Counting.{counts-moves}
 use Rattle.tracer.specs.Deferral.{waits_on, waits, pops_from, pops_waiting, defers}
-use Rattle.tracer.specs.Parts.{Did, Part}
+use Rattle.tracer.specs.Parts.{Did}
 use Rattle.mark_core.specs.Bits.{has_bit}
 use Rattle.mark_core.specs.Numbers.{deferred_pool_number, word_bits}
 use Rattle.tracer.specs.Tally.{pops, count_by, only_traces, is_trace_step}
@@ -123,8 +123,8 @@ moves-still v [] m = tt
 moves-still v (e ∷ es) m = let h = and_parts (moves_packet output_pools e.step) (only_moves output_pools es) m in (λ p b. move-still v.state e.step p b h.0, moves-still (after e.step e.found v) es h.1)
 
 -- packets were taken, or given back
-pub part-moves : (sh : Shape) (o : Option ℕ) (v : View) (es : List Entry) → only_moves output_pools es ≡ true → Part sh o o 0 0 0 v es
-part-moves sh o v es m = record { did = did-quiet o 0 v es (moves-calm v es m) (moves-still v es m) (counts-moves sh es m).overflowed; cause = (counts-moves sh es m).cause }
+pub did-moves : (o : Option ℕ) (v : View) (es : List Entry) → only_moves output_pools es ≡ true → Did o o 0 0 0 v es
+did-moves o v es m = did-quiet o 0 v es (moves-calm v es m) (moves-still v es m) (counts-moves v.shape es m).overflowed
 
 -- with no popped cell in hand it is a fresh one that is pushed
 fresh-pushed : (s : SeatState) (c : ℕ) → s.popped ≡ None → may_push s c ≡ true → is_the s.fresh c ≡ true
@@ -189,5 +189,5 @@ scans-still v (e ∷ es) none k m =
     (λ p b. scan-still v.state e.step p b none a.0 h.0, scans-still (after e.step e.found v) es (scan-none v.shape v.state e.step e.found none h.0) a.1 h.1)
 
 -- an object was scanned
-pub part-scan : (sh : Shape) (o : Option ℕ) (white kept lost : ℕ) (v : View) (es : List Entry) → v.state.popped ≡ None → all_keep v es ≡ true → CountsMarked sh white kept lost es → Part sh o o 0 0 lost v es
-part-scan sh o white kept lost v es none k c = record { did = did-quiet o lost v es (scans-calm v es none k c.scans) (scans-still v es none k c.scans) c.overflowed; cause = c.cause }
+pub did-scan : (sh : Shape) (o : Option ℕ) (white kept lost : ℕ) (v : View) (es : List Entry) → v.state.popped ≡ None → all_keep v es ≡ true → CountsMarked sh white kept lost es → Did o o 0 0 lost v es
+did-scan sh o white kept lost v es none k c = did-quiet o lost v es (scans-calm v es none k c.scans) (scans-still v es none k c.scans) c.overflowed

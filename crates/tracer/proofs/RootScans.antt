@@ -23,10 +23,10 @@ use Rattle.gc_table.specs.Log.{events}
 use Rattle.packet_pools.specs.Tracing.{traces}
 use Rattle.packet_pools.specs.Scanning.{InHand, Pushes}
 use Rattle.packet_pools.specs.Seeking.{only_moves, output_pools, some_event}
-use Rattle.packet_pools.specs.Counts.{count_of, CountsMarked, dirties, dirties_after_search, marks_white, only_scans, scans_object}
+use Rattle.packet_pools.specs.Counts.{count_of, CountsMarked, dirties, marks_white, only_scans, scans_object}
 use Rattle.packet_pools.specs.Fields.{AsksToMark, cells_asked, picked}
 use Rattle.packet_pools.proofs.Conditions.{may-trace}
-use Rattle.packet_pools.proofs.Counting.{count-join, counts-moves, searched-join}
+use Rattle.packet_pools.proofs.Counting.{count-join, counts-moves}
 use Rattle.packet_pools.proofs.Exchanged.{known-held}
 use Rattle.gc_table.proofs.History.Log.{entry_of}
 use Rattle.packet_pools.proofs.Reading.{asks-moves, fields-next, picked-join}
@@ -58,7 +58,7 @@ pub roots-moves : (sh : Shape) (es : List Entry) → only_moves output_pools es 
 roots-moves sh es m =
     let c = counts-moves sh es m in
     let u = unrooted es c.scans in
-    record { read = u.read; asked = (asks-moves es m).asked ∙ sym u.named; marked = c.marked; dirtied = c.overflowed; cause = c.cause; steps = u.steps }
+    record { read = u.read; asked = (asks-moves es m).asked ∙ sym u.named; marked = c.marked; dirtied = c.overflowed; steps = u.steps }
 
 -- a nil root
 pub root-nil : (sh : Shape) (s v n : ℕ) (es : List Entry) → es ≡ entry_of (ReadRoot s v) n ∷ [] → n ≡ 0 → FollowsRoots sh ((s, v) ∷ []) 0 0 es
@@ -68,7 +68,6 @@ root-nil sh s v n es all e =
       asked = ap (picked cells_asked) all ∙ sym (ap (picked cells_rooted) all ∙ ap (λ (m : ℕ). cond (m == 0) [] (cell_of m ∷ []) ++ []) e);
       marked = ap (count_of marks_white) all;
       dirtied = ap (count_of dirties) all;
-      cause = ap (dirties_after_search sh) all;
       steps = ap only_roots all;
     }
 
@@ -82,7 +81,6 @@ root-cell sh s v n white kept lost ys es all e a c =
       asked = ap (picked cells_asked) all ∙ (a.asked ∙ sym (ap (picked cells_rooted) all ∙ (λ j. cond (e j) [] (cell_of n ∷ []) ++ u.named j)));
       marked = ap (count_of marks_white) all ∙ (zero-plus (count_of marks_white ys) ∙ c.marked);
       dirtied = ap (count_of dirties) all ∙ (zero-plus (count_of dirties ys) ∙ c.overflowed);
-      cause = searched-join sh one ys es all refl c.cause;
       steps = ap only_roots all ∙ u.steps;
     }
   where
@@ -102,7 +100,6 @@ roots-join sh fs gs a b c k l m xs ys es all ab kl f g =
           ∙ (picked-join cells_asked xs ys ∙ ((λ i. f.asked i ++ g.asked i) ∙ sym (ap (picked cells_rooted) all ∙ picked-join cells_rooted xs ys)));
       marked = ap (count_of marks_white) all ∙ (count-join marks_white xs ys ∙ ((λ i. f.marked i + g.marked i) ∙ ab));
       dirtied = ap (count_of dirties) all ∙ (count-join dirties xs ys ∙ ((λ i. f.dirtied i + g.dirtied i) ∙ kl));
-      cause = searched-join sh xs ys es all f.cause g.cause;
       steps = ap only_roots all ∙ roots-append xs ys f.steps g.steps;
     }
 

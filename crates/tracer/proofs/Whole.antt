@@ -24,7 +24,7 @@ use Rattle.packet_pools.specs.OnlyTraced.{OnlyTraced}
 use Rattle.gc_table.specs.Log.{events}
 use Rattle.packet_pools.specs.Tracing.{Traces}
 use Rattle.packet_pools.specs.Seeking.{NoInput, input_pools, only_moves, some_event}
-use Rattle.packet_pools.specs.Counts.{count_of, dirties, dirties_after_search}
+use Rattle.packet_pools.specs.Counts.{count_of, dirties}
 use Rattle.gc_table.proofs.History.Log.{events-join, grows-join}
 use Rattle.gc_table.proofs.Running.{after-join}
 use Rattle.tracer.specs.declared.packets.Packets.{Packets}
@@ -32,8 +32,9 @@ use Rattle.tracer.specs.Hands.{Carries, in_front, HasNoCell, IsIdle, KeepsRecord
 use Rattle.tracer.specs.Deferral.{Defers, waits, waits_on, pops_from, pops_waiting}
 use Rattle.tracer.specs.Tally.{count_by, only_traces, spills, Tally, is_trace_step}
 use Rattle.tracer.specs.Causes.{FoundNoWork}
+use Rattle.tracer.specs.Searched.{DirtiesOnceTried}
 use Rattle.tracer.specs.Moments.{Moment, at_some_moment, begins, finds_no_work, is_spent_slot}
-use Rattle.tracer.specs.Parts.{SearchedInVain, Part}
+use Rattle.tracer.specs.Parts.{SearchedInVain, Did}
 use Rattle.tracer.proofs.Carried.{AllAre, held-is}
 use Rattle.tracer.proofs.Hand.{free-of, none-of}
 use Rattle.tracer.proofs.Moments.{all-spent, at-moment, input-front, moment-after, moment-state, moment-waits}
@@ -70,20 +71,20 @@ spill-all v (e ∷ es) k =
     let h = and_parts (keeps_cells v.state e.step) (all_keep (after e.step e.found v) es) k in
     λ i. cond (spill-one v.state e.step e.found h.0 i) 1 0 + spill-all (after e.step e.found v) es h.1 i
 
-module _ (sh : Shape) (d f l : ℕ) (v w : View) (shape : v.shape ≡ sh) (later : OnlyTraced v w) (p : Part sh None None d f l v (events v w)) where
-  pub tally-of : Tally d f l v w
-  tally-of =
+module _ (sh : Shape) (d f l : ℕ) (v w : View) (shape : v.shape ≡ sh) (later : OnlyTraced v w) (p : Did None None d f l v (events v w)) where
+  pub tally-of : DirtiesOnceTried sh [] (events v w) → Tally d f l v w
+  tally-of cause =
       record {
-        done = p.did.done;
-        deferred = p.did.deferred;
-        overflowed = spill-all v (events v w) (later.cells refl) ∙ p.did.dirtied;
-        dirtied = p.did.dirtied;
-        steps = p.did.steps;
-        cause = subst (λ s. dirties_after_search s (events v w) ≡ true) (sym shape) p.cause;
+        done = p.done;
+        deferred = p.deferred;
+        overflowed = spill-all v (events v w) (later.cells refl) ∙ p.dirtied;
+        dirtied = p.dirtied;
+        steps = p.steps;
+        cause = subst (λ (s : Shape). DirtiesOnceTried s [] (events v w)) (sym shape) cause;
       }
 
   pub deferral-of : Defers v w
-  deferral-of = record { given = p.did.waiting; kept = p.did.kept; undeferred = p.did.undeferred }
+  deferral-of = record { given = p.waiting; kept = p.kept; undeferred = p.undeferred }
 
 -- no card comes to be owed
 trace-owes : (sh : Shape) (s : SeatState) (step : Step) (n : ℕ) → is_trace_step step ≡ true → s.owes ≡ None → (seat_after sh s step n).owes ≡ None
@@ -176,7 +177,7 @@ held-apart : (v : View) → ∥ IsPossible v ∥₁ → AllPairs IsApart v.state
 held-apart v q i j d k l = ∥∥₁_elim q (Prim.hlevel props) (λ (p : IsPossible v). (p.whole.core.formed.seats p.index v.state p.agrees.seat).held.apart i j d k l)
 
 -- a trace that begins, goes on until nothing is found, and gives its packets back
-module _ (sh : Shape) (x : Packets) (o : Option ℕ) (d f l : ℕ) (u v w y : View) (shape : u.shape ≡ sh) (a : OnlyTraced u v) (b : OnlyTraced v w) (c : OnlyTraced w y) (first : Part sh None None 0 0 0 u (events u v)) (main : Part sh None (packet_of x.deferred) d f l v (events v w)) (e : SearchedInVain sh x v w) (k : Carries (packets_of x) w) (possible : ∥ IsPossible w ∥₁) (work : work_in_hand u.shape.fields w.state ≡ false) where
+module _ (sh : Shape) (x : Packets) (o : Option ℕ) (d f l : ℕ) (u v w y : View) (shape : u.shape ≡ sh) (a : OnlyTraced u v) (b : OnlyTraced v w) (c : OnlyTraced w y) (first : Did None None 0 0 0 u (events u v)) (main : Did None (packet_of x.deferred) d f l v (events v w)) (e : SearchedInVain sh x v w) (k : Carries (packets_of x) w) (possible : ∥ IsPossible w ∥₁) (work : work_in_hand u.shape.fields w.state ≡ false) where
   abbrev earlier : List Entry
   earlier = events u v ++ e.before
 
@@ -190,12 +191,12 @@ module _ (sh : Shape) (x : Packets) (o : Option ℕ) (d f l : ℕ) (u v w y : Vi
   waits-before : (p : ℕ) → waits p v e.before false ≡ is_the (packet_of x.deferred) p
   waits-before p =
       sym (still-both p (after_all e.before v) e.search (waits p v e.before false) e.still)
-      ∙ (sym (waits-join p e.before e.search v false) ∙ (ap (λ es. waits p v es false) (sym e.all) ∙ main.did.waiting p))
+      ∙ (sym (waits-join p e.before e.search v false) ∙ (ap (λ es. waits p v es false) (sym e.all) ∙ main.waiting p))
 
   waits-all : (p : ℕ) → list_any (λ y. y == p) then.deferring ≡ is_the (packet_of x.deferred) p
   waits-all p =
       moment-waits p u [] earlier
-      ∙ (waits-join p (events u v) e.before u false ∙ ((λ i. waits p (sym a.ran.steps i) e.before (first.did.waiting p i)) ∙ waits-before p))
+      ∙ (waits-join p (events u v) e.before u false ∙ ((λ i. waits p (sym a.ran.steps i) e.before (first.waiting p i)) ∙ waits-before p))
 
   spent : list_all (is_spent_slot then.deferring) then.state.held ≡ true
   spent =

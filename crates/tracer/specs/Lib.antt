@@ -1,6 +1,7 @@
 pub mod Hands
 pub mod StepBounds
 pub mod Deferral
+pub mod Searched
 pub mod Tally
 pub mod Moments
 pub mod Causes

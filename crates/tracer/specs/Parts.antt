@@ -6,7 +6,7 @@ use Rattle.mark_core.specs.declared.kinds.Shape.{Shape}
 use Rattle.gc_table.specs.declared.view.Entry.{Entry}
 use Rattle.gc_table.specs.declared.view.View.{View}
 use Rattle.packet_pools.specs.Seeking.{NoInput, input_pools, only_moves, was_got_from}
-use Rattle.packet_pools.specs.Counts.{count_of, dirties, dirties_after_search}
+use Rattle.packet_pools.specs.Counts.{count_of, dirties}
 use Rattle.gc_table.specs.Log.{events}
 use Rattle.gc_table.specs.Running.{after_all}
 use Rattle.tracer.specs.declared.packets.Packets.{Packets}
@@ -23,11 +23,6 @@ pub record Did (o q : Option ℕ) (popped deferrals lost : ℕ) (v : View) (es :
   pub deferred : count_by defers v es ≡ deferrals
   pub dirtied : count_of dirties es ≡ lost
   pub steps : IsTrue (only_traces es)
-
--- the events did that, and each card was dirtied right after a search that found no packet with room
-pub record Part (sh : Shape) (o q : Option ℕ) (popped deferrals lost : ℕ) (v : View) (es : List Entry) : Type 0 where
-  pub did : Did o q popped deferrals lost v es
-  pub cause : IsTrue (dirties_after_search sh es)
 
 -- this cell was popped, and is all that is in hand
 pub record HasPopped (cell : ℕ) (seen : Bool) (v : View) : Type 0 where

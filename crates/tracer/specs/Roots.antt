@@ -11,7 +11,7 @@ use Rattle.gc_table.specs.declared.view.Entry.{Entry}
 use Rattle.gc_table.specs.declared.view.View.{View}
 use Rattle.gc_table.specs.Log.{events}
 use Rattle.packet_pools.specs.Seeking.{some_event}
-use Rattle.packet_pools.specs.Counts.{count_of, dirties, dirties_after_search, marks_white, scans_object}
+use Rattle.packet_pools.specs.Counts.{count_of, dirties, marks_white, scans_object}
 use Rattle.packet_pools.specs.Fields.{cells_asked, picked}
 use Rattle.tracer.specs.Causes.{FoundNoPacket}
 use Rattle.tracer.specs.declared.traced.RootScan.{RootScan}
@@ -37,14 +37,12 @@ abbrev pub only_roots : List Entry → Bool
 only_roots [] = true
 only_roots (e ∷ es) = scans_roots e.step && only_roots es
 
--- these roots were read, and each cell that they name was to be marked, in order: this many were white, and this many of these are left to their cards, each right
--- after a search that found no packet with room
+-- these roots were read, and each cell that they name was to be marked, in order: this many were white, and this many of these are left to their cards
 pub record FollowsRoots (sh : Shape) (roots : List (ℕ × ℕ)) (white lost : ℕ) (es : List Entry) : Type 0 where
   pub read : picked roots_read es ≡ roots
   pub asked : picked cells_asked es ≡ picked cells_rooted es
   pub marked : count_of marks_white es ≡ white
   pub dirtied : count_of dirties es ≡ lost
-  pub cause : IsTrue (dirties_after_search sh es)
   pub steps : IsTrue (only_roots es)
 
 -- the first n roots of a section

@@ -25,6 +25,13 @@
 //! whether the pools have a packet with cells ([`lacks_work`]). If they have none and it has cells to spare, it pushes
 //! into a second packet; at its next look it goes on with that one and gives the first away.
 //!
+//! # What a trace has tried
+//!
+//! From one share to the next a trace looks for packets with room as one call does ([`Search`](packet_pools::Search)):
+//! it goes through the high pool once, and then leaves cells to their cards. With each share its search begins anew,
+//! since it may have emptied packets itself. So a look for room comes once for each packet that was filled, and a trace
+//! has a bound that is a sum (`trace_steps` in `specs/StepBounds.antt`).
+//!
 //! # What an answer says
 //!
 //! [`Stopped::NoWork`] says that at some moment of the call nothing was left in hand, and that the search that followed

@@ -1,5 +1,5 @@
 //! The roots of a section are scanned.
-ghost use Rattle.std.specs.Prelude.{◌≡◌, ◌<◌, ◌≤◌, [], ◌∷◌, Some, None, IsTrue, IsFalse, IfSome, IfNone, length};
+ghost use Rattle.std.specs.Prelude.{◌+◌, ◌≡◌, ◌<◌, ◌≤◌, [], ◌∷◌, Some, None, IsTrue, IsFalse, IfSome, IfNone, length};
 ghost use Rattle.mark_core.specs.Numbers.{section_variables};
 ghost use Rattle.mark_core.specs.Seats.{work_in_hand};
 ghost use Rattle.gc_table.specs.Seats.{Across, did, state_of, view_of};
@@ -9,13 +9,14 @@ ghost use Rattle.packet_pools.specs.Tracing.{IsTracer};
 ghost use Rattle.tracer.specs.Causes.{FoundNoPacket};
 ghost use Rattle.tracer.specs.Hands.{Carries, IsIdle, KeepsRecord};
 ghost use Rattle.tracer.specs.Roots.{FollowsRoots, RootsScanned, SeesRoots, root_marked};
-ghost use Rattle.packet_pools.specs.StepBounds.{any_steps, follow_steps};
+ghost use Rattle.packet_pools.specs.StepBounds.{any_steps, follow_steps, room_left};
+ghost use Rattle.packet_pools.specs.Tried.{DirtiesLast, SearchesOn};
 ghost use Rattle.tracer.specs.StepBounds.{section_steps};
 
 use crate::traced::RootScan;
 use gc_table::{Heap, HeapSeat};
 use mark_core::{VARIABLES, cell_of};
-use packet_pools::{Held, Scanned, give, mark_cell, take_input, take_output};
+use packet_pools::{Held, Scanned, Search, give, mark_cell, take_input, take_output};
 
 fn take_either(heap: &Heap, seat: &mut HeapSeat) -> Option<Held>
     requires seat { IsTracer heap.now seat.old }
@@ -38,6 +39,7 @@ fn scan_root(
     heap: &Heap,
     seat: &mut HeapSeat,
     out: &mut Held,
+    search: &mut Search,
     section: u32,
     variable: u8,
 ) -> Scanned
@@ -52,7 +54,8 @@ fn scan_root(
     ensures most { (result.overflowed ≤ result.marked) × (result.marked ≤ 1) }
     ensures follows { FollowsRoots heap.now.shape ((section, variable) ∷ []) result.marked result.overflowed (did seat.old seat.new) }
     ensures seen { IsTrue (root_marked section variable (did seat.old seat.new)) }
-    ensures few { length (did seat.old seat.new) ≤ follow_steps heap.now.shape }
+    ensures tried { SearchesOn heap.now.shape search.old search.new out.old out.new (did seat.old seat.new) }
+    ensures few { length (did seat.old seat.new) + room_left heap.now.shape search.new out.new.length ≤ room_left heap.now.shape search.old out.old.length + follow_steps heap.now.shape }
 {
     let word = heap.read_root(seat, section, variable);
     if word == 0 {
@@ -61,7 +64,7 @@ fn scan_root(
             overflowed: 0,
         };
     }
-    mark_cell(heap, seat, out, cell_of(word))
+    mark_cell(heap, seat, out, search, cell_of(word))
 }
 
 /// Marks what the 32 variables of a section refer to, and pushes what was white. If the section's mutator runs, and
@@ -77,14 +80,16 @@ pub fn scan_roots(heap: &Heap, seat: &mut HeapSeat, section: u32) -> RootScan
     ensures state { Across KeepsRecord seat.old seat.new }
     ensures scanned { Across (RootsScanned section result) seat.old seat.new }
     ensures seen { SeesRoots section result (did seat.old seat.new) }
+    ensures cause { DirtiesLast heap.now.shape (did seat.old seat.new) }
     ensures few { length (did seat.old seat.new) ≤ section_steps heap.now.shape }
 {
     let Some(mut out) = take_either(heap, seat) else {
         return RootScan::NoPacket;
     };
+    let mut search = Search::open();
     let mut marked = 0;
     for variable in 0..VARIABLES {
-        marked += scan_root(heap, seat, &mut out, section, variable).marked;
+        marked += scan_root(heap, seat, &mut out, &mut search, section, variable).marked;
     }
     give(heap, seat, out, false);
     RootScan::Done { marked }

@@ -1,5 +1,5 @@
 //! A tracer gives some of its work to others if they lack it.
-ghost use Rattle.std.specs.Prelude.{ℕ, ◌≡◌, ◌<◌, ◌==◌, ◌∷◌, List, Option, None, IsTrue, IsFalse, ◌≤◌, ◌*◌, length};
+ghost use Rattle.std.specs.Prelude.{ℕ, ◌≡◌, ◌<◌, ◌==◌, ◌∷◌, List, Option, None, IsTrue, IsFalse, ◌≤◌, ◌*◌, ◌-◌, ◌%◌, length};
 ghost use Rattle.mark_core.specs.Layout.{pool_words};
 ghost use Rattle.mark_core.specs.Numbers.{pools_in_all};
 ghost use Rattle.mark_core.specs.Seats.{work_in_hand};
@@ -9,14 +9,15 @@ ghost use Rattle.packet_pools.specs.OnlyTraced.{OnlyTraced};
 ghost use Rattle.packet_pools.specs.Seeking.{input_pools, only_moves};
 ghost use Rattle.packet_pools.specs.Tracing.{IsTracer};
 ghost use Rattle.tracer.specs.Hands.{Carries, packets_of};
-ghost use Rattle.tracer.specs.Parts.{Part};
+ghost use Rattle.tracer.specs.Parts.{Did};
 ghost use Rattle.packet_pools.specs.StepBounds.{output_steps};
-ghost use Rattle.tracer.specs.StepBounds.{share_steps};
+ghost use Rattle.tracer.specs.Searched.{Searches};
+ghost use Rattle.tracer.specs.StepBounds.{share_each, share_steps};
 
 use crate::packets::{Packets, give_some, go_on};
 use gc_table::{Heap, HeapSeat};
 use mark_core::{HIGH_POOL, LOW_POOL, WORD_BITS};
-use packet_pools::take_output;
+use packet_pools::{Search, take_output};
 use std::mem;
 
 /// The least number of cells of a packet that is given away.
@@ -78,7 +79,7 @@ fn fill_another(heap: &Heap, seat: &mut HeapSeat, packets: &mut Packets)
     ensures only { Across OnlyTraced seat.old seat.new }
     ensures packets { Carries (packets_of packets.new) (view_of seat.new) × (packets.new.deferred ≡ packets.old.deferred) }
     ensures work { IsFalse (work_in_hand heap.now.shape.fields (state_of seat.new)) }
-    ensures part { (o : Option ℕ) → Part heap.now.shape o o 0 0 0 (view_of seat.old) (did seat.old seat.new) }
+    ensures part { (o : Option ℕ) → Did o o 0 0 0 (view_of seat.old) (did seat.old seat.new) }
     ensures few { length (did seat.old seat.new) ≤ output_steps heap.now.shape }
 {
     let fresh = take_output(heap, seat);
@@ -94,7 +95,7 @@ fn part_with(heap: &Heap, seat: &mut HeapSeat, packets: &mut Packets)
     ensures only { Across OnlyTraced seat.old seat.new }
     ensures packets { Carries (packets_of packets.new) (view_of seat.new) × (packets.new.deferred ≡ packets.old.deferred) }
     ensures work { IsFalse (work_in_hand heap.now.shape.fields (state_of seat.new)) }
-    ensures part { (o : Option ℕ) → Part heap.now.shape o o 0 0 0 (view_of seat.old) (did seat.old seat.new) }
+    ensures part { (o : Option ℕ) → Did o o 0 0 0 (view_of seat.old) (did seat.old seat.new) }
     ensures few { length (did seat.old seat.new) ≤ share_steps heap.now.shape }
 {
     if packets.input.length() <= SHARE_CELLS {
@@ -113,7 +114,7 @@ fn share(heap: &Heap, seat: &mut HeapSeat, packets: &mut Packets)
     ensures only { Across OnlyTraced seat.old seat.new }
     ensures packets { Carries (packets_of packets.new) (view_of seat.new) × (packets.new.deferred ≡ packets.old.deferred) }
     ensures work { IsFalse (work_in_hand heap.now.shape.fields (state_of seat.new)) }
-    ensures part { (o : Option ℕ) → Part heap.now.shape o o 0 0 0 (view_of seat.old) (did seat.old seat.new) }
+    ensures part { (o : Option ℕ) → Did o o 0 0 0 (view_of seat.old) (did seat.old seat.new) }
     ensures few { length (did seat.old seat.new) ≤ share_steps heap.now.shape }
 {
     match mem::replace(&mut packets.output, None) {
@@ -122,7 +123,14 @@ fn share(heap: &Heap, seat: &mut HeapSeat, packets: &mut Packets)
     }
 }
 
-pub(crate) fn share_in_turn(heap: &Heap, seat: &mut HeapSeat, packets: &mut Packets, turn: u32)
+/// Once in so many turns the tracer shares, and its search for room begins anew.
+pub(crate) fn share_in_turn(
+    heap: &Heap,
+    seat: &mut HeapSeat,
+    packets: &mut Packets,
+    search: &mut Search,
+    turn: u32,
+)
     requires seat { IsTracer heap.now seat.old }
     requires packets { Carries (packets_of packets.old) (view_of seat.old) }
     requires work { IsFalse (work_in_hand heap.now.shape.fields (state_of seat.old)) }
@@ -130,11 +138,13 @@ pub(crate) fn share_in_turn(heap: &Heap, seat: &mut HeapSeat, packets: &mut Pack
     ensures only { Across OnlyTraced seat.old seat.new }
     ensures packets { Carries (packets_of packets.new) (view_of seat.new) × (packets.new.deferred ≡ packets.old.deferred) }
     ensures work { IsFalse (work_in_hand heap.now.shape.fields (state_of seat.new)) }
-    ensures part { (o : Option ℕ) → Part heap.now.shape o o 0 0 0 (view_of seat.old) (did seat.old seat.new) }
-    ensures first { turn ≡ 0 → packets.new ≡ packets.old }
+    ensures part { (o : Option ℕ) → Did o o 0 0 0 (view_of seat.old) (did seat.old seat.new) }
+    ensures tried { Searches heap.now.shape search.old search.new (did seat.old seat.new) }
+    ensures unshared { turn % share_each < share_each - 1 → (length (did seat.old seat.new) ≤ 0) × (packets.new ≡ packets.old) × (search.new ≡ search.old) }
     ensures few { length (did seat.old seat.new) ≤ share_steps heap.now.shape }
 {
     if turn % SHARE_EACH == SHARE_EACH - 1 {
         share(heap, seat, packets);
+        *search = Search::open();
     }
 }

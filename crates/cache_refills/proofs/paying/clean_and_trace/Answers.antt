@@ -4,7 +4,7 @@ use Rattle.gc_table.specs.Seats.{view_of}
 use Rattle.gc_table.specs.declared.view.View.{View}
 use Rattle.gc_cycle.specs.declared.counts.Paid.{Paid}
 use Rattle.cache_refills.specs.Pace.Payment.{TracesNone}
-use Rattle.cache_refills.proofs.Refills.Apart.{apart-earlier, apart-none, apart-one}
+use Rattle.cache_refills.proofs.Refills.Apart.{apart-earlier, apart-none, apart-one, leaves-by}
 use Rattle.cache_refills.proofs.Refills.Payment.{cleaned-none, none-traces, traces-on}
 use Rattle.std.specs.Prelude.{IfSome}
 use Rattle.mark_core.specs.declared.kinds.Shape.{Shape}
@@ -71,7 +71,7 @@ returns-clause-unlooked c =
 
 pub returns-in_err-clean-clause-apart : goal.returns-in_err-clean-clause-apart
 returns-in_err-clean-clause-apart c =
-    let e = c.in_err-clean.ensures in apart-none (view_of c.args.seat.now) (view_of c.clean.new.seat) (record { ran = e.traced.ran; unpopped = e.unpopped; untaken = e.undeferred })
+    let e = c.in_err-clean.ensures in apart-none (view_of c.args.seat.now) (view_of c.clean.new.seat) (leaves-by (view_of c.args.seat.now) (view_of c.clean.new.seat) e.traced.ran e.unpopped e.undeferred e.uncounted)
 
 pub returns-clause-apart : goal.returns-clause-apart
 returns-clause-apart c =
@@ -79,4 +79,4 @@ returns-clause-apart c =
     let x : View = view_of c.trace-more.new.seat in
     let e = c.in_ok-clean.ensures in
     let t = c.trace-more.ensures in
-    apart-earlier (view_of c.args.seat.now) w x (record { ran = e.traced.ran; unpopped = e.unpopped; untaken = e.undeferred }) (apart-one w x t.traced.ran t.deferral)
+    apart-earlier (view_of c.args.seat.now) w x (leaves-by (view_of c.args.seat.now) w e.traced.ran e.unpopped e.undeferred e.uncounted) (apart-one w x t.traced.ran t.deferral t.uncounted)

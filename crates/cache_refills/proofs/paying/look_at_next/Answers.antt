@@ -3,7 +3,7 @@ use Rattle.gc_table.specs.Seats.{view_of}
 use Rattle.gc_table.specs.declared.view.View.{View}
 use Rattle.cache_refills.specs.Pace.Deferring.{LeavesDeferred}
 use Rattle.cache_refills.specs.Pace.Payment.{TracesNone}
-use Rattle.cache_refills.proofs.Refills.Apart.{apart-earlier, apart-none, leaves-join, leaves-looked}
+use Rattle.cache_refills.proofs.Refills.Apart.{apart-earlier, apart-none, leaves-drawn, leaves-join, leaves-looked}
 use Rattle.cache_refills.proofs.Refills.Payment.{card-looked, cleaned-not, cleaned-on, none-join, traces-none}
 use Rattle.gc_table.proofs.Running.{ran-join}
 use Rattle.gc_cycle.proofs.Few.{few-after, few-join}
@@ -37,7 +37,8 @@ left : (c : After-read_card) → LeavesDeferred (view_of c.args.seat.now) (view_
 left c =
     let n = c.next_card.ensures in
     let e = c.read_card.ensures.view in
-    leaves-join (view_of c.args.seat.now) (view_of c.next_card.new.seat) (view_of c.read_card.new.seat) (record { ran = n.ran; unpopped = n.unpopped; untaken = n.undeferred })
+    leaves-join (view_of c.args.seat.now) (view_of c.next_card.new.seat) (view_of c.read_card.new.seat)
+    (leaves-drawn c.args.heap.now.shape (view_of c.args.seat.now) (view_of c.next_card.new.seat) c.requires.seat.0.1 n.ran n.unpopped n.undeferred n.counted)
     (leaves-looked c.in_ok-card.card e.0 (view_of c.next_card.new.seat) (view_of c.read_card.new.seat) (seen c).traced.ran e.1)
 
 seen-once : (c : After-read_card) → count_of looks_at_card (events (view_of c.next_card.new.seat) (view_of c.read_card.new.seat)) ≤ 1
@@ -137,7 +138,10 @@ returns-clause-once c =
 
 pub returns-in_err-card-clause-apart : goal.returns-in_err-card-clause-apart
 returns-in_err-card-clause-apart c =
-    let n = c.in_err-card.ensures in apart-none (view_of c.args.seat.now) (view_of c.next_card.new.seat) (record { ran = n.ran; unpopped = n.unpopped; untaken = n.undeferred })
+    let n = c.in_err-card.ensures in
+    let v : View = view_of c.args.seat.now in
+    let w : View = view_of c.next_card.new.seat in
+    apart-none v w (leaves-drawn c.args.heap.now.shape v w c.requires.seat.0.1 n.ran n.unpopped n.undeferred n.counted)
 
 pub returns-then-read_card-clause-apart : goal.returns-then-read_card-clause-apart
 returns-then-read_card-clause-apart c =

@@ -21,7 +21,7 @@ use Rattle.gc_cycle.proofs.Sequences.{this-moment}
 use Rattle.gc_cycle.specs.Moments.{begins, finds_no_packet}
 use Rattle.gc_table.proofs.Running.{ran-events, ran-join, ran-refl}
 use Rattle.tracer.specs.declared.traced.Stopped.TheVariants.{NoWork}
-use Rattle.cache_refills.proofs.Refills.Apart.{apart-none, leaves-join, recycles-none, stops-other, traces-later}
+use Rattle.cache_refills.proofs.Refills.Apart.{apart-none, leaves-by, leaves-join, recycles-none, stops-other, traces-later}
 use Rattle.cache_refills.proofs.paying.mark_and_trace.Goals as goal
 
 pub scan_roots-requires-clause-section : goal.scan_roots-requires-clause-section
@@ -151,7 +151,7 @@ returns-in-NoPacket-clause-recycles c =
     let e = c.in-NoPacket.ensures in
     record {
       traced = v;
-      traces = apart-none (view_of c.args.seat.now) v (record { ran = e.traced.ran; unpopped = e.unpopped; untaken = e.undeferred });
+      traces = apart-none (view_of c.args.seat.now) v (leaves-by (view_of c.args.seat.now) v e.traced.ran e.unpopped e.undeferred e.uncounted);
       ran = ran-refl v;
       recycles = recycles-none c.stopped_at.result c.args.heap.now.shape v (λ (k : c.stopped_at.result ≡ NoWork). stops-other c.args.owed.objects (sym c.stopped_at.ensures ∙ k));
     }
@@ -169,5 +169,5 @@ returns-in-Done-clause-recycles c =
     let q = c.pay_quota.ensures in
     let stopped = c.pay_quota.result.stopped in
     traces-later sh stopped u y w
-    (leaves-join u v y (record { ran = e.traced.ran; unpopped = e.unpopped; untaken = e.undeferred }) (record { ran = o.traced.ran; unpopped = o.unpopped; untaken = o.undeferred }))
+    (leaves-join u v y (leaves-by u v e.traced.ran e.unpopped e.undeferred e.uncounted) (leaves-by v y o.traced.ran o.unpopped o.undeferred o.uncounted))
     (traces-later sh stopped y x w c.pass_early.ensures.leaves q.recycles)

@@ -68,6 +68,6 @@ returns-clause-defers c =
     let q = c.owed_now-owed.ensures in
     record {
       recycled = w;
-      traces = traces-later c.args.heap.now.shape c.mark_and_trace-paid.result.stopped u v w (leaves-read u v q.ran q.only) c.mark_and_trace-paid.ensures.recycles;
+      traces = traces-later c.args.heap.now.shape c.mark_and_trace-paid.result.stopped u v w (leaves-read u v q.ran q.only q.uncounted) c.mark_and_trace-paid.ensures.recycles;
       tells = c.add_stat.ensures.view;
     }

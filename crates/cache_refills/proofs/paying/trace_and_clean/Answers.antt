@@ -20,7 +20,7 @@ loop-look-init c =
       traces =
           subst (λ n. TracesOn c.args.quota 0 0 (record { quota = c.args.quota; done = n; stopped = c.trace-first.result.stopped }) v w) (zero-add c.trace-first.result.done)
           (traces-on c.args.quota c.args.quota 0 c.trace-first.result v w t.traced t.ends t.most (zero-add c.args.quota) t.unread t.unrooted t.uncleaned);
-      apart = apart-one v w t.traced.ran t.deferral;
+      apart = apart-one v w t.traced.ran t.deferral t.uncounted;
       late = unlooked-few (events v w) t.unlooked;
       few = let few = t.few in omega (arith, few);
     }

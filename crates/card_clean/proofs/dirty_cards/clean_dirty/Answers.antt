@@ -24,7 +24,9 @@ use Rattle.packet_pools.specs.Seeking.{only_moves, output_pools}
 use Rattle.card_clean.proofs.Leavings.{rescanned-join, rescanned-moves}
 use Rattle.card_clean.proofs.Takings.{some-free, with-free}
 use Rattle.card_clean.proofs.CardLooks.{outside-kept, rescanned-clean, rescanned-dirty}
-use Rattle.packet_pools.specs.StepBounds.{any_steps, give_steps}
+use Rattle.packet_pools.specs.StepBounds.{any_steps, give_steps, room_left, room_steps}
+use Rattle.packet_pools.specs.declared.search.Search.{Search}
+use Rattle.packet_pools.proofs.RoomLeft.{room-whole}
 use Rattle.card_clean.specs.StepBounds.{pass_steps}
 use Rattle.packet_pools.proofs.Few.{few-join, few-steps, given-few}
 use Rattle.card_clean.specs.Cleaning.{SpillsWhite}
@@ -208,12 +210,19 @@ returns-clause-few c =
     let b = c.take_some.ensures in
     let d = c.clean_between-cleaned.ensures in
     let g = c.give.ensures in
-    let passed : length (events x y) ≤ n = subst (λ (s : Shape). length (events x y) ≤ pass_steps (card_count s - c.in-Some.card) c.clean_between-cleaned.result.rescanned sh) c.shape.ensures d.few in
+    let h = c.in-Some-take_some.out in
+    let begun = ap (λ (s : Search). room_left sh s h.length) c.open.ensures in
+    let fits = c.in-Some-take_some.ensures.some.1.fits in
+    let entries = ap (λ (s : Shape). s.entries) b.seat.0.1 in
+    let most = room-whole sh h.length (omega (arith, fits, entries)) in
+    let cleaned = d.few in
+    let cells = ap (λ (s : Shape). pass_steps (card_count s - c.in-Some.card) c.clean_between-cleaned.result.rescanned sh) c.shape.ensures in
+    let passed : length (events x y) ≤ n + room_steps sh = omega (arith, cleaned, begun, most, cells) in
     let one = few-join (card_count sh - 0) (any_steps sh) v w x a.only.ran b.only.ran a.few b.few in
     let two = cleaned-join v w x (traced-cleaned v w a.only) (traced-cleaned w x b.only) in
     let three = cleaned-join v x y two d.only in
-    let part = few-join (card_count sh - 0 + any_steps sh) n v x y two.ran d.only.ran one passed in
-    let all = few-join (card_count sh - 0 + any_steps sh + n) give_steps v y z three.ran g.only.ran part (few-steps give_steps y z _ g.steps (given-few k.packet false (k.length == 0))) in
+    let part = few-join (card_count sh - 0 + any_steps sh) (n + room_steps sh) v x y two.ran d.only.ran one passed in
+    let all = few-join (card_count sh - 0 + any_steps sh + (n + room_steps sh)) give_steps v y z three.ran g.only.ran part (few-steps give_steps y z _ g.steps (given-few k.packet false (k.length == 0))) in
     omega (arith, all)
 
 pub returns-in_default-clause-packet : goal.returns-in_default-clause-packet

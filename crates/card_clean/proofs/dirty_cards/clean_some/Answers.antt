@@ -15,7 +15,9 @@ use Rattle.card_clean.proofs.Cleared.{cleared-join, cleared-moves}
 use Rattle.card_clean.proofs.Leavings.{rescanned-join, rescanned-moves}
 use Rattle.card_clean.proofs.Takings.{some-free, with-free}
 use Rattle.mark_core.specs.declared.kinds.Shape.{Shape}
-use Rattle.packet_pools.specs.StepBounds.{any_steps, give_steps}
+use Rattle.packet_pools.specs.StepBounds.{any_steps, give_steps, room_left, room_steps}
+use Rattle.packet_pools.specs.declared.search.Search.{Search}
+use Rattle.packet_pools.proofs.RoomLeft.{room-whole}
 use Rattle.card_clean.specs.StepBounds.{pass_steps}
 use Rattle.packet_pools.proofs.Few.{few-join, few-steps, given-few}
 use Rattle.card_clean.proofs.dirty_cards.clean_some.Goals as goal
@@ -111,6 +113,13 @@ returns-clause-few c =
     let b = c.take_some.ensures in
     let d = c.clean_between-cleaned.ensures in
     let g = c.give.ensures in
-    let first = few-join (any_steps sh) n v x y b.only.ran d.only.ran b.few d.few in
+    let h = c.in-Some.out in
+    let begun = ap (λ (s : Search). room_left sh s h.length) c.open.ensures in
+    let fits = c.in-Some.ensures.some.1.fits in
+    let entries = ap (λ (s : Shape). s.entries) b.seat.0.1 in
+    let most = room-whole sh h.length (omega (arith, fits, entries)) in
+    let cleaned = d.few in
+    let first = few-join (any_steps sh) (n + room_steps sh) v x y b.only.ran d.only.ran b.few (omega (arith, cleaned, begun, most)) in
     let both = cleaned-join v x y (traced-cleaned v x b.only) d.only in
-    (few-join (any_steps sh + n) give_steps v y z both.ran g.only.ran first (few-steps give_steps y z _ g.steps (given-few k.packet false (k.length == 0))), tt)
+    let all = few-join (any_steps sh + (n + room_steps sh)) give_steps v y z both.ran g.only.ran first (few-steps give_steps y z _ g.steps (given-few k.packet false (k.length == 0))) in
+    (omega (arith, all), tt)

@@ -15,8 +15,10 @@ use Rattle.card_clean.specs.Leaving.{rescanned_in}
 use Rattle.card_clean.proofs.Cleared.{cleared-join, cleared-one}
 use Rattle.card_clean.proofs.Leavings.{rescanned-join}
 use Rattle.card_clean.proofs.Steps.{traced-read_card, card-small}
-use Rattle.card_clean.specs.StepBounds.{clean_steps}
-use Rattle.packet_pools.proofs.Few.{few-after, few-join}
+use Rattle.packet_pools.specs.Seeking.{was_got}
+use Rattle.packet_pools.proofs.Few.{few-after, few-sum}
+use Rattle.packet_pools.proofs.Tried.{leads-join}
+use Rattle.card_clean.proofs.Searched.{leads-still}
 use Rattle.card_clean.proofs.Spilled.{spills-join, spills-look}
 use Rattle.card_clean.proofs.dirty_cards.clean_where_dirty.Goals as goal
 
@@ -44,8 +46,8 @@ returns-then-not-read_card-clause-cleans c =
     let none : e.0 ≡ 0 = omega (arith, small, other) in
     record { cleaning = []; told = inl (refl, events-after v w (ReadCard c.args.card) e.0 e.1 ∙ ap (λ n. event (ReadCard c.args.card) n ∷ []) none, refl) }
 
-pub clean_card-cleaned-requires-clause-seat : goal.clean_card-cleaned-requires-clause-seat
-clean_card-cleaned-requires-clause-seat c =
+pub clean_card_on-cleaned-requires-clause-seat : goal.clean_card_on-cleaned-requires-clause-seat
+clean_card_on-cleaned-requires-clause-seat c =
     let v : View = view_of c.args.seat.now in
     let w : View = view_of c.read_card.new.seat in
     let e = c.read_card.ensures.view in
@@ -56,24 +58,24 @@ returns-clause-only c =
     let v : View = view_of c.args.seat.now in
     let w : View = view_of c.read_card.new.seat in
     let e = c.read_card.ensures.view in
-    cleaned-join v w (view_of c.clean_card-cleaned.new.seat) (traced-cleaned v w (traced-read_card v w e.0 c.args.card e.2 e.1)) c.clean_card-cleaned.ensures.only
+    cleaned-join v w (view_of c.clean_card_on-cleaned.new.seat) (traced-cleaned v w (traced-read_card v w e.0 c.args.card e.2 e.1)) c.clean_card_on-cleaned.ensures.only
 
 pub returns-clause-cleans : goal.returns-clause-cleans
 returns-clause-cleans c =
     let v : View = view_of c.args.seat.now in
     let w : View = view_of c.read_card.new.seat in
-    let x : View = view_of c.clean_card-cleaned.new.seat in
+    let x : View = view_of c.clean_card_on-cleaned.new.seat in
     let e = c.read_card.ensures.view in
     let one : e.0 ≡ 1 = eqb-true e.0 1 (sym e.3 ∙ c.if-not-read_card.false) in
     record {
       cleaning = events w x;
       told =
           inr (
-            c.clean_card-cleaned.result,
+            c.clean_card_on-cleaned.result,
             refl,
-            events-join v w x (traced-read_card v w e.0 c.args.card e.2 e.1).log c.clean_card-cleaned.ensures.only.log
+            events-join v w x (traced-read_card v w e.0 c.args.card e.2 e.1).log c.clean_card_on-cleaned.ensures.only.log
                 ∙ (λ i. (events-after v w (ReadCard c.args.card) e.0 e.1 ∙ ap (λ n. event (ReadCard c.args.card) n ∷ []) one) i ++ events w x),
-            c.clean_card-cleaned.ensures.cleans,
+            c.clean_card_on-cleaned.ensures.cleans,
           );
     }
 
@@ -87,11 +89,11 @@ pub returns-clause-left : goal.returns-clause-left
 returns-clause-left c =
     let v : View = view_of c.args.seat.now in
     let w : View = view_of c.read_card.new.seat in
-    let x : View = view_of c.clean_card-cleaned.new.seat in
+    let x : View = view_of c.clean_card_on-cleaned.new.seat in
     let e = c.read_card.ensures.view in
     let first : rescanned_in v (events v w) ≡ 0 = ap (rescanned_in v) (events-after v w (ReadCard c.args.card) e.0 e.1) in
-    let j = rescanned-join v w x (traced-read_card v w e.0 c.args.card e.2 e.1).ran c.clean_card-cleaned.ensures.only.ran in
-    omega (arith, j, first, c.clean_card-cleaned.ensures.left)
+    let j = rescanned-join v w x (traced-read_card v w e.0 c.args.card e.2 e.1).ran c.clean_card_on-cleaned.ensures.only.ran in
+    omega (arith, j, first, c.clean_card_on-cleaned.ensures.left)
 
 pub returns-then-not-read_card-clause-cleared : goal.returns-then-not-read_card-clause-cleared
 returns-then-not-read_card-clause-cleared c = let e = c.read_card.ensures.view in ap (count_of clears) (events-after (view_of c.args.seat.now) (view_of c.read_card.new.seat) (ReadCard c.args.card) e.0 e.1)
@@ -100,11 +102,11 @@ pub returns-clause-cleared : goal.returns-clause-cleared
 returns-clause-cleared c =
     let v : View = view_of c.args.seat.now in
     let w : View = view_of c.read_card.new.seat in
-    let x : View = view_of c.clean_card-cleaned.new.seat in
+    let x : View = view_of c.clean_card_on-cleaned.new.seat in
     let e = c.read_card.ensures.view in
-    let d = c.clean_card-cleaned.ensures in
+    let d = c.clean_card_on-cleaned.ensures in
     let first : count_of clears (events v w) ≡ 0 = ap (count_of clears) (events-after v w (ReadCard c.args.card) e.0 e.1) in
-    let one = cleared-one c.args.heap.now.shape c.args.card c.clean_card-cleaned.result (events w x) d.cleans in
+    let one = cleared-one c.args.heap.now.shape c.args.card c.clean_card_on-cleaned.result (events w x) d.cleans in
     let both = cleared-join v w x (traced-read_card v w e.0 c.args.card e.2 e.1).ran d.only.ran in
     omega (arith, both, first, one)
 
@@ -116,9 +118,33 @@ returns-clause-few c =
     let v : View = view_of c.args.seat.now in
     let w : View = view_of c.read_card.new.seat in
     let e = c.read_card.ensures.view in
-    let d = c.clean_card-cleaned.ensures in
-    let all = few-join 1 (clean_steps c.clean_card-cleaned.result.rescanned c.args.heap.now.shape) v w (view_of c.clean_card-cleaned.new.seat) (traced-read_card v w e.0 c.args.card e.2 e.1).ran d.only.ran (few-after v w _ _ e.1) d.few in
-    omega (arith, all)
+    let d = c.clean_card_on-cleaned.ensures in
+    let all = few-sum v w (view_of c.clean_card_on-cleaned.new.seat) (traced-read_card v w e.0 c.args.card e.2 e.1).ran d.only.ran in
+    let one = few-after v w _ _ e.1 in
+    let rest = d.few in
+    omega (arith, all, one, rest)
+
+pub returns-then-not-read_card-clause-leads : goal.returns-then-not-read_card-clause-leads
+returns-then-not-read_card-clause-leads c =
+    let v : View = view_of c.args.seat.now in
+    let w : View = view_of c.read_card.new.seat in
+    let e = c.read_card.ensures.view in
+    leads-still c.args.heap.now.shape c.args.search.now c.args.out.now (events v w) (λ p. ap (was_got p) (events-after v w (ReadCard c.args.card) e.0 e.1))
+
+pub returns-clause-leads : goal.returns-clause-leads
+returns-clause-leads c =
+    let sh : Shape = c.args.heap.now.shape in
+    let v : View = view_of c.args.seat.now in
+    let w : View = view_of c.read_card.new.seat in
+    let x : View = view_of c.clean_card_on-cleaned.new.seat in
+    let s = c.args.search.now in
+    let h = c.args.out.now in
+    let e = c.read_card.ensures.view in
+    let d = c.clean_card_on-cleaned.ensures in
+    leads-join sh s s c.clean_card_on-cleaned.new.search h h c.clean_card_on-cleaned.new.out (events v w) (events w x) (events v x)
+    (events-join v w x (traced-read_card v w e.0 c.args.card e.2 e.1).log d.only.log)
+    (leads-still sh s h (events v w) (λ p. ap (was_got p) (events-after v w (ReadCard c.args.card) e.0 e.1)))
+    d.leads
 
 pub returns-then-not-read_card-clause-spills : goal.returns-then-not-read_card-clause-spills
 returns-then-not-read_card-clause-spills c = λ still.
@@ -131,9 +157,9 @@ pub returns-clause-spills : goal.returns-clause-spills
 returns-clause-spills c = λ still.
     let v : View = view_of c.args.seat.now in
     let w : View = view_of c.read_card.new.seat in
-    let x : View = view_of c.clean_card-cleaned.new.seat in
+    let x : View = view_of c.clean_card_on-cleaned.new.seat in
     let e = c.read_card.ensures.view in
-    let f = c.clean_card-cleaned.ensures in
+    let f = c.clean_card_on-cleaned.ensures in
     spills-join (events v w) (events w x) (events v x) (events-join v w x (traced-read_card v w e.0 c.args.card e.2 e.1).log f.only.log)
     (spills-look c.args.card e.0 (events v w) (events-after v w (ReadCard c.args.card) e.0 e.1))
     (f.spills (ap (λ (z : View). z.state.active) e.1 ∙ still))

@@ -13,7 +13,7 @@ use Rattle.card_clean.specs.Leaving.{rescanned_in}
 use Rattle.card_clean.proofs.Leavings.{rescanned-join, rescanned-moves}
 use Rattle.card_clean.proofs.Takings.{some-free, with-free}
 use Rattle.mark_core.specs.declared.kinds.Shape.{Shape}
-use Rattle.packet_pools.specs.StepBounds.{give_steps, output_steps}
+use Rattle.packet_pools.specs.StepBounds.{give_steps, output_steps, room_steps}
 use Rattle.card_clean.specs.StepBounds.{clean_steps}
 use Rattle.packet_pools.proofs.Few.{few-join, few-steps, given-few}
 use Rattle.packet_pools.specs.Counts.{count_of, dirties}
@@ -91,13 +91,14 @@ returns-clause-few c =
     let x : View = view_of c.clean_card-cleaned.new.seat in
     let y : View = view_of c.give.new.seat in
     let k = c.clean_card-cleaned.new.out in
-    let n : ℕ = clean_steps c.clean_card-cleaned.result.rescanned sh in
+    let n : ℕ = clean_steps c.clean_card-cleaned.result.rescanned sh + room_steps sh in
     let a = c.take_output.ensures in
     let d = c.clean_card-cleaned.ensures in
     let g = c.give.ensures in
     let first = few-join (output_steps sh) n v w x a.only.ran d.only.ran a.few d.few in
     let both = cleaned-join v w x (traced-cleaned v w a.only) d.only in
-    (few-join (output_steps sh + n) give_steps v x y both.ran g.only.ran first (few-steps give_steps x y _ g.steps (given-few k.packet false (k.length == 0))), tt)
+    let all = few-join (output_steps sh + n) give_steps v x y both.ran g.only.ran first (few-steps give_steps x y _ g.steps (given-few k.packet false (k.length == 0))) in
+    (omega (arith, all), tt)
 
 pub returns-clause-clean : goal.returns-clause-clean
 returns-clause-clean c = λ still dirty.

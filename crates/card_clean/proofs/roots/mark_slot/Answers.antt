@@ -17,12 +17,14 @@ use Rattle.card_clean.proofs.Steps.{idle-hand}
 use Rattle.card_clean.proofs.Leavings.{rescanned-join, rescanned-unread, marks-see}
 use Rattle.card_clean.specs.Leaving.{rescanned_in}
 use Rattle.gc_table.specs.Log.{events}
-use Rattle.gc_table.proofs.History.Log.{events-after, only-after}
+use Rattle.gc_table.proofs.History.Log.{events-after, events-join, only-after}
 use Rattle.gc_table.proofs.Running.{ran-only}
 use Rattle.card_clean.proofs.RootReads.{reads-join, scans-none}
 use Rattle.packet_pools.specs.Fields.{picked}
-use Rattle.packet_pools.specs.StepBounds.{mark_steps}
-use Rattle.packet_pools.proofs.Few.{few-after, few-join}
+use Rattle.packet_pools.specs.Counts.{dirties}
+use Rattle.packet_pools.specs.Seeking.{some_event, was_got}
+use Rattle.packet_pools.proofs.Few.{few-after, few-sum}
+use Rattle.packet_pools.proofs.Tried.{searches-join, searches-still}
 use Rattle.card_clean.proofs.roots.mark_slot.Goals as goal
 
 pub load_slot-word-requires-clause-may : goal.load_slot-word-requires-clause-may
@@ -150,4 +152,30 @@ returns-then-word-ne0-clause-few c =
     let w : View = view_of c.load_slot-word.new.seat in
     let e = c.load_slot-word.ensures.view in
     let m = c.mark_cell.ensures in
-    few-join 1 (mark_steps c.args.heap.now.shape) v w (view_of c.mark_cell.new.seat) (traced-load_slot v w c.load_slot-word.result c.args.section c.args.k e.1 e.0).ran m.only.ran (few-after v w _ _ e.0) m.few
+    let all = few-sum v w (view_of c.mark_cell.new.seat) (traced-load_slot v w c.load_slot-word.result c.args.section c.args.k e.1 e.0).ran m.only.ran in
+    let one = few-after v w _ _ e.0 in
+    let rest = m.few in
+    omega (arith, all, one, rest)
+
+pub returns-else-word-ne0-clause-tried : goal.returns-else-word-ne0-clause-tried
+returns-else-word-ne0-clause-tried c =
+    let v : View = view_of c.args.seat.now in
+    let w : View = view_of c.load_slot-word.new.seat in
+    let one = events-after v w (LoadSlot c.args.section c.args.k) c.load_slot-word.result c.load_slot-word.ensures.view.0 in
+    searches-still c.args.heap.now.shape c.args.search.now c.args.out.now (events v w) (ap (some_event dirties) one) (λ p. ap (was_got p) one)
+
+pub returns-then-word-ne0-clause-tried : goal.returns-then-word-ne0-clause-tried
+returns-then-word-ne0-clause-tried c =
+    let sh : Shape = c.args.heap.now.shape in
+    let v : View = view_of c.args.seat.now in
+    let w : View = view_of c.load_slot-word.new.seat in
+    let x : View = view_of c.mark_cell.new.seat in
+    let s = c.args.search.now in
+    let h = c.args.out.now in
+    let e = c.load_slot-word.ensures.view in
+    let m = c.mark_cell.ensures in
+    let one = events-after v w (LoadSlot c.args.section c.args.k) c.load_slot-word.result e.0 in
+    searches-join sh s s c.mark_cell.new.search h h c.mark_cell.new.out (events v w) (events w x) (events v x)
+    (events-join v w x (traced-load_slot v w c.load_slot-word.result c.args.section c.args.k e.1 e.0).log m.only.log)
+    (searches-still sh s h (events v w) (ap (some_event dirties) one) (λ p. ap (was_got p) one))
+    m.tried

@@ -18,7 +18,9 @@ use Rattle.gc_table.proofs.Running.{ran-only}
 use Rattle.card_clean.specs.Drained.{sees_roots}
 use Rattle.card_clean.proofs.RootReads.{reads-between}
 use Rattle.mark_core.specs.declared.kinds.Shape.{Shape}
-use Rattle.packet_pools.specs.StepBounds.{any_steps, follow_steps, give_steps}
+use Rattle.packet_pools.specs.StepBounds.{any_steps, follow_steps, give_steps, room_left, room_steps}
+use Rattle.packet_pools.specs.declared.search.Search.{Search}
+use Rattle.packet_pools.proofs.RoomLeft.{room-whole}
 use Rattle.packet_pools.proofs.Few.{few-join, few-steps, given-few}
 use Rattle.card_clean.proofs.roots.see_to_some.Goals as goal
 
@@ -121,8 +123,15 @@ returns-clause-few c =
     let a = c.take_some.ensures in
     let b = c.mark_between.ensures in
     let g = c.give.ensures in
-    let first = few-join (any_steps sh) n v w x a.only.ran b.only.ran a.few b.few in
-    few-join (any_steps sh + n) give_steps v x y (traced-join v w x a.only b.only).ran g.only.ran first (few-steps give_steps x y _ g.steps (given-few k.packet false (k.length == 0)))
+    let h = c.in-Some.out in
+    let begun = ap (λ (s : Search). room_left sh s h.length) c.open.ensures in
+    let fits = c.in-Some.ensures.some.1.fits in
+    let entries = ap (λ (s : Shape). s.entries) a.seat.0.1 in
+    let most = room-whole sh h.length (omega (arith, fits, entries)) in
+    let marked = b.few in
+    let first = few-join (any_steps sh) (n + room_steps sh) v w x a.only.ran b.only.ran a.few (omega (arith, marked, begun, most)) in
+    let all = few-join (any_steps sh + (n + room_steps sh)) give_steps v x y (traced-join v w x a.only b.only).ran g.only.ran first (few-steps give_steps x y _ g.steps (given-few k.packet false (k.length == 0))) in
+    omega (arith, all)
 
 pub returns-in_default-clause-pooled : goal.returns-in_default-clause-pooled
 returns-in_default-clause-pooled c = λ none deferred. c.in_default.ensures.pooled c.requires.ready.drains.alone none deferred

@@ -19,7 +19,7 @@ use Rattle.gc_cycle.specs.Lower.{HasTraced}
 use Rattle.gc_cycle.specs.Moments.{at_some_moment, begins, finds_no_room, holds_one}
 use Rattle.gc_cycle.specs.Sorts.{clears_card, draws, pops, reads_root, takes_deferred}
 use Rattle.gc_cycle.specs.Standing.{is_at_rest}
-use Rattle.gc_cycle.proofs.CleaningSpares.{none-one, moved-untaken, moves-undeferred, moves-unpopped, moves-unrooted, scan-undeferred, scan-unpopped, scan-unrooted, Spares, untaken, unread-of}
+use Rattle.gc_cycle.proofs.CleaningSpares.{none-one, moved-untaken, moves-undeferred, moves-unpopped, moves-unrooted, scan-undeferred, scan-unpopped, scan-unrooted, Spares, uncounted-of, untaken, unread-of}
 use Rattle.gc_cycle.proofs.Idling.{idle-of, rest-parts, traced-held, traces-of}
 use Rattle.gc_cycle.proofs.Ends.Rooted.{rest-room}
 use Rattle.gc_cycle.proofs.Sequences.{this-moment}
@@ -136,3 +136,9 @@ returns-in-Some-clause-undeferred c =
 
 pub returns-in-None-clause-undeferred : goal.returns-in-None-clause-undeferred
 returns-in-None-clause-undeferred c = moved-untaken output_pools takes_deferred moves-undeferred (events (view_of c.args.seat.now) (view_of c.clean_one.new.seat)) c.in-None.ensures.none.2
+
+pub returns-in-Some-clause-uncounted : goal.returns-in-Some-clause-uncounted
+returns-in-Some-clause-uncounted c = uncounted-of (view_of c.args.seat.now) (view_of c.clean_one.new.seat) c.in-Some.ensures.only
+
+pub returns-in-None-clause-uncounted : goal.returns-in-None-clause-uncounted
+returns-in-None-clause-uncounted c = uncounted-of (view_of c.args.seat.now) (view_of c.clean_one.new.seat) c.in-None.ensures.only

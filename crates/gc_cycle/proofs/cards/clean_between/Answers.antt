@@ -14,7 +14,7 @@ use Rattle.gc_cycle.specs.Standing.{is_at_rest}
 use Rattle.gc_cycle.proofs.CardLooks.{pass-spares, passed, passed-few}
 use Rattle.gc_cycle.proofs.Ends.Rooted.{rest-room}
 use Rattle.gc_cycle.proofs.Idling.{rest-parts, traced-held, traces-of}
-use Rattle.gc_cycle.proofs.CleaningSpares.{moves-undeferred, moves-unpopped, moves-unrooted, scan-undeferred, scan-unpopped, scan-unrooted, Spares, unread-of, untaken}
+use Rattle.gc_cycle.proofs.CleaningSpares.{moves-undeferred, moves-unpopped, moves-unrooted, scan-undeferred, scan-unpopped, scan-unrooted, Spares, uncounted-of, unread-of, untaken}
 use Rattle.gc_cycle.proofs.cards.clean_between.Goals.{After-clean_some}
 use Rattle.gc_cycle.proofs.cards.clean_between.Goals as goal
 
@@ -67,3 +67,6 @@ returns-clause-few c =
 pub returns-clause-undeferred : goal.returns-clause-undeferred
 returns-clause-undeferred c =
     pass-spares takes_deferred moves-undeferred scan-undeferred (λ k n. refl) (λ k n. refl) (λ k n. refl) (λ k n. refl) (λ k n. refl) c.args.heap.now.shape c.args.first c.args.end (events (view_of c.args.seat.now) (view_of c.clean_some.new.seat)) (all-passed c)
+
+pub returns-clause-uncounted : goal.returns-clause-uncounted
+returns-clause-uncounted c = uncounted-of (view_of c.args.seat.now) (view_of c.clean_some.new.seat) c.clean_some.ensures.only

@@ -1,6 +1,6 @@
-use Rattle.std.proofs.Common.{ℕ, ◌≡◌, ◌≤◌, arith, refl, sym, ap, ◌∙◌, subst, Bool, true, false, Option, Some, None, inl, inr, eq-eqb}
+use Rattle.std.proofs.Common.{ℕ, ◌≡◌, ◌≤◌, arith, cond, refl, sym, ap, ◌∙◌, subst, Bool, true, false, Option, Some, None, inl, inr, eq-eqb}
 use Rattle.std.specs.Prelude.{nat_le, nat_lt, if◌then◌else◌, ◌||◌, ◌+◌, IfSome}
-use Rattle.std.proofs.lemmas.Bool.{false≢true, le-leb, ltb-false, ltb-true, or_left, or_right}
+use Rattle.std.proofs.lemmas.Bool.{false≢true, le-leb, le-ltb, ltb-false, ltb-true, or_left, or_right}
 use Rattle.mark_core.specs.Layout.{card_count}
 use Rattle.mark_core.specs.declared.kinds.Step.{Step}
 use Rattle.mark_core.specs.declared.kinds.Step.TheVariants.{ClearCard, NextOfCards, Pop, ReadField, ReadRoot, LoadSlot, Take}
@@ -20,7 +20,7 @@ use Rattle.packet_pools.specs.Seeking.{some_event}
 use Rattle.card_clean.specs.Passing.{card_floor, Draws, DrawsCard, draws_card, keeps_floor}
 use Rattle.gc_cycle.specs.Events.{never}
 use Rattle.gc_cycle.specs.Lower.{GivesCard, HasTraced, traces_or_cleans}
-use Rattle.gc_cycle.specs.Sorts.{clears, draws, gives_card, pops, reads_pace, reads_root, sees_last_card, takes_deferred}
+use Rattle.gc_cycle.specs.Sorts.{clears, draws, gives_card, pops, reads_card_left, reads_pace, reads_root, sees_last_card, takes_deferred}
 use Rattle.gc_cycle.specs.Standing.{is_at_rest}
 use Rattle.gc_cycle.proofs.Idling.{traces-of}
 use Rattle.gc_cycle.proofs.Sequences.{total-none}
@@ -149,3 +149,26 @@ returns-clause-unlooked c = untaken draws_card looks_at_card draws-unlooked (eve
 
 pub returns-clause-undeferred : goal.returns-clause-undeferred
 returns-clause-undeferred c = untaken draws_card takes_deferred undefers (events (view_of c.args.seat.now) (view_of c.next_card.new.seat)) c.next_card.ensures.only
+
+-- the counter was read below its end only if it was raised then
+counted-drawn : (r : Option ℕ) (v w : View) → DrawsCard r v w → count_of (reads_card_left (card_count v.shape)) (events v w) ≤ count_of draws (events v w)
+counted-drawn r v w (inl over) =
+    let cards : ℕ = card_count v.shape in
+    let read = ap {B = ℕ} (count_of (reads_card_left cards)) over.0.events_are in
+    let none : cond {A = ℕ} (nat_lt over.0.seen cards) 1 0 ≡ 0 = ap (λ (b : Bool). cond {A = ℕ} b 1 0) (le-ltb over.0.seen cards over.0.over) in
+    omega (arith, read, none)
+counted-drawn r v w (inr gives) =
+    let cards : ℕ = card_count v.shape in
+    let read = ap {B = ℕ} (count_of (reads_card_left cards)) gives.1.events_are in
+    let one = ap {B = ℕ} (count_of draws) gives.1.events_are in
+    omega (arith, read, one, one_at_most (nat_lt gives.1.seen cards))
+  where
+    one_at_most : (b : Bool) → cond {A = ℕ} b 1 0 ≤ 1
+    one_at_most true = omega arith
+    one_at_most false = omega arith
+
+pub returns-clause-counted : goal.returns-clause-counted
+returns-clause-counted c =
+    let v : View = view_of c.args.seat.now in
+    let w : View = view_of c.next_card.new.seat in
+    subst (λ (sh : Shape). count_of (reads_card_left (card_count sh)) (events v w) ≤ count_of draws (events v w)) c.requires.seat.0.1 (counted-drawn c.next_card.result v w c.next_card.ensures.draws)

@@ -1,10 +1,10 @@
-use Rattle.std.proofs.Common.{ℕ, arith, ◌≡◌, ◌≤◌, ◌+◌, length, subst}
-use Rattle.std.proofs.Math.Nat.{mul-le-mul_right}
+use Rattle.std.proofs.Common.{ℕ, arith, ◌≡◌, ◌≤◌, length, subst}
 use Rattle.mark_core.specs.declared.kinds.Shape.{Shape}
 use Rattle.gc_table.specs.Log.{events}
 use Rattle.gc_table.specs.Seats.{view_of}
 use Rattle.gc_table.specs.declared.view.View.{View}
-use Rattle.tracer.specs.StepBounds.{object_steps, trace_steps, turn_steps as object_turn}
+use Rattle.tracer.specs.StepBounds.{trace_steps}
+use Rattle.tracer.proofs.Few.{traces-fewer}
 use Rattle.gc_cycle.specs.HelpTurns.{TracesAtMost, work_steps}
 use Rattle.gc_cycle.proofs.help_turns.help_some.Goals as goal
 
@@ -12,7 +12,7 @@ use Rattle.gc_cycle.proofs.help_turns.help_some.Goals as goal
 traced-most : (objects stretches done : ℕ) (v w : View) (sh : Shape) → v.shape ≡ sh → TracesAtMost objects done v w → length (events v w) ≤ work_steps objects stretches sh
 traced-most objects stretches done v w sh e t =
     let few = subst (λ (x : Shape). length (events v w) ≤ trace_steps done x) e t.few in
-    let more = mul-le-mul_right {m = done} {n = objects} (object_turn sh + object_steps sh) t.within in
+    let more = traces-fewer done objects sh t.within in
     omega (arith, few, more)
 
 pub returns-in-Some-Drain-clause-few : goal.returns-in-Some-Drain-clause-few

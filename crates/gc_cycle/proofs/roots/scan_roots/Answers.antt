@@ -18,7 +18,7 @@ use Rattle.gc_cycle.specs.Sorts.{reads_root, draws_or_clears, pops, takes_deferr
 use Rattle.gc_cycle.specs.Standing.{is_at_rest}
 use Rattle.gc_cycle.proofs.Ends.NoRescans.{calm, roots-begin_none}
 use Rattle.gc_cycle.proofs.Idling.{idle-of, moves-quiet, rest-again, rest-parts, traced-of, traces-of}
-use Rattle.gc_cycle.proofs.CleaningSpares.{moved-untaken, moves-uncleaned, moves-undeferred, moves-unpopped, root-steps, roots-uncleaned, roots-undeferred, roots-unpopped, Spares, untaken, unread-of, moves-unrooted}
+use Rattle.gc_cycle.proofs.CleaningSpares.{moved-untaken, moves-uncleaned, moves-undeferred, moves-unpopped, root-steps, roots-uncleaned, roots-undeferred, roots-unpopped, Spares, uncounted-of, untaken, unread-of, moves-unrooted}
 use Rattle.gc_cycle.specs.CardLooks.{looks_at_card}
 use Rattle.gc_cycle.proofs.CardLooks.{moves-unlooked, roots-unlooked}
 use Rattle.gc_cycle.proofs.roots.scan_roots.Goals as goal
@@ -77,3 +77,6 @@ returns-clause-unlooked c =
 pub returns-clause-undeferred : goal.returns-clause-undeferred
 returns-clause-undeferred c =
     never-in takes_deferred roots-undeferred moves-undeferred c.args.section c.scan_roots.result (view_of c.args.seat.now) (view_of c.scan_roots.new.seat) c.scan_roots.ensures.scanned
+
+pub returns-clause-uncounted : goal.returns-clause-uncounted
+returns-clause-uncounted c = uncounted-of (view_of c.args.seat.now) (view_of c.scan_roots.new.seat) c.scan_roots.ensures.only

@@ -16,7 +16,7 @@ use Rattle.gc_cycle.specs.Sorts.{draws_or_clears, reads_root}
 use Rattle.gc_cycle.specs.Standing.{is_at_rest}
 use Rattle.gc_cycle.proofs.Ends.NoRescans.{calm, traces-begin_none}
 use Rattle.gc_cycle.proofs.Idling.{idle-of, rest-again, rest-parts, traced-of, traces-of}
-use Rattle.gc_cycle.proofs.CleaningSpares.{trace-steps, trace-uncleaned, trace-unrooted, untaken, unread-of}
+use Rattle.gc_cycle.proofs.CleaningSpares.{trace-steps, trace-uncleaned, trace-unrooted, uncounted-of, untaken, unread-of}
 use Rattle.gc_cycle.specs.CardLooks.{looks_at_card}
 use Rattle.gc_cycle.proofs.CardLooks.{trace-unlooked}
 use Rattle.gc_cycle.proofs.tracing.trace.Goals as goal
@@ -94,3 +94,6 @@ pub returns-clause-unlooked : goal.returns-clause-unlooked
 returns-clause-unlooked c =
     let es = events (view_of c.args.seat.now) (view_of c.trace.new.seat) in
     untaken is_trace_step looks_at_card trace-unlooked es (sym (trace-steps es) ∙ c.trace.ensures.tally.steps)
+
+pub returns-clause-uncounted : goal.returns-clause-uncounted
+returns-clause-uncounted c = uncounted-of (view_of c.args.seat.now) (view_of c.trace.new.seat) c.trace.ensures.only

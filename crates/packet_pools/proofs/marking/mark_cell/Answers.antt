@@ -1,4 +1,4 @@
-use Rattle.std.proofs.Common.{ℕ, arith, ◌-◌, ◌≡◌, ◌+◌, ◌%◌, [], ◌∷◌, ◌++◌, List, refl, sym, ap, ◌∙◌, subst, Bool, true, false, not, cond, ◌≤◌}
+use Rattle.std.proofs.Common.{arith, ◌-◌, ◌≡◌, ◌+◌, ◌%◌, [], ◌∷◌, ◌++◌, List, refl, sym, ap, ◌∙◌, subst, Bool, true, false, not, cond, ◌≤◌}
 use mir.Val.{bool_byte}
 use Rattle.std.proofs.lemmas.Bool.{true≢false, false≢true}
 use Rattle.mark_core.specs.Bits.{has_bit}
@@ -15,8 +15,10 @@ use Rattle.gc_table.proofs.History.Log.{entry_of, events-after, events-join}
 use Rattle.packet_pools.proofs.TracedSteps.{marked-stays, traced-join, marks-noted}
 use Rattle.packet_pools.proofs.Doing.{traces-on}
 use Rattle.packet_pools.proofs.ScanSteps.{may-set_mark, traced-set_mark}
-use Rattle.packet_pools.specs.StepBounds.{give_steps, output_steps}
-use Rattle.packet_pools.proofs.Few.{few-after, few-join}
+use Rattle.packet_pools.specs.Counts.{dirties}
+use Rattle.packet_pools.specs.Seeking.{some_event, was_got}
+use Rattle.packet_pools.proofs.Few.{few-after, few-sum}
+use Rattle.packet_pools.proofs.Tried.{searches-join, searches-still}
 use Rattle.packet_pools.proofs.Counting.{counts-join, counts-mark}
 use Rattle.packet_pools.specs.Fields.{AsksToMark}
 use Rattle.packet_pools.proofs.Reading.{asks-join}
@@ -157,6 +159,28 @@ returns-clause-few c =
     let x : View = view_of c.push_marked-overflowed.new.seat in
     let s = c.set_mark.ensures.view in
     let p = c.push_marked-overflowed.ensures in
-    let n : ℕ = output_steps c.args.heap.now.shape + give_steps in
-    let all = few-join 1 (n + 1) v w x (traced-set_mark v w _ c.args.cell s.2 c.requires.hand.fresh s.1).ran p.only.ran (few-after v w _ _ s.1) p.few in
-    omega (arith, all)
+    let all = few-sum v w x (traced-set_mark v w _ c.args.cell s.2 c.requires.hand.fresh s.1).ran p.only.ran in
+    let one = few-after v w _ _ s.1 in
+    let rest = p.few in
+    omega (arith, all, one, rest)
+
+pub returns-then-not-set_mark-clause-tried : goal.returns-then-not-set_mark-clause-tried
+returns-then-not-set_mark-clause-tried c =
+    let e = events-after (view_of c.args.seat.now) (view_of c.set_mark.new.seat) (SetMark c.args.cell) _ c.set_mark.ensures.view.1 in
+    searches-still c.args.heap.now.shape c.args.search.now c.args.out.now (events (view_of c.args.seat.now) (view_of c.set_mark.new.seat)) (ap (some_event dirties) e) (λ p. ap (was_got p) e)
+
+pub returns-clause-tried : goal.returns-clause-tried
+returns-clause-tried c =
+    let sh : Shape = c.args.heap.now.shape in
+    let v : View = view_of c.args.seat.now in
+    let w : View = view_of c.set_mark.new.seat in
+    let x : View = view_of c.push_marked-overflowed.new.seat in
+    let t = c.args.search.now in
+    let h = c.args.out.now in
+    let s = c.set_mark.ensures.view in
+    let p = c.push_marked-overflowed.ensures in
+    let e = events-after v w (SetMark c.args.cell) _ s.1 in
+    searches-join sh t t c.push_marked-overflowed.new.search h h c.push_marked-overflowed.new.out (events v w) (events w x) (events v x)
+    (events-join v w x (traced-set_mark v w _ c.args.cell s.2 c.requires.hand.fresh s.1).log p.only.log)
+    (searches-still sh t h (events v w) (ap (some_event dirties) e) (λ z. ap (was_got z) e))
+    p.tried

@@ -13,9 +13,13 @@ use Rattle.gc_table.proofs.History.Log.{entry_of, events-after, events-join}
 use Rattle.packet_pools.proofs.TracedSteps.{traced-join}
 use Rattle.packet_pools.proofs.Doing.{traces-on}
 use Rattle.packet_pools.proofs.ScanSteps.{fresh-answers, may-dirty_card, traced-dirty_card}
-use Rattle.packet_pools.specs.StepBounds.{give_steps, output_steps}
-use Rattle.packet_pools.proofs.Few.{few-after, few-join}
-use Rattle.packet_pools.proofs.Counting.{counts-join, counts-lost, counts-moves, counts-push}
+use Rattle.packet_pools.specs.declared.search.Search.{Search}
+use Rattle.packet_pools.specs.StepBounds.{room_left}
+use Rattle.packet_pools.specs.Tried.{SearchesOn}
+use Rattle.packet_pools.proofs.Few.{few-after, few-sum}
+use Rattle.packet_pools.proofs.RoomLeft.{room-push}
+use Rattle.packet_pools.proofs.Tried.{searches-join, searches-lost, searches-push, searches-quiet}
+use Rattle.packet_pools.proofs.Counting.{counts-dirty, counts-join, counts-moves, counts-push, quiet}
 use Rattle.packet_pools.proofs.Reading.{asks-join, asks-moves}
 use Rattle.packet_pools.proofs.Pushed.{dirtied, pushed, pushes-from}
 use Rattle.mark_core.specs.Cards.{card_of}
@@ -111,10 +115,13 @@ returns-in-Err-clause-counts c =
     let m = c.make_room.ensures in
     let f = c.in-Err.ensures.full in
     let e = lost-step w (view_of c.push.new.seat) y c.card_of.result (card_of c.args.cell) _ f.2 c.card_of.ensures c.dirty_card.ensures.view in
-    counts-lost sh (card_of c.args.cell) _ (events v w) (events v y)
+    counts-join sh 0 0 0 0 0 0 0 1 1 (events v w) (entry_of (DirtyCard (card_of c.args.cell)) _ ∷ []) (events v y)
     (events-join v w y m.only.log (traced-dirty_card w y _ (card_of c.args.cell) refl (fresh-answers w.state c.args.cell (card_of c.args.cell) (same-hand v w c.args.cell m.state c.requires.hand).fresh refl) e).log ∙ ap (λ (l : List Entry). events v w ++ l) (events-after w y _ _ e))
-    (m.full f.0)
-    m.moves
+    refl
+    refl
+    refl
+    (counts-moves sh (events v w) m.moves)
+    (counts-dirty sh _ _)
 
 pub returns-in-Ok-clause-asks : goal.returns-in-Ok-clause-asks
 returns-in-Ok-clause-asks c =
@@ -141,19 +148,69 @@ returns-in-Err-clause-asks c =
 
 pub returns-in-Ok-clause-few : goal.returns-in-Ok-clause-few
 returns-in-Ok-clause-few c =
+    let sh : Shape = c.args.heap.now.shape in
     let v : View = view_of c.args.seat.now in
     let w : View = view_of c.make_room.new.seat in
     let x : View = view_of c.push.new.seat in
+    let t : Search = c.make_room.new.search in
     let m = c.make_room.ensures in
     let e = c.in-Ok.ensures in
-    few-join (output_steps c.args.heap.now.shape + give_steps) 1 v w x m.only.ran e.only.ran m.few (few-after w x _ _ e.pushed.2)
+    let all = few-sum v w x m.only.ran e.only.ran in
+    let first = m.few in
+    let one = few-after w x _ _ e.pushed.2 in
+    let same = ap (λ (l : Held). room_left sh t l.length) e.pushed.1 in
+    let more = room-push sh t c.make_room.new.out.length in
+    omega (arith, all, first, one, same, more)
 
 pub returns-in-Err-clause-few : goal.returns-in-Err-clause-few
 returns-in-Err-clause-few c =
+    let sh : Shape = c.args.heap.now.shape in
     let v : View = view_of c.args.seat.now in
     let w : View = view_of c.make_room.new.seat in
     let y : View = view_of c.dirty_card.new.seat in
     let m = c.make_room.ensures in
-    let e = lost-step w (view_of c.push.new.seat) y c.card_of.result (card_of c.args.cell) _ c.in-Err.ensures.full.2 c.card_of.ensures c.dirty_card.ensures.view in
+    let f = c.in-Err.ensures.full in
+    let e = lost-step w (view_of c.push.new.seat) y c.card_of.result (card_of c.args.cell) _ f.2 c.card_of.ensures c.dirty_card.ensures.view in
     let last = traced-dirty_card w y _ (card_of c.args.cell) refl (fresh-answers w.state c.args.cell (card_of c.args.cell) (same-hand v w c.args.cell m.state c.requires.hand).fresh refl) e in
-    few-join (output_steps c.args.heap.now.shape + give_steps) 1 v w y m.only.ran last.ran m.few (few-after w y _ _ e)
+    let all = few-sum v w y m.only.ran last.ran in
+    let first = m.few in
+    let one = few-after w y _ _ e in
+    let same = ap (λ (l : Held). room_left sh c.make_room.new.search l.length) f.1 in
+    omega (arith, all, first, one, same)
+
+pub returns-in-Ok-clause-tried : goal.returns-in-Ok-clause-tried
+returns-in-Ok-clause-tried c =
+    let sh : Shape = c.args.heap.now.shape in
+    let v : View = view_of c.args.seat.now in
+    let w : View = view_of c.make_room.new.seat in
+    let x : View = view_of c.push.new.seat in
+    let s : Search = c.args.search.now in
+    let t : Search = c.make_room.new.search in
+    let h : Held = c.args.out.now in
+    let k : Held = c.make_room.new.out in
+    let m = c.make_room.ensures in
+    let p = c.in-Ok.ensures.pushed in
+    subst (λ (l : Held). SearchesOn sh s t h l (events v x)) (sym p.1)
+    (searches-join sh s t t h k (record k { length = k.length + 1 }) (events v w) (entry_of (Push k.packet c.args.cell) _ ∷ []) (events v x)
+    (events-join v w x m.only.log c.in-Ok.ensures.only.log ∙ ap (λ (l : List Entry). events v w ++ l) (events-after w x _ _ p.2))
+    (searches-quiet sh s t h k (events v w) (quiet (events v w) m.moves) m.leads)
+    (searches-push sh t k c.args.cell _))
+
+pub returns-in-Err-clause-tried : goal.returns-in-Err-clause-tried
+returns-in-Err-clause-tried c =
+    let sh : Shape = c.args.heap.now.shape in
+    let v : View = view_of c.args.seat.now in
+    let w : View = view_of c.make_room.new.seat in
+    let y : View = view_of c.dirty_card.new.seat in
+    let s : Search = c.args.search.now in
+    let t : Search = c.make_room.new.search in
+    let h : Held = c.args.out.now in
+    let k : Held = c.make_room.new.out in
+    let m = c.make_room.ensures in
+    let f = c.in-Err.ensures.full in
+    let e = lost-step w (view_of c.push.new.seat) y c.card_of.result (card_of c.args.cell) _ f.2 c.card_of.ensures c.dirty_card.ensures.view in
+    subst (λ (l : Held). SearchesOn sh s t h l (events v y)) (sym f.1)
+    (searches-join sh s t t h k k (events v w) (entry_of (DirtyCard (card_of c.args.cell)) _ ∷ []) (events v y)
+    (events-join v w y m.only.log (traced-dirty_card w y _ (card_of c.args.cell) refl (fresh-answers w.state c.args.cell (card_of c.args.cell) (same-hand v w c.args.cell m.state c.requires.hand).fresh refl) e).log ∙ ap (λ (l : List Entry). events v w ++ l) (events-after w y _ _ e))
+    (searches-quiet sh s t h k (events v w) (quiet (events v w) m.moves) m.leads)
+    (subst (λ (z : Search). SearchesOn sh z z k k (entry_of (DirtyCard (card_of c.args.cell)) _ ∷ [])) (sym (m.full f.0)) (searches-lost sh k (card_of c.args.cell) _ f.0)))

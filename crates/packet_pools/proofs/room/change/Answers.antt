@@ -10,6 +10,7 @@ use Rattle.packet_pools.proofs.Exchanged.{known-held, another-held}
 use Rattle.packet_pools.specs.StepBounds.{give_steps}
 use Rattle.packet_pools.proofs.Few.{few-steps, given-few}
 use Rattle.packet_pools.proofs.Counting.{given-moves}
+use Rattle.packet_pools.proofs.TakenOne.{none-given}
 use Rattle.packet_pools.proofs.room.change.Goals as goal
 
 pub give-requires-clause-work : goal.give-requires-clause-work
@@ -26,3 +27,6 @@ returns-clause-moves c = given-moves output_pools c.replace-full.result.packet (
 
 pub returns-clause-few : goal.returns-clause-few
 returns-clause-few c = few-steps give_steps (view_of c.args.seat.now) (view_of c.give.new.seat) _ c.give.ensures.steps (given-few c.replace-full.result.packet false (c.replace-full.result.length == 0))
+
+pub returns-clause-ungot : goal.returns-clause-ungot
+returns-clause-ungot c = λ p. none-given p c.replace-full.result.packet (c.replace-full.result.length == 0) (events (view_of c.args.seat.now) (view_of c.give.new.seat)) c.give.ensures.steps

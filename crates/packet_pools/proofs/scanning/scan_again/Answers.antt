@@ -1,4 +1,4 @@
-use Rattle.std.proofs.Common.{ℕ, ◌*◌, ◌-◌, [], ◌∷◌, subst, arith, refl}
+use Rattle.std.proofs.Common.{ℕ, ◌-◌, [], ◌∷◌, subst, arith, refl}
 use Rattle.mark_core.specs.declared.kinds.Shape.{Shape}
 use Rattle.gc_table.specs.declared.view.View.{View}
 use Rattle.gc_table.specs.Seats.{view_of}
@@ -8,7 +8,8 @@ use Rattle.packet_pools.proofs.TracedSteps.{traced-join}
 use Rattle.packet_pools.specs.Fields.{Follows, fields_from}
 use Rattle.packet_pools.proofs.Reading.{fields-first, follows-join}
 use Rattle.packet_pools.specs.StepBounds.{follow_steps}
-use Rattle.packet_pools.proofs.Few.{few-join, first-more}
+use Rattle.packet_pools.proofs.Few.{few-sum, first-more}
+use Rattle.packet_pools.proofs.Tried.{searches-join}
 use Rattle.packet_pools.proofs.Counting.{counts-join}
 use Rattle.packet_pools.proofs.Rounds.{first-field, read_again}
 use Rattle.packet_pools.proofs.scanning.scan_again.Goals as goal
@@ -58,6 +59,17 @@ returns-clause-few c =
     let n : ℕ = sh.fields in
     let e = c.scan_field-first.ensures in
     let f = c.scan_fields-rest.ensures in
-    let all = few-join each ((n - 1) * each) (view_of c.args.seat.now) (view_of c.scan_field-first.new.seat) (view_of c.scan_fields-rest.new.seat) e.only.ran f.only.ran e.few f.few in
+    let all = few-sum (view_of c.args.seat.now) (view_of c.scan_field-first.new.seat) (view_of c.scan_fields-rest.new.seat) e.only.ran f.only.ran in
+    let first = e.few in
+    let rest = f.few in
     let sum = first-more n each c.args.heap.now.shaped.fields.0 in
-    omega (arith, all, sum)
+    omega (arith, all, first, rest, sum)
+
+pub returns-clause-tried : goal.returns-clause-tried
+returns-clause-tried c =
+    let v : View = view_of c.args.seat.now in
+    let w : View = view_of c.scan_field-first.new.seat in
+    let x : View = view_of c.scan_fields-rest.new.seat in
+    let e = c.scan_field-first.ensures in
+    let f = c.scan_fields-rest.ensures in
+    searches-join c.args.heap.now.shape c.args.search.now c.scan_field-first.new.search c.scan_fields-rest.new.search c.args.out.now c.scan_field-first.new.out c.scan_fields-rest.new.out (events v w) (events w x) (events v x) (events-join v w x e.only.log f.only.log) e.tried f.tried

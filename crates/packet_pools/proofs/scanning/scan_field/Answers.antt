@@ -16,8 +16,10 @@ use Rattle.packet_pools.proofs.ScanSteps.{may-read_field, traced-read_field}
 use Rattle.packet_pools.specs.Fields.{AsksToMark}
 use Rattle.std.proofs.lemmas.Bool.{ne_eqb}
 use Rattle.packet_pools.proofs.Reading.{follows-cell, follows-nil}
-use Rattle.packet_pools.specs.StepBounds.{mark_steps}
-use Rattle.packet_pools.proofs.Few.{few-after, few-join}
+use Rattle.packet_pools.specs.Counts.{dirties}
+use Rattle.packet_pools.specs.Seeking.{some_event, was_got}
+use Rattle.packet_pools.proofs.Few.{few-after, few-sum}
+use Rattle.packet_pools.proofs.Tried.{searches-join, searches-still}
 use Rattle.packet_pools.proofs.Counting.{counts-join, counts-read}
 use Rattle.packet_pools.proofs.scanning.scan_field.Goals as goal
 
@@ -119,4 +121,28 @@ returns-clause-few c =
     let w : View = view_of c.read_field-word.new.seat in
     let e = c.read_field-word.ensures.view in
     let m = c.mark_cell.ensures in
-    few-join 1 (mark_steps c.args.heap.now.shape) v w (view_of c.mark_cell.new.seat) (traced-read_field v w _ c.args.cell c.args.i e.1 e.0).ran m.only.ran (few-after v w _ _ e.0) m.few
+    let all = few-sum v w (view_of c.mark_cell.new.seat) (traced-read_field v w _ c.args.cell c.args.i e.1 e.0).ran m.only.ran in
+    let one = few-after v w _ _ e.0 in
+    let rest = m.few in
+    omega (arith, all, one, rest)
+
+pub returns-then-word-eq0-clause-tried : goal.returns-then-word-eq0-clause-tried
+returns-then-word-eq0-clause-tried c =
+    let e = events-after (view_of c.args.seat.now) (view_of c.read_field-word.new.seat) (ReadField c.args.cell c.args.i) _ c.read_field-word.ensures.view.0 in
+    searches-still c.args.heap.now.shape c.args.search.now c.args.out.now (events (view_of c.args.seat.now) (view_of c.read_field-word.new.seat)) (ap (some_event dirties) e) (λ p. ap (was_got p) e)
+
+pub returns-clause-tried : goal.returns-clause-tried
+returns-clause-tried c =
+    let sh : Shape = c.args.heap.now.shape in
+    let v : View = view_of c.args.seat.now in
+    let w : View = view_of c.read_field-word.new.seat in
+    let x : View = view_of c.mark_cell.new.seat in
+    let t = c.args.search.now in
+    let h = c.args.out.now in
+    let s = c.read_field-word.ensures.view in
+    let m = c.mark_cell.ensures in
+    let e = events-after v w (ReadField c.args.cell c.args.i) _ s.0 in
+    searches-join sh t t c.mark_cell.new.search h h c.mark_cell.new.out (events v w) (events w x) (events v x)
+    (events-join v w x (traced-read_field v w _ c.args.cell c.args.i s.1 s.0).log m.only.log)
+    (searches-still sh t h (events v w) (ap (some_event dirties) e) (λ z. ap (was_got z) e))
+    m.tried

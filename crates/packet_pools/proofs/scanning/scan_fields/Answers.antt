@@ -7,8 +7,9 @@ use Rattle.gc_table.proofs.History.Log.{events-join}
 use Rattle.packet_pools.proofs.TracedSteps.{traced-join}
 use Rattle.packet_pools.specs.Fields.{Follows, fields_from}
 use Rattle.packet_pools.proofs.Reading.{fields-next, follows-join}
-use Rattle.packet_pools.specs.StepBounds.{follow_steps}
-use Rattle.packet_pools.proofs.Few.{more-fields}
+use Rattle.packet_pools.specs.StepBounds.{follow_steps, room_left}
+use Rattle.packet_pools.proofs.RoomLeft.{room-fields}
+use Rattle.packet_pools.proofs.Tried.{searches-join}
 use Rattle.packet_pools.proofs.Counting.{counts-join}
 use Rattle.packet_pools.proofs.Rounds.{round}
 use Rattle.packet_pools.proofs.scanning.scan_fields.Goals as goal
@@ -44,5 +45,6 @@ loop-i-preserved c =
       follows =
           subst (λ l. Follows l (events v x)) (fields-next c.args.cell c.args.next c.loop-i.i i.order)
           (follows-join (fields_from c.args.cell c.args.next (c.loop-i.i - c.args.next)) ((c.args.cell, c.loop-i.i) ∷ []) (events v w) (events w x) (events v x) (events-join v w x i.only.log e.only.log) i.follows e.follows);
-      few = more-fields c.args.next c.loop-i.i (follow_steps sh) v w x i.order i.only.ran e.only.ran i.few e.few;
+      tried = searches-join sh c.args.search.now c.loop-i.search c.scan_field-one.new.search c.args.out.now c.loop-i.out c.scan_field-one.new.out (events v w) (events w x) (events v x) (events-join v w x i.only.log e.only.log) i.tried e.tried;
+      few = room-fields c.args.next c.loop-i.i (follow_steps sh) (room_left sh c.args.search.now c.args.out.now.length) (room_left sh c.loop-i.search c.loop-i.out.length) (room_left sh c.scan_field-one.new.search c.scan_field-one.new.out.length) v w x i.order i.only.ran e.only.ran i.few e.few;
     }

@@ -2,7 +2,7 @@ use Rattle.std.proofs.Common.{◌+◌, [], ◌∷◌, Bool, arith, inl, inr, ref
 use Rattle.gc_table.specs.Seats.{view_of}
 use Rattle.gc_table.specs.declared.view.View.{View}
 use Rattle.packet_pools.proofs.Few.{few-none}
-use Rattle.seat_turns.specs.CardPass.{PassesNext}
+use Rattle.seat_turns.specs.CardPass.{PassesOne}
 use Rattle.seat_turns.proofs.TurnSteps.{another-card, cards-most}
 use Rattle.seat_turns.proofs.Cards.{cards-join, cards-none}
 use Rattle.seat_turns.proofs.tracer_marking.clean_cards.Goals as goal
@@ -34,7 +34,7 @@ loop-card-preserved c =
     record {
       marks = e.seat;
       tends = cards-join 0 0 0 v w x refl i.tends e.tends;
-      passes = (w ∷ i.passes.0, (let one = i.passes.1 in omega (arith, one)), (i.passes.2, subst (λ (b : Bool). PassesNext b w x) c.if-not-clean_next.false e.passes));
+      passes = (w ∷ i.passes.0, (let one = i.passes.1 in omega (arith, one)), (i.passes.2, subst (λ (b : Bool). PassesOne b w x) c.if-not-clean_next.false e.passes));
       few = another-card c.loop-card._card c.args.heap.now.shape v w x i.tends.tends.ran e.tends.tends.ran i.few e.few;
     }
 
@@ -54,7 +54,7 @@ returns-then-not-clean_next-clause-passes c =
       rounds = i.passes.0;
       last = w;
       before = i.passes.2;
-      ends = inr (omega (arith, one, test), subst (λ (b : Bool). PassesNext b w x) c.if-not-clean_next.true c.clean_next.ensures.passes);
+      ends = inr (omega (arith, one, test), subst (λ (b : Bool). PassesOne b w x) c.if-not-clean_next.true c.clean_next.ensures.passes);
     }
 
 pub returns-clause-passes : goal.returns-clause-passes

@@ -1,5 +1,4 @@
 use Rattle.std.proofs.Common.{ap, ◌∙◌, ◌+◌, ◌≤◌, arith, sym, inl, inr, ⊎_elim}
-use Rattle.std.proofs.Math.Nat.{mul-le-mul_right}
 use Rattle.std.specs.Prelude.{is_none}
 use Rattle.mark_core.specs.Held.{holds_any}
 use Rattle.mark_core.specs.Seats.{work_in_hand}
@@ -7,7 +6,8 @@ use Rattle.mark_core.specs.declared.kinds.Shape.{Shape}
 use Rattle.gc_table.specs.Seats.{view_of}
 use Rattle.gc_table.specs.declared.view.View.{View}
 use Rattle.packet_pools.proofs.Few.{few-join}
-use Rattle.tracer.specs.StepBounds.{object_steps, trace_steps, turn_steps}
+use Rattle.tracer.specs.StepBounds.{trace_steps}
+use Rattle.tracer.proofs.Few.{traces-fewer}
 use Rattle.seat_turns.specs.StepBounds.{late_steps}
 use Rattle.seat_turns.specs.Tending.{turn_quota}
 use Rattle.seat_turns.proofs.CardPass.{passes-after}
@@ -49,6 +49,6 @@ returns-clause-few c =
     let b = c.clean_after.ensures in
     let traced = a.few in
     let done : c.trace-traced.result.done ≤ turn_quota = ⊎_elim (λ q. omega (arith, q.1)) (λ q. omega (arith, q.1)) a.stopped in
-    let most = mul-le-mul_right {m = c.trace-traced.result.done} {n = turn_quota} (turn_steps sh + object_steps sh) done in
+    let most = traces-fewer c.trace-traced.result.done turn_quota sh done in
     let all = few-join (trace_steps turn_quota sh) (late_steps sh) (view_of c.args.seat.now) (view_of c.trace-traced.new.seat) (view_of c.clean_after.new.seat) a.only.ran b.tends.tends.ran (omega (arith, traced, most)) b.few in
     omega (arith, all)

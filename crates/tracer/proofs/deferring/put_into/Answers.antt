@@ -8,16 +8,17 @@ use Rattle.gc_table.specs.Seats.{Stored, view_of}
 use Rattle.packet_pools.specs.Hands.{HoldsPacket}
 use Rattle.packet_pools.proofs.TracedSteps.{traced-join}
 use Rattle.tracer.specs.Hands.{Carries}
-use Rattle.tracer.specs.Parts.{Part}
+use Rattle.tracer.specs.Parts.{Did}
 use Rattle.tracer.proofs.Carried.{carries-give, carries-set}
 use Rattle.tracer.proofs.Hand.{popped-fresh, pushed-work}
-use Rattle.tracer.proofs.Joined.{part-then}
-use Rattle.tracer.proofs.OneStep.{part-push, part-deferred}
+use Rattle.tracer.proofs.Joined.{did-then}
+use Rattle.tracer.proofs.OneStep.{did-push, did-deferred}
 use Rattle.gc_table.specs.declared.view.View.{View}
 use Rattle.packet_pools.specs.declared.held.Held.{Held}
 use Rattle.gc_table.specs.Log.{events}
 use Rattle.packet_pools.specs.StepBounds.{give_steps}
 use Rattle.packet_pools.proofs.Few.{few-after, few-join, few-steps, given-few}
+use Rattle.tracer.proofs.Few.{deferring-full, deferring-push}
 use Rattle.tracer.proofs.deferring.put_into.Goals as goal
 
 -- there was room
@@ -67,7 +68,6 @@ returns-then-length-shape-clause-work c =
 
 pub returns-then-length-shape-clause-part : goal.returns-then-length-shape-clause-part
 returns-then-length-shape-clause-part c =
-    let sh : Shape = c.args.heap.now.shape in
     let v : View = view_of c.args.seat.now in
     let w : View = view_of c.push-pushed.new.seat in
     let x : View = view_of c.give.new.seat in
@@ -76,9 +76,9 @@ returns-then-length-shape-clause-part c =
     let e = c.push-pushed.ensures in
     let p = sure c.push-pushed.result _ _ e.pushed e.full (λ q. let r = c.requires.held.1 in let l = q.0 in absurd (omega (arith, r, l))) in
     λ o either.
-    part-then sh o (Some h.packet) None 0 0 1 0 0 0 0 1 0 v w x e.only c.give.ensures.only refl refl refl
-    (part-push sh o h.packet c.args.cell _ v w p.2 (popped-fresh v w h.packet c.args.cell _ c.requires.cell p.2) either)
-    (subst (λ q. Part sh (Some q) None 0 0 0 w (events w x)) (ap (λ (h : Held). h.packet) p.1) (part-deferred sh k.packet (k.length == 0) w (events w x) c.give.ensures.steps))
+    did-then o (Some h.packet) None 0 0 1 0 0 0 0 1 0 v w x e.only c.give.ensures.only refl refl refl
+    (did-push o h.packet c.args.cell _ v w p.2 (popped-fresh v w h.packet c.args.cell _ c.requires.cell p.2) either)
+    (subst (λ q. Did (Some q) None 0 0 0 w (events w x)) (ap (λ (h : Held). h.packet) p.1) (did-deferred k.packet (k.length == 0) w (events w x) c.give.ensures.steps))
 
 pub returns-clause-few : goal.returns-clause-few
 returns-clause-few c =
@@ -86,8 +86,7 @@ returns-clause-few c =
     let w : View = view_of c.push-pushed.new.seat in
     let e = c.push-pushed.ensures in
     let p = sure c.push-pushed.result _ _ e.pushed e.full (λ q. let r = c.requires.held.1 in let l = q.0 in absurd (omega (arith, r, l))) in
-    let one = few-after v w _ _ p.2 in
-    omega (arith, one)
+    deferring-push c.args.heap.now.shape c.args.held c.push-pushed.new.held _ (ap (λ (h : Held). h.length) p.1) (few-after v w _ _ p.2)
 
 pub returns-then-length-shape-clause-few : goal.returns-then-length-shape-clause-few
 returns-then-length-shape-clause-few c =
@@ -98,4 +97,6 @@ returns-then-length-shape-clause-few c =
     let e = c.push-pushed.ensures in
     let g = c.give.ensures in
     let p = sure c.push-pushed.result _ _ e.pushed e.full (λ q. let r = c.requires.held.1 in let l = q.0 in absurd (omega (arith, r, l))) in
-    few-join 1 give_steps v w x e.only.ran g.only.ran (few-after v w _ _ p.2) (few-steps give_steps w x _ g.steps (given-few k.packet true (k.length == 0)))
+    let few = few-join 1 give_steps v w x e.only.ran g.only.ran (few-after v w _ _ p.2) (few-steps give_steps w x _ g.steps (given-few k.packet true (k.length == 0))) in
+    let full = c.if-length-shape.true in
+    deferring-full c.args.heap.now.shape c.args.held k _ (ap (λ (h : Held). h.length) p.1) (grind (arith, full)) few

@@ -7,12 +7,12 @@ use Rattle.gc_table.specs.Seats.{view_of}
 use Rattle.packet_pools.proofs.TracedSteps.{traced-join}
 use Rattle.tracer.specs.declared.packets.Packets.{Packets}
 use Rattle.tracer.specs.Hands.{in_front, packet_of}
-use Rattle.tracer.specs.Parts.{HasPopped, Part}
+use Rattle.tracer.specs.Parts.{HasPopped, Did}
 use Rattle.tracer.proofs.Carried.{carries-set, input-apart}
 use Rattle.tracer.proofs.Hand.{was-popped}
-use Rattle.tracer.proofs.Joined.{part-then}
+use Rattle.tracer.proofs.Joined.{did-then}
 use Rattle.tracer.proofs.Moves.{sure-some}
-use Rattle.tracer.proofs.OneStep.{part-pop}
+use Rattle.tracer.proofs.OneStep.{did-pop}
 use Rattle.gc_table.specs.declared.view.View.{View}
 use Rattle.packet_pools.specs.declared.held.Held.{Held}
 use Rattle.gc_table.specs.Log.{events}
@@ -39,7 +39,6 @@ returns-clause-packets c =
 
 pub returns-clause-some : goal.returns-clause-some
 returns-clause-some c =
-    let sh : Shape = c.args.heap.now.shape in
     let v : View = view_of c.args.seat.now in
     let w : View = view_of c.find_input.new.seat in
     let x : View = view_of c.pop.new.seat in
@@ -51,9 +50,9 @@ returns-clause-some c =
     let s = sure-some c.pop.result _ _ p.popped p.empty (λ q. let z = q.0 in absurd (omega (arith, some, z))) in
     let block : w.state.block ≡ None = ap (λ (s : SeatState). s.block) f.only.rest ∙ c.requires.idle.1 in
     let idle : work_in_hand w.shape.fields w.state ≡ false = ap (λ (s : Shape). work_in_hand s.fields w.state) f.seat.0.1 ∙ f.work in
-    subst (λ r. IfSome r (λ cell. HasPopped cell false x × Part sh o o 1 0 0 v (events v x))) (sym s.1) (
+    subst (λ r. IfSome r (λ cell. HasPopped cell false x × Did o o 1 0 0 v (events v x))) (sym s.1) (
       was-popped w x t.input.packet s.0 _ idle block s.2.2.3 s.2.2.1,
-      part-then sh o o o 0 1 0 0 0 0 1 0 0 v w x f.only p.only refl refl refl (f.part o) (part-pop sh o t.input.packet _ w x s.2.2.1 (ap (λ d. is_the (packet_of d) t.input.packet) (sym f.packets.1) ∙ input-apart t.input t.output t.deferred w f.packets.0)),
+      did-then o o o 0 1 0 0 0 0 1 0 0 v w x f.only p.only refl refl refl (f.part o) (did-pop o t.input.packet _ w x s.2.2.1 (ap (λ d. is_the (packet_of d) t.input.packet) (sym f.packets.1) ∙ input-apart t.input t.output t.deferred w f.packets.0)),
     )
 
 pub returns-clause-few : goal.returns-clause-few

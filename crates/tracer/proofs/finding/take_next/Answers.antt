@@ -1,12 +1,11 @@
 use Rattle.std.proofs.Common.{ap, refl, arith}
-use Rattle.mark_core.specs.declared.kinds.Shape.{Shape}
 use Rattle.packet_pools.proofs.TracedSteps.{traced-join}
 use Rattle.tracer.specs.declared.packets.Packets.{Packets}
 use Rattle.tracer.specs.Hands.{packets_of}
 use Rattle.tracer.proofs.Carried.{carries-free, carries-take, packets-three}
-use Rattle.tracer.proofs.Joined.{part-then}
+use Rattle.tracer.proofs.Joined.{did-then}
 use Rattle.tracer.proofs.Moves.{input-moves}
-use Rattle.tracer.proofs.Quiet.{part-moves}
+use Rattle.tracer.proofs.Quiet.{did-moves}
 use Rattle.gc_table.specs.declared.view.View.{View}
 use Rattle.gc_table.specs.Seats.{view_of}
 use Rattle.packet_pools.specs.Seeking.{input_pools}
@@ -22,7 +21,7 @@ pub returns-in_default-clause-part : goal.returns-in_default-clause-part
 returns-in_default-clause-part c =
     let v : View = view_of c.args.seat.now in
     let w : View = view_of c.take_input.new.seat in
-    λ o. part-moves c.args.heap.now.shape o v (events v w) (input-moves (events v w) c.in_default.ensures.none.2)
+    λ o. did-moves o v (events v w) (input-moves (events v w) c.in_default.ensures.none.2)
 
 pub go_on-requires-clause-packets : goal.go_on-requires-clause-packets
 go_on-requires-clause-packets c =
@@ -40,15 +39,14 @@ returns-clause-packets c = (c.go_on.ensures.packets.0, ap (λ (x : Packets). x.d
 
 pub returns-clause-part : goal.returns-clause-part
 returns-clause-part c =
-    let sh : Shape = c.args.heap.now.shape in
     let v : View = view_of c.args.seat.now in
     let w : View = view_of c.take_input.new.seat in
     let y : View = view_of c.go_on.new.seat in
     let e = c.in-Some.ensures in
     let g = c.go_on.ensures in
     λ o.
-    part-then sh o o o 0 0 0 0 0 0 0 0 0 v w y e.only g.only refl refl refl
-    (part-moves sh o v (events v w) (input-moves (events v w) e.some.0.moves))
+    did-then o o o 0 0 0 0 0 0 0 0 0 v w y e.only g.only refl refl refl
+    (did-moves o v (events v w) (input-moves (events v w) e.some.0.moves))
     (g.part o)
 
 pub returns-in_default-clause-few : goal.returns-in_default-clause-few

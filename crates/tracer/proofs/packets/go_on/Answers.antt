@@ -5,7 +5,7 @@ use Rattle.packet_pools.proofs.Counting.{given-moves}
 use Rattle.tracer.specs.declared.packets.Packets.{Packets}
 use Rattle.tracer.specs.Hands.{Carries, in_front}
 use Rattle.tracer.proofs.Carried.{carries-front, carries-give, carries-head}
-use Rattle.tracer.proofs.Quiet.{part-moves}
+use Rattle.tracer.proofs.Quiet.{did-moves}
 use Rattle.gc_table.specs.declared.view.View.{View}
 use Rattle.gc_table.specs.Seats.{view_of}
 use Rattle.packet_pools.specs.Seeking.{output_pools}
@@ -41,7 +41,7 @@ returns-clause-part c =
     let v : View = view_of c.args.seat.now in
     let w : View = view_of c.give.new.seat in
     let h : Held = c.replace-old.result in
-    λ o. part-moves c.args.heap.now.shape o v (events v w) (given-moves output_pools h.packet (h.length == 0) (events v w) c.give.ensures.steps)
+    λ o. did-moves o v (events v w) (given-moves output_pools h.packet (h.length == 0) (events v w) c.give.ensures.steps)
 
 pub returns-clause-few : goal.returns-clause-few
 returns-clause-few c =

@@ -15,8 +15,10 @@ use Rattle.tracer.proofs.RootScans.{cell-seen, holds-one, loaded, marked-work, m
 use Rattle.gc_table.specs.declared.view.View.{View}
 use Rattle.gc_table.specs.Seats.{view_of}
 use Rattle.gc_table.specs.Log.{events}
-use Rattle.packet_pools.specs.StepBounds.{mark_steps}
-use Rattle.packet_pools.proofs.Few.{few-after, few-join}
+use Rattle.packet_pools.specs.Counts.{dirties}
+use Rattle.packet_pools.specs.Seeking.{some_event, was_got}
+use Rattle.packet_pools.proofs.Few.{few-after, few-sum}
+use Rattle.packet_pools.proofs.Tried.{searches-join, searches-still}
 use Rattle.tracer.proofs.roots.scan_root.Goals as goal
 
 pub read_root-word-requires-clause-may : goal.read_root-word-requires-clause-may
@@ -144,4 +146,30 @@ returns-clause-few c =
     let w : View = view_of c.read_root-word.new.seat in
     let e = c.read_root-word.ensures.view in
     let m = c.mark_cell.ensures in
-    few-join 1 (mark_steps c.args.heap.now.shape) v w (view_of c.mark_cell.new.seat) (traced-read_root v w _ c.args.section c.args.variable e.1 e.0).ran m.only.ran (few-after v w _ _ e.0) m.few
+    let all = few-sum v w (view_of c.mark_cell.new.seat) (traced-read_root v w _ c.args.section c.args.variable e.1 e.0).ran m.only.ran in
+    let one = few-after v w _ _ e.0 in
+    let rest = m.few in
+    omega (arith, all, one, rest)
+
+pub returns-then-word-eq0-clause-tried : goal.returns-then-word-eq0-clause-tried
+returns-then-word-eq0-clause-tried c =
+    let v : View = view_of c.args.seat.now in
+    let w : View = view_of c.read_root-word.new.seat in
+    let one = events-after v w (ReadRoot c.args.section c.args.variable) _ c.read_root-word.ensures.view.0 in
+    searches-still c.args.heap.now.shape c.args.search.now c.args.out.now (events v w) (ap (some_event dirties) one) (λ p. ap (was_got p) one)
+
+pub returns-clause-tried : goal.returns-clause-tried
+returns-clause-tried c =
+    let sh : Shape = c.args.heap.now.shape in
+    let v : View = view_of c.args.seat.now in
+    let w : View = view_of c.read_root-word.new.seat in
+    let x : View = view_of c.mark_cell.new.seat in
+    let s = c.args.search.now in
+    let h = c.args.out.now in
+    let e = c.read_root-word.ensures.view in
+    let m = c.mark_cell.ensures in
+    let one = events-after v w (ReadRoot c.args.section c.args.variable) _ e.0 in
+    searches-join sh s s c.mark_cell.new.search h h c.mark_cell.new.out (events v w) (events w x) (events v x)
+    (events-join v w x (traced-read_root v w _ c.args.section c.args.variable e.1 e.0).log m.only.log)
+    (searches-still sh s h (events v w) (ap (some_event dirties) one) (λ p. ap (was_got p) one))
+    m.tried

@@ -1,15 +1,15 @@
-use Rattle.std.proofs.Common.{ℕ, ◌≡◌, ◌+◌, [], ◌∷◌, sym, ap, ◌∙◌, subst, refl, arith, ◌≤◌, ◌*◌, false, length}
+use Rattle.std.proofs.Common.{ℕ, ◌≡◌, ◌+◌, [], ◌∷◌, sym, ap, ◌∙◌, subst, refl, arith, ◌*◌, false}
 use Rattle.std.specs.Prelude.{◌==◌}
 use Rattle.mark_core.specs.Numbers.{section_variables}
 use Rattle.mark_core.specs.Seats.{work_in_hand}
 use Rattle.mark_core.specs.declared.kinds.Shape.{Shape}
 use Rattle.mark_core.specs.declared.seat.SeatState.{SeatState}
-use Rattle.packet_pools.proofs.Counting.{given-moves}
+use Rattle.packet_pools.proofs.Counting.{after-join, given-moves, quiet}
 use Rattle.packet_pools.proofs.TracedSteps.{traced-join}
 use Rattle.gc_table.proofs.History.Log.{events-join}
 use Rattle.tracer.specs.Hands.{IsIdle}
 use Rattle.tracer.specs.Roots.{FollowsRoots, roots_of}
-use Rattle.tracer.proofs.Carried.{carries-give}
+use Rattle.tracer.proofs.Carried.{carries-give, carries-head}
 use Rattle.tracer.proofs.RootScans.{roots-join, roots-moves, roots-next, roots-owe, seen-all, seen-next}
 use Rattle.tracer.proofs.Whole.{append-none, keeps-record}
 use Rattle.gc_table.specs.declared.view.View.{View}
@@ -17,15 +17,28 @@ use Rattle.gc_table.specs.Seats.{view_of}
 use Rattle.packet_pools.specs.OnlyTraced.{OnlyTraced}
 use Rattle.packet_pools.specs.Seeking.{output_pools}
 use Rattle.gc_table.specs.Log.{events}
-use Rattle.packet_pools.specs.StepBounds.{any_steps, follow_steps, give_steps}
-use Rattle.packet_pools.proofs.Few.{another, few-join, few-steps, given-few}
+use Rattle.packet_pools.specs.declared.search.Search.{Search}
+use Rattle.packet_pools.specs.Counts.{dirties}
+use Rattle.packet_pools.specs.Orders.{some_end}
+use Rattle.packet_pools.specs.StepBounds.{follow_steps, give_steps, room_left}
+use Rattle.packet_pools.specs.Tried.{DirtiesLast, IsTried, all_tried}
+use Rattle.packet_pools.proofs.Few.{another, few-steps, few-sum, given-few}
+use Rattle.packet_pools.proofs.RoomLeft.{room-whole}
+use Rattle.packet_pools.proofs.TriedFirst.{last-join, last-none}
 use Rattle.tracer.proofs.roots.scan_roots.Goals as goal
+
+pub returns-in_default-clause-cause : goal.returns-in_default-clause-cause
+returns-in_default-clause-cause c =
+    let es = events (view_of c.args.seat.now) (view_of c.take_either.new.seat) in
+    last-none c.args.heap.now.shape es (quiet es c.in_default.ensures.moves)
 
 pub loop-variable-init : goal.loop-variable-init
 loop-variable-init c =
     let v : View = view_of c.args.seat.now in
     let w : View = view_of c.take_either.new.seat in
     let e = c.in-Some.ensures in
+    let sh : Shape = c.args.heap.now.shape in
+    let h = c.in-Some.out in
     record {
       sits = e.seat.0;
       traces = e.seat.1;
@@ -35,7 +48,15 @@ loop-variable-init c =
       most = omega arith;
       follows = (0, omega arith, roots-moves c.args.heap.now.shape (events v w) e.moves);
       seen = λ v l. absurd (omega (arith, l));
-      few = let few = e.few in omega (arith, few);
+      tried = subst (λ (x : Search). IsTried sh (λ p. false) x h (events v w)) (sym c.open-search.ensures) tt;
+      cause = last-none sh (events v w) (quiet (events v w) e.moves);
+      few =
+          (let few = e.few in
+          let fits = (carries-head h [] w e.some).fits in
+          let entries = ap (λ (x : Shape). x.entries) e.seat.0.1 in
+          let most = room-whole sh h.length (omega (arith, fits, entries)) in
+          let begun = ap (λ (x : Search). room_left sh x h.length) c.open-search.ensures in
+          omega (arith, few, most, begun));
     }
 
 pub loop-variable-preserved : goal.loop-variable-preserved
@@ -61,11 +82,16 @@ loop-variable-preserved c =
             (roots-join sh (roots_of c.args.section n) ((c.args.section, n) ∷ []) _ _ _ _ _ _ (events v w) (events w x) (events v x) (events-join v w x i.only.log e.only.log) refl refl i.follows.2 e.follows),
       );
       seen = seen-next c.args.section n (events v w) (events w x) (events v x) (events-join v w x i.only.log e.only.log) i.seen e.seen;
+      tried = subst (IsTried sh (λ p. false) c.scan_root-marked.new.search c.scan_root-marked.new.out) (sym (events-join v w x i.only.log e.only.log)) (e.tried.leads (λ p. false) (events v w) i.tried);
+      cause =
+          subst (DirtiesLast sh) (sym (events-join v w x i.only.log e.only.log))
+          (after-join (some_end (all_tried sh (λ p. false))) dirties [] (events v w) (events w x) i.cause (e.tried.cause (λ p. false) (events v w) i.tried));
       few =
-          (let each : ℕ = follow_steps sh in
-          let all = few-join (any_steps sh + n * each) each v w x i.only.ran e.only.ran i.few e.few in
-          let grown = another n each in
-          omega (arith, all, grown));
+          (let all = few-sum v w x i.only.ran e.only.ran in
+          let before = i.few in
+          let one = e.few in
+          let grown = another n (follow_steps sh) in
+          omega (arith, all, before, one, grown));
     }
 
 pub returns-clause-only : goal.returns-clause-only
@@ -142,14 +168,30 @@ returns-clause-seen c =
     let most = c.loop-variable.auto.variable-end in
     seen-all c.args.section c.loop-variable.variable (events v w) (events w x) (events v x) (events-join v w x i.only.log c.give.ensures.only.log) (omega (arith, past, most)) i.seen
 
+pub returns-clause-cause : goal.returns-clause-cause
+returns-clause-cause c =
+    let sh : Shape = c.args.heap.now.shape in
+    let v : View = view_of c.args.seat.now in
+    let w : View = view_of c.loop-variable.seat in
+    let x : View = view_of c.give.new.seat in
+    let i = c.loop-variable.invariant in
+    let g = c.give.ensures in
+    last-join sh (events v w) (events w x) (events v x) (events-join v w x i.only.log g.only.log) i.cause
+    (last-none sh (events w x) (quiet (events w x) (given-moves output_pools c.loop-variable.out.packet (c.loop-variable.out.length == 0) (events w x) g.steps)))
+
 pub returns-clause-few : goal.returns-clause-few
 returns-clause-few c =
     let sh : Shape = c.args.heap.now.shape in
-    let each : ℕ = follow_steps sh in
+    let v : View = view_of c.args.seat.now in
+    let w : View = view_of c.loop-variable.seat in
+    let x : View = view_of c.give.new.seat in
     let i = c.loop-variable.invariant in
     let g = c.give.ensures in
     let past = c.loop-variable-test.false in
     let most = c.loop-variable.auto.variable-end in
-    let all : c.loop-variable.variable ≡ section_variables = omega (arith, past, most) in
-    let few : length (events (view_of c.args.seat.now) (view_of c.loop-variable.seat)) ≤ any_steps sh + section_variables * each = subst (λ n. length (events (view_of c.args.seat.now) (view_of c.loop-variable.seat)) ≤ any_steps sh + n * each) all i.few in
-    few-join (any_steps sh + section_variables * each) give_steps (view_of c.args.seat.now) (view_of c.loop-variable.seat) (view_of c.give.new.seat) i.only.ran g.only.ran few (few-steps give_steps (view_of c.loop-variable.seat) (view_of c.give.new.seat) _ g.steps (given-few c.loop-variable.out.packet false (c.loop-variable.out.length == 0)))
+    let end : c.loop-variable.variable ≡ section_variables = omega (arith, past, most) in
+    let scanned = i.few in
+    let each = ap (λ n. n * follow_steps sh) end in
+    let all = few-sum v w x i.only.ran g.only.ran in
+    let last = few-steps give_steps w x _ g.steps (given-few c.loop-variable.out.packet false (c.loop-variable.out.length == 0)) in
+    omega (arith, scanned, each, all, last)

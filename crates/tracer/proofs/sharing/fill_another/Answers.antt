@@ -1,7 +1,6 @@
 use Rattle.std.proofs.Common.{◌≡◌, None, Option, [], ◌∷◌, sym, ◌∙◌, subst, refl, arith}
 use Rattle.std.specs.Prelude.{IsTrue}
 use Rattle.std.proofs.lemmas.Bool.{false≢true}
-use Rattle.mark_core.specs.declared.kinds.Shape.{Shape}
 use Rattle.packet_pools.specs.Gains.{Takes}
 use Rattle.packet_pools.specs.Seeking.{only_moves, output_pools}
 use Rattle.packet_pools.proofs.Doing.{if-none, if-some}
@@ -9,9 +8,9 @@ use Rattle.packet_pools.proofs.TracedSteps.{traced-join}
 use Rattle.tracer.specs.declared.packets.Packets.{Packets}
 use Rattle.tracer.specs.Hands.{Carries, in_front, packets_of}
 use Rattle.tracer.proofs.Carried.{carries-free, packets-three, second-back, taken-either}
-use Rattle.tracer.proofs.Joined.{part-then}
+use Rattle.tracer.proofs.Joined.{did-then}
 use Rattle.tracer.proofs.Moves.{either-way}
-use Rattle.tracer.proofs.Quiet.{part-moves}
+use Rattle.tracer.proofs.Quiet.{did-moves}
 use Rattle.gc_table.specs.declared.view.View.{View}
 use Rattle.gc_table.specs.Seats.{view_of}
 use Rattle.packet_pools.specs.declared.held.Held.{Held}
@@ -45,7 +44,6 @@ returns-clause-packets c =
 
 pub returns-clause-part : goal.returns-clause-part
 returns-clause-part c =
-    let sh : Shape = c.args.heap.now.shape in
     let v : View = view_of c.args.seat.now in
     let w : View = view_of c.take_output-fresh.new.seat in
     let y : View = view_of c.give_some.new.seat in
@@ -53,8 +51,8 @@ returns-clause-part c =
     let e = c.take_output-fresh.ensures in
     let g = c.give_some.ensures in
     λ o.
-    part-then sh o o o 0 0 0 0 0 0 0 0 0 v w y e.only g.only refl refl refl
-    (part-moves sh o v (events v w) (either-way r (IsTrue (only_moves output_pools (events v w))) (if-some r _ (λ h. IsTrue (only_moves output_pools (events v w))) (λ h t. t.0.moves) e.some) (if-none r _ (IsTrue (only_moves output_pools (events v w))) (λ n. n.2) e.none)))
+    did-then o o o 0 0 0 0 0 0 0 0 0 v w y e.only g.only refl refl refl
+    (did-moves o v (events v w) (either-way r (IsTrue (only_moves output_pools (events v w))) (if-some r _ (λ h. IsTrue (only_moves output_pools (events v w))) (λ h t. t.0.moves) e.some) (if-none r _ (IsTrue (only_moves output_pools (events v w))) (λ n. n.2) e.none)))
     (g.part o (λ d. absurd (false≢true d)))
 
 pub returns-clause-few : goal.returns-clause-few

@@ -1,9 +1,9 @@
 use Rattle.std.proofs.Common.{refl, ◌*◌, arith}
 use Rattle.mark_core.specs.declared.kinds.Shape.{Shape}
 use Rattle.packet_pools.proofs.TracedSteps.{traced-join}
-use Rattle.tracer.proofs.Joined.{part-then}
+use Rattle.tracer.proofs.Joined.{did-then}
 use Rattle.tracer.proofs.Moves.{input-moves}
-use Rattle.tracer.proofs.Quiet.{part-moves}
+use Rattle.tracer.proofs.Quiet.{did-moves}
 use Rattle.gc_table.specs.declared.view.View.{View}
 use Rattle.gc_table.specs.Seats.{view_of}
 use Rattle.gc_table.specs.Log.{events}
@@ -17,19 +17,18 @@ returns-then-lacks_work-clause-only c = traced-join (view_of c.args.seat.now) (v
 
 pub returns-then-lacks_work-clause-part : goal.returns-then-lacks_work-clause-part
 returns-then-lacks_work-clause-part c =
-    let sh : Shape = c.args.heap.now.shape in
     let v : View = view_of c.args.seat.now in
     let w : View = view_of c.lacks_work.new.seat in
     let e = c.lacks_work.ensures in
     let f = c.fill_another.ensures in
     λ o.
-    part-then sh o o o 0 0 0 0 0 0 0 0 0 v w (view_of c.fill_another.new.seat) e.only f.only refl refl refl (part-moves sh o v (events v w) (input-moves (events v w) e.moves)) (f.part o)
+    did-then o o o 0 0 0 0 0 0 0 0 0 v w (view_of c.fill_another.new.seat) e.only f.only refl refl refl (did-moves o v (events v w) (input-moves (events v w) e.moves)) (f.part o)
 
 pub returns-else-lacks_work-clause-part : goal.returns-else-lacks_work-clause-part
 returns-else-lacks_work-clause-part c =
     let v : View = view_of c.args.seat.now in
     let w : View = view_of c.lacks_work.new.seat in
-    λ o. part-moves c.args.heap.now.shape o v (events v w) (input-moves (events v w) c.lacks_work.ensures.moves)
+    λ o. did-moves o v (events v w) (input-moves (events v w) c.lacks_work.ensures.moves)
 
 pub returns-then-lacks_work-clause-few : goal.returns-then-lacks_work-clause-few
 returns-then-lacks_work-clause-few c =

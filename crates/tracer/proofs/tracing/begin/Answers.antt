@@ -5,7 +5,7 @@ use Rattle.tracer.specs.declared.packets.Packets.{Packets}
 use Rattle.packet_pools.specs.Seeking.{input_pools}
 use Rattle.tracer.proofs.Carried.{carries-free, carries-none, carries-take}
 use Rattle.tracer.proofs.Moves.{input-moves}
-use Rattle.tracer.proofs.Quiet.{part-moves}
+use Rattle.tracer.proofs.Quiet.{did-moves}
 use Rattle.gc_table.specs.declared.view.View.{View}
 use Rattle.gc_table.specs.Seats.{view_of}
 use Rattle.gc_table.specs.Log.{events}
@@ -18,13 +18,13 @@ pub returns-in_err-input-clause-part : goal.returns-in_err-input-clause-part
 returns-in_err-input-clause-part c =
     let v : View = view_of c.args.seat.now in
     let w : View = view_of c.take_input.new.seat in
-    part-moves c.args.heap.now.shape None v (events v w) (input-moves (events v w) c.in_err-input.ensures.none.2)
+    did-moves None v (events v w) (input-moves (events v w) c.in_err-input.ensures.none.2)
 
 pub returns-clause-part : goal.returns-clause-part
 returns-clause-part c =
     let v : View = view_of c.args.seat.now in
     let w : View = view_of c.take_input.new.seat in
-    part-moves c.args.heap.now.shape None v (events v w) (input-moves (events v w) c.in_ok-input.ensures.some.0.moves)
+    did-moves None v (events v w) (input-moves (events v w) c.in_ok-input.ensures.some.0.moves)
 
 pub returns-clause-some : goal.returns-clause-some
 returns-clause-some c =

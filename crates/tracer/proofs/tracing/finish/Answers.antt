@@ -1,15 +1,14 @@
 use Rattle.std.proofs.Common.{ℕ, None, Option, List, [], ◌∷◌, ap, refl, ◌+◌, arith, false}
 use Rattle.std.specs.Prelude.{◌==◌}
 use Rattle.std.proofs.lemmas.Bool.{false≢true}
-use Rattle.mark_core.specs.declared.kinds.Shape.{Shape}
 use Rattle.mark_core.specs.declared.seat.SeatState.{SeatState}
 use Rattle.packet_pools.proofs.Counting.{given-moves}
 use Rattle.packet_pools.proofs.TracedSteps.{traced-join}
 use Rattle.tracer.specs.declared.packets.Packets.{Packets}
 use Rattle.tracer.specs.Hands.{Carries, in_front, packet_of, packets_of}
 use Rattle.tracer.proofs.Carried.{carries-give, carries-head, deferred-front, front-held, second-front}
-use Rattle.tracer.proofs.Joined.{part-then}
-use Rattle.tracer.proofs.Quiet.{part-moves}
+use Rattle.tracer.proofs.Joined.{did-then}
+use Rattle.tracer.proofs.Quiet.{did-moves}
 use Rattle.gc_table.specs.declared.view.View.{View}
 use Rattle.gc_table.specs.Seats.{view_of}
 use Rattle.packet_pools.specs.Seeking.{output_pools}
@@ -66,7 +65,6 @@ returns-clause-held c =
 
 pub returns-clause-part : goal.returns-clause-part
 returns-clause-part c =
-    let sh : Shape = c.args.heap.now.shape in
     let v : View = view_of c.args.seat.now in
     let w : View = view_of c.give_some.new.seat in
     let y : View = view_of c.give_some-2.new.seat in
@@ -76,11 +74,11 @@ returns-clause-part c =
     let e = c.give_some.ensures in
     let f = c.give_some-2.ensures in
     let g = c.give.ensures in
-    part-then sh o None None 0 0 0 0 0 0 0 0 0 v w z e.only (traced-join w y z f.only g.only) refl refl refl
+    did-then o None None 0 0 0 0 0 0 0 0 0 v w z e.only (traced-join w y z f.only g.only) refl refl refl
     (e.part o (λ d. refl))
-    (part-then sh None None None 0 0 0 0 0 0 0 0 0 w y z f.only g.only refl refl refl
+    (did-then None None None 0 0 0 0 0 0 0 0 0 w y z f.only g.only refl refl refl
     (f.part None (λ d. absurd (false≢true d)))
-    (part-moves sh None y (events y z) (given-moves output_pools x.input.packet (x.input.length == 0) (events y z) g.steps)))
+    (did-moves None y (events y z) (given-moves output_pools x.input.packet (x.input.length == 0) (events y z) g.steps)))
 
 pub returns-clause-few : goal.returns-clause-few
 returns-clause-few c =

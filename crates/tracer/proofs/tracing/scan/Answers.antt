@@ -1,8 +1,12 @@
-use Rattle.std.proofs.Common.{◌≡◌, Some, [], ◌∷◌, subst, refl}
+use Rattle.std.proofs.Common.{◌≡◌, Some, [], ◌∷◌, ap, arith, subst, refl}
+use Rattle.mark_core.specs.declared.kinds.Shape.{Shape}
+use Rattle.packet_pools.specs.StepBounds.{room_left}
+use Rattle.tracer.specs.StepBounds.{filled_in}
+use Rattle.tracer.proofs.Searched.{searches-scan}
 use Rattle.tracer.specs.declared.packets.Packets.{Packets}
 use Rattle.tracer.specs.Hands.{Carries, in_front, packets_of}
 use Rattle.tracer.proofs.Carried.{carries-back, carries-fill, carries-free, carries-front, carries-head, packets-three}
-use Rattle.tracer.proofs.Quiet.{part-scan}
+use Rattle.tracer.proofs.Quiet.{did-scan}
 use Rattle.gc_table.specs.declared.view.View.{View}
 use Rattle.gc_table.specs.Seats.{view_of}
 use Rattle.packet_pools.specs.declared.held.Held.{Held}
@@ -48,11 +52,36 @@ returns-in-Some-clause-part c =
     let v : View = view_of c.args.seat.now in
     let w : View = view_of c.scan_whole.new.seat in
     let e = c.scan_whole.ensures in
-    λ o. part-scan c.args.heap.now.shape o _ _ _ v (events v w) c.requires.hand.0.popped (e.only.cells refl) e.counts
+    λ o. did-scan c.args.heap.now.shape o _ _ _ v (events v w) c.requires.hand.0.popped (e.only.cells refl) e.counts
 
 pub returns-in-None-clause-part : goal.returns-in-None-clause-part
 returns-in-None-clause-part c =
     let v : View = view_of c.args.seat.now in
     let w : View = view_of c.scan_whole-in-None.new.seat in
     let e = c.scan_whole-in-None.ensures in
-    λ o. part-scan c.args.heap.now.shape o _ _ _ v (events v w) c.requires.hand.0.popped (e.only.cells refl) e.counts
+    λ o. did-scan c.args.heap.now.shape o _ _ _ v (events v w) c.requires.hand.0.popped (e.only.cells refl) e.counts
+
+pub returns-in-Some-clause-tried : goal.returns-in-Some-clause-tried
+returns-in-Some-clause-tried c =
+    let k = c.scan_whole.new in
+    searches-scan c.args.heap.now.shape c.args.search.now k.search c.in-Some.output k.out (events (view_of c.args.seat.now) (view_of k.seat)) c.scan_whole.ensures.tried
+
+pub returns-in-None-clause-tried : goal.returns-in-None-clause-tried
+returns-in-None-clause-tried c =
+    let k = c.scan_whole-in-None.new in
+    searches-scan c.args.heap.now.shape c.args.search.now k.search c.args.packets.now.input k.out (events (view_of c.args.seat.now) (view_of k.seat)) c.scan_whole-in-None.ensures.tried
+
+pub returns-in-Some-clause-few : goal.returns-in-Some-clause-few
+returns-in-Some-clause-few c =
+    let few = c.scan_whole.ensures.few in
+    let was = ap (λ o. room_left c.args.heap.now.shape c.args.search.now (filled_in c.args.packets.now.input o)) c.in-Some.is in
+    omega (arith, few, was)
+
+pub returns-in-None-clause-few : goal.returns-in-None-clause-few
+returns-in-None-clause-few c =
+    let sh : Shape = c.args.heap.now.shape in
+    let k = c.scan_whole-in-None.new in
+    let few = c.scan_whole-in-None.ensures.few in
+    let was = ap (λ o. room_left sh c.args.search.now (filled_in c.args.packets.now.input o)) c.in-None.is in
+    let now = ap (λ o. room_left sh k.search (filled_in k.out o)) c.in-None.is in
+    omega (arith, few, was, now)

@@ -1,4 +1,4 @@
-use Rattle.std.proofs.Common.{ℕ, ◌≡◌, List, [], ◌∷◌, refl, sym, ap, cond, Bool, true, false, not, Some, None, Option, eq-eqb, ◌+◌, inl, inr, ◌∙◌, subst, arith, ⊎_elim, ◌*◌}
+use Rattle.std.proofs.Common.{ℕ, ◌≡◌, List, [], ◌∷◌, refl, sym, ap, cond, Bool, true, false, not, Some, None, Option, eq-eqb, ◌+◌, inl, inr, ◌∙◌, subst, arith, ⊎_elim}
 use Rattle.std.specs.Prelude.{◌&&◌, ◌||◌, ◌==◌, is_some}
 use Rattle.std.proofs.lemmas.Bool.{and_from, and_parts, false≢true, or_right}
 use Rattle.mark_core.specs.Seats.{is_the, is_unpublished, work_in_hand}
@@ -18,15 +18,21 @@ use Rattle.packet_pools.proofs.TracedSteps.{traced-join}
 use Rattle.tracer.specs.declared.packets.Packets.{Packets}
 use Rattle.tracer.specs.declared.traced.Traced.{Traced}
 use Rattle.tracer.specs.Hands.{IsIdle, no_packets, packet_of}
-use Rattle.tracer.specs.Parts.{Part}
-use Rattle.tracer.proofs.Joined.{part-then}
+use Rattle.tracer.specs.Parts.{Did}
+use Rattle.tracer.proofs.Joined.{did-then}
 use Rattle.tracer.proofs.Whole.{found-end, found-none, deferral-of, keeps-record, tally-of, traces-owe}
 use Rattle.gc_table.specs.Seats.{view_of}
 use Rattle.packet_pools.specs.OnlyTraced.{OnlyTraced}
 use Rattle.gc_table.specs.Log.{events}
-use Rattle.packet_pools.specs.StepBounds.{give_steps, input_steps}
-use Rattle.tracer.specs.StepBounds.{object_steps, turn_steps}
-use Rattle.packet_pools.proofs.Few.{few-join}
+use Rattle.gc_table.proofs.History.Log.{events-join}
+use Rattle.packet_pools.specs.Counts.{count_of, dirties}
+use Rattle.packet_pools.specs.declared.search.Search.{Search}
+use Rattle.packet_pools.specs.declared.search.Search.TheVariants.{Open}
+use Rattle.packet_pools.proofs.Few.{few-sum}
+use Rattle.tracer.specs.Searched.{DirtiesOnceTried, IsSearched, Searches}
+use Rattle.tracer.specs.StepBounds.{deferring_left, filled_length}
+use Rattle.tracer.proofs.Few.{filled-fits, room-most}
+use Rattle.tracer.proofs.Searched.{quiet-of, searches-join, searches-still}
 use Rattle.tracer.proofs.Spills.{trace-spills}
 use Rattle.tracer.proofs.tracing.trace.Goals as goal
 
@@ -96,6 +102,10 @@ all-end v (e ∷ es) k t =
     let b = and_parts (is_trace_step e.step) (only_traces es) t in
     and_from _ _ (end-one v.shape v.state e.step e.found a.0 b.0) (all-end (after e.step e.found v) es a.1 b.1)
 
+-- no card was dirtied
+none-tried : (sh : Shape) (es : List Entry) → count_of dirties es ≡ 0 → DirtiesOnceTried sh [] es
+none-tried sh es none = (searches-still sh Open es (quiet-of es none)).cause [] tt
+
 pub returns-in_default-clause-stopped : goal.returns-in_default-clause-stopped
 returns-in_default-clause-stopped c =
     let v : View = view_of c.args.seat.now in
@@ -111,7 +121,7 @@ returns-in_default-clause-tally c =
     let v : View = view_of c.args.seat.now in
     let w : View = view_of c.begin.new.seat in
     let e = c.in_default.ensures in
-    subst (λ (t : Traced). Tally t.done t.deferred t.overflowed v w) (sym c.without_work.ensures) (tally-of c.args.heap.now.shape 0 0 0 v w c.requires.seat.0.1 e.only e.part)
+    subst (λ (t : Traced). Tally t.done t.deferred t.overflowed v w) (sym c.without_work.ensures) (tally-of c.args.heap.now.shape 0 0 0 v w c.requires.seat.0.1 e.only e.part (none-tried c.args.heap.now.shape (events v w) e.part.dirtied))
 
 zero-plus : (n : ℕ) → 0 + n ≡ n
 zero-plus n = omega arith
@@ -120,10 +130,17 @@ plus-none : (n : ℕ) → n + 0 ≡ n
 plus-none n = omega arith
 
 -- packets are taken, cells are traced, and the packets are given back
-whole : (sh : Shape) (d f l : ℕ) (o q : Option ℕ) (v w x y : View) → OnlyTraced v w → OnlyTraced w x → OnlyTraced x y → o ≡ None → Part sh None None 0 0 0 v (events v w) → Part sh o q d f l w (events w x) → Part sh q None 0 0 0 x (events x y) → Part sh None None d f l v (events v y)
-whole sh d f l o q v w x y a b c none first main last =
-    part-then sh None None None 0 d 0 f 0 l d f l v w y a (traced-join w x y b c) (zero-plus d) (zero-plus f) (zero-plus l) first
-    (part-then sh None q None d 0 f 0 l 0 d f l w x y b c (plus-none d) (plus-none f) (plus-none l) (subst (λ z. Part sh z q d f l w (events w x)) none main) last)
+whole : (d f l : ℕ) (o q : Option ℕ) (v w x y : View) → OnlyTraced v w → OnlyTraced w x → OnlyTraced x y → o ≡ None → Did None None 0 0 0 v (events v w) → Did o q d f l w (events w x) → Did q None 0 0 0 x (events x y) → Did None None d f l v (events v y)
+whole d f l o q v w x y a b c none first main last =
+    did-then None None None 0 d 0 f 0 l d f l v w y a (traced-join w x y b c) (zero-plus d) (zero-plus f) (zero-plus l) first
+    (did-then None q None d 0 f 0 l 0 d f l w x y b c (plus-none d) (plus-none f) (plus-none l) (subst (λ z. Did z q d f l w (events w x)) none main) last)
+
+-- only while cells are traced a card is dirtied
+whole-tried : (sh : Shape) (s t : Search) (v w x y : View) → OnlyTraced v w → OnlyTraced w x → OnlyTraced x y → s ≡ Open → count_of dirties (events v w) ≡ 0 → count_of dirties (events x y) ≡ 0 → Searches sh s t (events w x) → DirtiesOnceTried sh [] (events v y)
+whole-tried sh s t v w x y a b c anew first last on =
+    let later = traced-join w x y b c in
+    (searches-join sh s s t (events v w) (events w y) (events v y) (events-join v w y a.log later.log) (searches-still sh s (events v w) (quiet-of (events v w) first))
+    (searches-join sh s t t (events w x) (events x y) (events w y) (events-join w x y b.log c.log) on (searches-still sh t (events x y) (quiet-of (events x y) last)))).cause [] (subst (λ z. IsSearched sh z []) (sym anew) tt)
 
 pub returns-clause-only : goal.returns-clause-only
 returns-clause-only c =
@@ -144,7 +161,8 @@ returns-clause-tally c =
     let f = c.trace_all-traced.ensures in
     let g = c.finish.ensures in
     tally-of sh t.done t.deferred t.overflowed v y c.requires.seat.0.1 (traced-join v w y e.only (traced-join w x y f.only g.only))
-    (whole sh t.done t.deferred t.overflowed _ _ v w x y e.only f.only g.only (ap packet_of e.some.1) e.part f.part g.part)
+    (whole t.done t.deferred t.overflowed _ _ v w x y e.only f.only g.only (ap packet_of e.some.1) e.part f.part g.part)
+    (whole-tried sh c.open.result c.trace_all-traced.new.search v w x y e.only f.only g.only c.open.ensures e.part.dirtied g.part.dirtied f.tried)
 
 pub returns-clause-deferral : goal.returns-clause-deferral
 returns-clause-deferral c =
@@ -158,7 +176,7 @@ returns-clause-deferral c =
     let f = c.trace_all-traced.ensures in
     let g = c.finish.ensures in
     deferral-of sh t.done t.deferred t.overflowed v y c.requires.seat.0.1 (traced-join v w y e.only (traced-join w x y f.only g.only))
-    (whole sh t.done t.deferred t.overflowed _ _ v w x y e.only f.only g.only (ap packet_of e.some.1) e.part f.part g.part)
+    (whole t.done t.deferred t.overflowed _ _ v w x y e.only f.only g.only (ap packet_of e.some.1) e.part f.part g.part)
 
 -- nothing is held, and nothing is in hand
 idle-end : (sh : Shape) (v y : View) → y.shape ≡ sh → OnlyTraced v y → v.state.block ≡ None → y.state.held ≡ no_packets → work_in_hand sh.fields y.state ≡ false → IsIdle y
@@ -178,7 +196,7 @@ returns-clause-state c =
     let g = c.finish.ensures in
     let later : OnlyTraced v y = traced-join v w y e.only (traced-join w x y f.only g.only) in
     keeps-record v y later c.requires.seat.1 g.seat.1 c.requires.idle (idle-end sh v y g.seat.0.1 later c.requires.idle.block g.held g.work)
-    (traces-owe v y later (whole sh t.done t.deferred t.overflowed _ _ v w x y e.only f.only g.only (ap packet_of e.some.1) e.part f.part g.part).did.steps)
+    (traces-owe v y later (whole t.done t.deferred t.overflowed _ _ v w x y e.only f.only g.only (ap packet_of e.some.1) e.part f.part g.part).steps)
 
 pub returns-clause-stopped : goal.returns-clause-stopped
 returns-clause-stopped c =
@@ -198,7 +216,7 @@ returns-clause-stopped c =
       b.0,
       b.1,
       found-end sh p None t.done t.deferred t.overflowed v w x y c.requires.seat.0.1 e.only f.only g.only e.part
-          (subst (λ z. Part sh z (packet_of p.deferred) t.done t.deferred t.overflowed w (events w x)) (ap packet_of e.some.1) f.part)
+          (subst (λ z. Did z (packet_of p.deferred) t.done t.deferred t.overflowed w (events w x)) (ap packet_of e.some.1) f.part)
           b.2
           f.packets.0
           c.trace_all-traced.new.seat.possible
@@ -210,11 +228,10 @@ pub returns-in_default-clause-ends : goal.returns-in_default-clause-ends
 returns-in_default-clause-ends c =
     let v : View = view_of c.args.seat.now in
     let e = c.in_default.ensures in
-    all-end v (events v (view_of c.begin.new.seat)) (e.only.cells refl) e.part.did.steps
+    all-end v (events v (view_of c.begin.new.seat)) (e.only.cells refl) e.part.steps
 
 pub returns-clause-ends : goal.returns-clause-ends
 returns-clause-ends c =
-    let sh : Shape = c.args.heap.now.shape in
     let v : View = view_of c.args.seat.now in
     let w : View = view_of c.begin.new.seat in
     let x : View = view_of c.trace_all-traced.new.seat in
@@ -224,7 +241,7 @@ returns-clause-ends c =
     let f = c.trace_all-traced.ensures in
     let g = c.finish.ensures in
     let later : OnlyTraced v y = traced-join v w y e.only (traced-join w x y f.only g.only) in
-    all-end v (events v y) (later.cells refl) (whole sh t.done t.deferred t.overflowed _ _ v w x y e.only f.only g.only (ap packet_of e.some.1) e.part f.part g.part).did.steps
+    all-end v (events v y) (later.cells refl) (whole t.done t.deferred t.overflowed _ _ v w x y e.only f.only g.only (ap packet_of e.some.1) e.part f.part g.part).steps
 
 pub returns-in_default-clause-few : goal.returns-in_default-clause-few
 returns-in_default-clause-few c = let few = c.in_default.ensures.few in omega (arith, few)
@@ -236,13 +253,20 @@ returns-clause-few c =
     let w : View = view_of c.begin.new.seat in
     let x : View = view_of c.trace_all-traced.new.seat in
     let y : View = view_of c.finish.new.seat in
-    let k : ℕ = c.trace_all-traced.result.done * (turn_steps sh + object_steps sh) in
+    let k = c.in-Some.packets in
     let e = c.in-Some.ensures in
     let f = c.trace_all-traced.ensures in
     let g = c.finish.ensures in
-    let last = few-join (k + turn_steps sh) (3 * give_steps) w x y f.only.ran g.only.ran f.few g.few in
-    let all = few-join (input_steps sh) (k + turn_steps sh + 3 * give_steps) v w y e.only.ran (traced-join w x y f.only g.only).ran e.few last in
-    omega (arith, all)
+    let last = few-sum w x y f.only.ran g.only.ran in
+    let all = few-sum v w y e.only.ran (traced-join w x y f.only g.only).ran in
+    let begun = e.few in
+    let traced = f.few in
+    let given = g.few in
+    let fits = filled-fits k w e.some.0 in
+    let shape = ap (λ (s : Shape). s.entries) e.seat.0.1 in
+    let room = room-most sh c.open.result (filled_length k) (omega (arith, fits, shape)) in
+    let none = ap (deferring_left sh) e.some.1 in
+    omega (arith, last, all, begun, traced, given, room, none)
 
 pub returns-clause-undeferred : goal.returns-clause-undeferred
 returns-clause-undeferred c = λ still. c.trace_all-traced.ensures.undeferred (ap (λ (s : SeatState). s.active) c.in-Some.ensures.only.rest ∙ still)
@@ -258,7 +282,7 @@ returns-in_default-clause-spills c = λ alone still.
     let v : View = view_of c.args.seat.now in
     let w : View = view_of c.begin.new.seat in
     let e = c.in_default.ensures in
-    trace-spills 0 0 v w e.only (tally-of c.args.heap.now.shape 0 0 0 v w c.requires.seat.0.1 e.only e.part) c.requires.idle alone still
+    trace-spills 0 0 v w e.only (tally-of c.args.heap.now.shape 0 0 0 v w c.requires.seat.0.1 e.only e.part (none-tried c.args.heap.now.shape (events v w) e.part.dirtied)) c.requires.idle alone still
 
 pub returns-clause-spills : goal.returns-clause-spills
 returns-clause-spills c = λ alone still.

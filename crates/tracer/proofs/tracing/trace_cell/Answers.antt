@@ -1,4 +1,4 @@
-use Rattle.std.proofs.Common.{ℕ, ◌≡◌, ◌/◌, ◌%◌, ◌+◌, arith, Option, Bool, true, false, not, cond, sym, ap, ◌∙◌, subst, refl}
+use Rattle.std.proofs.Common.{ℕ, ◌≡◌, ◌/◌, ◌%◌, ◌+◌, ◌≤◌, arith, Option, Bool, true, false, not, cond, sym, ap, ◌∙◌, subst, refl}
 use mir.Val.{bool_byte}
 use Rattle.mark_core.specs.Bits.{has_bit}
 use Rattle.mark_core.specs.Cards.{block_cells}
@@ -10,19 +10,26 @@ use Rattle.packet_pools.specs.Tracing.{Traces}
 use Rattle.packet_pools.proofs.Doing.{traces-on}
 use Rattle.packet_pools.proofs.TracedSteps.{traced-join}
 use Rattle.tracer.specs.Hands.{packet_of, packets_of}
-use Rattle.tracer.specs.Parts.{HasPopped, Part}
+use Rattle.tracer.specs.Parts.{HasPopped, Did}
 use Rattle.tracer.proofs.Carried.{carries-same}
 use Rattle.tracer.proofs.Hand.{alloc-cleaning, traced-read_alloc, may-read_alloc, published, scanned, unpublished}
 use Rattle.std.proofs.lemmas.Bool.{true≢false}
 use Rattle.tracer.proofs.InStop.{cell-published}
-use Rattle.tracer.proofs.Joined.{part-then}
-use Rattle.tracer.proofs.OneStep.{part-alloc}
+use Rattle.tracer.proofs.Joined.{did-then}
+use Rattle.tracer.proofs.OneStep.{did-alloc}
 use Rattle.gc_table.specs.declared.view.View.{View}
 use Rattle.packet_pools.specs.OnlyTraced.{OnlyTraced}
 use Rattle.gc_table.specs.Log.{events}
-use Rattle.packet_pools.specs.StepBounds.{follow_steps, scan_steps}
-use Rattle.packet_pools.proofs.Few.{few-after, few-join}
+use Rattle.packet_pools.specs.Counts.{dirties}
+use Rattle.packet_pools.specs.Seeking.{some_event}
+use Rattle.packet_pools.specs.StepBounds.{follow_steps}
+use Rattle.packet_pools.specs.declared.search.Search.{Search}
+use Rattle.packet_pools.proofs.Few.{few-after, few-sum}
+use Rattle.gc_table.proofs.History.Log.{events-after, events-join}
+use Rattle.tracer.specs.Searched.{Searches}
+use Rattle.tracer.specs.StepBounds.{deferring_left}
 use Rattle.tracer.proofs.Few.{some-field}
+use Rattle.tracer.proofs.Searched.{searches-join, searches-still}
 use Rattle.tracer.proofs.tracing.trace_cell.Goals as goal
 
 pub read_alloc-word-requires-clause-may : goal.read_alloc-word-requires-clause-may
@@ -41,6 +48,11 @@ was-read cell k n v w p t is f =
     let e : w ≡ after (ReadAlloc (cell / block_cells)) n v = f.0 ∙ ap (λ x. after (ReadAlloc (x / block_cells)) n v) is in
     let later : OnlyTraced v w = traced-read_alloc v w cell n p e (subst (λ x. Finds (ReadAlloc (x / block_cells)) n v) is f.1) in
     record { view = e; only = later; traces = traces-on v w later t (ap (λ (z : View). z.state.reserved) e) (ap (λ (z : View). z.state.credit) e) }
+
+-- an allocation word was read first
+searches-after : (sh : Shape) (s t : Search) (b n : ℕ) (v w x : View) → w ≡ after (ReadAlloc b) n v → OnlyTraced v w → OnlyTraced w x → Searches sh s t (events w x) → Searches sh s t (events v x)
+searches-after sh s t b n v w x e a later on =
+    searches-join sh s s t (events v w) (events w x) (events v x) (events-join v w x a.log later.log) (searches-still sh s (events v w) (ap (some_event dirties) (events-after v w (ReadAlloc b) n e))) on
 
 pub scan-scanned-requires-clause-seat : goal.scan-scanned-requires-clause-seat
 scan-scanned-requires-clause-seat c =
@@ -84,7 +96,6 @@ returns-then-has_bit-clause-only c =
 
 pub returns-then-has_bit-clause-part : goal.returns-then-has_bit-clause-part
 returns-then-has_bit-clause-part c =
-    let sh : Shape = c.args.heap.now.shape in
     let v : View = view_of c.args.seat.now in
     let w : View = view_of c.read_alloc-word.new.seat in
     let x : View = view_of c.scan-scanned.new.seat in
@@ -92,8 +103,8 @@ returns-then-has_bit-clause-part c =
     let o : Option ℕ = packet_of c.args.packets.now.deferred in
     let r = was-read c.args.cell c.number.result c.read_alloc-word.result v w c.requires.cell c.requires.seat.1 c.number.ensures c.read_alloc-word.ensures.view in
     let s = c.scan-scanned.ensures in
-    subst (λ q. Part sh o q 0 0 n v (events v x)) (sym (ap packet_of s.packets.1))
-    (part-then sh o o o 0 0 0 0 0 n 0 0 n v w x r.only s.only refl refl (zero-plus n) (part-alloc sh o (c.args.cell / block_cells) _ v w r.view) (s.part o))
+    subst (λ q. Did o q 0 0 n v (events v x)) (sym (ap packet_of s.packets.1))
+    (did-then o o o 0 0 0 0 0 n 0 0 n v w x r.only s.only refl refl (zero-plus n) (did-alloc o (c.args.cell / block_cells) _ v w r.view) (s.part o))
 
 pub defer-overflowed-requires-clause-seat : goal.defer-overflowed-requires-clause-seat
 defer-overflowed-requires-clause-seat c =
@@ -131,7 +142,6 @@ lost-byte false = refl
 
 pub returns-clause-part : goal.returns-clause-part
 returns-clause-part c =
-    let sh : Shape = c.args.heap.now.shape in
     let v : View = view_of c.args.seat.now in
     let w : View = view_of c.read_alloc-word.new.seat in
     let x : View = view_of c.defer-overflowed.new.seat in
@@ -140,11 +150,31 @@ returns-clause-part c =
     let q : Option ℕ = packet_of c.defer-overflowed.new.packets.deferred in
     let r = was-read c.args.cell c.number.result c.read_alloc-word.result v w c.requires.cell c.requires.seat.1 c.number.ensures c.read_alloc-word.ensures.view in
     let p = c.defer-overflowed.ensures in
-    part-then sh o o q 0 0 0 (cond b 0 1) 0 (cond b 1 0) 0 c.from.result c.from-2.result v w x r.only p.only refl
+    did-then o o q 0 0 0 (cond b 0 1) 0 (cond b 1 0) 0 c.from.result c.from-2.result v w x r.only p.only refl
     (zero-plus (cond b 0 1) ∙ (kept-byte b ∙ sym c.from.ensures))
     (zero-plus (cond b 1 0) ∙ (lost-byte b ∙ sym c.from-2.ensures))
-    (part-alloc sh o (c.args.cell / block_cells) _ v w r.view)
+    (did-alloc o (c.args.cell / block_cells) _ v w r.view)
     p.part
+
+pub returns-then-has_bit-clause-tried : goal.returns-then-has_bit-clause-tried
+returns-then-has_bit-clause-tried c =
+    let sh : Shape = c.args.heap.now.shape in
+    let v : View = view_of c.args.seat.now in
+    let w : View = view_of c.read_alloc-word.new.seat in
+    let k = c.scan-scanned.new in
+    let x : View = view_of k.seat in
+    let r = was-read c.args.cell c.number.result c.read_alloc-word.result v w c.requires.cell c.requires.seat.1 c.number.ensures c.read_alloc-word.ensures.view in
+    searches-after sh c.args.search.now k.search (c.args.cell / block_cells) _ v w x r.view r.only c.scan-scanned.ensures.only c.scan-scanned.ensures.tried
+
+pub returns-clause-tried : goal.returns-clause-tried
+returns-clause-tried c =
+    let sh : Shape = c.args.heap.now.shape in
+    let v : View = view_of c.args.seat.now in
+    let w : View = view_of c.read_alloc-word.new.seat in
+    let k = c.defer-overflowed.new in
+    let x : View = view_of k.seat in
+    let r = was-read c.args.cell c.number.result c.read_alloc-word.result v w c.requires.cell c.requires.seat.1 c.number.ensures c.read_alloc-word.ensures.view in
+    searches-after sh c.args.search.now k.search (c.args.cell / block_cells) _ v w x r.view r.only c.defer-overflowed.ensures.only c.defer-overflowed.ensures.tried
 
 pub returns-then-has_bit-clause-few : goal.returns-then-has_bit-clause-few
 returns-then-has_bit-clause-few c =
@@ -153,7 +183,11 @@ returns-then-has_bit-clause-few c =
     let w : View = view_of c.read_alloc-word.new.seat in
     let r = was-read c.args.cell c.number.result c.read_alloc-word.result v w c.requires.cell c.requires.seat.1 c.number.ensures c.read_alloc-word.ensures.view in
     let s = c.scan-scanned.ensures in
-    few-join 1 (scan_steps sh.fields sh) v w (view_of c.scan-scanned.new.seat) r.only.ran s.only.ran (few-after v w _ _ r.view) s.few
+    let all = few-sum v w (view_of c.scan-scanned.new.seat) r.only.ran s.only.ran in
+    let one = few-after v w _ _ r.view in
+    let few = s.few in
+    let same = ap (deferring_left sh) s.packets.1 in
+    omega (arith, all, one, few, same)
 
 pub returns-clause-few : goal.returns-clause-few
 returns-clause-few c =
@@ -162,9 +196,23 @@ returns-clause-few c =
     let w : View = view_of c.read_alloc-word.new.seat in
     let r = was-read c.args.cell c.number.result c.read_alloc-word.result v w c.requires.cell c.requires.seat.1 c.number.ensures c.read_alloc-word.ensures.view in
     let p = c.defer-overflowed.ensures in
+    let all = few-sum v w (view_of c.defer-overflowed.new.seat) r.only.ran p.only.ran in
+    let one = few-after v w _ _ r.view in
     let few = p.few in
     let some = some-field sh.fields (follow_steps sh) c.args.heap.now.shaped.fields.0 in
-    few-join 1 (scan_steps sh.fields sh) v w (view_of c.defer-overflowed.new.seat) r.only.ran p.only.ran (few-after v w _ _ r.view) (omega (arith, few, some))
+    omega (arith, all, one, few, some)
+
+byte-most : (b : Bool) → bool_byte b ≤ 1
+byte-most true = omega arith
+byte-most false = omega arith
+
+pub returns-clause-most : goal.returns-clause-most
+returns-clause-most c =
+    let kept = byte-most (not c.defer-overflowed.result) in
+    let lost = byte-most c.defer-overflowed.result in
+    let one = c.from.ensures in
+    let two = c.from-2.ensures in
+    (omega (arith, kept, one), omega (arith, lost, two))
 
 pub returns-clause-undeferred : goal.returns-clause-undeferred
 returns-clause-undeferred c = λ still.

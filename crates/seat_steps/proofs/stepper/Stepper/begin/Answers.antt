@@ -104,11 +104,26 @@ returns c =
     let stopped = c.if-not-finds_stopped.ensures.stopped in
     let i = c.if-begin_collection.ensures in
     let known = i.full.1 in
+    let read = c.read_marking-marking.ensures.marking in
     let found = kept (goal.at.returns c).After-finds_stopped in
     let all = kept-join x.seat c.finds_stopped.new.seat c.begin_collection.new.seat found (course-kept c.finds_stopped.new.seat c.begin_collection.new.seat b.ran i.over.only b.keeps) in
     record {
       collects = λ precise most. (
-        inl (c.requires.stopping, record { stopped = u; finds = stopped.1; resumed = v; course = i.over; leaves = l.out; full = begins-full t u v w found.leaves.ran stopped.1 i.over known l.ran (l.full known) }, refl, (refl, (refl, refl, refl), refl, refl, refl)),
+        inl (
+          c.requires.stopping,
+          record {
+            stopped = u;
+            finds = stopped.1;
+            resumed = v;
+            course = i.over;
+            leaves = l.out;
+            full = begins-full t u v w found.leaves.ran stopped.1 i.over known l.ran (l.full known);
+            once_more = c.marks_again-self.ensures.again ∙ ap (λ (m : Bool). x.precise && m) read;
+            exactly = c.leaves_none-self.ensures.exact ∙ ap (λ (m : Bool). x.precise || not m) read;
+          },
+          refl,
+          (refl, (refl, refl, refl), refl, refl, refl),
+        ),
         l.full known,
         refl,
         record { heap = l.same ∙ all.same; leaves = leaves-join t v w all.leaves l.leaves; world = refl; name_is = refl; stops = refl; search = record { paid_is = refl; block = refl; seen = refl } },
