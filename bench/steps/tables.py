@@ -8,7 +8,8 @@ import collections
 import statistics
 import sys
 
-FIELDS, SLOTS, BLOCK, PACKETS = 2, 16, 64, 64
+# Where objects are shared, a call that leaves or looks for a cell stores the roots that lag, 32 at most.
+FIELDS, SLOTS, BLOCK, PACKETS, LAG = 2, 16, 64, 64, 32
 SIZES = [2**16, 2**20, 2**24]
 USUAL = 1024
 
@@ -30,56 +31,85 @@ def sweeping(cells, most):
     return stretches(cells, most) * (2 + 4 * stretch(cells)) + 1
 
 
-# A search for a packet to read from, one for a packet with room, a root or a field that is followed, an object that is scanned, and one that is popped: StepBounds.antt
-# of packet_pools and tracer.
+# A search for a packet to read from, one for a packet with room, one for an empty or half empty packet that the full one goes back for, and what the searches of a call
+# and a packet that is taken take at most beside each marked cell's part: StepBounds.antt of packet_pools. The packets' entries go with the cells.
 POOL = 1 + PACKETS
 INPUT, OUTPUT = 2 * POOL + 1, 2 * POOL + 1 + 4 * PACKETS + 3
-FOLLOW = OUTPUT + 6
-SCAN, TURN = FIELDS * FOLLOW, 2 + OUTPUT + INPUT + 4
+SPARE = 2 * POOL + 3 + 3
 RECYCLE = 1 + 6 * PACKETS
 
 
-def tracing(objects):
-    return objects * (TURN + 1 + SCAN) + TURN + INPUT + 9
+def entries(cells):
+    """How many cells a packet has room for."""
+    return min(max(cells // 2048, 32), 512)
+
+
+def aside(cells):
+    """What the cells of a packet put aside for the next search, at most; and a cell's part."""
+    room = max(1, min(entries(cells) // 2, SPARE))
+    part = -(-SPARE // room)
+    return part * room, part
+
+
+def searching(cells):
+    return SPARE - 3 + 5 * PACKETS + aside(cells)[0]
+
+
+def follow(cells):
+    return 3 + aside(cells)[1]
+
+
+def scan(cells):
+    return FIELDS * follow(cells)
+
+
+def tracing(cells, objects):
+    share = 2 + OUTPUT
+    each = INPUT + 3 + 1 + 1 + scan(cells) + aside(cells)[0]
+    return objects * each + objects // 64 * (share + searching(cells)) + searching(cells) + aside(cells)[0] + share + INPUT + 3 + 1 + INPUT + 9
 
 
 def seeing(cells, most):
-    return OUTPUT + INPUT + most * FOLLOW + 3 + RECYCLE
+    return OUTPUT + INPUT + most * follow(cells) + searching(cells) + 3 + RECYCLE
 
 
 def cleaning(cells, most):
-    return OUTPUT + INPUT + 5 * most + 16 * most * SCAN + 3 + RECYCLE
+    return OUTPUT + INPUT + 5 * most + 16 * most * scan(cells) + searching(cells) + 3 + RECYCLE
+
+
+def card(cells):
+    """A card is drawn, looked at and cleaned, with a packet of its own."""
+    return 3 + OUTPUT + 16 * scan(cells) + 4 + searching(cells) + 3
 
 
 def paying(cells):
     """A payment scans 32 roots of two sections, passes at most 1,024 cards early in a cycle, traces at most 1,024 objects and looks at as many cards."""
-    look = 3 + OUTPUT + 16 * SCAN + 7 + tracing(0)
-    return 2 * (OUTPUT + INPUT + 32 * FOLLOW + 3) + cleaning(cells, 1024) + tracing(1024) + 1024 * look + 5
+    section = OUTPUT + INPUT + 32 * follow(cells) + searching(cells) + 3
+    return 2 * section + cleaning(cells, 1024) + tracing(cells, 1024) + 1024 * (card(cells) + tracing(cells, 0)) + 5
 
 
 def refilling(cells, most):
-    return 3 * min(most, cells // BLOCK) + paying(cells) + 17
+    return 3 * min(most, cells // BLOCK) + paying(cells) + 17 + LAG
 
 
 def making(cells, _most):
     """An object is made after a search of all blocks and a payment, or isn't, after both."""
-    return 3 * (cells // BLOCK) + paying(cells) + max(FIELDS + 17, 19)
+    return 3 * (cells // BLOCK) + paying(cells) + max(FIELDS + 17, 19) + LAG
 
 
 def turning(cells, most):
     """A turn traces 64 objects and passes 1,024 cards, whatever the heap's size, and takes five steps besides."""
-    card = 3 + OUTPUT + 16 * SCAN + 7
-    return tracing(64) + 3 + 1024 * card + RECYCLE + 5
+    return tracing(cells, 64) + 3 + 1024 * card(cells) + 5
 
 
 # What is proved of a call: a number of steps, or one by the cells and by what a step does at most.
 PROVED = {
-    "set": 3, "get": 2, "put": 2, "copy": 1, "forget": 1, "value": 1, "is_nil": 0, "same": 0, "root": 2, "exchange": 2, "exchange_value": 1, "spill": 1, "fill": 2,
-    "forget_slots": SLOTS, "place": 0, "number": 1, "enter": 5, "enter: stopped": 10, "leave": 5, "safe_point": 2, "safe_point: stopped": 6, "make": 5 + FIELDS,
-    "make_cached": 5 + FIELDS, "make_cached: no cache": 2, "make_cached: stopped": 6, "make: searched": making, "make: none": making, "refill": refilling,
-    "refill: not yet": lambda cells, most: 3 * min(most, cells // BLOCK) + 11,
-    "collect: asks": 6, "collect: waits": 1, "collect: begins": 5, "collect: roots": seeing, "collect: traces": lambda cells, most: RECYCLE + tracing(most),
-    "collect: looks": lambda cells, most: most + 2, "collect: cleans": cleaning, "collect: clears": clearing, "collect: sweeps": sweeping,
+    "set": 4, "get": 2, "put": 2, "copy": 1, "forget": 1, "value": 1, "is_nil": 0, "same": 0, "root": 2, "exchange": 3, "exchange_value": 1, "spill": 1, "fill": 2,
+    "forget_slots": SLOTS, "place": 0, "number": 1, "enter": 5, "enter: stopped": 10, "leave": 5 + LAG, "safe_point": 2, "safe_point: stopped": 6 + LAG,
+    "make": 5 + FIELDS, "make_cached": 5 + FIELDS, "make_cached: no cache": 2, "make_cached: stopped": 6 + LAG, "make: searched": making, "make: none": making, "refill": refilling,
+    "refill: not yet": lambda cells, most: 3 * min(most, cells // BLOCK) + 11 + LAG,
+    "collect: asks": 6 + LAG, "collect: waits": 2, "collect: begins": 5, "collect: roots": seeing, "collect: traces": lambda cells, most: RECYCLE + tracing(cells, most),
+    "collect: looks": lambda cells, most: most + 3, "collect: cleans": cleaning, "collect: clears": clearing, "collect: sweeps": sweeping,
     "collect: counts": lambda cells, most: most, "collect: ends": 17, "trace_turn": turning,
 }
 
