@@ -15,6 +15,7 @@ use Rattle.garbage_laws.specs.Calls.{ended_cycle}
 use Rattle.garbage_laws.specs.Garbage.{ends_cycle}
 use Rattle.gc_cycle.specs.Cycles.{collects}
 use Rattle.gc_cycle.specs.Sorts.{begins_exactly, ends_cycle as moves_back}
+use Rattle.work_laws.proofs.Tidy.{tidy_few}
 use Rattle.managed_heap.specs.Working.{CollectionsAreBounded, IsEndIn, WorksAgain}
 use Rattle.managed_heap.proofs.Working.{works-again, works-since, works-until}
 
@@ -74,4 +75,4 @@ works_collected s t x y ran one between again two =
     }
 
 pub collections_bounded : CollectionsAreBounded
-collections_bounded = record { ends = has_end; calls = works-until; since_own = works-since; again = works-again; collected = works_collected }
+collections_bounded = record { ends = has_end; calls = works-until; since_own = works-since; again = works-again; collected = works_collected; few = tidy_few }

@@ -17,6 +17,7 @@ use Rattle.gc_table.specs.declared.view.Entry.{Entry}
 use Rattle.gc_table.specs.declared.view.View.{View}
 use Rattle.garbage_laws.specs.Calls.{ended_cycle}
 use Rattle.work_laws.specs.Cycles.{IsBoundedCycle, IsIdle}
+use Rattle.work_laws.specs.Tidy.{TidyCyclesAreFew}
 use Rattle.gc_cycle.specs.Cycles.{collects}
 
 -- among these entries is e, which ended a cycle, behind the entries `own`
@@ -82,3 +83,5 @@ pub record CollectionsAreBounded : Type 0 where
   pub again : (u w x y : View) → Ran u w → Ran w x → Ran x y → (own more : List Entry) (e d : Entry) → IsEndIn own e (events u w) → IsEndIn more d (events x y) → WorksFrom u own e x y more d
   -- so of two collections of a mutator's seat, as the clauses `ran` and `collected` tell them, whatever it did in between
   pub collected : (s t x y : HeapSeat) → Across Ran s t → IsTrue (collects (did s t)) → Across Ran t x → Across Ran x y → IsTrue (collects (did x y)) → WorksAgain s t x y
+  -- each of these bounds is one by sizes, stores and claimed cells alone, if what was done is tidy
+  pub few : TidyCyclesAreFew

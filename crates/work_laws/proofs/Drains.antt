@@ -25,7 +25,7 @@ has_it : (allocs : List ℕ) (x : ℕ × Bool) (b : ℕ) (here : Bool) → eqb (
 has_it allocs x b true e h = ap not (ap (λ z. has_bit (get_or allocs z 0) (x.0 % 64)) (sym (eqb-true (x.0 / 64) b e)) ∙ h)
 has_it allocs x b false e h = refl
 
-none_lacks : (allocs : List ℕ) (o : Option (ℕ × Bool)) (b : ℕ) → IfSome o (λ x. cell_bit allocs x.0 ≡ true) → lacks_bit o b (get_or allocs b 0) ≡ false
+pub none_lacks : (allocs : List ℕ) (o : Option (ℕ × Bool)) (b : ℕ) → IfSome o (λ x. cell_bit allocs x.0 ≡ true) → lacks_bit o b (get_or allocs b 0) ≡ false
 none_lacks allocs None b h = refl
 none_lacks allocs (Some x) b h = has_it allocs x b (eqb (x.0 / 64) b) refl h
 
@@ -35,7 +35,7 @@ both None P Q R f p q = tt
 both (Some x) P Q R f p q = f x.0 p q
 
 -- a marked cell is published while the world is stopped
-popped_published : (c : Core) (i : ℕ) (s : SeatState) (step : Step) → Taken c i s step → (words_of c.shape c.words).phase ≡ 2 → IfSome s.popped (λ x. cell_bit (words_of c.shape c.words).allocs x.0 ≡ true)
+pub popped_published : (c : Core) (i : ℕ) (s : SeatState) (step : Step) → Taken c i s step → (words_of c.shape c.words).phase ≡ 2 → IfSome s.popped (λ x. cell_bit (words_of c.shape c.words).allocs x.0 ≡ true)
 popped_published c i s step t p =
     let w : Words = words_of c.shape c.words in
     let none : NoneUsed c.seats = none-used c.shape w.world w.help c.seats t.core.sound.world (still-stopped c t.core (ap is_stopped_phase p)) in

@@ -1,10 +1,11 @@
--- While no cycle is under way, nothing is in hand and no packet has a cell.
+-- While nothing is marked, nothing is in hand and no packet has a cell.
 use Rattle.std.proofs.Common.{ℕ, ◌≡◌, ◌*◌, get_or, arith, refl, ap, Bool, true, false, not, ◌||◌, cond, eqb, Option, Some, None}
 use Rattle.std.specs.Prelude.{is_some}
 use Rattle.std.specs.List.{count_by, sum_by, range_with_len}
 use Rattle.std.proofs.lemmas.Bool.{false_from_ne_true, false≢true, ltb-false, not-false, or_parts, true≢false}
 use Rattle.mark_core.specs.Layout.{words_of}
 use Rattle.mark_core.specs.Seats.{cleaning_left, left_in, scan_left, work_in_hand}
+use Rattle.mark_core.specs.Rules.WorldRules.{is_tracing}
 use Rattle.mark_core.specs.Steps.{Core}
 use Rattle.mark_core.specs.Laws.{IsCore}
 use Rattle.mark_core.specs.declared.seat.Cleaning.{Cleaning}
@@ -35,9 +36,9 @@ lacks_from fields s e =
     record { popped = one.0; scan = one.1; value = two.1; fresh = three.1; cleaning = four.1 }
 
 -- a sum over seats that lack all this
-module _ (c : Core) (k : IsCore c) (p : (words_of c.shape c.words).phase ≡ 0) where
+module _ (c : Core) (k : IsCore c) (p : is_tracing (words_of c.shape c.words).phase ≡ false) where
   none_of : (f : SeatState → ℕ) → ((s : SeatState) → Lacks c.shape.fields s → f s ≡ 0) → sum_by f c.seats ≡ 0
-  none_of f h = sum-none f c.seats (λ j d l. h (get_or c.seats j d) (lacks_from c.shape.fields (get_or c.seats j d) (idle-seats c k (rw p refl) j d l)))
+  none_of f h = sum-none f c.seats (λ j d l. h (get_or c.seats j d) (lacks_from c.shape.fields (get_or c.seats j d) (idle-seats c k p j d l)))
 
   pub idle-fresh : fresh_in_hand c ≡ 0
   idle-fresh = none_of (λ s. bit (has_fresh s)) (λ s l. ap bit l.fresh)
@@ -67,7 +68,7 @@ module _ (c : Core) (k : IsCore c) (p : (words_of c.shape c.words).phase ≡ 0) 
   idle-again = none_of (λ s. bit (has_again s)) (λ s l. not_again s.cleaning l.cleaning)
 
   pub idle-unseen : unseen_in_hand c ≡ 0
-  idle-unseen = rw p refl
+  idle-unseen = rw (or_parts (eqb (words_of c.shape c.words).phase 1) _ p).0 refl
 
   pub idle-white : cells_to_mark c ≡ 0
   idle-white = rw p refl
@@ -95,11 +96,11 @@ module _ (c : Core) (k : IsCore c) (p : (words_of c.shape c.words).phase ≡ 0) 
   idle-fields = none_of (fields_left c.shape.fields) no_fields
 
   pub idle-queued : queued c ≡ 0
-  idle-queued = range-none _ 0 c.shape.packets (λ x h. k.sound.phases.packets_empty (rw p refl) x (omega (arith, h)))
+  idle-queued = range-none _ 0 c.shape.packets (λ x h. k.sound.phases.packets_empty p x (omega (arith, h)))
 
   no_term : (b : Bool) (n : ℕ) → n ≡ 0 → cond b 0 n ≡ 0
   no_term true n e = refl
   no_term false n e = e
 
   pub idle-ready : (waits : Waits) → ready_cells c waits ≡ 0
-  idle-ready waits = range-none _ 0 c.shape.packets (λ x h. no_term _ _ (k.sound.phases.packets_empty (rw p refl) x (omega (arith, h))))
+  idle-ready waits = range-none _ 0 c.shape.packets (λ x h. no_term _ _ (k.sound.phases.packets_empty p x (omega (arith, h))))

@@ -11,6 +11,7 @@ pub mod CleanSteps
 pub mod Cleans
 pub mod Drains
 pub mod DrainedCards
+pub mod Phases
 pub mod Starts
 pub mod DirtySteps
 pub mod UnseenSteps
@@ -21,4 +22,5 @@ pub mod Pushes
 pub mod Idles
 pub mod Cycles
 pub mod CycleTables
+pub mod Tidy
 pub mod Work

@@ -1,15 +1,16 @@
--- How often popped cells are found unpublished in a run: once after they were pushed, and once each time that they are brought back out of the deferred pool.
+-- How often popped cells are found unpublished in a run: once after they were pushed, and once each time that they are brought back out of the deferred pool in Marking.
 use Rattle.std.specs.Prelude.{ℕ, ◌+◌, ◌≤◌, List, [], ◌∷◌, Bool, false, not, ◌&&◌, ◌||◌, if◌then◌else◌, ◌==◌, Option, None, Some, is_none, slice_get, slice_index}
 use Rattle.std.specs.List.{sum_by, count_by, range_with_len}
 use Rattle.mark_core.specs.Layout.{words_of, Words}
 use Rattle.mark_core.specs.Numbers.{deferred_pool_number}
 use Rattle.mark_core.specs.Held.{Slots}
 use Rattle.mark_core.specs.Views.{hands}
-use Rattle.mark_core.specs.Seats.{is_the}
+use Rattle.mark_core.specs.Seats.{is_phase, is_the}
 use Rattle.mark_core.specs.Cells.{in_pool, packet_length}
 use Rattle.mark_core.specs.Steps.{Core, failing_part, after_event, run_of}
 use Rattle.mark_core.specs.Laws.{IsCore, AllNumbersFit}
 use Rattle.mark_core.specs.declared.kinds.Event.{Event}
+use Rattle.mark_core.specs.declared.kinds.Phase.TheVariants.{Marking}
 use Rattle.mark_core.specs.declared.kinds.Shape.{Shape}
 use Rattle.mark_core.specs.declared.kinds.Step.{Step}
 use Rattle.mark_core.specs.declared.kinds.Step.TheVariants.{Give, Pop, Push, ReadAlloc, Take}
@@ -38,6 +39,10 @@ brought_by c step = 0
 
 abbrev pub brought_in : Core → Event → ℕ
 brought_in c e = brought_by c e.step
+
+-- so in Marking
+abbrev pub brought_in_marking : Core → Event → ℕ
+brought_in_marking c e = if is_phase (words_of c.shape c.words).phase Marking then brought_in c e else 0
 
 -- which packets wait: an unpublished cell was put back there, and the packet wasn't given to the deferred pool since
 abbrev pub Waits : Type 0
@@ -92,9 +97,9 @@ has_new s = is_new s.popped
 abbrev pub new_in_hand : Core → ℕ
 new_in_hand c = count_by has_new c.seats
 
--- over every run: a cell is found unpublished only once after it was pushed, and once each time that it is brought back, unless a seat pops it where it was put back;
+-- over every run: a cell is found unpublished only once after it was pushed, and once each time that it is brought back in Marking, unless a seat pops it where it was put back;
 -- and it is put back, or dirties its card, only as often
 pub record DeferringIsBounded : Type 0 where
   pub found : (c : Core) (es : List Event) → IsCore c → AllNumbersFit es
-      → count_events defers_anew es c ≤ ready_cells c none_waits + new_in_hand c + (count_events pushes_fresh es c + sum_events brought_in es c + pops_of_waiting es c none_waits)
+      → count_events defers_anew es c ≤ ready_cells c none_waits + new_in_hand c + (count_events pushes_fresh es c + sum_events brought_in_marking es c + pops_of_waiting es c none_waits)
   pub put_back : (c : Core) (es : List Event) → IsCore c → AllNumbersFit es → count_events spills_deferred es c + count_events puts_back es c + deferred_in_hand (run_of es c) ≤ deferred_in_hand c + count_events defers_anew es c

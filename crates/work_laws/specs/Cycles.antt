@@ -18,7 +18,7 @@ use Rattle.work_laws.specs.Queueing.{pops}
 use Rattle.work_laws.specs.Scanning.{reads_field, reads_root, marks, cleans}
 use Rattle.work_laws.specs.Cleaning.{dirties, draws, begins_pass}
 use Rattle.work_laws.specs.Dirtying.{stores_reference, spills_fresh, spills_deferred, dirties_idly, cleans_in_marking}
-use Rattle.work_laws.specs.Bringing.{brought_in, defers_anew, none_waits, pops_of_waiting}
+use Rattle.work_laws.specs.Bringing.{brought_in_marking, defers_anew, none_waits, pops_of_waiting}
 
 -- the cells of the heap, once each time that marking begins
 abbrev pub cells_begun : Core → List Event → ℕ
@@ -31,8 +31,8 @@ spills c es = count_events spills_fresh es c + count_events spills_deferred es c
 -- the events from state c on
 pub record IsBoundedCycle (c : Core) (es : List Event) : Type 0 where
   pub marked : count_events marks_anew es c ≤ cells_begun c es
-  -- what is found unpublished: each marked cell once, and what is brought back; or a seat pops it where it was put back
-  pub deferred : count_events defers_anew es c ≤ cells_begun c es + sum_events brought_in es c + pops_of_waiting es c none_waits
+  -- what is found unpublished: each marked cell once, and what is brought back in Marking; or a seat pops it where it was put back
+  pub deferred : count_events defers_anew es c ≤ cells_begun c es + sum_events brought_in_marking es c + pops_of_waiting es c none_waits
   -- a cell that is marked, or deferred, is popped once or dirties a card once
   pub placed : count_events pops es c + spills c es ≤ cells_begun c es + count_events defers_anew es c
   -- a card is dirtied for a store, for a cell that finds no packet, or again: once for each dirty one that was cleaned in Marking

@@ -8,4 +8,5 @@ pub mod DrainedCards
 pub mod Dirtying
 pub mod Bringing
 pub mod Cycles
+pub mod Tidy
 pub mod Work

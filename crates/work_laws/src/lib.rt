@@ -10,6 +10,7 @@ ghost use Rattle.work_laws.specs.Drains.{DrainsDeferNone};
 ghost use Rattle.work_laws.specs.Marking.{MarksAreBounded};
 ghost use Rattle.work_laws.specs.Queueing.{PopsAreBounded};
 ghost use Rattle.work_laws.specs.Scanning.{ReadsAreBounded};
+ghost use Rattle.work_laws.specs.Tidy.{TidyCyclesAreFew};
 ghost use Rattle.work_laws.specs.Work.{WorkIsBounded};
 
 /// Whatever threads do, they mark each cell anew at most once each time that marking begins, and push it at most once
@@ -76,4 +77,12 @@ pub fn work_bounded()
 #[tactic(auto, using(crate::proofs::CycleTables::cycles_bounded))]
 pub fn cycles_bounded()
     ensures { CyclesAreBounded }
+{}
+
+/// If no cell is popped where it was put back, no card is dirtied for nothing, and in Marking cards are cleaned only as
+/// often as they are drawn and sixteen times for each claimed cell, then all of a cycle's work is bounded by the heap's
+/// sizes, by what mutators store and claim, and by what is brought back.
+#[tactic(auto, using(crate::proofs::Tidy::tidy_few))]
+pub fn tidy_few()
+    ensures { TidyCyclesAreFew }
 {}
