@@ -8,15 +8,13 @@
 //!
 //! If a payment finds nothing to trace, and the cycle is far on, it cleans cards, which fills packets again. A card
 //! that is dirtied again is left to late payments and the stop.
-ghost use Rattle.std.specs.Prelude.{ℕ, ◌≡◌, ◌<◌, ◌≤◌, ◌+◌, Some, IfSome, IfNone, IsTrue, ◌-◌, ◌*◌, ◌%◌, length};
-ghost use Rattle.mark_core.specs.Cards.{block_cells, card_cells};
-ghost use Rattle.mark_core.specs.Layout.{card_count};
+ghost use Rattle.std.specs.Prelude.{◌≡◌, ◌<◌, ◌≤◌, ◌+◌, Some, IfSome, IfNone, IsTrue, ◌-◌, ◌*◌, ◌%◌, length};
+ghost use Rattle.mark_core.specs.Cards.{block_cells};
 ghost use Rattle.mark_core.specs.declared.kinds.Phase.TheVariants.{Marking};
 ghost use Rattle.gc_table.specs.Log.{Only};
 ghost use Rattle.gc_table.specs.PlainSteps.{own_section};
 ghost use Rattle.gc_table.specs.Running.{Ran};
 ghost use Rattle.gc_table.specs.Seats.{Across, did, Sits, state_of, view_of};
-ghost use Rattle.gc_table.specs.declared.view.View.{View};
 ghost use Rattle.packet_pools.specs.Counts.{count_of};
 ghost use Rattle.cache_refills.specs.Pace.Deferring.{RecyclesLast, TracesApart, TracesThenRecycles};
 ghost use Rattle.cache_refills.specs.Pace.Early.{HasPassed, PassesNext, early_seen};
@@ -28,15 +26,14 @@ ghost use Rattle.gc_cycle.specs.Sorts.{reads_counter};
 ghost use Rattle.gc_cycle.specs.Standing.{Mutates};
 ghost use Rattle.gc_cycle.specs.Turns.{SeesToRoots};
 ghost use Rattle.cache_refills.specs.Pace.Others.{SeesToNext, turn_seen};
-ghost use Rattle.packet_pools.specs.StepBounds.{output_steps};
 ghost use Rattle.tracer.specs.StepBounds.{section_steps, trace_steps};
-ghost use Rattle.card_clean.specs.StepBounds.{clean_one_steps};
-ghost use Rattle.cache_refills.specs.Pace.StepBounds.{early_steps, look_steps, payment_steps, quota_steps};
+ghost use Rattle.card_clean.specs.StepBounds.{clean_next_steps, next_steps};
+ghost use Rattle.cache_refills.specs.Pace.StepBounds.{early_steps, payment_rounds, payment_steps, quota_steps, round_steps};
 
 use crate::early::{early_end, pass_early};
 use crate::pace::{is_late, read_statistic};
 use crate::quota::{floor_of, quota_of};
-use gc_cycle::{Paid, clean, next_card, recycle_deferred, scan_roots, trace};
+use gc_cycle::{Paid, clean_next, recycle_deferred, scan_roots, trace};
 use gc_table::{Heap, HeapSeat};
 use mark_core::{BLOCK_CELLS, FREE, LAST, RESCANNED, TRACED};
 use tracer::{RootScan, Stopped};
@@ -44,6 +41,9 @@ use tracer::{RootScan, Stopped};
 /// How many cards a payment looks at, at most. A look takes three steps, since late in a cycle most cards are clean;
 /// so this takes about as long as a quota.
 const CARD_LOOKS: u32 = 1_024;
+
+/// How often a payment cleans cards with a packet and then traces what was found, at most.
+const ROUNDS: u32 = 8;
 
 #[derive(Clone, Copy)]
 struct Owed {
@@ -187,7 +187,7 @@ fn trace_and_clean(heap: &Heap, seat: &mut HeapSeat, quota: u32, looks: u32) -> 
     ensures traces { Across (TracesOn quota 0 looks result) seat.old seat.new }
     ensures late { count_of looks_at_card (did seat.old seat.new) ≤ looks }
     ensures apart { Across TracesApart seat.old seat.new }
-    ensures few { length (did seat.old seat.new) ≤ trace_steps result.done heap.now.shape + looks * look_steps heap.now.shape }
+    ensures few { length (did seat.old seat.new) ≤ trace_steps result.done heap.now.shape + payment_rounds * round_steps heap.now.shape + looks * next_steps heap.now.shape }
 {
     let first = trace(heap, seat, quota);
     let mut paid = Paid {
@@ -195,56 +195,52 @@ fn trace_and_clean(heap: &Heap, seat: &mut HeapSeat, quota: u32, looks: u32) -> 
         done: first.done,
         stopped: first.stopped,
     };
-    for _look in 0..looks {
+    let mut left = looks;
+    for _round in 0..ROUNDS {
         let Stopped::NoWork = paid.stopped else {
             return paid;
         };
-        let Some(more) = look_at_next(heap, seat, paid) else {
+        let Some((more, rest)) = clean_and_trace(heap, seat, left, paid) else {
             return paid;
         };
         paid = more;
+        left = rest;
     }
     paid
 }
 
-/// None: no card is left, or no packet.
-fn look_at_next(heap: &Heap, seat: &mut HeapSeat, before: Paid) -> Option<Paid>
-    requires seat { Sits heap.now seat.old × Mutates (view_of seat.old) }
-    requires marking { (state_of seat.old).phase_seen ≡ Some Marking }
-    requires quota { before.done ≤ before.quota }
-    ensures seat { Sits heap.now seat.new }
-    ensures some { IfSome result (λ paid. (u : View) (looks : ℕ) → TracesOn before.quota 0 looks before u (view_of seat.old) → TracesOn before.quota 0 (looks + 1) paid u (view_of seat.new)) }
-    ensures ran { Across Ran seat.old seat.new }
-    ensures none { IfNone result (Across (TracesNone 1) seat.old seat.new) }
-    ensures once { count_of looks_at_card (did seat.old seat.new) ≤ 1 }
-    ensures apart { Across TracesApart seat.old seat.new }
-    ensures few { IfSome result (λ paid. (before.done ≤ paid.done) × (length (did seat.old seat.new) ≤ 3 + clean_one_steps card_cells heap.now.shape + trace_steps (paid.done - before.done) heap.now.shape)) × IfNone result (length (did seat.old seat.new) ≤ 3 + output_steps heap.now.shape) }
-{
-    let card = next_card(heap, seat)?;
-    if heap.read_card(seat, card) {
-        return clean_and_trace(heap, seat, card, before);
-    }
-    Some(before)
+/// How many cells are worth a trace: as many as are owed, or half a packet.
+fn worth_tracing(heap: &Heap, owed: u32) -> u32 {
+    owed.min(heap.shape().entries / 2)
 }
 
-fn clean_and_trace(heap: &Heap, seat: &mut HeapSeat, card: u32, before: Paid) -> Option<Paid>
+/// What was paid then, and how many looks are left. None: no card was cleaned.
+fn clean_and_trace(
+    heap: &Heap,
+    seat: &mut HeapSeat,
+    looks: u32,
+    before: Paid,
+) -> Option<(Paid, u32)>
     requires seat { Sits heap.now seat.old × Mutates (view_of seat.old) }
     requires marking { (state_of seat.old).phase_seen ≡ Some Marking }
-    requires card { card < card_count heap.now.shape }
     requires quota { before.done ≤ before.quota }
     ensures seat { Sits heap.now seat.new }
-    ensures some { IfSome result (λ paid. Across (TracesOn before.quota before.done 0 paid) seat.old seat.new) }
-    ensures none { IfNone result (Across (TracesNone 0) seat.old seat.new) }
+    ensures some { IfSome result (λ r. (r.1 ≤ looks) × Across (TracesOn before.quota before.done (looks - r.1) r.0) seat.old seat.new) }
+    ensures none { IfNone result (Across (TracesNone looks) seat.old seat.new) }
     ensures ran { Across Ran seat.old seat.new }
-    ensures unlooked { IsTrue (never looks_at_card (did seat.old seat.new)) }
+    ensures late { IfSome result (λ r. count_of looks_at_card (did seat.old seat.new) + r.1 ≤ looks) × IfNone result (count_of looks_at_card (did seat.old seat.new) ≤ looks) }
     ensures apart { Across TracesApart seat.old seat.new }
-    ensures few { IfSome result (λ paid. (before.done ≤ paid.done) × (length (did seat.old seat.new) ≤ clean_one_steps card_cells heap.now.shape + trace_steps (paid.done - before.done) heap.now.shape)) × IfNone result (length (did seat.old seat.new) ≤ output_steps heap.now.shape) }
+    ensures few { IfSome result (λ r. (before.done ≤ r.0.done) × (length (did seat.old seat.new) ≤ clean_next_steps (looks - r.1) heap.now.shape + trace_steps (r.0.done - before.done) heap.now.shape)) × IfNone result (length (did seat.old seat.new) ≤ clean_next_steps looks heap.now.shape) }
 {
-    clean(heap, seat, card)?;
-    let more = trace(heap, seat, before.quota - before.done);
-    Some(Paid {
+    let owed = before.quota - before.done;
+    let Some(left) = clean_next(heap, seat, looks, worth_tracing(heap, owed)) else {
+        return None;
+    };
+    let more = trace(heap, seat, owed);
+    let paid = Paid {
         quota: before.quota,
         done: before.done + more.done,
         stopped: more.stopped,
-    })
+    };
+    Some((paid, left))
 }

@@ -9,7 +9,7 @@ mod Rooting
 mod Searched
 pub mod Leavings
 pub mod Takings
-mod Cleared
+pub mod Cleared
 pub mod Few
 pub mod Staying
 pub mod Drawn
@@ -18,3 +18,4 @@ mod RootReads
 pub mod Paying
 mod Settling
 mod Spilled
+pub mod NextCards

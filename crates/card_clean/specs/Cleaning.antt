@@ -67,4 +67,4 @@ Cleans sh card r es = FoundClean card r es ⊎ FoundDirty sh card r es
 
 -- the card was cleaned with a packet that was taken for it and given back
 abbrev pub CleansOne : Shape → ℕ → Cleaned → List Entry → Type 0
-CleansOne sh card r es = CleansWithPacket (Cleans sh card r) es
+CleansOne sh card r es = CleansWithPacket sh (Cleans sh card r) es

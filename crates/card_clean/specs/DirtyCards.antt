@@ -25,13 +25,13 @@ CleanedFrom sh from (suc k) n es = (a b : ℕ) × (xs ys : List Entry) × (es �
 abbrev pub CleansDirty : Shape → ℕ → List Entry → Type 0
 CleansDirty sh n es =
     ((n ≡ 0) × (es ≡ looks_clean 0 (card_count sh)))
-    ⊎ ((card : ℕ) × (card < card_count sh) × (rest : List Entry) × (es ≡ looks_dirty 0 card ++ rest) × (((n ≡ 0) × NoPacket sh rest × IsTrue (only_moves output_pools rest)) ⊎ CleansWithPacket (CleanedFrom sh card (card_count sh - card) n) rest))
+    ⊎ ((card : ℕ) × (card < card_count sh) × (rest : List Entry) × (es ≡ looks_dirty 0 card ++ rest) × (((n ≡ 0) × NoPacket sh rest × IsTrue (only_moves output_pools rest)) ⊎ CleansWithPacket sh (CleanedFrom sh card (card_count sh - card) n) rest))
 
 -- every card was seen clean; or one was seen dirty, and then each card from it on was cleaned if it was dirty
 abbrev pub CleansAllDirty : Shape → ℕ → List Entry → Type 0
 CleansAllDirty sh n es =
     ((n ≡ 0) × (es ≡ looks_clean 0 (card_count sh)))
-    ⊎ ((card : ℕ) × (card < card_count sh) × (rest : List Entry) × (es ≡ looks_dirty 0 card ++ rest) × CleansWithPacket (CleanedFrom sh card (card_count sh - card) n) rest)
+    ⊎ ((card : ℕ) × (card < card_count sh) × (rest : List Entry) × (es ≡ looks_dirty 0 card ++ rest) × CleansWithPacket sh (CleanedFrom sh card (card_count sh - card) n) rest)
 
 -- this many cards are passed with one packet
 abbrev pub stretch_cards : ℕ
@@ -45,7 +45,7 @@ stretch_count sh = (card_count sh + (stretch_cards - 1)) / stretch_cards
 abbrev pub CleansStretch : Shape → ℕ → ℕ → List Entry → Type 0
 CleansStretch sh s n es =
     ((n ≡ 0) × NoPacket sh es × IsTrue (only_moves output_pools es))
-    ⊎ CleansWithPacket (CleanedFrom sh (s * stretch_cards) (min (s * stretch_cards + stretch_cards) (card_count sh) - s * stretch_cards) n) es
+    ⊎ CleansWithPacket sh (CleanedFrom sh (s * stretch_cards) (min (s * stretch_cards + stretch_cards) (card_count sh) - s * stretch_cards) n) es
 
 -- this many stretches from this one on, and round where the cards end, were passed in order; in all, n cells were scanned again
 abbrev pub CleansStretches : Shape → ℕ → ℕ → ℕ → List Entry → Type 0

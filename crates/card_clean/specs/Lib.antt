@@ -9,3 +9,4 @@ pub mod Drained
 pub mod DirtyCards
 pub mod Leaving
 pub mod StepBounds
+pub mod NextCards

@@ -1,5 +1,6 @@
 -- How many steps a call takes at most.
 use Rattle.std.specs.Prelude.{ℕ, ◌+◌, ◌*◌, min}
+use Rattle.mark_core.specs.Cards.{card_cells}
 use Rattle.mark_core.specs.Layout.{card_count}
 use Rattle.mark_core.specs.declared.kinds.Shape.{Shape}
 use Rattle.packet_pools.specs.StepBounds.{any_steps, follow_steps, give_steps, output_steps, room_steps, scan_steps}
@@ -16,6 +17,14 @@ clean_steps cells sh = rescan_steps cells sh + 4
 -- a card is cleaned with a packet that is taken for it and given back
 abbrev pub clean_one_steps : ℕ → Shape → ℕ
 clean_one_steps cells sh = output_steps sh + clean_steps cells sh + room_steps sh + give_steps
+
+-- the next card is drawn, looked at and cleaned; besides it takes what the searches of the call take
+abbrev pub next_steps : Shape → ℕ
+next_steps sh = 3 + clean_steps card_cells sh
+
+-- so with this many cards, and one packet that is taken for them and given back
+abbrev pub clean_next_steps : ℕ → Shape → ℕ
+clean_next_steps looks sh = output_steps sh + looks * next_steps sh + room_steps sh + give_steps
 
 -- this many cards are looked at and cleaned, and this many cells scanned again in all
 abbrev pub pass_steps : ℕ → ℕ → Shape → ℕ

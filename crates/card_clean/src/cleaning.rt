@@ -16,7 +16,7 @@ ghost use Rattle.card_clean.specs.Cleaning.{Cleans, LearnsCells, RescansCard, Sp
 ghost use Rattle.card_clean.specs.Leaving.{rescanned_in};
 ghost use Rattle.card_clean.specs.Rescanning.{OnlyOwes, just_cleared, left_word};
 ghost use Rattle.packet_pools.specs.StepBounds.{room_left, room_steps};
-ghost use Rattle.packet_pools.specs.Tried.{Leads};
+ghost use Rattle.packet_pools.specs.Tried.{OverflowsLast, SearchesThrough};
 ghost use Rattle.card_clean.specs.StepBounds.{clean_steps, rescan_steps};
 
 use crate::cleaned::Cleaned;
@@ -96,7 +96,7 @@ fn rescan_card(
     ensures left { rescanned_in (view_of seat.old) (did seat.old seat.new) ≡ result.rescanned }
     ensures rescans { RescansCard heap.now.shape card result (did seat.old seat.new) }
     ensures clean { IsFalse (state_of seat.old).active → IsTrue result.redirtied → 2 ≤ count_of dirties (did seat.old seat.new) }
-    ensures leads { Leads heap.now.shape search.old search.new out.old out.new (did seat.old seat.new) }
+    ensures tried { SearchesThrough heap.now.shape search.old search.new out.old out.new (did seat.old seat.new) }
     ensures few { length (did seat.old seat.new) + room_left heap.now.shape search.new out.new.length ≤ room_left heap.now.shape search.old out.old.length + rescan_steps result.rescanned heap.now.shape + 3 }
 {
     let (left, owes) = read_block(heap, seat, card);
@@ -131,7 +131,7 @@ pub(crate) fn clean_card_on(
     ensures cleans { Cleans heap.now.shape card result (did seat.old seat.new) }
     ensures spills { IsFalse (state_of seat.old).active → SpillsWhite (did seat.old seat.new) }
     ensures clean { IsFalse (state_of seat.old).active → IsTrue result.redirtied → 2 ≤ count_of dirties (did seat.old seat.new) }
-    ensures leads { Leads heap.now.shape search.old search.new out.old out.new (did seat.old seat.new) }
+    ensures tried { SearchesThrough heap.now.shape search.old search.new out.old out.new (did seat.old seat.new) }
     ensures few { length (did seat.old seat.new) + room_left heap.now.shape search.new out.new.length ≤ room_left heap.now.shape search.old out.old.length + clean_steps result.rescanned heap.now.shape }
 {
     if !heap.clear_card(seat, card) {
@@ -174,6 +174,7 @@ pub fn clean_card(heap: &Heap, seat: &mut HeapSeat, card: u32, out: &mut Held) -
     ensures cleans { Cleans heap.now.shape card result (did seat.old seat.new) }
     ensures spills { IsFalse (state_of seat.old).active → SpillsWhite (did seat.old seat.new) }
     ensures clean { IsFalse (state_of seat.old).active → IsTrue result.redirtied → 2 ≤ count_of dirties (did seat.old seat.new) }
+    ensures tried { OverflowsLast heap.now.shape (did seat.old seat.new) }
     ensures few { length (did seat.old seat.new) ≤ clean_steps result.rescanned heap.now.shape + room_steps heap.now.shape }
 {
     clean_card_on(heap, seat, card, out, &mut Search::open())

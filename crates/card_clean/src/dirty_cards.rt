@@ -19,6 +19,7 @@ ghost use Rattle.packet_pools.specs.Counts.{count_of};
 ghost use Rattle.packet_pools.specs.Scanning.{Fills};
 ghost use Rattle.card_clean.specs.Cleaning.{SpillsWhite, clears};
 ghost use Rattle.card_clean.specs.Leaving.{rescanned_in};
+ghost use Rattle.card_clean.specs.NextCards.{LooksAtCard};
 ghost use Rattle.card_clean.specs.DirtyCards.{CleanedFrom, CleanedWhereDirty, CleansAllDirty, CleansDirty, CleansRound, CleansStretch, stretch_cards, stretch_count};
 ghost use Rattle.card_clean.specs.Drained.{AreNotedClean};
 ghost use Rattle.card_clean.specs.Looking.{KeepsAllNotes, looks_clean, looks_dirty};
@@ -26,7 +27,7 @@ ghost use Rattle.card_clean.specs.Taking.{CleansWithPacket, NoPacket};
 ghost use Rattle.packet_pools.specs.Seeking.{only_moves, output_pools};
 ghost use Rattle.packet_pools.specs.Hands.{free_slots};
 ghost use Rattle.packet_pools.specs.StepBounds.{any_steps, room_left};
-ghost use Rattle.packet_pools.specs.Tried.{Leads};
+ghost use Rattle.packet_pools.specs.Tried.{SearchesThrough};
 ghost use Rattle.card_clean.specs.StepBounds.{clean_dirty_steps, clean_round_steps, clean_some_steps, pass_steps};
 
 use crate::cleaned::CleanedCards;
@@ -73,7 +74,7 @@ pub(crate) fn first_dirty(heap: &Heap, seat: &mut HeapSeat, from: u32) -> Option
     dirty_between(heap, seat, from, heap.shape().cells / CARD_CELLS)
 }
 
-fn clean_where_dirty(
+pub(crate) fn clean_where_dirty(
     heap: &Heap,
     seat: &mut HeapSeat,
     card: u32,
@@ -93,7 +94,8 @@ fn clean_where_dirty(
     ensures cleared { count_of clears (did seat.old seat.new) ≡ result.cards }
     ensures spills { IsFalse (state_of seat.old).active → SpillsWhite (did seat.old seat.new) }
     ensures cleans { CleanedWhereDirty heap.now.shape card result.rescanned (did seat.old seat.new) }
-    ensures leads { Leads heap.now.shape search.old search.new out.old out.new (did seat.old seat.new) }
+    ensures looks { Across (LooksAtCard card) seat.old seat.new }
+    ensures tried { SearchesThrough heap.now.shape search.old search.new out.old out.new (did seat.old seat.new) }
     ensures few { length (did seat.old seat.new) + room_left heap.now.shape search.new out.new.length ≤ room_left heap.now.shape search.old out.old.length + pass_steps 1 result.rescanned heap.now.shape }
 {
     if !heap.read_card(seat, card) {
@@ -130,7 +132,7 @@ fn clean_between(
     ensures cleared { count_of clears (did seat.old seat.new) ≡ result.cards }
     ensures spills { IsFalse (state_of seat.old).active → SpillsWhite (did seat.old seat.new) }
     ensures cleans { CleanedFrom heap.now.shape first (end - first) result.rescanned (did seat.old seat.new) }
-    ensures leads { Leads heap.now.shape search.old search.new out.old out.new (did seat.old seat.new) }
+    ensures tried { SearchesThrough heap.now.shape search.old search.new out.old out.new (did seat.old seat.new) }
     ensures few { length (did seat.old seat.new) + room_left heap.now.shape search.new out.new.length ≤ room_left heap.now.shape search.old out.old.length + pass_steps (end - first) result.rescanned heap.now.shape }
 {
     let mut rescanned = 0;
@@ -188,7 +190,7 @@ pub fn clean_some(heap: &Heap, seat: &mut HeapSeat, first: u32, end: u32) -> Opt
     ensures only { Across OnlyCleaned seat.old seat.new }
     ensures held { (state_of seat.new).held ≡ (state_of seat.old).held }
     ensures work { IsFalse (work_in_hand heap.now.shape.fields (state_of seat.new)) }
-    ensures some { IfSome result (λ r. (r.rescanned ≤ card_cells * (end - first)) × (rescanned_in (view_of seat.old) (did seat.old seat.new) ≡ r.rescanned) × CleansWithPacket (CleanedFrom heap.now.shape first (end - first) r.rescanned) (did seat.old seat.new)) }
+    ensures some { IfSome result (λ r. (r.rescanned ≤ card_cells * (end - first)) × (rescanned_in (view_of seat.old) (did seat.old seat.new) ≡ r.rescanned) × CleansWithPacket heap.now.shape (CleanedFrom heap.now.shape first (end - first) r.rescanned) (did seat.old seat.new)) }
     ensures cleared { IfSome result (λ r. (r.cards ≤ end - first) × (count_of clears (did seat.old seat.new) ≡ r.cards)) }
     ensures none { IfNone result (NoPacket heap.now.shape (did seat.old seat.new) × IsTrue (only_moves output_pools (did seat.old seat.new)) × (rescanned_in (view_of seat.old) (did seat.old seat.new) ≡ 0)) }
     ensures few { IfSome result (λ r. length (did seat.old seat.new) ≤ clean_some_steps (end - first) r.rescanned heap.now.shape) × IfNone result (length (did seat.old seat.new) ≤ any_steps heap.now.shape) }

@@ -11,7 +11,7 @@
 //!
 //! # Passes
 //!
-//! While mutators run cards are drawn from one counter ([`next_card`], [`clean_one`]). In a stop each seat looks at
+//! While mutators run cards are drawn from one counter ([`next_card`], [`clean_next`]). In a stop each seat looks at
 //! every card, by one load if the card is clean: the seat that drains and its helpers each from a stretch of its own on
 //! ([`clean_dirty_round`]), so that they seldom meet, and a seat that is alone from the first one on ([`clean_dirty`]).
 //!
@@ -28,6 +28,7 @@ mod cleaned;
 mod cleaning;
 mod dirty_cards;
 mod drain_end;
+mod next_cards;
 mod one_card;
 mod rescanning;
 mod roots;
@@ -40,6 +41,7 @@ pub use cleaned::{Cleaned, CleanedCards};
 pub use cleaning::clean_card;
 pub use dirty_cards::{clean_dirty, clean_dirty_round, clean_some, dirty_between};
 pub use drain_end::is_drained;
+pub use next_cards::clean_next;
 pub use one_card::clean_one;
 pub use roots::{count_roots, see_to_roots, see_to_some};
 pub use sharing::{exchange_ref, exchange_value, share_ref, share_value};

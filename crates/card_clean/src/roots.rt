@@ -18,7 +18,7 @@ ghost use Rattle.packet_pools.specs.Hands.{free_slots};
 ghost use Rattle.card_clean.specs.Leaving.{rescanned_in};
 ghost use Rattle.card_clean.specs.Taking.{NoPacket};
 ghost use Rattle.packet_pools.specs.StepBounds.{follow_steps, room_left};
-ghost use Rattle.packet_pools.specs.Tried.{SearchesOn};
+ghost use Rattle.packet_pools.specs.Tried.{DirtiesLast, SearchesOn};
 ghost use Rattle.card_clean.specs.StepBounds.{see_to_steps};
 
 use crate::taking::take_some;
@@ -161,6 +161,7 @@ pub fn see_to_some(heap: &Heap, seat: &mut HeapSeat, from: u32, end: u32) -> boo
     ensures left { rescanned_in (view_of seat.old) (did seat.old seat.new) ≡ 0 }
     ensures steps { Across (Only sees_roots) seat.old seat.new }
     ensures none { IsFalse result → (state_of seat.new ≡ state_of seat.old) × NoPacket heap.now.shape (did seat.old seat.new) }
+    ensures tried { DirtiesLast heap.now.shape (did seat.old seat.new) }
     ensures pooled { IsFalse (holds_any (state_of seat.old).held) → AreNotedOutside deferred_pool_number (view_of seat.old) → IsTrue result }
     ensures noted { IsTrue result → RootsBetween from end (view_of seat.new) }
     ensures reads { IsTrue result → picked (roots_read heap.now.shape) (did seat.old seat.new) ≡ range_with_len from (end - from) }
@@ -200,6 +201,7 @@ pub fn see_to_roots(heap: &Heap, seat: &mut HeapSeat) -> bool
     ensures left { rescanned_in (view_of seat.old) (did seat.old seat.new) ≡ 0 }
     ensures steps { Across (Only sees_roots) seat.old seat.new }
     ensures none { IsFalse result → (state_of seat.new ≡ state_of seat.old) × NoPacket heap.now.shape (did seat.old seat.new) }
+    ensures tried { DirtiesLast heap.now.shape (did seat.old seat.new) }
     ensures pooled { IsFalse (holds_any (state_of seat.old).held) → AreNotedOutside deferred_pool_number (view_of seat.old) → IsTrue result }
     ensures rooted { IsTrue result → IsRooted (view_of seat.new) }
     ensures few { length (did seat.old seat.new) ≤ see_to_steps (root_count heap.now.shape) heap.now.shape }

@@ -14,7 +14,6 @@ use Rattle.packet_pools.specs.StepBounds.{any_steps}
 use Rattle.card_clean.specs.declared.cleaned.CleanedCards.{CleanedCards}
 use Rattle.card_clean.specs.DirtyCards.{CleanedFrom}
 use Rattle.card_clean.specs.Leaving.{rescanned_in}
-use Rattle.card_clean.specs.Passing.{draws_card}
 use Rattle.card_clean.specs.StepBounds.{clean_some_steps}
 use Rattle.card_clean.specs.Taking.{CleansWithPacket, NoPacket}
 use Rattle.tracer.specs.Roots.{scans_roots}
@@ -36,21 +35,17 @@ pub scan-unlooked : Spares scans_object looks_at_card
 scan-unlooked (ReadCard card) n e = absurd (false≢true e)
 scan-unlooked step n e = refl
 
-pub draws-unlooked : Spares draws_card looks_at_card
-draws-unlooked (ReadCard card) n e = absurd (false≢true e)
-draws-unlooked step n e = refl
-
 pub moves-unlooked : (qs : List ℕ) → Spares (moves_packet qs) looks_at_card
 moves-unlooked qs (ReadCard card) n e = absurd (false≢true e)
 moves-unlooked qs step n e = refl
 
 -- what the cleaning of some cards came to
 module _ (sh : Shape) (first end : ℕ) (v w : View) where
-  pub passed : (o : Option CleanedCards) → IfSome o (λ r. (r.rescanned ≤ card_cells * (end - first)) × (rescanned_in v (events v w) ≡ r.rescanned) × CleansWithPacket (CleanedFrom sh first (end - first) r.rescanned) (events v w)) → IfNone o (NoPacket sh (events v w) × (only_moves output_pools (events v w) ≡ true) × (rescanned_in v (events v w) ≡ 0)) → PassesCards sh first end (events v w)
+  pub passed : (o : Option CleanedCards) → IfSome o (λ r. (r.rescanned ≤ card_cells * (end - first)) × (rescanned_in v (events v w) ≡ r.rescanned) × CleansWithPacket sh (CleanedFrom sh first (end - first) r.rescanned) (events v w)) → IfNone o (NoPacket sh (events v w) × (only_moves output_pools (events v w) ≡ true) × (rescanned_in v (events v w) ≡ 0)) → PassesCards sh first end (events v w)
   passed (Some r) s m = inl (r.rescanned, s.2)
   passed None s m = inr (m.0, m.1)
 
-  pub passed-few : (o : Option CleanedCards) → IfSome o (λ r. (r.rescanned ≤ card_cells * (end - first)) × (rescanned_in v (events v w) ≡ r.rescanned) × CleansWithPacket (CleanedFrom sh first (end - first) r.rescanned) (events v w)) → IfSome o (λ r. length (events v w) ≤ clean_some_steps (end - first) r.rescanned sh) × IfNone o (length (events v w) ≤ any_steps sh) → length (events v w) ≤ clean_some_steps (end - first) (card_cells * (end - first)) sh
+  pub passed-few : (o : Option CleanedCards) → IfSome o (λ r. (r.rescanned ≤ card_cells * (end - first)) × (rescanned_in v (events v w) ≡ r.rescanned) × CleansWithPacket sh (CleanedFrom sh first (end - first) r.rescanned) (events v w)) → IfSome o (λ r. length (events v w) ≤ clean_some_steps (end - first) r.rescanned sh) × IfNone o (length (events v w) ≤ any_steps sh) → length (events v w) ≤ clean_some_steps (end - first) (card_cells * (end - first)) sh
   passed-few (Some r) s f = cards-fewer (end - first) (end - first) r.rescanned (card_cells * (end - first)) sh (length (events v w)) (omega arith) s.0 f.0
   passed-few None s f = let few = f.1 in omega (arith, few)
 

@@ -74,7 +74,7 @@ dirty-few from card most es e low high =
 
 -- no card was passed
 pub cleans-none : (from : ℕ) (v : View) → CleansCards from 0 v v
-cleans-none from v = (0, record { taking = []; cleaning = []; giving = []; events_are = events-none v; takes = refl; cleans = (refl, refl); gives = refl })
+cleans-none from v = (0, record { taking = []; cleaning = []; giving = []; events_are = events-none v; takes = refl; cleans = (refl, refl); tried = refl; gives = refl })
 
 -- the count said all packets, after each card was seen clean
 pub marked-all : (v w : View) (n : ℕ) → HasLooked v → HasTraced v w → w ≡ after ReadCount n v → Finds ReadCount n v → n ≡ empty_offset + v.shape.packets → HasMarkedAll w

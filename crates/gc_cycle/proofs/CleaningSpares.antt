@@ -12,7 +12,7 @@ use Rattle.gc_table.specs.Log.{event, all_steps, events}
 use Rattle.gc_table.specs.declared.view.Entry.{Entry}
 use Rattle.packet_pools.specs.Counts.{scans_object, only_scans}
 use Rattle.packet_pools.specs.Seeking.{in_pools, moves_packet, output_pools, some_event, only_moves}
-use Rattle.card_clean.specs.Cleaning.{Cleans, CleansOne, FoundClean, FoundDirty}
+use Rattle.card_clean.specs.Cleaning.{Cleans, FoundClean, FoundDirty}
 use Rattle.card_clean.specs.DirtyCards.{CleanedFrom, CleanedWhereDirty, CleansStretch, CleansStretches, stretch_cards, stretch_count}
 use Rattle.card_clean.specs.Taking.{CleansWithPacket}
 use Rattle.card_clean.specs.declared.cleaned.Cleaned.{Cleaned}
@@ -151,7 +151,7 @@ module _ (f : Sort) (h : Spares (moves_packet output_pools) f) (k : Spares scans
   none-ending card true = one (DirtyCard card) 1 [] (dirtied card 1) refl
   none-ending card false = refl
 
-  none-cleaning : (sh : Shape) (card : ℕ) (r : Cleaned) (es : List Entry) → FoundClean card r es ⊎ FoundDirty sh card r es → never f es ≡ true
+  pub none-cleaning : (sh : Shape) (card : ℕ) (r : Cleaned) (es : List Entry) → FoundClean card r es ⊎ FoundDirty sh card r es → never f es ≡ true
   none-cleaning sh card r es c =
       ⊎_elim
       (λ (a : FoundClean card r es). ap (never f) a.events_are ∙ one (ClearCard card) 0 [] (cleared card 0) refl)
@@ -164,12 +164,6 @@ module _ (f : Sort) (h : Spares (moves_packet output_pools) f) (k : Spares scans
       (one (ReadAlloc (block_of_card card)) x.allocs rest (allocs (block_of_card card) x.allocs)
       (never-both f x.scan (ending card r.redirtied) (untaken scans_object f k x.scan (sym (scan-steps x.scan) ∙ x.rescans.counts.scans)) (none-ending card r.redirtied)))))
       c
-
-  pub none-one : (sh : Shape) (card : ℕ) (r : Cleaned) (es : List Entry) → CleansOne sh card r es → never f es ≡ true
-  none-one sh card r es c =
-      ap (never f) c.events_are
-      ∙ never-both f c.taking (c.cleaning ++ c.giving) (moved-untaken output_pools f h c.taking c.takes)
-      (never-both f c.cleaning c.giving (none-cleaning sh card r c.cleaning c.cleans) (moved-untaken output_pools f h c.giving c.gives))
 
   none-where : (sh : Shape) (card n : ℕ) (es : List Entry) → ((k m : ℕ) → f (ReadCard k) m ≡ false) → CleanedWhereDirty sh card n es → never f es ≡ true
   none-where sh card n es looks c =
@@ -184,7 +178,7 @@ module _ (f : Sort) (h : Spares (moves_packet output_pools) f) (k : Spares scans
   none-from sh from (suc k) n es looks c = ap (never f) c.4 ∙ never-both f c.2 c.3 (none-from sh from k c.0 c.2 looks c.6) (none-where sh (from + k) c.1 c.3 looks c.7)
 
   -- with a packet that was taken for it
-  pub none-with : (sh : Shape) (from k n : ℕ) (es : List Entry) → ((k m : ℕ) → f (ReadCard k) m ≡ false) → CleansWithPacket (CleanedFrom sh from k n) es → never f es ≡ true
+  pub none-with : (sh : Shape) (from k n : ℕ) (es : List Entry) → ((k m : ℕ) → f (ReadCard k) m ≡ false) → CleansWithPacket sh (CleanedFrom sh from k n) es → never f es ≡ true
   none-with sh from k n es looks c =
       ap (never f) c.events_are
       ∙ never-both f c.taking (c.cleaning ++ c.giving) (moved-untaken output_pools f h c.taking c.takes)

@@ -18,3 +18,5 @@ pub mod Uses
 pub mod CardRounds
 pub mod Rounds
 pub mod Settled
+pub mod AllEmpty
+pub mod Stepwise

@@ -11,7 +11,7 @@ use Rattle.mark_core.specs.Places.{the_next_block}
 use Rattle.mark_core.specs.declared.kinds.Phase.TheVariants.{Drain}
 use Rattle.mark_core.specs.declared.kinds.Shape.{Shape}
 use Rattle.mark_core.specs.declared.kinds.Step.{Step}
-use Rattle.mark_core.specs.declared.kinds.Step.TheVariants.{Reserve, Take, Give, Credit, Push, Pop, Look, ReadAlloc, ReadField, ReadRoot, SetMark, DirtyCard, ClearCard, ReadMarks, ReadCard, ReadCount, StoreLength, ReadLength, LoadSlot}
+use Rattle.mark_core.specs.declared.kinds.Step.TheVariants.{Reserve, Take, Give, Credit, Push, Pop, Look, ReadAlloc, ReadField, ReadRoot, SetMark, DirtyCard, ClearCard, ReadMarks, ReadCard, ReadCount, StoreLength, ReadLength, LoadSlot, NextOfCards, ReadStat}
 use Rattle.mark_core.specs.declared.seat.BlockState.{BlockState}
 use Rattle.mark_core.specs.declared.seat.SeatState.{SeatState}
 use Rattle.gc_table.specs.Rule.{IsPossible}
@@ -27,13 +27,14 @@ use Rattle.packet_pools.specs.Seeking.{moves_packet, only_moves}
 use Rattle.packet_pools.specs.Tracing.{Traces, traces}
 use Rattle.packet_pools.proofs.TracedSteps.{tracing-alone}
 use Rattle.tracer.specs.Hands.{IsIdle, no_packets}
+use Rattle.card_clean.specs.NextCards.{OnlyPassed, passes_cards}
 use Rattle.card_clean.proofs.Staying.{root-stays}
 use Rattle.gc_cycle.specs.Drained.{RootedAlone}
 use Rattle.card_clean.specs.Leaving.{rescans}
 use Rattle.gc_cycle.specs.Lower.{HasTraced, traces_or_cleans}
 use Rattle.gc_cycle.specs.Moments.{total_of}
 use Rattle.gc_cycle.specs.Standing.{is_at_rest}
-use Rattle.gc_cycle.proofs.Traced.{rest-nothing}
+use Rattle.gc_cycle.proofs.Traced.{no-cache, rest-nothing}
 use Rattle.gc_cycle.proofs.Ends.Swept.{unless}
 
 pub none-slot : (h : Slot) → is_some h ≡ false → h ≡ None
@@ -128,7 +129,7 @@ widened (StoreLength p) e = refl
 widened (ReadLength p) e = refl
 widened step e = absurd (false≢true e)
 
-rest-from : (sh : Shape) (s : SeatState) → holds_any s.held ≡ false → s.reserved ≡ false → s.credit ≡ false → work_in_hand sh.fields s ≡ false → s.owes ≡ None → s.block ≡ None → (s.got == 0) ≡ true → (s.lags == 0) ≡ true → not (has_making s.cache) ≡ true → is_at_rest sh s ≡ true
+pub rest-from : (sh : Shape) (s : SeatState) → holds_any s.held ≡ false → s.reserved ≡ false → s.credit ≡ false → work_in_hand sh.fields s ≡ false → s.owes ≡ None → s.block ≡ None → (s.got == 0) ≡ true → (s.lags == 0) ≡ true → not (has_making s.cache) ≡ true → is_at_rest sh s ≡ true
 rest-from sh s a b c d o k g l m =
     and_from _ _
     (and_from _ _
@@ -138,7 +139,7 @@ rest-from sh s a b c d o k g l m =
     (and_from _ _ g l))
     m
 
-owes-step : (x : View) (step : Step) (n : ℕ) → traces_cells step ≡ true → IsSeen step n x → x.state.owes ≡ None → (after step n x).state.owes ≡ None
+pub owes-step : (x : View) (step : Step) (n : ℕ) → traces_cells step ≡ true → IsSeen step n x → x.state.owes ≡ None → (after step n x).state.owes ≡ None
 owes-step x (DirtyCard card) n p s e = ap (λ (o : Option ℕ). cond (is_the o card) None o) e
 owes-step x Reserve n p s e = e
 owes-step x (Take q k) n p s e = e
@@ -197,6 +198,46 @@ traced-of v w l rest = record { ran = l.ran; only = only-more traces_cells trace
 -- what it says if the packets in hand are as before, and no work is left
 pub traced-held : {b : Bool} (v w : View) → OnlyTracedBy b v w → Traces w → w.state.held ≡ v.state.held → work_in_hand w.shape.fields w.state ≡ false → is_at_rest v.shape v.state ≡ true → HasTraced v w
 traced-held v w l t h k r = traced-of v w l (rest-again v w l t (ap holds_any h ∙ (rest-parts v.shape v.state r).packets) k r)
+
+-- while it passes cards no card comes to be owed
+owed-step : (x : View) (step : Step) (n : ℕ) → passes_cards step ≡ true → IsSeen step n x → x.state.owes ≡ None → (after step n x).state.owes ≡ None
+owed-step x NextOfCards n p s e = e
+owed-step x (ReadStat which) n p s e = e
+owed-step x step n p s e = owes-step x step n p s e
+
+pub owes-passed : (v w : View) → OnlyPassed v w → v.state.owes ≡ None → w.state.owes ≡ None
+owes-passed v w l e = run-keeps passes_cards (λ (x : View). x.state.owes ≡ None) owed-step v w l.ran l.only e
+
+passes-widened : (step : Step) → passes_cards step ≡ true → traces_or_cleans step ≡ true
+passes-widened NextOfCards e = refl
+passes-widened (ReadStat which) e = e
+passes-widened step e = e
+
+-- what card_clean's relation says of a pass over the next cards, if the packets in hand are as before, and no work is left
+pub traced-passed : (v w : View) → OnlyPassed v w → Traces w → w.state.held ≡ v.state.held → work_in_hand w.shape.fields w.state ≡ false → is_at_rest v.shape v.state ≡ true → HasTraced v w
+traced-passed v w l t h k e =
+    let a = rest-parts v.shape v.state e in
+    let owes = owes-passed v w l a.owes in
+    let rest =
+    rest-from w.shape w.state (ap holds_any h ∙ a.packets) t.unreserved t.uncredited k owes (ap (λ (s : SeatState). s.block) l.rest ∙ a.block) (ap (λ (s : SeatState). s.got == 0) l.rest ∙ a.register) (ap (λ (s : SeatState). s.lags == 0) l.rest ∙ a.lags)
+    (ap (λ (s : SeatState). not (has_making s.cache)) l.rest ∙ a.making)
+    in
+    record {
+      ran = l.ran;
+      only = only-more passes_cards traces_or_cleans passes-widened v w l.only;
+      rest = rest;
+      record_is = l.rest;
+      rooted = λ r.
+          record {
+            rest =
+                record {
+                  knows = ap (λ (s : SeatState). s.knows) l.rest ∙ r.rest.knows;
+                  alone = ap (λ (s : SeatState). s.alone) l.rest ∙ r.rest.alone;
+                  rest = rest-nothing w.shape w.state rest (ap (λ (s : SeatState). is_none s.cache) l.rest ∙ no-cache v.shape v.state r.rest.rest);
+                };
+            rooted = l.rooted r.rooted;
+          };
+    }
 
 -- packets that move scan nothing again
 pub moves-quiet : (qs : List ℕ) (es : List Entry) (v : View) → only_moves qs es ≡ true → total_of rescans v es ≡ 0

@@ -6,7 +6,6 @@ pub mod Popping
 pub mod FlagRaised
 pub mod Waits
 pub mod Admitted
-pub mod Looked
 pub mod HelperDrains
 pub mod Unopened
 pub mod Beside

@@ -26,7 +26,7 @@ use Rattle.gc_cycle.proofs.Ends.Completing.{total-run}
 use Rattle.gc_cycle.proofs.Stops.Opened.{phase-kept}
 
 -- a seat that knows, in a drain, may trace
-known-traces : (v : View) → v.state.knows ≡ true → look the_phase v.known ≡ Some 2 → traces v ≡ true
+pub known-traces : (v : View) → v.state.knows ≡ true → look the_phase v.known ≡ Some 2 → traces v ≡ true
 known-traces v k e =
     or_left ((v.state.active && saw v.state.phase_seen Marking) || (v.state.knows && is_the (look the_phase v.known) 2)) (v.state.admitted && saw v.state.phase_seen Drain)
     (or_right (v.state.active && saw v.state.phase_seen Marking) (v.state.knows && is_the (look the_phase v.known) 2) (and_from _ _ k (ap (λ o. is_the o 2) e)))
@@ -57,7 +57,7 @@ rest-nothing sh s e n =
     let p3 = and_parts (empty_handed s && not (work_in_hand sh.fields s) && is_none s.owes) (is_none s.block) p4.0 in
     and_from _ _ (and_from _ _ (and_from _ _ p3.0 n) p3.1) p4.1
 
-no-cache : (sh : Shape) (s : SeatState) → has_nothing sh s ≡ true → is_none s.cache ≡ true
+pub no-cache : (sh : Shape) (s : SeatState) → has_nothing sh s ≡ true → is_none s.cache ≡ true
 no-cache sh s e = (and_parts (empty_handed s && not (work_in_hand sh.fields s) && is_none s.owes) (is_none s.cache) (and_parts _ (is_none s.block) (and_parts _ ((s.got == 0) && (s.lags == 0)) e).0).0).1
 
 traced-nothing : (v w : View) → has_nothing v.shape v.state ≡ true → HasTraced v w → has_nothing w.shape w.state ≡ true

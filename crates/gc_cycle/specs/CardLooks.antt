@@ -15,4 +15,4 @@ looks_at_card step found = false
 
 -- with a packet that was taken for it, each of these cards was seen clean, or seen dirty and cleaned, in order; or no packet was found for it, and none was looked at
 abbrev pub PassesCards : Shape → ℕ → ℕ → List Entry → Type 0
-PassesCards sh first end es = ((n : ℕ) × CleansWithPacket (CleanedFrom sh first (end - first) n) es) ⊎ (NoPacket sh es × IsTrue (only_moves output_pools es))
+PassesCards sh first end es = ((n : ℕ) × CleansWithPacket sh (CleanedFrom sh first (end - first) n) es) ⊎ (NoPacket sh es × IsTrue (only_moves output_pools es))

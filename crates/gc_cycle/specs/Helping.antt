@@ -17,7 +17,7 @@ use Rattle.gc_cycle.specs.declared.counts.Helped.{Helped}
 use Rattle.gc_cycle.specs.declared.counts.HelpEnd.{HelpEnd}
 use Rattle.gc_cycle.specs.declared.counts.HelpEnd.TheVariants.{Quota, NoWork, NoPacket, Swept}
 use Rattle.gc_cycle.specs.Events.{never}
-use Rattle.gc_cycle.specs.Sorts.{clears, draws_block, pops, reads_count, sees_all_empty, sees_last_block}
+use Rattle.gc_cycle.specs.Sorts.{clears, draws_block, passes_card, pops, reads_count, sees_all_empty, sees_last_block}
 use Rattle.gc_cycle.specs.Moments.{Moment, at_some_moment, begins, finds_no_room, finds_no_work}
 
 -- after the last card that was cleared nothing was left in hand, and there was no packet to read from
@@ -39,21 +39,21 @@ DrainsTo NoWork sh quota done m es = (done ≢ quota) × IsTrue (helped_to_the_e
 DrainsTo NoPacket sh quota done m es = (done ≢ quota) × IsTrue (at_some_moment sh (finds_no_room sh) m es)
 DrainsTo Swept sh quota done m es = ⊥
 
--- all cards were passed, and after that none was cleared
+-- all cards were passed, and after that none was drawn or cleared
 pub record PassesAll (v w : View) : Type 0 where
   pub passed : View
   pub first : Ran v passed
   pub rescanned : ℕ
   pub cleans : CleansRound v.shape rescanned (events v passed)
   pub later : Ran passed w
-  pub uncleared : IsTrue (never clears (events passed w))
+  pub unpassed : IsTrue (never passes_card (events passed w))
 
--- all cards were passed first, or none was cleared
+-- all cards were passed first, or none was drawn or cleared
 abbrev pub PassesIf : Bool → View → View → Type 0
 PassesIf true v w = PassesAll v w
-PassesIf false v w = IsTrue (never clears (events v w))
+PassesIf false v w = IsTrue (never passes_card (events v w))
 
--- a helper that was to look at cards passed all of them first in a drain, and else it cleared none
+-- a helper that was to look at cards passed all of them first in a drain, and else it drew and cleared none
 abbrev pub PassesFirst : Bool → View → View → Type 0
 PassesFirst cards v w = PassesIf (cards && saw v.state.phase_seen Drain) v w
 

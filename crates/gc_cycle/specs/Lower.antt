@@ -1,7 +1,6 @@
 -- What the calls of the crates below promise, in the words of this one.
-use Rattle.std.specs.Prelude.{◌==◌, ℕ, ◌≡◌, ◌≢◌, ◌<◌, Bool, true, Option, Some, None, IsTrue}
+use Rattle.std.specs.Prelude.{◌==◌, ℕ, ◌≡◌, ◌≢◌, Bool, true, IsTrue}
 use Rattle.mark_core.specs.Numbers.{block_counter, card_counter}
-use Rattle.mark_core.specs.Layout.{card_count}
 use Rattle.mark_core.specs.declared.kinds.Step.{Step}
 use Rattle.mark_core.specs.declared.kinds.Step.TheVariants.{NextOfCards, ReadStat}
 use Rattle.gc_table.specs.declared.view.View.{View}
@@ -16,9 +15,8 @@ use Rattle.gc_table.specs.Log.{events, Only}
 use Rattle.gc_table.specs.Running.{Ran}
 use Rattle.gc_cycle.specs.Events.{never}
 use Rattle.gc_cycle.specs.Moments.{at_some_moment, begins, finds_no_packet, finds_no_work}
-use Rattle.packet_pools.specs.Seeking.{some_event}
 use Rattle.gc_cycle.specs.Roots.{roots_scanned}
-use Rattle.gc_cycle.specs.Sorts.{gives_card, pops, reads_root, sees_last_card}
+use Rattle.gc_cycle.specs.Sorts.{pops, reads_root}
 use Rattle.gc_cycle.specs.Drained.{RootedAlone}
 use Rattle.gc_cycle.specs.Standing.{is_at_rest}
 
@@ -49,11 +47,6 @@ pub record EndsTrace (quota : ℕ) (r : Traced) (v w : View) : Type 0 where
   pub no_work : r.stopped ≡ NoWork → IsTrue (at_some_moment v.shape (finds_no_work v.shape) (begins v) (events v w))
   -- never for want of a packet with room, since what finds none is left to its card
   pub packet : r.stopped ≢ NoPacket
-
--- the pass gave out this card, or none if the counter was seen at its end
-abbrev pub GivesCard : Option ℕ → View → View → Type 0
-GivesCard None v w = IsTrue (some_event (sees_last_card (card_count v.shape)) (events v w))
-GivesCard (Some card) v w = (card < card_count v.shape) × IsTrue (some_event (gives_card card) (events v w))
 
 -- each variable of the section was seen to; or no packet could be taken, and none was read
 abbrev pub ScansRoots : ℕ → RootScan → View → View → Type 0

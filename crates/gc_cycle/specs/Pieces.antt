@@ -69,7 +69,7 @@ ReadsCount all v w = (n : ℕ) × (events v w ≡ event ReadCount n ∷ []) × (
 
 -- with a packet that was taken for it, this many cards from this one on were each seen clean, or seen dirty and cleaned
 abbrev pub CleansCards : ℕ → ℕ → View → View → Type 0
-CleansCards from n v w = (rescanned : ℕ) × CleansWithPacket (CleanedFrom v.shape from n rescanned) (events v w)
+CleansCards from n v w = (rescanned : ℕ) × CleansWithPacket v.shape (CleanedFrom v.shape from n rescanned) (events v w)
 
 -- alone in a stop after the sweep, it counts the cells in use, of the blocks from this one on: this many are in the blocks below it, whose allocation bits are noted
 pub record CountsFrom (from counted : ℕ) (v : View) : Type 0 where

@@ -142,11 +142,6 @@ sees_last_block blocks (ReadStat which) found = (which == block_counter) && nat_
 sees_last_block blocks NextBlock found = nat_le blocks found
 sees_last_block blocks step found = false
 
--- this card was cleared, whether it was dirty or clean
-abbrev pub clears_card : ℕ → Step → ℕ → Bool
-clears_card card (ClearCard c) found = c == card
-clears_card card step found = false
-
 -- the counter of cards was raised
 abbrev pub draws : Step → ℕ → Bool
 draws NextOfCards found = true
@@ -161,11 +156,6 @@ draws_or_clears step found = false
 -- a cell was popped, or a card was cleared
 abbrev pub pops_or_clears : Step → ℕ → Bool
 pops_or_clears step found = pops step found || clears step found
-
--- the counter of cards gave out this one
-abbrev pub gives_card : ℕ → Step → ℕ → Bool
-gives_card card NextOfCards found = found == card
-gives_card card step found = false
 
 -- a stretch of blocks came in hand
 abbrev pub draws_block : ℕ → Step → ℕ → Bool
@@ -217,6 +207,10 @@ reads_pace step found = false
 abbrev pub reads_counter : Step → ℕ → Bool
 reads_counter (ReadStat which) found = which == card_counter
 reads_counter step found = false
+
+-- a step of a pass over cards: their counter was read or raised, or a card was cleared, or found clean
+abbrev pub passes_card : Step → ℕ → Bool
+passes_card step found = reads_counter step found || draws_or_clears step found
 
 -- the counter of cards was read below this number
 abbrev pub reads_card_left : ℕ → Step → ℕ → Bool

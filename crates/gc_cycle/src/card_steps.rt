@@ -1,5 +1,5 @@
 //! A drain in pieces, once the roots are seen to.
-ghost use Rattle.std.specs.Prelude.{◌≡◌, ◌≤◌, ◌+◌, ◌-◌, min, length, IsTrue, IfSome, IfNone, ◌*◌};
+ghost use Rattle.std.specs.Prelude.{◌≡◌, ◌<◌, ◌≤◌, ◌+◌, ◌-◌, min, length, IsTrue, IfSome, IfNone, ◌*◌};
 ghost use Rattle.std.specs.Bool.{OnFalse, OnTrue};
 ghost use Rattle.mark_core.specs.Layout.{card_count};
 ghost use Rattle.mark_core.specs.declared.kinds.Phase.TheVariants.{Drain};
@@ -9,10 +9,12 @@ ghost use Rattle.gc_table.specs.Seats.{Across, did, Sits, view_of};
 ghost use Rattle.gc_table.specs.declared.view.View.{View};
 ghost use Rattle.packet_pools.specs.Counts.{count_of};
 ghost use Rattle.tracer.specs.StepBounds.{recycle_steps, trace_steps};
+ghost use Rattle.card_clean.specs.Cleaning.{SpillsWhite};
 ghost use Rattle.card_clean.specs.Leaving.{rescanned_in};
 ghost use Rattle.card_clean.specs.StepBounds.{clean_some_steps};
 ghost use Rattle.gc_cycle.specs.Events.{never};
-ghost use Rattle.gc_cycle.specs.Finishing.{DrainsInStop, IsPart};
+ghost use Rattle.gc_cycle.specs.Finishing.{DrainsInStop, IsAloneIn, IsPart};
+ghost use Rattle.gc_cycle.specs.LeftToDrain.{CleansDown, NotesDirty, TracesDown, has_traced_all, left_to_drain};
 ghost use Rattle.gc_cycle.specs.Lower.{HasTraced};
 ghost use Rattle.gc_cycle.specs.Sorts.{clears, pops};
 ghost use Rattle.gc_cycle.specs.Statistics.{leaves_numbers};
@@ -56,6 +58,8 @@ pub(crate) fn trace_some(heap: &Heap, seat: &mut HeapSeat, most: u32) -> u32
     ensures popped { (result ≤ most) × (count_of pops (did seat.old seat.new) ≡ result) }
     ensures brings { Across BringsBack seat.old seat.new }
     ensures worked { Across (DrainsFor most) seat.old seat.new }
+    ensures falls { IsAloneIn Drain (view_of seat.old) → Across TracesDown seat.old seat.new }
+    ensures all { IsAloneIn Drain (view_of seat.old) → 0 < most → result ≡ 0 → IsTrue (has_traced_all (view_of seat.new)) }
     ensures few { length (did seat.old seat.new) ≤ recycle_steps heap.now.shape + trace_steps result heap.now.shape }
 {
     recycle_deferred(heap, seat);
@@ -64,7 +68,7 @@ pub(crate) fn trace_some(heap: &Heap, seat: &mut HeapSeat, most: u32) -> u32
 }
 
 /// Brings back what was deferred, and traces. The answer: how many objects it popped, fewer than `most` only if at
-/// some moment there was none.
+/// some moment there was none. Each is one fewer of what is left to drain; if it popped none, none is left to trace.
 pub fn trace_step(heap: &Heap, seat: &mut HeapSeat, most: u32) -> u32
     requires seat { Sits heap.now seat.old }
     requires drains { Drains (view_of seat.old) }
@@ -74,6 +78,8 @@ pub fn trace_step(heap: &Heap, seat: &mut HeapSeat, most: u32) -> u32
     ensures popped { (result ≤ most) × (count_of pops (did seat.old seat.new) ≡ result) }
     ensures brings { Across BringsBack seat.old seat.new }
     ensures worked { Across (DrainsFor most) seat.old seat.new }
+    ensures falls { Across TracesDown seat.old seat.new }
+    ensures all { 0 < most → result ≡ 0 → IsTrue (has_traced_all (view_of seat.new)) }
     ensures exact { (u : View) → IsExactSince u (view_of seat.old) → IsExactSince u (view_of seat.new) }
     ensures numbers { Across (Only leaves_numbers) seat.old seat.new }
     ensures keeps { Across Keeps seat.old seat.new }
@@ -91,6 +97,9 @@ pub fn look_step(heap: &Heap, seat: &mut HeapSeat, from: u32, most: u32) -> Look
     ensures part { Across (IsPart Drain) seat.old seat.new }
     ensures looked { LooksAt heap.now.shape from most result (did seat.old seat.new) }
     ensures stands { StandsAfter from most result (view_of seat.new) }
+    ensures falls { left_to_drain (view_of seat.new) ≤ left_to_drain (view_of seat.old) }
+    ensures all { IsTrue (has_traced_all (view_of seat.old)) → IsTrue (has_traced_all (view_of seat.new)) }
+    ensures dirty { NotesDirty result (view_of seat.new) }
     ensures few { length (did seat.old seat.new) ≤ most }
     ensures exact { (u : View) → IsExactSince u (view_of seat.old) → IsExactSince u (view_of seat.new) }
     ensures numbers { Across (Only leaves_numbers) seat.old seat.new }
@@ -112,6 +121,8 @@ pub fn finds_all_marked(heap: &Heap, seat: &mut HeapSeat) -> bool
     ensures marked { OnTrue result (HasMarkedAll (view_of seat.new)) }
     ensures not_yet { OnFalse result (Drains (view_of seat.new)) }
     ensures reads { Across (ReadsCount result) seat.old seat.new }
+    ensures falls { left_to_drain (view_of seat.new) ≤ left_to_drain (view_of seat.old) }
+    ensures all { IsTrue (has_traced_all (view_of seat.old)) → IsTrue result }
     ensures exact { (u : View) → IsExactSince u (view_of seat.old) → IsExactSince u (view_of seat.new) }
     ensures numbers { Across (Only leaves_numbers) seat.old seat.new }
     ensures keeps { Across Keeps seat.old seat.new }
@@ -193,6 +204,7 @@ pub fn clean_step(heap: &Heap, seat: &mut HeapSeat, from: u32, most: u32) -> Opt
     ensures drains { Drains (view_of seat.new) }
     ensures unpopped { IsTrue (never pops (did seat.old seat.new)) }
     ensures cleaned { IfSome result (λ r. (r.passed ≡ min most (card_count heap.now.shape - from)) × Across (CleansCards from r.passed) seat.old seat.new) }
+    ensures falls { SpillsWhite (did seat.old seat.new) → IfSome result (λ r. Across (CleansDown from r.passed) seat.old seat.new) }
     ensures counts { IfSome result (λ r. (r.cleaned ≤ r.passed) × (count_of clears (did seat.old seat.new) ≡ r.cleaned)) }
     ensures rescanned { IfSome result (λ r. rescanned_in (view_of seat.old) (did seat.old seat.new) ≡ r.rescanned) }
     ensures lacks { IfNone result (Across LacksPacket seat.old seat.new) }

@@ -12,7 +12,7 @@ ghost use Rattle.gc_table.specs.declared.view.View.{View};
 ghost use Rattle.gc_cycle.specs.Events.{never};
 ghost use Rattle.gc_cycle.specs.Helping.{HelpsAs, PassesAll, PassesFirst};
 ghost use Rattle.gc_cycle.specs.Mutating.{stays_calm};
-ghost use Rattle.gc_cycle.specs.Sorts.{clears, joins, leaves};
+ghost use Rattle.gc_cycle.specs.Sorts.{joins, leaves, passes_card};
 ghost use Rattle.gc_cycle.specs.Standing.{Helps, KeepsSeat};
 ghost use Rattle.gc_cycle.specs.Statistics.{leaves_numbers};
 
@@ -25,14 +25,14 @@ use mark_core::Phase;
 use std::thread;
 use tracer::Stopped;
 
-/// Helps another seat's stop: traces at most `quota` objects in a drain, or sweeps until no block is left. It cleans no
-/// card.
+/// Helps another seat's stop: traces at most `quota` objects in a drain, or sweeps until no block is left. It draws and
+/// cleans no card.
 pub fn help(heap: &Heap, seat: &mut HeapSeat, quota: u32) -> Helped
     requires seat { Sits heap.now seat.old × Helps (view_of seat.old) }
     ensures seat { Sits heap.now seat.new × Helps (view_of seat.new) }
     ensures ran { Across Ran seat.old seat.new }
     ensures helps { HelpsAs quota result (view_of seat.old) (did seat.old seat.new) }
-    ensures uncleared { IsTrue (never clears (did seat.old seat.new)) }
+    ensures unpassed { IsTrue (never passes_card (did seat.old seat.new)) }
     ensures not_full { IsTrue (never_fills (did seat.old seat.new)) }
     ensures only { Across (Only stays_calm) seat.old seat.new }
     ensures numbers { Across (Only leaves_numbers) seat.old seat.new }
@@ -108,7 +108,7 @@ fn trace_on(heap: &Heap, seat: &mut HeapSeat, quota: u32, before: Helped) -> Hel
     ensures seat { Sits heap.now seat.new }
     ensures ran { Across Ran seat.old seat.new }
     ensures none { result.rescanned ≡ before.rescanned }
-    ensures uncleared { IsTrue (never clears (did seat.old seat.new)) }
+    ensures unpassed { IsTrue (never passes_card (did seat.old seat.new)) }
     ensures helps { (u : View) → HelpsOn quota before u (view_of seat.old) → HelpsOn quota result u (view_of seat.new) }
 {
     if lacks_work(heap, seat) {
@@ -133,7 +133,7 @@ fn help_drain(heap: &Heap, seat: &mut HeapSeat, quota: u32) -> Helped
     ensures seat { Sits heap.now seat.new }
     ensures helps { Across (HelpsOn quota result) seat.old seat.new }
     ensures none { result.rescanned ≡ 0 }
-    ensures uncleared { IsTrue (never clears (did seat.old seat.new)) }
+    ensures unpassed { IsTrue (never passes_card (did seat.old seat.new)) }
     ensures ends { Across (EndsAs result) seat.old seat.new }
 {
     let first = trace(heap, seat, quota);

@@ -18,7 +18,7 @@ ghost use Rattle.card_clean.specs.Leaving.{rescanned_in};
 ghost use Rattle.gc_cycle.specs.CardLooks.{looks_at_card};
 ghost use Rattle.gc_cycle.specs.Events.{never};
 ghost use Rattle.gc_cycle.specs.Lower.{EndsTrace, HasTraced};
-ghost use Rattle.gc_cycle.specs.Sorts.{sees_all_empty as says_all_empty, clears, draws_or_clears, pops, reads_counter, reads_pace, reads_root};
+ghost use Rattle.gc_cycle.specs.Sorts.{sees_all_empty as says_all_empty, draws_or_clears, passes_card, pops, reads_counter, reads_pace, reads_root};
 ghost use Rattle.gc_cycle.specs.Standing.{is_at_rest};
 
 use gc_table::{Heap, HeapSeat};
@@ -74,7 +74,7 @@ pub(crate) fn lacks_work(heap: &Heap, seat: &mut HeapSeat) -> bool
     ensures seat { Sits heap.now seat.new }
     ensures traced { Across HasTraced seat.old seat.new }
     ensures rescanned { rescanned_in (view_of seat.old) (did seat.old seat.new) ≡ 0 }
-    ensures uncleared { IsTrue (never clears (did seat.old seat.new)) }
+    ensures unpassed { IsTrue (never passes_card (did seat.old seat.new)) }
     ensures unpopped { IsTrue (never pops (did seat.old seat.new)) }
 {
     tracer::lacks_work(heap, seat)
@@ -87,7 +87,7 @@ pub(crate) fn sees_all_empty(heap: &Heap, seat: &mut HeapSeat) -> bool
     ensures seat { Sits heap.now seat.new }
     ensures traced { Across HasTraced seat.old seat.new }
     ensures rescanned { rescanned_in (view_of seat.old) (did seat.old seat.new) ≡ 0 }
-    ensures uncleared { IsTrue (never clears (did seat.old seat.new)) }
+    ensures unpassed { IsTrue (never passes_card (did seat.old seat.new)) }
     ensures unpopped { IsTrue (never pops (did seat.old seat.new)) }
     ensures empty { IsTrue result → IsTrue (some_event (says_all_empty (empty_offset + heap.now.shape.packets)) (did seat.old seat.new)) }
     ensures looks { Across (Answered ReadCount (λ n. result ≡ (n == empty_offset + heap.now.shape.packets))) seat.old seat.new }

@@ -24,3 +24,4 @@ pub mod Reading
 pub mod SearchRows
 pub mod Tried
 pub mod TriedFirst
+pub mod Overflows

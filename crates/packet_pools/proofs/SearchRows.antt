@@ -2,13 +2,13 @@
 use Rattle.std.specs.Prelude.{ℕ, ◌≡◌, List, [], ◌∷◌, ◌++◌, Bool, true, false, refl}
 use Rattle.mark_core.specs.Numbers.{deferred_pool_number, empty_pool_number, high_pool_number, low_pool_number}
 use Rattle.mark_core.specs.declared.kinds.Shape.{Shape}
-use Rattle.mark_core.specs.declared.kinds.Step.TheVariants.{DirtyCard, Give, Look, Push, ReadLength, StoreLength, Take}
+use Rattle.mark_core.specs.declared.kinds.Step.TheVariants.{DirtyCard, Give, Look, Push, ReadAlloc, ReadField, ReadLength, SetMark, StoreLength, Take}
 use Rattle.gc_table.specs.declared.view.Entry.{Entry}
 use Rattle.gc_table.specs.Log.{event}
 use Rattle.packet_pools.specs.Seeking.{all_missed, deferred_pools, no_input, no_output}
 use Rattle.packet_pools.specs.Counts.{dirties}
 use Rattle.packet_pools.specs.Orders.{each_after, some_end}
-use Rattle.packet_pools.specs.Tried.{all_tried}
+use Rattle.packet_pools.specs.Tried.{all_tried, may_overflow}
 
 abbrev pub roomy : Shape
 roomy = record { cells = 64; packets = 2; entries = 4; sections = 2; fields = 1; objects = 2000000; sharing = false; slots = 0; stretch = 1 }
@@ -129,3 +129,29 @@ filled_too_late = refl
 
 another_filled : dirties_last (taken ++ event (Push 1 5) 0 ∷ event (DirtyCard 0) 0 ∷ []) ≡ false
 another_filled = refl
+
+-- the events of a call dirtied each card for a cell that was just marked after all packets were tried
+abbrev pub overflows_last : List Entry → Bool
+overflows_last es = each_after (may_overflow roomy excused_none) dirties [] es
+
+-- cell 5 was white, and is left to its card
+left_unsearched : overflows_last (event (SetMark 5) 0 ∷ event (DirtyCard 0) 0 ∷ []) ≡ false
+left_unsearched = refl
+
+left_once_searched : overflows_last (event (SetMark 5) 0 ∷ search ++ event (DirtyCard 0) 0 ∷ []) ≡ true
+left_once_searched = refl
+
+searched_too_late : overflows_last (event (SetMark 5) 0 ∷ event (DirtyCard 0) 0 ∷ search) ≡ false
+searched_too_late = refl
+
+-- a packet was moved in between
+left_after_a_move : overflows_last (event (SetMark 5) 0 ∷ event (StoreLength 0) 4 ∷ event (Give 0 false) 0 ∷ event (DirtyCard 0) 0 ∷ []) ≡ false
+left_after_a_move = refl
+
+-- the card of a cell that isn't published is dirtied again
+owed_unsearched : overflows_last (event (ReadAlloc 0) 0 ∷ event (DirtyCard 0) 0 ∷ []) ≡ true
+owed_unsearched = refl
+
+-- cell 5 was marked already
+found_marked : overflows_last (event (ReadField 1 0) 6 ∷ event (SetMark 5) 32 ∷ event (DirtyCard 0) 0 ∷ []) ≡ true
+found_marked = refl

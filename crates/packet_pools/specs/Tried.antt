@@ -1,5 +1,5 @@
 -- What a call has tried of the packets with room.
-use Rattle.std.specs.Prelude.{ℕ, ◌≡◌, ◌<◌, ◌⊎◌, ◌==◌, ◌+◌, ◌++◌, ◌||◌, ◌&&◌, if◌then◌else◌, List, [], ◌∷◌, Bool, false, nat_le, IsTrue, IsFalse}
+use Rattle.std.specs.Prelude.{ℕ, ◌≡◌, ◌<◌, ◌⊎◌, ◌==◌, ◌+◌, ◌++◌, ◌||◌, ◌&&◌, not, if◌then◌else◌, List, [], ◌∷◌, Bool, false, nat_le, IsTrue, IsFalse}
 use Rattle.std.specs.List.{list_all, range_with_len}
 use Rattle.mark_core.specs.Bits.{reference_in}
 use Rattle.mark_core.specs.Numbers.{empty_pool_number, high_pool_number, low_pool_number}
@@ -7,9 +7,9 @@ use Rattle.mark_core.specs.declared.kinds.Shape.{Shape}
 use Rattle.mark_core.specs.declared.kinds.Step.{Step}
 use Rattle.mark_core.specs.declared.kinds.Step.TheVariants.{Push, ReadLength}
 use Rattle.gc_table.specs.declared.view.Entry.{Entry}
-use Rattle.packet_pools.specs.Seeking.{all_missed, was_got, was_missed}
+use Rattle.packet_pools.specs.Seeking.{all_missed, moves_packet, output_pools, was_got, was_missed}
 use Rattle.packet_pools.specs.Orders.{each_after, some_end}
-use Rattle.packet_pools.specs.Counts.{count_of, dirties}
+use Rattle.packet_pools.specs.Counts.{count_of, dirties, marks_white}
 use Rattle.packet_pools.specs.declared.held.Held.{Held}
 use Rattle.packet_pools.specs.declared.search.Search.{Search}
 use Rattle.packet_pools.specs.declared.search.Search.TheVariants.{Open, Tried}
@@ -83,3 +83,29 @@ pub record SearchesOn (sh : Shape) (s t : Search) (h k : Held) (es : List Entry)
 -- so from the begin of a call, with no excuse
 abbrev pub DirtiesLast : Shape → List Entry → Type 0
 DirtiesLast sh es = DirtiesTried sh (λ p. false) [] es
+
+-- after these events a cell that was white was marked last, as b says of before them: moves of packets leave it so
+abbrev pub fresh_after : Bool → List Entry → Bool
+fresh_after b [] = b
+fresh_after b (e ∷ es) = fresh_after (if moves_packet output_pools e.step then b else marks_white e.step e.found) es
+
+-- the last of these events, but for moves of packets, marked a cell that was white
+abbrev pub ends_fresh : List Entry → Bool
+ends_fresh es = fresh_after false es
+
+-- a card that is dirtied next isn't for a cell that was just marked, or all packets were tried
+abbrev pub may_overflow : Shape → (ℕ → Bool) → List Entry → Bool
+may_overflow sh excused es = not (ends_fresh es) || some_end (all_tried sh excused) es
+
+-- each card that was dirtied for a cell that was just marked was so after all packets were tried; `before` are the events that came before these
+abbrev pub OverflowsTried : Shape → (ℕ → Bool) → List Entry → List Entry → Type 0
+OverflowsTried sh excused before es = IsTrue (each_after (may_overflow sh excused) dirties before es)
+
+-- as SearchesOn, where a card may also be dirtied for another reason than a cell that was just marked
+pub record SearchesThrough (sh : Shape) (s t : Search) (h k : Held) (es : List Entry) : Type 0 where
+  pub cause : (excused : ℕ → Bool) (before : List Entry) → IsTried sh excused s h before → OverflowsTried sh excused before es
+  pub leads : Leads sh s t h k es
+
+-- so from the begin of a call, with no excuse
+abbrev pub OverflowsLast : Shape → List Entry → Type 0
+OverflowsLast sh es = OverflowsTried sh (λ p. false) [] es

@@ -8,7 +8,6 @@ pub mod Leaving
 mod Naming
 pub mod Seats
 mod Uncatalogued
-mod TurnSteps
 pub mod TracerStanding
 pub mod Tending
 mod Cards

@@ -1,22 +1,18 @@
 -- The steps of a tracer inside the world, and what they pop.
-use Rattle.std.proofs.Common.{ℕ, ◌≡◌, ◌+◌, inl, inr, List, [], ◌∷◌, ◌++◌, refl, sym, ap, ◌∙◌, arith, Bool, true, false, cond, Option}
+use Rattle.std.proofs.Common.{ℕ, ◌≡◌, ◌+◌, List, [], ◌∷◌, refl, sym, ap, ◌∙◌, arith, Bool, true, false, cond}
 use Rattle.std.proofs.lemmas.Bool.{true≢false, and_parts}
-use Rattle.mark_core.specs.declared.kinds.Shape.{Shape}
 use Rattle.mark_core.specs.declared.kinds.Step.{Step}
-use Rattle.mark_core.specs.declared.kinds.Step.TheVariants.{ClearCard, DirtyCard, NextOfCards, Pop, ReadStat}
-use Rattle.gc_table.specs.Log.{Only, all_steps, event, events}
+use Rattle.mark_core.specs.declared.kinds.Step.TheVariants.{NextOfCards, Pop, ReadStat}
+use Rattle.gc_table.specs.Log.{Only, all_steps, events}
 use Rattle.gc_table.specs.Running.{Ran, changes_section}
 use Rattle.gc_table.specs.declared.view.Entry.{Entry}
 use Rattle.gc_table.specs.declared.view.View.{View}
 use Rattle.gc_table.proofs.History.Log.{events-none, only-more, only-none}
 use Rattle.gc_table.proofs.Running.{own-kept, ran-events, ran-join, ran-only, ran-refl}
-use Rattle.packet_pools.specs.Counts.{count_of, only_scans, scans_object}
+use Rattle.packet_pools.specs.Counts.{count_of}
 use Rattle.packet_pools.specs.OnlyTraced.{OnlyTracedBy, traces_cells}
-use Rattle.packet_pools.specs.Seeking.{moves_packet, only_moves, output_pools}
+use Rattle.packet_pools.specs.Seeking.{moves_packet, only_moves}
 use Rattle.packet_pools.proofs.Counting.{count-join}
-use Rattle.card_clean.specs.Cleaning.{Cleans, CleansOne}
-use Rattle.card_clean.specs.Passing.{DrawsCard, draws_card}
-use Rattle.card_clean.specs.declared.cleaned.Cleaned.{Cleaned}
 use Rattle.tracer.specs.Tally.{pops}
 use Rattle.cache_refills.specs.Pace.Payment.{reads_number}
 use Rattle.seat_turns.specs.Tending.{MarksAndRecycles, MarksSome, Tends, tends_inside}
@@ -56,48 +52,6 @@ moves-pop qs [] e = refl
 moves-pop qs (x ∷ xs) e =
     let h = and_parts (moves_packet qs x.step) (only_moves qs xs) e in
     λ i. cond (move-pops qs x.step x.found h.0 i) 1 0 + moves-pop qs xs h.1 i
-
--- the scan of an object pops nothing
-scan-pops : (step : Step) (n : ℕ) → scans_object step ≡ true → pops step n ≡ false
-scan-pops (Pop p) n e = sym e
-scan-pops step n e = refl
-
-scans-pop : (es : List Entry) → only_scans es ≡ true → count_of pops es ≡ 0
-scans-pop [] e = refl
-scans-pop (x ∷ xs) e =
-    let h = and_parts (scans_object x.step) (only_scans xs) e in
-    λ i. cond (scan-pops x.step x.found h.0 i) 1 0 + scans-pop xs h.1 i
-
--- a cleaning pops nothing
-cleans-pop : (sh : Shape) (card : ℕ) (r : Cleaned) (es : List Entry) → Cleans sh card r es → count_of pops es ≡ 0
-cleans-pop sh card r es (inl clean) = ap (count_of pops) clean.events_are
-cleans-pop sh card r es (inr dirty) =
-    let d = dirty.2 in
-    let tail : List Entry = cond r.redirtied (event (DirtyCard card) 1 ∷ []) [] in
-    let none : count_of pops (d.scan ++ tail) ≡ 0 = count-join pops d.scan tail ∙ (λ i. scans-pop d.scan d.rescans.counts.scans i + last r.redirtied i) in
-    ap (count_of pops) (dirty.1 ∙ ap (λ l. event (ClearCard card) 1 ∷ l) d.events_are) ∙ omega (arith, none)
-  where
-    last : (b : Bool) → count_of pops (cond b (event (DirtyCard card) 1 ∷ []) []) ≡ 0
-    last true = refl
-    last false = refl
-
-pub one-pops : (sh : Shape) (card : ℕ) (r : Cleaned) (es : List Entry) → CleansOne sh card r es → count_of pops es ≡ 0
-one-pops sh card r es c =
-    ap (count_of pops) c.events_are
-    ∙ (count-join pops c.taking (c.cleaning ++ c.giving) ∙ (λ i. moves-pop output_pools c.taking c.takes i + (count-join pops c.cleaning c.giving ∙ (λ j. cleans-pop sh card r c.cleaning c.cleans j + moves-pop output_pools c.giving c.gives j)) i))
-
--- the drawing of a card reads only the counter of cards, and changes nothing of what the section has come to
-draw-own : (step : Step) → draws_card step ≡ true → changes_section step ≡ false
-draw-own (ReadStat which) e = refl
-draw-own NextOfCards e = refl
-draw-own step e = absurd (true≢false (sym e))
-
-draws-tend : (r : Option ℕ) (v w : View) → DrawsCard r v w → Only tends_inside v w × (count_of pops (events v w) ≡ 0)
-draws-tend r v w (inl over) = (ap (all_steps tends_inside) over.0.events_are, ap (count_of pops) over.0.events_are)
-draws-tend r v w (inr draws) = (ap (all_steps tends_inside) draws.1.events_are, ap (count_of pops) draws.1.events_are)
-
-pub tends-drawn : (r : Option ℕ) (v w : View) → Ran v w → Only draws_card v w → DrawsCard r v w → Tends 0 v w
-tends-drawn r v w ran only draws = let d = draws-tend r v w draws in record { ran = ran; only = d.0; done = d.1; own = own-kept draws_card draw-own v w ran only }
 
 -- a number that is read pops nothing, and changes nothing either
 reads-pop : (es : List Entry) → all_steps reads_number es ≡ true → count_of pops es ≡ 0

@@ -1,5 +1,5 @@
 -- A seat that marks stays one.
-use Rattle.std.proofs.Common.{ℕ, ◌≡◌, ◌⊎◌, ⊎_elim, length, refl, sym, ap, ◌∙◌, Bool, true, false, not, ◌&&◌, Some, None, Option}
+use Rattle.std.proofs.Common.{◌≡◌, length, refl, sym, ap, ◌∙◌, Bool, true, false, not, ◌&&◌, Some, None, Option}
 use Rattle.std.specs.Prelude.{is_none, ◌==◌}
 use Rattle.std.proofs.Math.Logic.{∥∥₁_elim}
 use Rattle.std.proofs.Props.{props}
@@ -17,9 +17,10 @@ use Rattle.gc_table.specs.declared.seat.HeapSeat.{HeapSeat}
 use Rattle.gc_table.specs.declared.view.View.{View}
 use Rattle.packet_pools.specs.OnlyTraced.{OnlyTracedBy, rest_of}
 use Rattle.packet_pools.specs.Tracing.{Traces as MayTrace}
+use Rattle.card_clean.specs.NextCards.{OnlyPassed}
 use Rattle.tracer.specs.Hands.{IsIdle}
 use Rattle.seat_turns.specs.TracerStanding.{GoesMarking}
-use Rattle.gc_cycle.proofs.Idling.{four-none}
+use Rattle.gc_cycle.proofs.Idling.{four-none, owes-passed}
 use Rattle.gc_cycle.proofs.Ends.Swept.{unless}
 
 -- what a seat with nothing in hand hasn't
@@ -121,14 +122,11 @@ pub marks-later :
     → is_none (view_of y).state.owes ≡ true → GoesMarking h y
 marks-later h x y m k sits t held work owes = marks-on h x y m (ap (λ (s : SeatState). record s { below_card = false; below_block = false }) k.rest) sits t held work owes
 
--- after a cleaning the seat still marks
-pub marks-cleaned :
-    {b : Bool} (h : Heap) (x y : HeapSeat) → GoesMarking h x → OnlyTracedBy b (view_of x) (view_of y) → Sits h y → MayTrace (view_of y) → (view_of y).state.held ≡ (view_of x).state.held → work_in_hand h.shape.fields (view_of y).state ≡ false
-    → ((view_of y).state.owes ≡ (view_of x).state.owes) ⊎ ((view_of y).state.owes ≡ None) → GoesMarking h y
-marks-cleaned h x y m k sits t held work owes =
+-- after it passed cards the seat still marks
+pub marks-passed : (h : Heap) (x y : HeapSeat) → GoesMarking h x → OnlyPassed (view_of x) (view_of y) → Sits h y → MayTrace (view_of y) → (view_of y).state.held ≡ (view_of x).state.held → work_in_hand h.shape.fields (view_of y).state ≡ false → GoesMarking h y
+marks-passed h x y m k sits t held work =
     let n = empty-of h.shape (view_of x).state m.goes.idle in
-    marks-later h x y m k sits t (ap holds_any held ∙ n.held) work
-    (⊎_elim (λ (q : (view_of y).state.owes ≡ (view_of x).state.owes). ap (λ (o : Option ℕ). is_none o) q ∙ n.owes) (λ (q : (view_of y).state.owes ≡ None). ap (λ (o : Option ℕ). is_none o) q) owes)
+    marks-on h x y m (ap (λ (s : SeatState). record s { below_card = false; below_block = false }) k.rest) sits t (ap holds_any held ∙ n.held) work (ap is_none (owes-passed (view_of x) (view_of y) k (is-none (view_of x).state.owes n.owes)))
 
 -- after numbers were read the seat still marks
 pub marks-same : (h : Heap) (x y : HeapSeat) → GoesMarking h x → Sits h y → (view_of y).state ≡ (view_of x).state → GoesMarking h y

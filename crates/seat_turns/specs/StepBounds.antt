@@ -1,19 +1,14 @@
 -- How many steps a tracer takes at most in a turn while marking is under way. It depends on the packets and the fields of the heap, and not on its cells.
-use Rattle.std.specs.Prelude.{ℕ, ◌+◌, ◌*◌}
-use Rattle.mark_core.specs.Cards.{card_cells}
+use Rattle.std.specs.Prelude.{ℕ, ◌+◌}
 use Rattle.mark_core.specs.declared.kinds.Shape.{Shape}
 use Rattle.tracer.specs.StepBounds.{trace_steps}
-use Rattle.card_clean.specs.StepBounds.{clean_one_steps}
+use Rattle.card_clean.specs.StepBounds.{clean_next_steps}
 use Rattle.seat_turns.specs.CardPass.{turn_cards}
 use Rattle.seat_turns.specs.Tending.{turn_quota}
 
--- the next card is drawn, looked at and cleaned
-abbrev pub card_steps : Shape → ℕ
-card_steps sh = 3 + clean_one_steps card_cells sh
-
--- so with all cards of a turn
+-- all cards of a turn are drawn, looked at and cleaned
 abbrev pub cards_steps : Shape → ℕ
-cards_steps sh = turn_cards * card_steps sh
+cards_steps sh = clean_next_steps turn_cards sh
 
 -- the three numbers are read that tell whether the cycle is far on, and then cards are passed
 abbrev pub late_steps : Shape → ℕ

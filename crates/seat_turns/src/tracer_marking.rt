@@ -1,19 +1,16 @@
 //! A tracer inside the world.
-ghost use Rattle.std.specs.Prelude.{◌≡◌, ◌<◌, ◌≤◌, ◌+◌, Some, length};
-ghost use Rattle.mark_core.specs.Cards.{card_cells};
-ghost use Rattle.mark_core.specs.Layout.{card_count};
+ghost use Rattle.std.specs.Prelude.{◌≡◌, ◌≤◌, ◌+◌, Some, length};
 ghost use Rattle.mark_core.specs.Seats.{phase_of};
 ghost use Rattle.mark_core.specs.declared.kinds.Step.TheVariants.{ReadPhase};
 ghost use Rattle.gc_table.specs.Seats.{Across, Answered, did, state_of};
-ghost use Rattle.card_clean.specs.StepBounds.{clean_one_steps};
 ghost use Rattle.tracer.specs.StepBounds.{recycle_steps};
 ghost use Rattle.seat_turns.specs.TracerStanding.{Goes, GoesMarking};
-ghost use Rattle.seat_turns.specs.CardPass.{CleansCard, LooksAtCard, PassesSome, PassesFor, PassesLate, PassesOne};
-ghost use Rattle.seat_turns.specs.StepBounds.{card_steps, cards_steps, late_steps, turn_steps};
+ghost use Rattle.seat_turns.specs.CardPass.{PassesSome, PassesFor, PassesLate};
+ghost use Rattle.seat_turns.specs.StepBounds.{cards_steps, late_steps, turn_steps};
 ghost use Rattle.seat_turns.specs.Tending.{MarksAndRecycles, MarksSome, TendsCards};
 
 use cache_refills::is_far_on;
-use card_clean::{clean_one, next_card};
+use card_clean::clean_next;
 use gc_table::{Heap, HeapSeat};
 use mark_core::Phase;
 use tracer::{Stopped, recycle_deferred, trace};
@@ -32,49 +29,7 @@ pub fn see_phase(heap: &Heap, seat: &mut HeapSeat) -> Phase
     heap.read_phase(seat)
 }
 
-fn clean(heap: &Heap, seat: &mut HeapSeat, card: u32) -> bool
-    requires seat { GoesMarking heap.now seat.old }
-    requires card { card < card_count heap.now.shape }
-    ensures seat { GoesMarking heap.now seat.new }
-    ensures tends { Across (TendsCards 1) seat.old seat.new }
-    ensures cleans { Across (CleansCard result card) seat.old seat.new }
-    ensures few { length (did seat.old seat.new) ≤ clean_one_steps card_cells heap.now.shape }
-{
-    match clean_one(heap, seat, card) {
-        Some(_) => true,
-        None => false,
-    }
-}
-
-/// A clean card costs one look and no packet. False if no packet has room.
-fn clean_where_dirty(heap: &Heap, seat: &mut HeapSeat, card: u32) -> bool
-    requires seat { GoesMarking heap.now seat.old }
-    requires card { card < card_count heap.now.shape }
-    ensures seat { GoesMarking heap.now seat.new }
-    ensures tends { Across (TendsCards 1) seat.old seat.new }
-    ensures looks { Across (LooksAtCard result card) seat.old seat.new }
-    ensures few { length (did seat.old seat.new) ≤ 1 + clean_one_steps card_cells heap.now.shape }
-{
-    if !heap.read_card(seat, card) {
-        return true;
-    }
-    clean(heap, seat, card)
-}
-
-/// False if no card is left in the pass, or no packet has room.
-fn clean_next(heap: &Heap, seat: &mut HeapSeat) -> bool
-    requires { GoesMarking heap.now seat.old }
-    ensures seat { GoesMarking heap.now seat.new }
-    ensures tends { Across (TendsCards 0) seat.old seat.new }
-    ensures passes { Across (PassesOne result) seat.old seat.new }
-    ensures few { length (did seat.old seat.new) ≤ card_steps heap.now.shape }
-{
-    match next_card(heap, seat) {
-        Some(card) => clean_where_dirty(heap, seat, card),
-        None => false,
-    }
-}
-
+/// A clean card costs one look and no packet.
 fn clean_cards(heap: &Heap, seat: &mut HeapSeat)
     requires { GoesMarking heap.now seat.old }
     ensures seat { GoesMarking heap.now seat.new }
@@ -82,11 +37,7 @@ fn clean_cards(heap: &Heap, seat: &mut HeapSeat)
     ensures passes { Across PassesSome seat.old seat.new }
     ensures few { length (did seat.old seat.new) ≤ cards_steps heap.now.shape }
 {
-    for _card in 0..CARDS {
-        if !clean_next(heap, seat) {
-            return;
-        }
-    }
+    let _ = clean_next(heap, seat, CARDS, None);
 }
 
 fn clean_late(heap: &Heap, seat: &mut HeapSeat)

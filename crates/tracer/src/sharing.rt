@@ -140,6 +140,7 @@ pub(crate) fn share_in_turn(
     ensures work { IsFalse (work_in_hand heap.now.shape.fields (state_of seat.new)) }
     ensures part { (o : Option ℕ) → Did o o 0 0 0 (view_of seat.old) (did seat.old seat.new) }
     ensures tried { Searches heap.now.shape search.old search.new (did seat.old seat.new) }
+    ensures anew { share_each - 1 ≤ turn % share_each → search.new ≡ Search.Open }
     ensures unshared { turn % share_each < share_each - 1 → (length (did seat.old seat.new) ≤ 0) × (packets.new ≡ packets.old) × (search.new ≡ search.old) }
     ensures few { length (did seat.old seat.new) ≤ share_steps heap.now.shape }
 {

@@ -5,13 +5,13 @@ use Rattle.std.proofs.lemmas.Bool.{false≢true, not-true, or_parts}
 use Rattle.mark_core.specs.Layout.{card_count}
 use Rattle.mark_core.specs.declared.kinds.Shape.{Shape}
 use Rattle.mark_core.specs.declared.kinds.Step.{Step}
-use Rattle.mark_core.specs.declared.kinds.Step.TheVariants.{Pop, ReadCard, Take}
+use Rattle.mark_core.specs.declared.kinds.Step.TheVariants.{Pop, Take}
 use Rattle.gc_table.specs.Log.{events, Only}
 use Rattle.gc_table.specs.Running.{Ran}
 use Rattle.gc_table.specs.Taking.{after}
 use Rattle.gc_table.specs.declared.view.Entry.{Entry}
 use Rattle.gc_table.specs.declared.view.View.{View}
-use Rattle.gc_table.proofs.History.Log.{events-after, events-none}
+use Rattle.gc_table.proofs.History.Log.{events-none}
 use Rattle.gc_table.proofs.Running.{ran-events, ran-join, ran-refl, ran-shape}
 use Rattle.packet_pools.specs.Counts.{count_of}
 use Rattle.packet_pools.specs.Seeking.{some_event}
@@ -63,10 +63,7 @@ leaves-join u v w a b =
           omega (arith, one, two, read, drawn);
     }
 
--- a look at a card, and the reading of numbers
-pub leaves-looked : (card n : ℕ) (v w : View) → Ran v w → w ≡ after (ReadCard card) n v → LeavesDeferred v w
-leaves-looked card n v w r e = let one = events-after v w (ReadCard card) n e in leaves-by v w r (ap (never pops) one) (ap (never takes_deferred) one) (ap (never reads_counter) one)
-
+-- the reading of numbers
 number-unpopped : Spares reads_number pops
 number-unpopped (Pop p) n e = absurd (false≢true e)
 number-unpopped step n e = refl

@@ -1,6 +1,6 @@
 -- A mutator's tracing increment, put together out of its calls.
 use Rattle.std.proofs.Common.{ℕ, ◌≡◌, ◌≤◌, ◌+◌, List, [], ◌∷◌, ◌++◌, arith, refl, sym, ap, ◌∙◌, subst, Bool, true, false, not, ◌&&◌, Some, None, Option, ⊎_elim, cond, eqb-true, eq-eqb}
-use Rattle.std.specs.Prelude.{◌==◌, ◌<◌, if◌then◌else◌, IfNone, IfSome, is_some, nat_lt, unwrap_or}
+use Rattle.std.specs.Prelude.{◌==◌, ◌<◌, if◌then◌else◌, is_some, nat_lt, unwrap_or}
 use Rattle.std.specs.List.{count_by, fold}
 use Rattle.std.proofs.Math.Logic.{∥∥₁_elim}
 use Rattle.std.proofs.Props.{props}
@@ -8,16 +8,15 @@ use Rattle.std.proofs.lemmas.Bool.{and_from, and_parts, false≢true, le-leb, lt
 use Rattle.mark_core.specs.Held.{Slot, Slots, holds_any}
 use Rattle.mark_core.specs.declared.kinds.Shape.{Shape}
 use Rattle.mark_core.specs.declared.kinds.Step.{Step}
-use Rattle.mark_core.specs.declared.kinds.Step.TheVariants.{NextOfCards, ReadCard}
+use Rattle.mark_core.specs.declared.kinds.Step.TheVariants.{NextOfCards}
 use Rattle.mark_core.specs.declared.seat.SeatState.{SeatState}
 use Rattle.gc_table.specs.Log.{events}
 use Rattle.gc_table.specs.PlainSteps.{own_section}
 use Rattle.gc_table.specs.Rule.{IsPossible}
 use Rattle.gc_table.specs.Running.{Ran}
-use Rattle.gc_table.specs.Taking.{after, Finds}
+use Rattle.gc_table.specs.Taking.{after}
 use Rattle.gc_table.specs.declared.view.Entry.{Entry}
 use Rattle.gc_table.specs.declared.view.View.{View}
-use Rattle.gc_table.proofs.History.Log.{events-after}
 use Rattle.gc_table.proofs.Running.{ran-events, ran-shape}
 use Rattle.packet_pools.specs.Counts.{count_of}
 use Rattle.packet_pools.specs.Seeking.{moves_packet, output_pools, some_event}
@@ -33,9 +32,8 @@ use Rattle.gc_cycle.specs.Lower.{EndsTrace, HasTraced}
 use Rattle.gc_cycle.specs.Moments.{Moment, after_moment, at_some_moment, begins, finds_no_packet, finds_no_room, finds_no_work}
 use Rattle.gc_cycle.specs.Roots.{roots_scanned}
 use Rattle.gc_cycle.specs.Sorts.{draws, draws_or_clears, pops, reads_pace, reads_root}
-use Rattle.gc_cycle.specs.Standing.{is_at_rest, Mutates}
+use Rattle.gc_cycle.specs.Standing.{Mutates}
 use Rattle.gc_cycle.proofs.Stops.Admitted.{count-none, count-run}
-use Rattle.gc_cycle.proofs.Stops.Looked.{has-looked}
 use Rattle.gc_cycle.proofs.Searched.{both-widen, room-longer, room-widens, work-longer, work-widens}
 use Rattle.gc_cycle.proofs.Sequences.{this-moment}
 use Rattle.gc_cycle.proofs.Turns.{later-moment, earlier-moment, roots-left, has-traced}
@@ -140,19 +138,6 @@ undrawn es h = count-none draws es (ap not (none-drawn es (not-true _ h)))
     none-drawn (f ∷ fs) k =
         let q = or_parts (draws_or_clears f.step f.found) (some_event draws_or_clears fs) k in or_from (draws f.step f.found) (some_event draws fs) (drawn-one f.step f.found q.0) (none-drawn fs q.1)
 
--- a look at a card traces nothing
-pub card-looked : (card n : ℕ) (v w : View) → is_at_rest v.shape v.state ≡ true → w ≡ after (ReadCard card) n v → Finds (ReadCard card) n v → TracesNone 0 v w
-card-looked card n v w rest e f =
-    let one = events-after v w (ReadCard card) n e in
-    let few = ap {B = ℕ} (count_of draws) one in
-    record {
-      traced = has-looked card n v w rest e f;
-      looked = omega (arith, few);
-      unpopped = ap (never pops) one;
-      unread = ap (never reads_pace) one;
-      unrooted = ap (never reads_root) one;
-    }
-
 -- this many cards were drawn in one call, and this many in the next
 looked-join : (j k : ℕ) (u v w : View) → Ran u v → Ran v w → count_of draws (events u v) ≤ j → count_of draws (events v w) ≤ k → count_of draws (events u w) ≤ j + k
 looked-join j k u v w r q a b = let both = count-run draws u v w r q in omega (arith, both, a, b)
@@ -163,16 +148,6 @@ undrawn-few es h = let none = undrawn es h in omega (arith, none)
 -- a card was cleaned, or no packet was found for it
 pub cleaned-none : (v w : View) → HasTraced v w → never pops (events v w) ≡ true → never reads_pace (events v w) ≡ true → never reads_root (events v w) ≡ true → never draws (events v w) ≡ true → TracesNone 0 v w
 cleaned-none v w t p r q d = let none = count-none draws (events v w) d in record { traced = t; looked = omega (arith, none); unpopped = p; unread = r; unrooted = q }
-
-pub none-join : (j k : ℕ) (u v w : View) → TracesNone j u v → TracesNone k v w → TracesNone (j + k) u w
-none-join j k u v w a b =
-    record {
-      looked = looked-join j k u v w a.traced.ran b.traced.ran a.looked b.looked;
-      traced = has-traced u v w a.traced b.traced;
-      unpopped = never-run pops u v w a.traced.ran b.traced.ran a.unpopped b.unpopped;
-      unread = never-run reads_pace u v w a.traced.ran b.traced.ran a.unread b.unread;
-      unrooted = never-run reads_root u v w a.traced.ran b.traced.ran a.unrooted b.unrooted;
-    }
 
 -- a trace
 pub traces-on : (quota k before : ℕ) (r : Traced) (v w : View) → HasTraced v w → EndsTrace k r v w → r.done ≤ k → before + k ≡ quota → never reads_pace (events v w) ≡ true → never reads_root (events v w) ≡ true → never draws_or_clears (events v w) ≡ true → TracesOn quota before 0 (record { quota = quota; done = before + r.done; stopped = r.stopped }) v w
@@ -249,17 +224,6 @@ traces-within quota before j k p u v l a =
 -- before steps that traced nothing and drew no card
 pub traces-quiet : (quota before looks : ℕ) (p : Paid) (u v w : View) → TracesOn quota before looks p u v → TracesNone 0 v w → TracesOn quota before looks p u w
 traces-quiet quota before looks p u v w a b = traces-within quota before (looks + 0) looks p u w (omega arith) (traces-none quota before looks 0 p u v w a b)
-
--- a card was looked at and cleaned, and what it gave was traced
-pub cleaned-on : (b : Paid) (o : Option Paid) (v w x : View) → TracesNone 1 v w → IfSome o (λ p. TracesOn b.quota b.done 0 p w x) → IfSome o (λ p. (u : View) (looks : ℕ) → TracesOn b.quota 0 looks b u v → TracesOn b.quota 0 (looks + 1) p u x)
-cleaned-on b None v w x n h = tt
-cleaned-on b (Some p) v w x n h =
-    λ u looks t. traces-within b.quota 0 (looks + 1 + 0) (looks + 1) p u x (omega arith) (traces-join b.quota 0 (looks + 1) 0 b p u w x (traces-none b.quota 0 looks 1 b u v w t n) h)
-
--- or no packet was found for it
-pub cleaned-not : (o : Option Paid) (v w x : View) → TracesNone 1 v w → IfNone o (TracesNone 0 w x) → IfNone o (TracesNone 1 v x)
-cleaned-not None v w x n h = none-join 1 0 v w x n h
-cleaned-not (Some p) v w x n h = tt
 
 -- the roots were seen to, and then a quota was traced
 pub marks-traces : (section quota looks : ℕ) (p : Paid) (u v w : View) → HasTraced u v → never pops (events u v) ≡ true → never reads_pace (events u v) ≡ true → never draws_or_clears (events u v) ≡ true → roots_scanned section (events u v) ≡ true → TracesOn quota 0 looks p v w

@@ -56,14 +56,14 @@ undirtied : (step : Step) (found card : ℕ) → bit (dirties step found) ≡ 0 
 undirtied (DirtyCard k) found card e = absurd (omega (arith, e))
 undirtied step found card e = refl
 
-clean-stays : (es : List Entry) (v : View) (card : ℕ) → Passes es v → IsClean v card → IsClean (after_all es v) card
+pub clean-stays : (es : List Entry) (v : View) (card : ℕ) → Passes es v → IsClean v card → IsClean (after_all es v) card
 clean-stays [] v card p c = c
 clean-stays (e ∷ es) v card p c =
     let o = and_parts (traces_or_cleans e.step) (all_steps traces_or_cleans es) p.steps in
     clean-stays es (after e.step e.found v) card (later e es v p) (card-step v e.step e.found o.0 p.seen.0 p.lone card (undirtied e.step e.found card (omega (arith, p.none))) c)
 
 -- the card is seen clean, or cleared
-abbrev finds_clean : ℕ → Step → ℕ → Bool
+abbrev pub finds_clean : ℕ → Step → ℕ → Bool
 finds_clean card (ReadCard k) found = (k == card) && (found == 0)
 finds_clean card (ClearCard k) found = k == card
 finds_clean card step found = false
@@ -78,7 +78,7 @@ leaves-clean v (ClearCard k) n card a e =
     (known-here v (ClearCard k) n (card_at k) (place-again (card_at k)) (alone-steady (seat_after v.shape v.state (ClearCard k) n) (card_at k) 0 refl (stays-lone v (ClearCard k) n refl a))).0
 leaves-clean v step n card a e = absurd (false≢true e)
 
-ends-clean : (es : List Entry) (v : View) (card : ℕ) → Passes es v → some_event (finds_clean card) es ≡ true → IsClean (after_all es v) card
+pub ends-clean : (es : List Entry) (v : View) (card : ℕ) → Passes es v → some_event (finds_clean card) es ≡ true → IsClean (after_all es v) card
 ends-clean [] v card p e = absurd (false≢true e)
 ends-clean (x ∷ es) v card p e =
     ⊎_elim
@@ -118,8 +118,30 @@ first-clean sh from zero n es k =
     subst (λ z. some_event (finds_clean from) z ≡ true) (sym k.4) (some-right (finds_clean from) k.2 k.3 here)
 first-clean sh from (suc m) n es k = subst (λ z. some_event (finds_clean from) z ≡ true) (sym k.4) (some-left (finds_clean from) k.2 k.3 (first-clean sh from m k.0 k.2 k.6))
 
+lone-all : (es : List Entry) (v : View) → Passes es v → IsLone (after_all es v)
+lone-all [] v q = q.lone
+lone-all (e ∷ es) v q = lone-all es (after e.step e.found v) (later e es v q)
+
+-- the last look found it dirty
+pub seen-dirty : (from k : ℕ) (v : View) → Passes (looks_dirty from k) v → look (card_at k) (after_all (looks_dirty from k) v).known ≡ Some 1
+seen-dirty from k v q =
+    let before : List Entry = looks_clean from k in
+    let w : View = after_all before v in
+    let steps = steps-split before (event (ReadCard k) 1 ∷ []) q.steps in
+    let seen = seen-split before (event (ReadCard k) 1 ∷ []) v q.seen in
+    let lone : IsLone w = lone-all before v (record { steps = steps.0; seen = seen.0; lone = q.lone; none = let j = count-join dirties before (event (ReadCard k) 1 ∷ []) in omega (arith, j, q.none) }) in
+    ap (λ (u : View). look (card_at k) u.known) (after-join before (event (ReadCard k) 1 ∷ []) v)
+    ∙ (known-here w (ReadCard k) 1 (card_at k) (place-again (card_at k)) (alone-steady (seat_after w.shape w.state (ReadCard k) 1) (card_at k) 1 refl (stays-lone w (ReadCard k) 1 refl lone))).0
+
+-- the first of the cards was cleaned, or seen clean
+pub first-cleaned : (sh : Shape) (from m n : ℕ) (es : List Entry) → 0 < m → CleansWithPacket sh (CleanedFrom sh from m n) es → some_event (finds_clean from) es ≡ true
+first-cleaned sh from m n es some k =
+    let m' : suc (m - 1) ≡ m = omega (arith, some) in
+    let cleaned : some_event (finds_clean from) k.cleaning ≡ true = first-clean sh from (m - 1) n k.cleaning (subst (λ j. CleanedFrom sh from j n k.cleaning) (sym m') k.cleans) in
+    subst (λ w. some_event (finds_clean from) w ≡ true) (sym k.events_are) (some-right (finds_clean from) k.taking (k.cleaning ++ k.giving) (some-left (finds_clean from) k.cleaning k.giving cleaned))
+
 -- a dirty card was found, and each from it on was cleaned: one fewer is left
-pub fewer-cards : (sh : Shape) (card n : ℕ) (rest : List Entry) (x y : View) → card < card_count sh → card < card_count x.shape → Passes (looks_dirty 0 card ++ rest) x → y ≡ after_all (looks_dirty 0 card ++ rest) x → y.shape ≡ x.shape → CleansWithPacket (CleanedFrom sh card (card_count sh - card) n) rest
+pub fewer-cards : (sh : Shape) (card n : ℕ) (rest : List Entry) (x y : View) → card < card_count sh → card < card_count x.shape → Passes (looks_dirty 0 card ++ rest) x → y ≡ after_all (looks_dirty 0 card ++ rest) x → y.shape ≡ x.shape → CleansWithPacket sh (CleanedFrom sh card (card_count sh - card) n) rest
     → cards_left y + 1 ≤ cards_left x
 fewer-cards sh card n rest x y below there p is shape k =
     let first : List Entry = looks_dirty 0 card in
@@ -131,34 +153,16 @@ fewer-cards sh card n rest x y below there p is shape k =
     let lone : IsLone z = lone-all first x one in
     let two : Passes rest z = record { steps = steps.1; seen = seen.1; lone = lone; none = omega (arith, none, p.none) } in
     let end : y ≡ after_all rest z = is ∙ after-join first rest x in
-    let m : suc (card_count sh - card - 1) ≡ card_count sh - card = omega (arith, below) in
-    let cleaned : some_event (finds_clean card) k.cleaning ≡ true = first-clean sh card (card_count sh - card - 1) n k.cleaning (subst (λ j. CleanedFrom sh card j n k.cleaning) (sym m) k.cleans) in
-    let within : some_event (finds_clean card) rest ≡ true =
-    subst (λ w. some_event (finds_clean card) w ≡ true) (sym k.events_are) (some-right (finds_clean card) k.taking (k.cleaning ++ k.giving) (some-left (finds_clean card) k.cleaning k.giving cleaned)) in
+    let within : some_event (finds_clean card) rest ≡ true = first-cleaned sh card (card_count sh - card) n rest (omega (arith, below)) k in
     let clean : IsClean y card = subst (λ (w : View). IsClean w card) (sym end) (ends-clean rest z card two within) in
     let gone : dirty_left y card ≡ 0 = unless-none (look (card_at card) y.known) clean in
-    let dirty : look (card_at card) z.known ≡ Some 1 = seen-dirty card x one in
+    let dirty : look (card_at card) z.known ≡ Some 1 = seen-dirty 0 card x one in
     let was : dirty_left z card ≡ 1 = unless-dirty (look (card_at card) z.known) 1 refl (λ j e. some-is 1 j (sym dirty ∙ e)) in
     let less = dirty-most x z card (clean-stays first x card one) in
     let all : (c : ℕ) → dirty_left y c ≤ dirty_left x c = λ c. dirty-most x y c (λ e. subst (λ (w : View). IsClean w c) (sym end) (clean-stays rest z c two (clean-stays first x c one e))) in
     let sum = sum-at (dirty_left x) (dirty_left y) card 1 0 0 (card_count x.shape) (omega arith) (omega (arith, there)) (omega (arith, gone, was, less)) (λ c d. all c) in
     let same : cards_left y ≡ sum_by (dirty_left y) (range_with_len 0 (card_count x.shape)) = ap (λ (s : Shape). sum_by (dirty_left y) (range_with_len 0 (card_count s))) shape in
     omega (arith, sum, same)
-  where
-    lone-all : (es : List Entry) (v : View) → Passes es v → IsLone (after_all es v)
-    lone-all [] v q = q.lone
-    lone-all (e ∷ es) v q = lone-all es (after e.step e.found v) (later e es v q)
-
-    -- the last look found it dirty
-    seen-dirty : (k : ℕ) (v : View) → Passes (looks_dirty 0 k) v → look (card_at k) (after_all (looks_dirty 0 k) v).known ≡ Some 1
-    seen-dirty k v q =
-        let before : List Entry = looks_clean 0 k in
-        let w : View = after_all before v in
-        let steps = steps-split before (event (ReadCard k) 1 ∷ []) q.steps in
-        let seen = seen-split before (event (ReadCard k) 1 ∷ []) v q.seen in
-        let lone : IsLone w = lone-all before v (record { steps = steps.0; seen = seen.0; lone = q.lone; none = let j = count-join dirties before (event (ReadCard k) 1 ∷ []) in omega (arith, j, q.none) }) in
-        ap (λ (u : View). look (card_at k) u.known) (after-join before (event (ReadCard k) 1 ∷ []) v)
-        ∙ (known-here w (ReadCard k) 1 (card_at k) (place-again (card_at k)) (alone-steady (seat_after w.shape w.state (ReadCard k) 1) (card_at k) 1 refl (stays-lone w (ReadCard k) 1 refl lone))).0
 
 -- each card was seen clean: nothing else is noted anew
 pub all-clean : (from n : ℕ) (v : View) → IsLone v → AllSeen (map (λ k. event (ReadCard k) 0) (range_with_len from n)) v

@@ -34,7 +34,7 @@ head_says v p = noted_length (look (head_at p) v.known)
 abbrev pub Heads : View → Type 0
 Heads v = (p n : ℕ) → known_length v.state.held p ≡ Some n → is_stored v.state.held p ≡ true → head_says v p ≤ n
 
-noted-bound : (o : Option ℕ) → noted_length o ≤ reference_bound
+pub noted-bound : (o : Option ℕ) → noted_length o ≤ reference_bound
 noted-bound None = omega arith
 noted-bound (Some n) = omega arith
 

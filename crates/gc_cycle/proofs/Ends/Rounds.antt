@@ -45,7 +45,7 @@ none-moved qs (e ∷ es) m =
     let rest = none-moved qs es p.1 in
     ((λ i. cond (one.0 i) 1 0 + rest.0 i), (λ i. cond (one.1 i) 1 0 + rest.1 i))
 
-counted : (f : Step → ℕ → Bool) (u v w : View) → Ran u v → Ran v w → count_of f (events u w) ≡ count_of f (events u v) + count_of f (events v w)
+pub counted : (f : Step → ℕ → Bool) (u v w : View) → Ran u v → Ran v w → count_of f (events u w) ≡ count_of f (events u v) + count_of f (events v w)
 counted f u v w a b = ap (count_of f) (ran-events u v w a b) ∙ count-join f (events u v) (events v w)
 
 pub shrinks : (sh : Shape) (quota done n : ℕ) (qs : List ℕ) (v w x y : View) → v.shape ≡ sh → IsAloneIn Drain v → v.state.active ≡ false → 0 < quota

@@ -18,7 +18,8 @@ use Rattle.mark_core.specs.declared.seat.SeatState.{SeatState}
 use Rattle.mark_core.proofs.Blocks.BlocksStopped.{knower, still-known}
 use Rattle.gc_table.specs.Log.{event, events}
 use Rattle.gc_table.specs.Notes.{look}
-use Rattle.gc_table.specs.Rule.{IsPossible}
+use Rattle.gc_table.specs.Rule.{Agrees, IsPossible, IsState}
+use Rattle.gc_table.specs.TableState.{TableState}
 use Rattle.gc_table.specs.declared.view.Entry.{Entry}
 use Rattle.gc_table.specs.declared.view.View.{View}
 use Rattle.packet_pools.specs.Counts.{count_of, dirties, pushes}
@@ -27,7 +28,7 @@ use Rattle.packet_pools.proofs.Searches.{all-range}
 use Rattle.card_clean.specs.Drained.{FindsWork, IsSettled}
 use Rattle.mark_core.specs.declared.kinds.Phase.TheVariants.{Drain}
 use Rattle.gc_cycle.specs.Finishing.{IsAloneIn}
-use Rattle.gc_cycle.specs.LeftToDrain.{Shrinks, left_to_drain}
+use Rattle.gc_cycle.specs.LeftToDrain.{Shrinks, has_traced_all, is_outside, is_spent, left_to_drain, says_outside}
 use Rattle.gc_cycle.specs.Lower.{HasTraced}
 use Rattle.gc_cycle.proofs.Ends.Uses.{uses-up}
 
@@ -35,35 +36,25 @@ abbrev pub is_zero : Option ℕ → Bool
 is_zero None = false
 is_zero (Some n) = n == 0
 
-abbrev pub lacks_packet : Option ℕ → ℕ → Bool
-lacks_packet None i = false
-lacks_packet (Some word) i = not (has_bit word i)
-
-abbrev pub is_out : View → ℕ → ℕ → Bool
-is_out v q p = lacks_packet (look (pool_at v.shape q (p / word_bits)) v.known) (p % word_bits)
-
-abbrev pub are_out : View → ℕ → Bool
-are_out v p = is_out v 1 p && (is_out v 2 p && is_out v 3 p)
-
 abbrev pub is_clean : View → ℕ → Bool
 is_clean v card = is_zero (look (card_at card) v.known)
 
 -- all is noted as settled
 abbrev pub settled : View → Bool
-settled v = list_all (is_clean v) (range_with_len 0 (card_count v.shape)) && (list_all (are_out v) (range_with_len 0 v.shape.packets) && empty_handed v.state)
+settled v = list_all (is_clean v) (range_with_len 0 (card_count v.shape)) && has_traced_all v
 
 -- twice what is left to drain, and one more unless all is settled
 abbrev pub rounds_left : View → ℕ
 rounds_left v = 2 * left_to_drain v + cond (settled v) 0 1
 
-is-out : (v : View) (q p : ℕ) → p < v.shape.packets → AreNotedOutside q v → is_out v q p ≡ true
-is-out v q p l k = let o = k p l in ap (λ x. lacks_packet x (p % word_bits)) o.1 ∙ ap not o.2
+is-out : (v : View) (q p : ℕ) → p < v.shape.packets → AreNotedOutside q v → is_outside v q p ≡ true
+is-out v q p l k = let o = k p l in ap (λ x. says_outside x (p % word_bits)) o.1 ∙ ap not o.2
 
 zero-noted : (o : Option ℕ) → is_zero o ≡ true → o ≡ Some 0
 zero-noted None e = absurd (false≢true e)
 zero-noted (Some n) e = ap Some (eqb-true n 0 e)
 
-out-noted : (o : Option ℕ) (i : ℕ) → lacks_packet o i ≡ true → (n : ℕ) × (o ≡ Some n) × (has_bit n i ≡ false)
+out-noted : (o : Option ℕ) (i : ℕ) → says_outside o i ≡ true → (n : ℕ) × (o ≡ Some n) × (has_bit n i ≡ false)
 out-noted None i e = absurd (false≢true e)
 out-noted (Some n) i e = (n, refl, not-true (has_bit n i) e)
   where
@@ -80,29 +71,42 @@ all-at f a (suc n) e p l h =
     (λ (d : a ≡ p → ⊥). all-at f (a + 1) n b.1 p (omega (arith, l, d)) (omega (arith, h)))
     (cases_eq a p)
 
+-- no cell is left to trace, as a test
+pub to-spent : (v : View) → AreNotedOutside 1 v → AreNotedOutside 2 v → AreNotedOutside 3 v → empty_handed v.state ≡ true → has_traced_all v ≡ true
+to-spent v low high deferred hands =
+    and_from _ _ (all-range (is_spent v) 0 v.shape.packets (λ p l.
+    let h : p < v.shape.packets = omega (arith, l) in
+    and_from _ _ (is-out v 1 p h low) (and_from _ _ (is-out v 2 p h high) (is-out v 3 p h deferred))))
+    hands
+
+pub from-spent : (v : View) → has_traced_all v ≡ true → AreNotedOutside 1 v × AreNotedOutside 2 v × AreNotedOutside 3 v × (empty_handed v.state ≡ true)
+from-spent v e =
+    let b = and_parts (list_all (is_spent v) (range_with_len 0 v.shape.packets)) (empty_handed v.state) e in
+    let out = λ (p : ℕ) (l : p < v.shape.packets). all-at (is_spent v) 0 v.shape.packets b.0 p (omega arith) (omega (arith, l)) in (
+      λ p l. out-noted (look (pool_at v.shape 1 (p / word_bits)) v.known) (p % word_bits) (and_parts _ _ (out p l)).0,
+      λ p l. out-noted (look (pool_at v.shape 2 (p / word_bits)) v.known) (p % word_bits) (and_parts _ _ (and_parts _ _ (out p l)).1).0,
+      λ p l. out-noted (look (pool_at v.shape 3 (p / word_bits)) v.known) (p % word_bits) (and_parts _ _ (and_parts _ _ (out p l)).1).1,
+      b.1,
+    )
+
 to-settled : (v : View) → IsSettled v → settled v ≡ true
 to-settled v s =
     and_from _ _ (all-range (is_clean v) 0 (card_count v.shape) (λ p l. ap is_zero (s.cards p (omega arith) (omega (arith, l)))))
-    (and_from _ _
-    (all-range (are_out v) 0 v.shape.packets (λ p l.
-    let h : p < v.shape.packets = omega (arith, l) in
-    and_from _ _ (is-out v 1 p h s.low) (and_from _ _ (is-out v 2 p h s.high) (is-out v 3 p h s.deferred))))
-    s.hands)
+    (to-spent v s.low s.high s.deferred s.hands)
 
 from-settled : (v : View) → settled v ≡ true → IsSettled v
 from-settled v e =
-    let a = and_parts (list_all (is_clean v) (range_with_len 0 (card_count v.shape))) (list_all (are_out v) (range_with_len 0 v.shape.packets) && empty_handed v.state) e in
-    let b = and_parts (list_all (are_out v) (range_with_len 0 v.shape.packets)) (empty_handed v.state) a.1 in
-    let out = λ (p : ℕ) (l : p < v.shape.packets). all-at (are_out v) 0 v.shape.packets b.0 p (omega arith) (omega (arith, l)) in
+    let a = and_parts (list_all (is_clean v) (range_with_len 0 (card_count v.shape))) (has_traced_all v) e in
+    let s = from-spent v a.1 in
     record {
       cards = λ card low l. zero-noted (look (card_at card) v.known) (all-at (is_clean v) 0 (card_count v.shape) a.0 card (omega arith) (omega (arith, l)));
-      low = λ p l. out-noted (look (pool_at v.shape 1 (p / word_bits)) v.known) (p % word_bits) (and_parts _ _ (out p l)).0;
-      high = λ p l. out-noted (look (pool_at v.shape 2 (p / word_bits)) v.known) (p % word_bits) (and_parts _ _ (and_parts _ _ (out p l)).1).0;
-      deferred = λ p l. out-noted (look (pool_at v.shape 3 (p / word_bits)) v.known) (p % word_bits) (and_parts _ _ (and_parts _ _ (out p l)).1).1;
-      hands = b.1;
+      low = s.0;
+      high = s.1;
+      deferred = s.2;
+      hands = s.3;
     }
 
-looks-neither : (ks : List ℕ) (es : List Entry) → (count_of pushes es ≡ 0) × (count_of dirties es ≡ 0) → (count_of pushes (map (λ k. event (ReadCard k) 0) ks ++ es) ≡ 0) × (count_of dirties (map (λ k. event (ReadCard k) 0) ks ++ es) ≡ 0)
+pub looks-neither : (ks : List ℕ) (es : List Entry) → (count_of pushes es ≡ 0) × (count_of dirties es ≡ 0) → (count_of pushes (map (λ k. event (ReadCard k) 0) ks ++ es) ≡ 0) × (count_of dirties (map (λ k. event (ReadCard k) 0) ks ++ es) ≡ 0)
 looks-neither [] es n = n
 looks-neither (k ∷ ks) es n = let rest = looks-neither ks es n in (omega (arith, rest.0), omega (arith, rest.1))
 
@@ -130,12 +134,15 @@ falls sh v x y a t f unsettled s =
     at-most false = omega arith
 
 -- no seat that knows that the world is stopped is active
+pub state-still : (x : TableState) (i : ℕ) (v : View) → IsState x → Agrees x i v → v.state.knows ≡ true → v.state.active ≡ false
+state-still x i v w a k =
+    let c : Core = x.core in
+    let within = slice_get_within c.seats i v.state a.seat in
+    let at = get_or_from_slice_get c.seats i v.state v.state a.seat in
+    let still = still-known c w.core (knower c.seats i v.state within (ap (λ (s : SeatState). s.knows) at ∙ k)) i v.state within in
+    ap (λ (s : SeatState). s.active) (sym at) ∙ still
+
 pub knows-still : (v : View) → ∥ IsPossible v ∥₁ → v.state.knows ≡ true → v.state.active ≡ false
 knows-still v p k =
     false_from_ne_true v.state.active (λ e.
-    ∥∥₁_elim p (Prim.hlevel props) (λ (q : IsPossible v).
-    let c : Core = q.state.core in
-    let within = slice_get_within c.seats q.index v.state q.agrees.seat in
-    let at = get_or_from_slice_get c.seats q.index v.state v.state q.agrees.seat in
-    let still = still-known c q.whole.core (knower c.seats q.index v.state within (ap (λ (s : SeatState). s.knows) at ∙ k)) q.index v.state within in
-    true≢false (sym e ∙ (ap (λ (s : SeatState). s.active) (sym at) ∙ still))))
+    ∥∥₁_elim p (Prim.hlevel props) (λ (q : IsPossible v). true≢false (sym e ∙ state-still q.state q.index v q.whole q.agrees k)))

@@ -75,7 +75,7 @@ by_bit : (b : Bool) → cond b 0 1 ≤ 1
 by_bit true = omega arith
 by_bit false = omega arith
 
-lacks-most : (o : Option ℕ) (i : ℕ) → lacks o i ≤ 1
+pub lacks-most : (o : Option ℕ) (i : ℕ) → lacks o i ≤ 1
 lacks-most None i = omega arith
 lacks-most (Some n) i = by_bit (has_bit n i)
 
@@ -149,7 +149,7 @@ card-step v (AddStat which by down) n p s a card other c = absurd (false≢true 
 card-step v (StoreNew cell part word) n p s a card other c = absurd (false≢true p)
 card-step v step n p s a card other c = note-kept v step n (card_at card) 0 p s a refl (inl refl) c
 
-unless-most : (o : Option ℕ) → unless_clean o ≤ 1
+pub unless-most : (o : Option ℕ) → unless_clean o ≤ 1
 unless-most None = omega arith
 unless-most (Some n) = by_bit (n == 0)
 

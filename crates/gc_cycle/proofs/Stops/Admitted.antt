@@ -25,7 +25,7 @@ use Rattle.gc_cycle.specs.Events.{never, Sort}
 use Rattle.gc_cycle.specs.Lower.{traces_or_cleans}
 use Rattle.gc_cycle.specs.Moments.{Moment, after_moment, at_some_moment, begins, finds_no_room, finds_no_work}
 use Rattle.gc_cycle.specs.Draining.{is_idle_now}
-use Rattle.gc_cycle.specs.Sorts.{clears, draws, draws_or_clears}
+use Rattle.gc_cycle.specs.Sorts.{clears, draws, draws_or_clears, passes_card, reads_counter}
 use Rattle.gc_cycle.proofs.Sequences.{moments, moments-state, some-moment-later, this-moment}
 use Rattle.gc_cycle.proofs.Searched.{work-longer}
 use Rattle.gc_cycle.proofs.Ends.Finishes.{never-both as never-join}
@@ -116,6 +116,24 @@ uncleared (e ∷ es) h =
     one : (step : Step) (n : ℕ) → draws_or_clears step n ≡ false → clears step n ≡ false
     one (ClearCard card) n k = absurd (true≢false k)
     one step n k = refl
+
+-- no step of a pass over cards
+pub unpassed : (es : List Entry) → never reads_counter es ≡ true → never draws_or_clears es ≡ true → never passes_card es ≡ true
+unpassed [] a b = refl
+unpassed (e ∷ es) a b =
+    let p = or_parts (reads_counter e.step e.found) (some_event reads_counter es) (not-true _ a) in
+    let q = or_parts (draws_or_clears e.step e.found) (some_event draws_or_clears es) (not-true _ b) in
+    ap not (or_from (passes_card e.step e.found) (some_event passes_card es) (or_from _ _ p.0 q.0) (not-true _ (unpassed es (ap not p.1) (ap not q.1))))
+
+pub unpassed-uncleared : (es : List Entry) → never passes_card es ≡ true → never clears es ≡ true
+unpassed-uncleared es h = uncleared es (uncleaned es h)
+  where
+    uncleaned : (xs : List Entry) → never passes_card xs ≡ true → never draws_or_clears xs ≡ true
+    uncleaned [] n = refl
+    uncleaned (x ∷ xs) n =
+        let p = or_parts (passes_card x.step x.found) (some_event passes_card xs) (not-true _ n) in
+        let q = or_parts (reads_counter x.step x.found) (draws_or_clears x.step x.found) p.0 in
+        ap not (or_from (draws_or_clears x.step x.found) (some_event draws_or_clears xs) q.1 (not-true _ (uncleaned xs (ap not p.1))))
 
 pub undrawn : (es : List Entry) → never draws_or_clears es ≡ true → never draws es ≡ true
 undrawn [] h = refl

@@ -26,12 +26,12 @@ use Rattle.gc_cycle.specs.declared.counts.Helped.{Helped}
 use Rattle.gc_cycle.specs.declared.counts.HelpEnd.{HelpEnd}
 use Rattle.gc_cycle.specs.declared.counts.HelpEnd.TheVariants.{Quota, NoWork, NoPacket, Swept}
 use Rattle.gc_cycle.specs.Draining.{DrainsOn, EndsAt, HelpsOn, StopsFor, end_as, is_idle_now}
-use Rattle.gc_cycle.specs.Sorts.{clears, draws_or_clears, pops, reads_count, sees_all_empty}
+use Rattle.gc_cycle.specs.Sorts.{draws_or_clears, passes_card, pops, reads_count, sees_all_empty}
 use Rattle.gc_cycle.proofs.Stops.OutAndIn.{no-cache}
 use Rattle.gc_cycle.specs.Standing.{Helps}
 use Rattle.gc_cycle.proofs.Traced.{rest-nothing}
 use Rattle.gc_cycle.proofs.Ends.Completing.{total-run}
-use Rattle.gc_cycle.proofs.Stops.Admitted.{count-none, count-run, idle-grows, idle-longer, late, longer, room-grows, traced-idle}
+use Rattle.gc_cycle.proofs.Stops.Admitted.{count-none, count-run, idle-grows, idle-longer, late, longer, room-grows, traced-idle, unpassed-uncleared}
 
 -- a helper that traced is one still
 pub traced-helps : (v w : View) → Helps v → HasTraced v w → DrainsOn v w
@@ -110,8 +110,8 @@ cleaned-first quota n helped u v w helps a z p none h =
       stops = stops-later helped.ended quota helped.traced u v w a.ran h.drained.ran h.stops;
     }
 
--- steps by which nothing was popped, cleared or scanned again leave it so
-pub helped-still : (quota : ℕ) (helped : Helped) (u v w : View) → HelpsOn quota helped u v → helped.ended ≡ NoWork → HasTraced v w → never pops (events v w) ≡ true → never clears (events v w) ≡ true → rescanned_in v (events v w) ≡ 0 → HelpsOn quota helped u w
+-- steps by which nothing was popped or scanned again, and no card passed, leave it so
+pub helped-still : (quota : ℕ) (helped : Helped) (u v w : View) → HelpsOn quota helped u v → helped.ended ≡ NoWork → HasTraced v w → never pops (events v w) ≡ true → never passes_card (events v w) ≡ true → rescanned_in v (events v w) ≡ 0 → HelpsOn quota helped u w
 helped-still quota helped u v w h e a p n z =
     let one = count-run pops u v w h.drained.ran a.ran in
     let none = count-none pops (events v w) p in
@@ -119,7 +119,7 @@ helped-still quota helped u v w h e a p n z =
     let es : events u w ≡ events u v ++ events v w = ran-events u v w h.drained.ran a.ran in
     let stops : StopsFor NoWork quota helped.traced u v = subst (λ x. StopsFor x quota helped.traced u v) e h.stops in
     let moment : at_some_moment u.shape (is_idle_now u.shape) (begins u) (events u w) ≡ true =
-    ap (at_some_moment u.shape (is_idle_now u.shape) (begins u)) es ∙ longer u.shape (is_idle_now u.shape) (events v w) (idle-longer u.shape (events v w) n) (events u v) (begins u) stops.1 in
+    ap (at_some_moment u.shape (is_idle_now u.shape) (begins u)) es ∙ longer u.shape (is_idle_now u.shape) (events v w) (idle-longer u.shape (events v w) (unpassed-uncleared (events v w) n)) (events u v) (begins u) stops.1 in
     record {
       drained = drains-join u v w h.drained (traced-helps v w h.drained.helps a);
       traced = let i = h.traced in omega (arith, one, none, i);
@@ -130,7 +130,7 @@ helped-still quota helped u v w h e a p n z =
     }
 
 -- which cards it passed
-pub passes-none : (cards : Bool) (v w : View) → (cards && saw v.state.phase_seen Drain) ≡ false → never clears (events v w) ≡ true → PassesFirst cards v w
+pub passes-none : (cards : Bool) (v w : View) → (cards && saw v.state.phase_seen Drain) ≡ false → never passes_card (events v w) ≡ true → PassesFirst cards v w
 passes-none cards v w e n = subst (λ (b : Bool). PassesIf b v w) (sym e) n
 
 pub passes-all : (cards : Bool) (v w : View) → cards ≡ true → v.state.phase_seen ≡ Some Drain → PassesAll v w → PassesFirst cards v w

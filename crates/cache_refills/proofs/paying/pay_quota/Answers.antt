@@ -6,7 +6,8 @@ use Rattle.cache_refills.proofs.Refills.Apart.{recycles-none, recycles-work}
 use Rattle.cache_refills.proofs.Refills.Payment.{traces-quiet, undrawn-few}
 use Rattle.mark_core.specs.declared.kinds.Shape.{Shape}
 use Rattle.tracer.specs.StepBounds.{recycle_steps, trace_steps}
-use Rattle.cache_refills.specs.Pace.StepBounds.{look_steps}
+use Rattle.card_clean.specs.StepBounds.{next_steps}
+use Rattle.cache_refills.specs.Pace.StepBounds.{payment_rounds, round_steps}
 use Rattle.gc_cycle.proofs.Few.{few-join}
 use Rattle.gc_table.specs.Log.{events}
 use Rattle.cache_refills.proofs.Refills.Early.{looks-join, unlooked-few}
@@ -23,7 +24,7 @@ returns-in-NoWork-clause-few c =
     let sh : Shape = c.args.heap.now.shape in
     let a = c.trace_and_clean-paid.ensures in
     let e = c.recycle_deferred.ensures in
-    few-join (trace_steps c.trace_and_clean-paid.result.done sh + c.args.looks * look_steps sh) (recycle_steps sh) (view_of c.args.seat.now) (view_of c.trace_and_clean-paid.new.seat) (view_of c.recycle_deferred.new.seat) a.traces.traced.ran e.traced.ran a.few e.few
+    few-join (trace_steps c.trace_and_clean-paid.result.done sh + payment_rounds * round_steps sh + c.args.looks * next_steps sh) (recycle_steps sh) (view_of c.args.seat.now) (view_of c.trace_and_clean-paid.new.seat) (view_of c.recycle_deferred.new.seat) a.traces.traced.ran e.traced.ran a.few e.few
 
 pub returns-in-NoWork-clause-late : goal.returns-in-NoWork-clause-late
 returns-in-NoWork-clause-late c =

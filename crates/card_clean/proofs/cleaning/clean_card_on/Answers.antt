@@ -1,4 +1,4 @@
-use Rattle.std.proofs.Common.{◌≡◌, ◌≢◌, ◌<◌, ◌≤◌, ◌∷◌, ◌++◌, [], arith, sym, ap, ◌∙◌, subst, eqb-true, eq-eqb, inl, inr, ⊎_elim}
+use Rattle.std.proofs.Common.{◌≡◌, ◌≢◌, ◌<◌, ◌≤◌, ◌∷◌, ◌++◌, [], arith, sym, ap, ◌∙◌, refl, subst, eqb-true, eq-eqb, inl, inr, ⊎_elim}
 use Rattle.std.proofs.lemmas.Bool.{true≢false}
 use Rattle.mark_core.specs.Layout.{card_count}
 use Rattle.mark_core.specs.Seats.{work_in_hand, scan_left}
@@ -14,10 +14,9 @@ use Rattle.card_clean.specs.declared.cleaned.Cleaned.{Cleaned}
 use Rattle.card_clean.specs.Leaving.{rescanned_in}
 use Rattle.card_clean.proofs.Leavings.{rescanned-join}
 use Rattle.card_clean.proofs.Steps.{may-clear_card, traced-clear_card, card-small, idle-hand}
-use Rattle.packet_pools.specs.Seeking.{was_got}
 use Rattle.packet_pools.proofs.Few.{few-after, few-sum}
-use Rattle.packet_pools.proofs.Tried.{leads-join}
-use Rattle.card_clean.proofs.Searched.{leads-still}
+use Rattle.packet_pools.proofs.Overflows.{overflows-join}
+use Rattle.card_clean.proofs.Searched.{overflows-still}
 use Rattle.std.proofs.lemmas.Bool.{false≢true}
 use Rattle.mark_core.specs.declared.seat.SeatState.{SeatState}
 use Rattle.packet_pools.specs.Counts.{count_of, dirties}
@@ -127,15 +126,15 @@ returns-clause-few c =
     let rest = r.few in
     omega (arith, all, one, rest)
 
-pub returns-then-not-clear_card-clause-leads : goal.returns-then-not-clear_card-clause-leads
-returns-then-not-clear_card-clause-leads c =
+pub returns-then-not-clear_card-clause-tried : goal.returns-then-not-clear_card-clause-tried
+returns-then-not-clear_card-clause-tried c =
     let v : View = view_of c.args.seat.now in
     let w : View = view_of c.clear_card.new.seat in
     let e = c.clear_card.ensures.view in
-    leads-still c.args.heap.now.shape c.args.search.now c.args.out.now (events v w) (λ p. ap (was_got p) (events-after v w (ClearCard c.args.card) e.0 e.1))
+    overflows-still c.args.heap.now.shape c.args.search.now c.args.out.now (ClearCard c.args.card) e.0 v w e.1 refl (λ p. refl)
 
-pub returns-clause-leads : goal.returns-clause-leads
-returns-clause-leads c =
+pub returns-clause-tried : goal.returns-clause-tried
+returns-clause-tried c =
     let sh : Shape = c.args.heap.now.shape in
     let v : View = view_of c.args.seat.now in
     let w : View = view_of c.clear_card.new.seat in
@@ -144,10 +143,10 @@ returns-clause-leads c =
     let h = c.args.out.now in
     let e = c.clear_card.ensures.view in
     let r = c.rescan_card.ensures in
-    leads-join sh s s c.rescan_card.new.search h h c.rescan_card.new.out (events v w) (events w x) (events v x)
+    overflows-join sh s s c.rescan_card.new.search h h c.rescan_card.new.out (events v w) (events w x) (events v x)
     (events-join v w x (traced-clear_card v w e.0 c.args.card e.2 e.1).log r.only.log)
-    (leads-still sh s h (events v w) (λ p. ap (was_got p) (events-after v w (ClearCard c.args.card) e.0 e.1)))
-    r.leads
+    (overflows-still sh s h (ClearCard c.args.card) e.0 v w e.1 refl (λ p. refl))
+    r.tried
 
 pub returns-then-not-clear_card-clause-clean : goal.returns-then-not-clear_card-clause-clean
 returns-then-not-clear_card-clause-clean c = λ still dirty. absurd (false≢true (sym (ap (λ (r : Cleaned). r.redirtied) c.nothing.ensures) ∙ dirty))

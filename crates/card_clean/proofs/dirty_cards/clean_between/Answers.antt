@@ -13,7 +13,7 @@ use Rattle.card_clean.proofs.Cleared.{cleared-join}
 use Rattle.card_clean.proofs.Leavings.{rescanned-join}
 use Rattle.card_clean.proofs.Few.{pass-few}
 use Rattle.packet_pools.specs.StepBounds.{room_left}
-use Rattle.packet_pools.proofs.Tried.{leads-join}
+use Rattle.packet_pools.proofs.Overflows.{overflows-join}
 use Rattle.card_clean.proofs.dirty_cards.clean_between.Goals as goal
 
 pub clean_where_dirty-one-requires-clause-seat : goal.clean_where_dirty-one-requires-clause-seat
@@ -57,7 +57,7 @@ loop-card-preserved c =
       cleans =
           subst (λ k. CleanedFrom sh from k (done + one) (events v x)) more
           (done, one, events v w, events w x, events-join v w x i.only.log e.only.log, refl, i.cleans, subst (λ k. CleanedWhereDirty sh k one (events w x)) at e.cleans);
-      leads = leads-join sh c.args.search.now c.loop-card.search c.clean_where_dirty-one.new.search c.args.out.now c.loop-card.out c.clean_where_dirty-one.new.out (events v w) (events w x) (events v x) (events-join v w x i.only.log e.only.log) i.leads e.leads;
+      tried = overflows-join sh c.args.search.now c.loop-card.search c.clean_where_dirty-one.new.search c.args.out.now c.loop-card.out c.clean_where_dirty-one.new.out (events v w) (events w x) (events v x) (events-join v w x i.only.log e.only.log) i.tried e.tried;
       few = pass-few from card done one (room_left sh c.args.search.now c.args.out.now.length) (room_left sh c.loop-card.search c.loop-card.out.length) (room_left sh c.clean_where_dirty-one.new.search c.clean_where_dirty-one.new.out.length) sh v w x i.order i.only.ran e.only.ran i.few e.few;
     }
 

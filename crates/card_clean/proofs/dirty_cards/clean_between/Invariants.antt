@@ -12,7 +12,7 @@ use Rattle.card_clean.specs.Cleaning.{SpillsWhite, clears}
 use Rattle.card_clean.specs.Leaving.{rescanned_in}
 use Rattle.card_clean.specs.DirtyCards.{CleanedFrom}
 use Rattle.packet_pools.specs.StepBounds.{room_left}
-use Rattle.packet_pools.specs.Tried.{Leads}
+use Rattle.packet_pools.specs.Tried.{SearchesThrough}
 use Rattle.card_clean.specs.StepBounds.{pass_steps}
 use Rattle.card_clean.proofs.dirty_cards.clean_between.Given as goal
 
@@ -30,6 +30,6 @@ invariant-loop-card l = record {
   left : rescanned_in (view_of l.fn.seat) (events (view_of l.fn.seat) (view_of l.seat)) ≡ l.rescanned;
   spills : IsFalse (view_of l.fn.seat).state.active → SpillsWhite (events (view_of l.fn.seat) (view_of l.seat));
   cleans : CleanedFrom l.heap.shape l.fn.first (l.card - l.fn.first) l.rescanned (events (view_of l.fn.seat) (view_of l.seat));
-  leads : Leads l.heap.shape l.fn.search l.search l.fn.out l.out (events (view_of l.fn.seat) (view_of l.seat));
+  tried : SearchesThrough l.heap.shape l.fn.search l.search l.fn.out l.out (events (view_of l.fn.seat) (view_of l.seat));
   few : length (events (view_of l.fn.seat) (view_of l.seat)) + room_left l.heap.shape l.search l.out.length ≤ room_left l.heap.shape l.fn.search l.fn.out.length + pass_steps (l.card - l.fn.first) l.rescanned l.heap.shape;
 }

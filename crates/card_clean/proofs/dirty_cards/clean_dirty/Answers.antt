@@ -26,6 +26,8 @@ use Rattle.card_clean.proofs.Takings.{some-free, with-free}
 use Rattle.card_clean.proofs.CardLooks.{outside-kept, rescanned-clean, rescanned-dirty}
 use Rattle.packet_pools.specs.StepBounds.{any_steps, give_steps, room_left, room_steps}
 use Rattle.packet_pools.specs.declared.search.Search.{Search}
+use Rattle.packet_pools.specs.Tried.{OverflowsLast}
+use Rattle.packet_pools.proofs.Overflows.{overflows-begun}
 use Rattle.packet_pools.proofs.RoomLeft.{room-whole}
 use Rattle.card_clean.specs.StepBounds.{pass_steps}
 use Rattle.packet_pools.proofs.Few.{few-join, few-steps, given-few}
@@ -133,9 +135,9 @@ returns-in_default-take_some-clause-cleans c =
     inr (c.in-Some.card, d.1, events w x, events-join v w x c.first_dirty.ensures.only.log c.take_some.ensures.only.log ∙ ap (λ es. es ++ events w x) d.2, inl (refl, c.in_default-take_some.ensures.none.1, c.take_some.ensures.moves))
 
 -- a packet was taken, the cards were passed, and the packet was given back
-passed : (sh : Shape) (card n : ℕ) (v w x y z : View) → card < card_count sh → OnlyTraced v w → OnlyTraced w x → OnlyCleaned x y → OnlyTraced y z → events v w ≡ looks_dirty 0 card → only_moves output_pools (events w x) ≡ true → CleanedFrom sh card (card_count sh - card) n (events x y) → only_moves output_pools (events y z) ≡ true
-    → (k : ℕ) × (k < card_count sh) × (rest : List Entry) × (events v z ≡ looks_dirty 0 k ++ rest) × CleansWithPacket (CleanedFrom sh k (card_count sh - k) n) rest
-passed sh card n v w x y z l a b d g dirty takes cleans gives =
+passed : (sh : Shape) (card n : ℕ) (v w x y z : View) → card < card_count sh → OnlyTraced v w → OnlyTraced w x → OnlyCleaned x y → OnlyTraced y z → events v w ≡ looks_dirty 0 card → only_moves output_pools (events w x) ≡ true → CleanedFrom sh card (card_count sh - card) n (events x y) → OverflowsLast sh (events x y) → only_moves output_pools (events y z) ≡ true
+    → (k : ℕ) × (k < card_count sh) × (rest : List Entry) × (events v z ≡ looks_dirty 0 k ++ rest) × CleansWithPacket sh (CleanedFrom sh k (card_count sh - k) n) rest
+passed sh card n v w x y z l a b d g dirty takes cleans tried gives =
     let end = cleaned-join x y z d (traced-cleaned y z g) in
     let rest = cleaned-join w x z (traced-cleaned w x b) end in (
       card,
@@ -149,6 +151,7 @@ passed sh card n v w x y z l a b d g dirty takes cleans gives =
         events_are = events-join w x z b.log end.log ∙ ap (λ es. events w x ++ es) (events-join x y z d.log g.log);
         takes = takes;
         cleans = cleans;
+        tried = tried;
         gives = gives;
       },
     )
@@ -166,6 +169,7 @@ returns-clause-packet c = λ alone none deferred.
     let first = c.in-Some.ensures.dirty in
     inr (passed sh c.in-Some.card n (view_of c.args.seat.now) (view_of c.first_dirty.new.seat) (view_of c.take_some.new.seat) y z first.1 c.first_dirty.ensures.only b.only d.only g.only first.2 b.moves
     (subst (λ (s : Shape). CleanedFrom sh c.in-Some.card (card_count s - c.in-Some.card) n (events (view_of c.take_some.new.seat) y)) c.shape.ensures d.cleans)
+    (overflows-begun sh c.open.result c.clean_between-cleaned.new.search c.in-Some-take_some.out k (events (view_of c.take_some.new.seat) y) c.open.ensures d.tried)
     (given-moves output_pools k.packet (k.length == 0) (events y z) g.steps))
 
 pub returns-clause-cleans : goal.returns-clause-cleans
@@ -182,6 +186,7 @@ returns-clause-cleans c =
     let all =
     passed sh c.in-Some.card n (view_of c.args.seat.now) (view_of c.first_dirty.new.seat) (view_of c.take_some.new.seat) y z first.1 c.first_dirty.ensures.only b.only d.only g.only first.2 b.moves
     (subst (λ (s : Shape). CleanedFrom sh c.in-Some.card (card_count s - c.in-Some.card) n (events (view_of c.take_some.new.seat) y)) c.shape.ensures d.cleans)
+    (overflows-begun sh c.open.result c.clean_between-cleaned.new.search c.in-Some-take_some.out k (events (view_of c.take_some.new.seat) y) c.open.ensures d.tried)
     (given-moves output_pools k.packet (k.length == 0) (events y z) g.steps) in
     inr (all.0, all.1, all.2, all.3, inr all.4)
 

@@ -18,6 +18,7 @@ use Rattle.mark_core.specs.declared.kinds.Shape.{Shape}
 use Rattle.packet_pools.specs.StepBounds.{any_steps, give_steps, room_left, room_steps}
 use Rattle.packet_pools.specs.declared.search.Search.{Search}
 use Rattle.packet_pools.proofs.RoomLeft.{room-whole}
+use Rattle.packet_pools.proofs.Overflows.{overflows-begun}
 use Rattle.card_clean.specs.StepBounds.{pass_steps}
 use Rattle.packet_pools.proofs.Few.{few-join, few-steps, given-few}
 use Rattle.card_clean.proofs.dirty_cards.clean_some.Goals as goal
@@ -78,6 +79,7 @@ returns-clause-some c =
         events_are = events-join v x z b.only.log end.log ∙ ap (λ es. events v x ++ es) (events-join x y z d.only.log g.only.log);
         takes = b.moves;
         cleans = d.cleans;
+        tried = overflows-begun c.args.heap.now.shape c.open.result c.clean_between-cleaned.new.search c.in-Some.out c.clean_between-cleaned.new.out (events x y) c.open.ensures d.tried;
         gives = given-moves output_pools k.packet (k.length == 0) (events y z) g.steps;
       },
     )

@@ -19,7 +19,7 @@ returns-in-Some-clause-cleans c =
     let from : ℕ = c.args.s * stretch_cards in
     let cells : c.shape.result.cells ≡ sh.cells = ap (λ (s : Shape). s.cells) c.shape.ensures in
     let same : c.min-end.result ≡ min (from + stretch_cards) (card_count sh) = c.min-end.ensures ∙ ap (λ n. min (from + stretch_cards) (n / 16)) cells in
-    inr (subst (λ n. CleansWithPacket (CleanedFrom sh from (n - from) c.in-Some.cleaned.rescanned) es) same c.in-Some.ensures.some.2)
+    inr (subst (λ n. CleansWithPacket sh (CleanedFrom sh from (n - from) c.in-Some.cleaned.rescanned) es) same c.in-Some.ensures.some.2)
 
 pub returns-in-None-clause-left : goal.returns-in-None-clause-left
 returns-in-None-clause-left c = c.in-None.ensures.none.2

@@ -1,4 +1,4 @@
-use Rattle.std.proofs.Common.{◌≡◌, ◌≢◌, ◌<◌, ◌≤◌, ◌∷◌, ◌++◌, [], arith, refl, sym, ap, ◌∙◌, subst, eqb-true, eq-eqb, inl, inr}
+use Rattle.std.proofs.Common.{Bool, ◌≡◌, ◌≢◌, ◌<◌, ◌≤◌, ◌∷◌, ◌++◌, [], arith, refl, sym, ap, ◌∙◌, subst, eqb-true, eq-eqb, inl, inr}
 use Rattle.std.proofs.lemmas.Bool.{true≢false}
 use Rattle.mark_core.specs.Layout.{card_count}
 use Rattle.mark_core.specs.declared.kinds.Shape.{Shape}
@@ -10,15 +10,15 @@ use Rattle.packet_pools.proofs.Doing.{traces-on}
 use Rattle.packet_pools.proofs.TracedSteps.{cleaned-join, traced-cleaned}
 use Rattle.gc_table.proofs.History.Log.{events-after, events-join}
 use Rattle.packet_pools.specs.Counts.{count_of}
-use Rattle.card_clean.specs.Cleaning.{clears}
+use Rattle.card_clean.specs.Cleaning.{Cleans, clears}
+use Rattle.card_clean.specs.NextCards.{CleansIf}
 use Rattle.card_clean.specs.Leaving.{rescanned_in}
 use Rattle.card_clean.proofs.Cleared.{cleared-join, cleared-one}
 use Rattle.card_clean.proofs.Leavings.{rescanned-join}
 use Rattle.card_clean.proofs.Steps.{traced-read_card, card-small}
-use Rattle.packet_pools.specs.Seeking.{was_got}
 use Rattle.packet_pools.proofs.Few.{few-after, few-sum}
-use Rattle.packet_pools.proofs.Tried.{leads-join}
-use Rattle.card_clean.proofs.Searched.{leads-still}
+use Rattle.packet_pools.proofs.Overflows.{overflows-join}
+use Rattle.card_clean.proofs.Searched.{overflows-still}
 use Rattle.card_clean.proofs.Spilled.{spills-join, spills-look}
 use Rattle.card_clean.proofs.dirty_cards.clean_where_dirty.Goals as goal
 
@@ -124,15 +124,15 @@ returns-clause-few c =
     let rest = d.few in
     omega (arith, all, one, rest)
 
-pub returns-then-not-read_card-clause-leads : goal.returns-then-not-read_card-clause-leads
-returns-then-not-read_card-clause-leads c =
+pub returns-then-not-read_card-clause-tried : goal.returns-then-not-read_card-clause-tried
+returns-then-not-read_card-clause-tried c =
     let v : View = view_of c.args.seat.now in
     let w : View = view_of c.read_card.new.seat in
     let e = c.read_card.ensures.view in
-    leads-still c.args.heap.now.shape c.args.search.now c.args.out.now (events v w) (λ p. ap (was_got p) (events-after v w (ReadCard c.args.card) e.0 e.1))
+    overflows-still c.args.heap.now.shape c.args.search.now c.args.out.now (ReadCard c.args.card) e.0 v w e.1 refl (λ p. refl)
 
-pub returns-clause-leads : goal.returns-clause-leads
-returns-clause-leads c =
+pub returns-clause-tried : goal.returns-clause-tried
+returns-clause-tried c =
     let sh : Shape = c.args.heap.now.shape in
     let v : View = view_of c.args.seat.now in
     let w : View = view_of c.read_card.new.seat in
@@ -141,10 +141,10 @@ returns-clause-leads c =
     let h = c.args.out.now in
     let e = c.read_card.ensures.view in
     let d = c.clean_card_on-cleaned.ensures in
-    leads-join sh s s c.clean_card_on-cleaned.new.search h h c.clean_card_on-cleaned.new.out (events v w) (events w x) (events v x)
+    overflows-join sh s s c.clean_card_on-cleaned.new.search h h c.clean_card_on-cleaned.new.out (events v w) (events w x) (events v x)
     (events-join v w x (traced-read_card v w e.0 c.args.card e.2 e.1).log d.only.log)
-    (leads-still sh s h (events v w) (λ p. ap (was_got p) (events-after v w (ReadCard c.args.card) e.0 e.1)))
-    d.leads
+    (overflows-still sh s h (ReadCard c.args.card) e.0 v w e.1 refl (λ p. refl))
+    d.tried
 
 pub returns-then-not-read_card-clause-spills : goal.returns-then-not-read_card-clause-spills
 returns-then-not-read_card-clause-spills c = λ still.
@@ -163,3 +163,22 @@ returns-clause-spills c = λ still.
     spills-join (events v w) (events w x) (events v x) (events-join v w x (traced-read_card v w e.0 c.args.card e.2 e.1).log f.only.log)
     (spills-look c.args.card e.0 (events v w) (events-after v w (ReadCard c.args.card) e.0 e.1))
     (f.spills (ap (λ (z : View). z.state.active) e.1 ∙ still))
+
+pub returns-then-not-read_card-clause-looks : goal.returns-then-not-read_card-clause-looks
+returns-then-not-read_card-clause-looks c =
+    let w : View = view_of c.read_card.new.seat in
+    record { dirty = c.read_card.result; read = w; reads = c.read_card.ensures.view; cleans = subst (λ (b : Bool). CleansIf b c.args.card w w) (sym c.if-not-read_card.true) refl }
+
+pub returns-clause-looks : goal.returns-clause-looks
+returns-clause-looks c =
+    let w : View = view_of c.read_card.new.seat in
+    let x : View = view_of c.clean_card_on-cleaned.new.seat in
+    let e = c.clean_card_on-cleaned.ensures in
+    record {
+      dirty = c.read_card.result;
+      read = w;
+      reads = c.read_card.ensures.view;
+      cleans =
+          subst (λ (b : Bool). CleansIf b c.args.card w x) (sym c.if-not-read_card.false)
+          (e.only.ran, (c.clean_card_on-cleaned.result, subst (λ (sh : Shape). Cleans sh c.args.card c.clean_card_on-cleaned.result (events w x)) (sym c.read_card.ensures.seat.1) e.cleans));
+    }

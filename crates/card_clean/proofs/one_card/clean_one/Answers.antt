@@ -68,6 +68,7 @@ returns-clause-some c =
         events_are = events-join v w y a.log end.log ∙ ap (λ es. events v w ++ es) (events-join w x y d.only.log g.only.log);
         takes = t.moves;
         cleans = d.cleans;
+        tried = d.tried;
         gives = gives;
       },
       d.most,

@@ -1,4 +1,4 @@
-use Rattle.std.proofs.Common.{◌≡◌, ◌-◌, arith, ap, ◌∙◌, true, ℕ, ◌+◌, ◌*◌, false}
+use Rattle.std.proofs.Common.{◌≡◌, ◌-◌, arith, ap, ◌∙◌, true, ℕ, ◌+◌, ◌*◌, false, [], subst, sym}
 use Rattle.std.specs.List.{range_with_len}
 use Rattle.mark_core.specs.Held.{has_free_slot, drop_packet}
 use Rattle.mark_core.specs.declared.seat.SeatState.{SeatState}
@@ -11,7 +11,10 @@ use Rattle.card_clean.proofs.Takings.{some-free, with-free}
 use Rattle.std.specs.Prelude.{◌==◌}
 use Rattle.packet_pools.specs.Seeking.{output_pools}
 use Rattle.gc_table.specs.Log.{events}
-use Rattle.packet_pools.proofs.Counting.{given-moves}
+use Rattle.gc_table.proofs.History.Log.{events-join}
+use Rattle.packet_pools.specs.Tried.{IsTried}
+use Rattle.packet_pools.proofs.Counting.{given-moves, quiet}
+use Rattle.packet_pools.proofs.TriedFirst.{last-join, last-none}
 use Rattle.card_clean.specs.Leaving.{rescanned_in}
 use Rattle.card_clean.proofs.Leavings.{rescanned-join, rescanned-moves, moves-see}
 use Rattle.gc_table.proofs.Running.{ran-only}
@@ -135,3 +138,24 @@ returns-clause-few c =
 
 pub returns-in_default-clause-pooled : goal.returns-in_default-clause-pooled
 returns-in_default-clause-pooled c = λ none deferred. c.in_default.ensures.pooled c.requires.ready.drains.alone none deferred
+
+pub returns-in_default-clause-tried : goal.returns-in_default-clause-tried
+returns-in_default-clause-tried c =
+    let es = events (view_of c.args.seat.now) (view_of c.take_some.new.seat) in
+    last-none c.args.heap.now.shape es (quiet es c.take_some.ensures.moves)
+
+pub returns-clause-tried : goal.returns-clause-tried
+returns-clause-tried c =
+    let sh : Shape = c.args.heap.now.shape in
+    let v : View = view_of c.args.seat.now in
+    let w : View = view_of c.take_some.new.seat in
+    let x : View = view_of c.mark_between.new.seat in
+    let y : View = view_of c.give.new.seat in
+    let k = c.mark_between.new.out in
+    let a = c.take_some.ensures in
+    let b = c.mark_between.ensures in
+    let g = c.give.ensures in
+    let marks = b.tried.cause (λ p. false) [] (subst (λ (s : Search). IsTried sh (λ p. false) s c.in-Some.out []) (sym c.open.ensures) tt) in
+    last-join sh (events v w) (events w y) (events v y) (events-join v w y a.only.log (traced-join w x y b.only g.only).log) (last-none sh (events v w) (quiet (events v w) a.moves))
+    (last-join sh (events w x) (events x y) (events w y) (events-join w x y b.only.log g.only.log) marks
+    (last-none sh (events x y) (quiet (events x y) (given-moves output_pools k.packet (k.length == 0) (events x y) g.steps))))

@@ -1,6 +1,7 @@
 use Rattle.std.proofs.Common.{inl}
 use Rattle.mark_core.specs.declared.kinds.Phase.TheVariants.{Drain}
 use Rattle.gc_table.specs.Seats.{view_of}
+use Rattle.gc_table.specs.declared.view.View.{View}
 use Rattle.gc_table.proofs.History.Log.{only-more}
 use Rattle.gc_cycle.specs.Lower.{traces_or_cleans}
 use Rattle.gc_cycle.specs.Statistics.{leaves_numbers}
@@ -8,6 +9,7 @@ use Rattle.gc_cycle.proofs.CardPieces.{alone-of, drains-part, drains-still}
 use Rattle.gc_cycle.proofs.Exactly.{exact-part}
 use Rattle.gc_cycle.proofs.Leaving.{traces-leave}
 use Rattle.gc_cycle.proofs.Stepped.{part-keeps}
+use Rattle.gc_cycle.proofs.Ends.Stepwise.{cleaned-down}
 use Rattle.gc_cycle.proofs.card_steps.clean_step.Goals as goal
 
 pub clean_piece-requires-clause-drains : goal.clean_piece-requires-clause-drains
@@ -29,3 +31,9 @@ returns-clause-numbers c = only-more traces_or_cleans leaves_numbers traces-leav
 pub returns-clause-keeps : goal.returns-clause-keeps
 unfolding returns-clause-part
 returns-clause-keeps c = part-keeps Drain (view_of c.args.seat.now) (view_of c.clean_piece.new.seat) (returns-clause-part c)
+
+pub returns-clause-falls : goal.returns-clause-falls
+returns-clause-falls c = λ spills.
+    let v : View = view_of c.args.seat.now in
+    let e = c.clean_piece.ensures in
+    cleaned-down c.clean_piece.result c.args.heap.now.shape v (view_of c.clean_piece.new.seat) c.args.from c.args.most c.requires.seat.1 (alone-of v c.requires.drains) e.traced e.cleaned spills

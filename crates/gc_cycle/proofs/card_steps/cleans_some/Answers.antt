@@ -57,7 +57,7 @@ returns-in-Some-clause-unpopped c =
 pub returns-in-Some-clause-cleaned : goal.returns-in-Some-clause-cleaned
 returns-in-Some-clause-cleaned c =
     let es = events (view_of c.args.seat.now) (view_of c.clean_some.new.seat) in
-    (c.in-Some.cleaned.rescanned, subst (λ (sh : Shape). CleansWithPacket (CleanedFrom sh c.args.first (c.args.end - c.args.first) c.in-Some.cleaned.rescanned) es) (sym c.requires.seat.1) c.in-Some.ensures.some.2)
+    (c.in-Some.cleaned.rescanned, subst (λ (sh : Shape). CleansWithPacket sh (CleanedFrom sh c.args.first (c.args.end - c.args.first) c.in-Some.cleaned.rescanned) es) (sym c.requires.seat.1) c.in-Some.ensures.some.2)
 
 pub returns-in-Some-clause-counts : goal.returns-in-Some-clause-counts
 returns-in-Some-clause-counts c = c.in-Some.ensures.cleared

@@ -15,6 +15,13 @@ use Rattle.gc_cycle.proofs.CardPieces.{drains-part, drains-still, marked-all, re
 use Rattle.gc_cycle.proofs.Exactly.{exact-part}
 use Rattle.gc_cycle.proofs.Leaving.{traces-leave}
 use Rattle.gc_cycle.proofs.Stepped.{part-keeps}
+use Rattle.std.proofs.Common.{◌≡◌, eq-eqb}
+use Rattle.gc_table.specs.Log.{events}
+use Rattle.packet_pools.specs.Counts.{count_of, dirties, pushes}
+use Rattle.gc_cycle.proofs.Ends.AllEmpty.{settled-count}
+use Rattle.gc_cycle.proofs.CardPieces.{alone-of}
+use Rattle.gc_cycle.proofs.Ends.Settled.{from-spent}
+use Rattle.gc_cycle.proofs.Ends.Stepwise.{looks-down}
 use Rattle.gc_cycle.proofs.card_steps.finds_all_marked.Goals as goal
 
 pub sees_all_empty-requires-clause-rest : goal.sees_all_empty-requires-clause-rest
@@ -54,3 +61,21 @@ returns-clause-numbers c = only-more traces_or_cleans leaves_numbers traces-leav
 pub returns-clause-keeps : goal.returns-clause-keeps
 unfolding returns-clause-part
 returns-clause-keeps c = part-keeps Drain (view_of c.args.seat.now) (view_of c.sees_all_empty.new.seat) (returns-clause-part c)
+
+pub returns-clause-falls : goal.returns-clause-falls
+returns-clause-falls c =
+    let v : View = view_of c.args.seat.now in
+    let w : View = view_of c.sees_all_empty.new.seat in
+    let l = c.sees_all_empty.ensures.looks in
+    let one = events-after v w ReadCount l.0 l.1 in
+    let pushed : count_of pushes (events v w) ≡ 0 = ap (count_of pushes) one in
+    let dirtied : count_of dirties (events v w) ≡ 0 = ap (count_of dirties) one in
+    looks-down v w (alone-of v c.requires.looked.drains) c.sees_all_empty.ensures.traced pushed dirtied
+
+pub returns-clause-all : goal.returns-clause-all
+returns-clause-all c = λ all.
+    let v : View = view_of c.args.seat.now in
+    let l = c.sees_all_empty.ensures.looks in
+    let s = from-spent v all in
+    let is = settled-count v l.0 l.2 c.requires.looked.drains.rest.alone s.3 s.0 s.1 s.2 in
+    l.3 ∙ eq-eqb l.0 (empty_offset + c.args.heap.now.shape.packets) (is ∙ ap (λ (sh : Shape). empty_offset + sh.packets) c.requires.seat.1)

@@ -8,11 +8,12 @@ use Rattle.gc_table.specs.declared.view.View.{View}
 use Rattle.gc_table.proofs.History.Log.{only-more}
 use Rattle.gc_cycle.specs.Lower.{HasTraced, traces_or_cleans}
 use Rattle.gc_cycle.specs.Statistics.{leaves_numbers}
-use Rattle.gc_cycle.proofs.CardPieces.{clean-few, dirty-few, drains-part, drains-still, looked-all, looked-traced, looks-further}
+use Rattle.gc_cycle.proofs.CardPieces.{alone-of, clean-few, dirty-few, drains-part, drains-still, looked-all, looked-traced, looks-further}
 use Rattle.gc_cycle.proofs.Exactly.{exact-part}
 use Rattle.gc_cycle.proofs.Leaving.{traces-leave}
 use Rattle.gc_cycle.proofs.Stepped.{part-keeps}
 use Rattle.gc_cycle.proofs.card_steps.look_step.Goals.{After-dirty_between}
+use Rattle.gc_cycle.proofs.Ends.Stepwise.{clean-neither, dirty-neither, looked-dirty, looks-down, still-traced}
 use Rattle.gc_cycle.proofs.card_steps.look_step.Goals as goal
 
 traced : (c : After-dirty_between) → HasTraced (view_of c.args.seat.now) (view_of c.dirty_between.new.seat)
@@ -72,3 +73,28 @@ pub returns-in-None-clause-few : goal.returns-in-None-clause-few
 returns-in-None-clause-few c =
     let n = c.at_most-number.ensures in
     clean-few c.args.from c.at_most-number.result c.args.most (events (view_of c.args.seat.now) (view_of c.dirty_between.new.seat)) c.in-None.ensures.clean (omega (arith, n))
+
+pub returns-in-Some-clause-falls : goal.returns-in-Some-clause-falls
+returns-in-Some-clause-falls c =
+    let v : View = view_of c.args.seat.now in
+    let w : View = view_of c.dirty_between.new.seat in
+    let none = dirty-neither c.args.from c.in-Some.card (events v w) c.in-Some.ensures.dirty.2 in
+    looks-down v w (alone-of v c.requires.looks.drains) (traced c.before) none.0 none.1
+
+pub returns-in-None-clause-falls : goal.returns-in-None-clause-falls
+returns-in-None-clause-falls c =
+    let v : View = view_of c.args.seat.now in
+    let w : View = view_of c.dirty_between.new.seat in
+    let none = clean-neither c.args.from (c.args.from + c.at_most-number.result) (events v w) c.in-None.ensures.clean in
+    looks-down v w (alone-of v c.requires.looks.drains) (traced c.before) none.0 none.1
+
+pub returns-in-Some-clause-all : goal.returns-in-Some-clause-all
+returns-in-Some-clause-all c = let e = c.dirty_between.ensures in still-traced (view_of c.args.seat.now) (view_of c.dirty_between.new.seat) e.only.shape e.state e.notes
+
+pub returns-in-None-clause-all : goal.returns-in-None-clause-all
+returns-in-None-clause-all c = let e = c.dirty_between.ensures in still-traced (view_of c.args.seat.now) (view_of c.dirty_between.new.seat) e.only.shape e.state e.notes
+
+pub returns-in-Some-clause-dirty : goal.returns-in-Some-clause-dirty
+returns-in-Some-clause-dirty c =
+    let v : View = view_of c.args.seat.now in
+    looked-dirty c.args.from c.in-Some.card v (view_of c.dirty_between.new.seat) (alone-of v c.requires.looks.drains) (traced c.before) c.in-Some.ensures.dirty.2

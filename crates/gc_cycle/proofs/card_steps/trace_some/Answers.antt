@@ -11,6 +11,11 @@ use Rattle.gc_cycle.proofs.Stops.Admitted.{count-none, count-run}
 use Rattle.gc_cycle.proofs.Traced.{drains-on, drains-rest, drains-trace}
 use Rattle.tracer.specs.StepBounds.{recycle_steps, trace_steps}
 use Rattle.gc_cycle.proofs.Few.{few-join}
+use Rattle.mark_core.specs.declared.seat.SeatState.{SeatState}
+use Rattle.packet_pools.specs.Seeking.{deferred_pools}
+use Rattle.gc_cycle.proofs.Ends.Settled.{knows-still}
+use Rattle.gc_cycle.proofs.Ends.Stepwise.{traced-all, traces-down}
+use Rattle.gc_cycle.proofs.Traced.{traced-part}
 use Rattle.gc_cycle.proofs.card_steps.trace_some.Goals as goal
 
 pub recycle_deferred-requires-clause-seat : goal.recycle_deferred-requires-clause-seat
@@ -66,3 +71,20 @@ returns-clause-few c =
     let r = c.recycle_deferred.ensures in
     let t = c.trace-traced.ensures in
     few-join (recycle_steps sh) (trace_steps c.trace-traced.result.done sh) (view_of c.args.seat.now) (view_of c.recycle_deferred.new.seat) (view_of c.trace-traced.new.seat) r.traced.ran t.traced.ran r.few t.few
+
+pub returns-clause-falls : goal.returns-clause-falls
+returns-clause-falls c = λ alone.
+    let v : View = view_of c.args.seat.now in
+    let w : View = view_of c.recycle_deferred.new.seat in
+    let r = c.recycle_deferred.ensures in
+    let t = c.trace-traced.ensures in
+    let still = ap (λ (s : SeatState). s.active) r.traced.record_is ∙ knows-still v c.args.seat.now.possible alone.rest.knows in
+    traces-down deferred_pools v w (view_of c.trace-traced.new.seat) alone r.traced r.recycled.moves t.traced (t.spills (traced-part v w alone r.traced).alone.alone still)
+
+pub returns-clause-all : goal.returns-clause-all
+returns-clause-all c = λ alone some none.
+    let v : View = view_of c.args.seat.now in
+    let w : View = view_of c.recycle_deferred.new.seat in
+    let r = c.recycle_deferred.ensures in
+    let t = c.trace-traced.ensures in
+    traced-all w (view_of c.trace-traced.new.seat) (traced-part v w alone r.traced).alone t.traced (r.outside alone.rest.alone) (t.noted some none)

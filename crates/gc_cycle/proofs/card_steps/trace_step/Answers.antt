@@ -29,3 +29,9 @@ returns-clause-numbers c = only-more traces_or_cleans leaves_numbers traces-leav
 pub returns-clause-keeps : goal.returns-clause-keeps
 unfolding returns-clause-part
 returns-clause-keeps c = part-keeps Drain (view_of c.args.seat.now) (view_of c.trace_some.new.seat) (returns-clause-part c)
+
+pub returns-clause-falls : goal.returns-clause-falls
+returns-clause-falls c = c.trace_some.ensures.falls (alone-of (view_of c.args.seat.now) c.requires.drains)
+
+pub returns-clause-all : goal.returns-clause-all
+returns-clause-all c = c.trace_some.ensures.all (alone-of (view_of c.args.seat.now) c.requires.drains)

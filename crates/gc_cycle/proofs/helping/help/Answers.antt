@@ -1,4 +1,4 @@
 use Rattle.gc_cycle.proofs.helping.help.Goals as goal
 
-pub returns-clause-uncleared : goal.returns-clause-uncleared
-returns-clause-uncleared c = c.help_with.ensures.passes
+pub returns-clause-unpassed : goal.returns-clause-unpassed
+returns-clause-unpassed c = c.help_with.ensures.passes

@@ -34,7 +34,7 @@ returns-clause-passes c =
       rescanned = c.clean_dirty_round-rescanned.result;
       cleans = subst (λ (sh : Shape). CleansRound sh c.clean_dirty_round-rescanned.result (events u v)) (sym c.requires.seat.0.1) e.cleans;
       later = h.helps.drained.ran;
-      uncleared = h.uncleared;
+      unpassed = h.unpassed;
     }
 
 pub returns-clause-ends : goal.returns-clause-ends

@@ -12,11 +12,11 @@ use Rattle.packet_pools.specs.Counts.{count_of}
 use Rattle.packet_pools.specs.Seeking.{some_event}
 use Rattle.gc_cycle.specs.Draining.{HelpsOn, StopsFor}
 use Rattle.gc_cycle.specs.Events.{never}
-use Rattle.gc_cycle.specs.Sorts.{clears, reads_count, sees_all_empty}
+use Rattle.gc_cycle.specs.Sorts.{passes_card, reads_count, sees_all_empty}
 use Rattle.gc_cycle.specs.Standing.{is_at_rest}
 use Rattle.gc_cycle.specs.declared.counts.HelpEnd.TheVariants.{NoWork}
 use Rattle.gc_cycle.proofs.Ends.Finishes.{never-both}
-use Rattle.gc_cycle.proofs.Stops.Admitted.{count-run, uncleared}
+use Rattle.gc_cycle.proofs.Stops.Admitted.{count-run, unpassed}
 use Rattle.gc_cycle.proofs.Stops.HelperDrains.{helped-still, traced-first, traced-helps, waited-empty, waited-long}
 use Rattle.gc_cycle.proofs.Traced.{nothing-rest}
 use Rattle.gc_cycle.proofs.helping.help_drain.Goals as goal
@@ -32,7 +32,7 @@ loop-look-init c =
           subst (λ h. HelpsOn c.args.quota (record { traced = c.trace-first.result.done; rescanned = 0; swept = 0; ended = h }) u v) (sym c.end_of.ensures)
           (traced-first c.args.quota c.trace-first.result u v c.requires.seat.1 t.traced t.ends t.most t.rescanned t.uncleaned);
       none = refl;
-      uncleared = uncleared (events u v) t.uncleaned;
+      unpassed = unpassed (events u v) t.uncounted t.uncleaned;
       looked = omega arith;
     }
 
@@ -59,8 +59,8 @@ trace_on-helped-requires-clause-quota c =
     let stops : StopsFor NoWork c.args.quota c.loop-look.helped.traced (view_of c.args.seat.now) (view_of c.loop-look.seat) = subst (λ x. StopsFor x c.args.quota c.loop-look.helped.traced (view_of c.args.seat.now) (view_of c.loop-look.seat)) c.in-NoWork.is i.helps.stops in
     (i.helps.most, stops.0)
 
-still-uncleared : (u v w : View) → Ran u v → Ran v w → never clears (events u v) ≡ true → never clears (events v w) ≡ true → never clears (events u w) ≡ true
-still-uncleared u v w r q a b = ap (never clears) (ran-events u v w r q) ∙ never-both clears (events u v) (events v w) a b
+still-unpassed : (u v w : View) → Ran u v → Ran v w → never passes_card (events u v) ≡ true → never passes_card (events v w) ≡ true → never passes_card (events u w) ≡ true
+still-unpassed u v w r q a b = ap (never passes_card) (ran-events u v w r q) ∙ never-both passes_card (events u v) (events v w) a b
 
 pub loop-look-preserved : goal.loop-look-preserved
 loop-look-preserved c =
@@ -71,7 +71,7 @@ loop-look-preserved c =
     let i = c.loop-look.invariant in
     let e = c.sees_all_empty.ensures in
     let t = c.trace_on-helped.ensures in
-    let still = helped-still c.args.quota c.loop-look.helped u v w i.helps c.in-NoWork.is e.traced e.unpopped e.uncleared e.rescanned in
+    let still = helped-still c.args.quota c.loop-look.helped u v w i.helps c.in-NoWork.is e.traced e.unpopped e.unpassed e.rescanned in
     let k = count-run reads_count u v w i.helps.drained.ran e.traced.ran in
     let m = count-run reads_count u w x still.drained.ran t.ran in
     let one : count_of reads_count (events v w) ≡ 1 = ap (count_of reads_count) (events-after v w ReadCount e.looks.0 e.looks.1) in
@@ -80,22 +80,20 @@ loop-look-preserved c =
       sits = t.seat;
       helps = t.helps u still;
       none = t.none ∙ i.none;
-      uncleared =
-          ap (never clears) (ran-events u w x still.drained.ran t.ran)
-          ∙ never-both clears (events u w) (events w x) (still-uncleared u v w i.helps.drained.ran e.traced.ran i.uncleared e.uncleared) t.uncleared;
+      unpassed = still-unpassed u w x still.drained.ran t.ran (still-unpassed u v w i.helps.drained.ran e.traced.ran i.unpassed e.unpassed) t.unpassed;
       looked = omega (arith, k, m, one, before);
     }
 
 pub returns-then-sees_all_empty-clause-helps : goal.returns-then-sees_all_empty-clause-helps
 returns-then-sees_all_empty-clause-helps c =
     let e = c.sees_all_empty.ensures in
-    helped-still c.args.quota c.loop-look.helped (view_of c.args.seat.now) (view_of c.loop-look.seat) (view_of c.sees_all_empty.new.seat) c.loop-look.invariant.helps c.in-NoWork.is e.traced e.unpopped e.uncleared e.rescanned
+    helped-still c.args.quota c.loop-look.helped (view_of c.args.seat.now) (view_of c.loop-look.seat) (view_of c.sees_all_empty.new.seat) c.loop-look.invariant.helps c.in-NoWork.is e.traced e.unpopped e.unpassed e.rescanned
 
-pub returns-then-sees_all_empty-clause-uncleared : goal.returns-then-sees_all_empty-clause-uncleared
-returns-then-sees_all_empty-clause-uncleared c =
+pub returns-then-sees_all_empty-clause-unpassed : goal.returns-then-sees_all_empty-clause-unpassed
+returns-then-sees_all_empty-clause-unpassed c =
     let i = c.loop-look.invariant in
     let e = c.sees_all_empty.ensures in
-    still-uncleared (view_of c.args.seat.now) (view_of c.loop-look.seat) (view_of c.sees_all_empty.new.seat) i.helps.drained.ran e.traced.ran i.uncleared e.uncleared
+    still-unpassed (view_of c.args.seat.now) (view_of c.loop-look.seat) (view_of c.sees_all_empty.new.seat) i.helps.drained.ran e.traced.ran i.unpassed e.unpassed
 
 pub returns-then-sees_all_empty-clause-ends : goal.returns-then-sees_all_empty-clause-ends
 returns-then-sees_all_empty-clause-ends c =

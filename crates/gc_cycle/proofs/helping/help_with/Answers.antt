@@ -1,11 +1,13 @@
-use Rattle.std.proofs.Common.{ℕ, arith, ◌≡◌, ◌∙◌, refl, sym, ap, true, false, not, Option, Some, None, ◌||◌, ◌&&◌}
+use Rattle.std.proofs.Common.{ℕ, arith, ◌≡◌, ◌∙◌, refl, sym, ap, true, false, not, Option, Some, None, ◌||◌, ◌&&◌, eqb-true}
+use Rattle.std.specs.Prelude.{◌==◌}
 use Rattle.std.proofs.lemmas.Bool.{and_right, false≢true, true≢false}
 use Rattle.mark_core.specs.Layout.{block_count}
+use Rattle.mark_core.specs.Numbers.{block_counter, card_counter}
 use Rattle.mark_core.specs.Seats.{saw}
 use Rattle.mark_core.specs.declared.kinds.Phase.{Phase}
 use Rattle.mark_core.specs.declared.kinds.Phase.TheVariants.{Drain, Sweep}
 use Rattle.mark_core.specs.declared.kinds.Step.{Step}
-use Rattle.mark_core.specs.declared.kinds.Step.TheVariants.{ClearCard, NextBlock, Pop, ReadField}
+use Rattle.mark_core.specs.declared.kinds.Step.TheVariants.{ClearCard, NextBlock, NextOfCards, Pop, ReadField, ReadStat}
 use Rattle.mark_core.specs.declared.seat.SeatState.{SeatState}
 use Rattle.gc_table.specs.Log.{events}
 use Rattle.gc_table.specs.Seats.{view_of}
@@ -18,7 +20,7 @@ use Rattle.gc_cycle.specs.Draining.{EndsAs, EndsAt, HelpsOn, StopsFor, SweepsOn}
 use Rattle.gc_cycle.specs.Helping.{DrainsTo, HelpsAs}
 use Rattle.gc_cycle.specs.Lower.{sweeps_next, traces_or_cleans}
 use Rattle.gc_cycle.specs.Moments.{begins}
-use Rattle.gc_cycle.specs.Sorts.{clears, draws_block, pops}
+use Rattle.gc_cycle.specs.Sorts.{draws_block, passes_card, pops}
 use Rattle.gc_cycle.proofs.Stops.Admitted.{count-none}
 use Rattle.gc_cycle.proofs.Stops.Beside.{sweeps-beside, traces-beside}
 use Rattle.gc_cycle.proofs.Stops.HelperDrains.{passes-all, passes-none}
@@ -29,9 +31,11 @@ sweeps-unpopped : (step : Step) (n : ℕ) → sweeps_next step ≡ true → pops
 sweeps-unpopped (Pop p) n e = absurd (false≢true e)
 sweeps-unpopped step n e = refl
 
-sweeps-uncleared : (step : Step) (n : ℕ) → sweeps_next step ≡ true → clears step n ≡ false
-sweeps-uncleared (ClearCard card) n e = absurd (false≢true e)
-sweeps-uncleared step n e = refl
+sweeps-unpassed : (step : Step) (n : ℕ) → sweeps_next step ≡ true → passes_card step n ≡ false
+sweeps-unpassed (ReadStat which) n e = ap (λ k. (k == card_counter) || false) (eqb-true which block_counter e)
+sweeps-unpassed (ClearCard card) n e = absurd (false≢true e)
+sweeps-unpassed NextOfCards n e = absurd (false≢true e)
+sweeps-unpassed step n e = refl
 
 sweeps-unscanned : (s : SeatState) (step : Step) (n : ℕ) → sweeps_next step ≡ true → rescans s step n ≡ 0
 sweeps-unscanned s (ReadField c i) n e = absurd (false≢true e)
@@ -87,7 +91,7 @@ returns-then-sees_sweep c =
       helps = swept-as c.args.quota c.help_sweep.result v w c.if-sees_sweep.ensures.sweep s;
       passes =
           passes-none c.args.cards v w (and_right c.args.cards (saw v.state.phase_seen Drain) (ap (λ o. saw o Drain) c.if-sees_sweep.ensures.sweep))
-          (ap not (none-of-steps sweeps_next clears sweeps-uncleared (events v w) s.only));
+          (ap not (none-of-steps sweeps_next passes_card sweeps-unpassed (events v w) s.only));
       not_full = o.out.not_full;
       only = o.out.only;
       numbers = o.numbers;
@@ -135,7 +139,7 @@ returns c =
       seat = (c.help_drain.ensures.seat, h.drained.helps);
       ran = h.drained.ran;
       helps = drained-as c.args.quota c.help_drain.result v w (drain-of v.state.phase_seen c.requires.seat.1.phase c.if-sees_sweep.ensures.other) h c.help_drain.ensures.ends;
-      passes = passes-none c.args.cards v w (λ i. c.if-cards.false i && saw v.state.phase_seen Drain) c.help_drain.ensures.uncleared;
+      passes = passes-none c.args.cards v w (λ i. c.if-cards.false i && saw v.state.phase_seen Drain) c.help_drain.ensures.unpassed;
       not_full = o.out.not_full;
       only = o.out.only;
       numbers = o.numbers;

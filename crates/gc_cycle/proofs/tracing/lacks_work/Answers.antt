@@ -1,20 +1,15 @@
-use Rattle.std.proofs.Common.{refl, ap, ◌∙◌}
-use Rattle.std.proofs.lemmas.Bool.{false≢true}
+use Rattle.std.proofs.Common.{ap, ◌∙◌}
 use Rattle.mark_core.specs.declared.kinds.Shape.{Shape}
-use Rattle.mark_core.specs.declared.kinds.Step.TheVariants.{ClearCard}
 use Rattle.gc_table.specs.Log.{events}
 use Rattle.gc_table.specs.Seats.{view_of}
 use Rattle.gc_table.specs.declared.view.View.{View}
-use Rattle.packet_pools.specs.Seeking.{input_pools, moves_packet}
-use Rattle.gc_cycle.specs.Sorts.{clears, pops}
+use Rattle.packet_pools.specs.Seeking.{input_pools}
+use Rattle.gc_cycle.specs.Sorts.{draws_or_clears, pops}
 use Rattle.gc_cycle.specs.Standing.{is_at_rest}
 use Rattle.gc_cycle.proofs.Idling.{moves-quiet, traced-of, traces-of}
-use Rattle.gc_cycle.proofs.CleaningSpares.{Spares, moved-untaken, moves-unpopped}
+use Rattle.gc_cycle.proofs.CleaningSpares.{moved-untaken, moves-uncleaned, moves-unpopped, uncounted-of}
+use Rattle.gc_cycle.proofs.Stops.Admitted.{unpassed}
 use Rattle.gc_cycle.proofs.tracing.lacks_work.Goals as goal
-
-moves-uncleared : Spares (moves_packet input_pools) clears
-moves-uncleared (ClearCard card) n e = absurd (false≢true e)
-moves-uncleared step n e = refl
 
 pub lacks_work-requires : goal.lacks_work-requires
 lacks_work-requires c = record { seat = (c.requires.seat.0, traces-of c.args.heap.now.shape (view_of c.args.seat.now) c.requires.seat.1 c.requires.rest) }
@@ -30,8 +25,11 @@ returns-clause-rescanned c =
     let v : View = view_of c.args.seat.now in
     moves-quiet input_pools (events v (view_of c.lacks_work.new.seat)) v c.lacks_work.ensures.moves
 
-pub returns-clause-uncleared : goal.returns-clause-uncleared
-returns-clause-uncleared c = moved-untaken input_pools clears moves-uncleared (events (view_of c.args.seat.now) (view_of c.lacks_work.new.seat)) c.lacks_work.ensures.moves
+pub returns-clause-unpassed : goal.returns-clause-unpassed
+returns-clause-unpassed c =
+    let v : View = view_of c.args.seat.now in
+    let w : View = view_of c.lacks_work.new.seat in
+    unpassed (events v w) (uncounted-of v w c.lacks_work.ensures.only) (moved-untaken input_pools draws_or_clears (moves-uncleaned input_pools) (events v w) c.lacks_work.ensures.moves)
 
 pub returns-clause-unpopped : goal.returns-clause-unpopped
 returns-clause-unpopped c = moved-untaken input_pools pops (moves-unpopped input_pools) (events (view_of c.args.seat.now) (view_of c.lacks_work.new.seat)) c.lacks_work.ensures.moves

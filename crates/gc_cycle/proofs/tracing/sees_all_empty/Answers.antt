@@ -10,7 +10,7 @@ use Rattle.gc_table.proofs.History.Log.{events-after}
 use Rattle.packet_pools.specs.Seeking.{some_event}
 use Rattle.card_clean.specs.Leaving.{rescanned_in}
 use Rattle.gc_cycle.specs.Events.{never}
-use Rattle.gc_cycle.specs.Sorts.{clears, pops, sees_all_empty}
+use Rattle.gc_cycle.specs.Sorts.{passes_card, pops, sees_all_empty}
 use Rattle.gc_cycle.specs.Standing.{is_at_rest}
 use Rattle.gc_cycle.proofs.Idling.{traced-of}
 use Rattle.gc_cycle.proofs.tracing.sees_all_empty.Goals as goal
@@ -27,8 +27,8 @@ returns-clause-rescanned c =
     let t = c.all_empty.ensures.count in
     ap (rescanned_in v) (events-after v (view_of c.all_empty.new.seat) ReadCount t.0 t.1)
 
-pub returns-clause-uncleared : goal.returns-clause-uncleared
-returns-clause-uncleared c = let t = c.all_empty.ensures.count in ap (never clears) (events-after (view_of c.args.seat.now) (view_of c.all_empty.new.seat) ReadCount t.0 t.1)
+pub returns-clause-unpassed : goal.returns-clause-unpassed
+returns-clause-unpassed c = let t = c.all_empty.ensures.count in ap (never passes_card) (events-after (view_of c.args.seat.now) (view_of c.all_empty.new.seat) ReadCount t.0 t.1)
 
 pub returns-clause-unpopped : goal.returns-clause-unpopped
 returns-clause-unpopped c = let t = c.all_empty.ensures.count in ap (never pops) (events-after (view_of c.args.seat.now) (view_of c.all_empty.new.seat) ReadCount t.0 t.1)
