@@ -22,11 +22,18 @@ inline uint64_t clean_card(const Heap &heap, Packet &out, uint64_t card) {
     return rescanned;
 }
 
-// With a packet that it takes for it. False if there was none.
-inline bool clean_one(const Heap &heap, uint64_t card, uint64_t &rescanned) {
-    Packet out = take_output(heap);
+// Cleans the dirty ones of the next cards, `looks` at most, with one packet, until so many cells are in it as are enough. False if none was cleaned.
+inline bool clean_next(const Heap &heap, uint64_t &looks, uint64_t enough, uint64_t &rescanned) {
+    Packet out;
+    for (; looks > 0 && !(out && out.length >= enough); looks--) {
+        uint64_t card = next_card(heap);
+        if (card == heap.cards) break;
+        if (heap.words[heap.dirty + card].load() != 1) continue;
+        if (!out) out = take_output(heap);
+        if (!out) return false;
+        rescanned += clean_card(heap, out, card);
+    }
     if (!out) return false;
-    rescanned += clean_card(heap, out, card);
     give(heap, out, false);
     return true;
 }
@@ -53,11 +60,11 @@ inline uint64_t clean_dirty(const Heap &heap) {
 // Traces a quota, and cleans cards of the pass if there is nothing to trace.
 inline Traced trace_and_clean(const Heap &heap, uint64_t quota, uint64_t &rescanned) {
     Traced traced = trace(heap, quota);
-    while (traced.stopped == Stopped::NoWork) {
-        uint64_t card = next_card(heap);
-        if (card == heap.cards) return traced;
-        if (!clean_one(heap, card, rescanned)) return {traced.done, Stopped::NoPacket};
-        Traced more = trace(heap, quota - traced.done);
+    uint64_t looks = 1024;
+    for (int round = 0; round < 8 && traced.stopped == Stopped::NoWork; round++) {
+        uint64_t owed = quota - traced.done;
+        if (!clean_next(heap, looks, std::min(owed, heap.sizes.entries / 2), rescanned)) return traced;
+        Traced more = trace(heap, owed);
         traced = {traced.done + more.done, more.stopped};
     }
     return traced;

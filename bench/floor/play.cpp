@@ -165,14 +165,11 @@ class Play {
         }
     }
 
-    // Traces 64 objects, cleans at most 64 cards if there is nothing to trace, and brings back what was put off.
+    // Traces 64 objects, cleans at most 1,024 cards if there is nothing to trace, and brings back what was put off.
     void tend() {
         Traced traced = trace(heap_, 64);
-        uint64_t rescanned = 0;
-        for (uint64_t n = 0; traced.stopped == Stopped::NoWork && n < 64; n++) {
-            uint64_t card = next_card(heap_);
-            if (card == heap_.cards || !clean_one(heap_, card, rescanned)) break;
-        }
+        uint64_t rescanned = 0, looks = 1024;
+        if (traced.stopped == Stopped::NoWork) clean_next(heap_, looks, kNothing, rescanned);
         recycle_deferred(heap_);
         if (traced.done > 0) heap_.words[kTraced].fetch_add(traced.done);
     }

@@ -77,15 +77,16 @@ def cleaning(cells, most):
     return OUTPUT + INPUT + 5 * most + 16 * most * scan(cells) + searching(cells) + 3 + RECYCLE
 
 
-def card(cells):
-    """A card is drawn, looked at and cleaned, with a packet of its own."""
-    return 3 + OUTPUT + 16 * scan(cells) + 4 + searching(cells) + 3
+def passing(cells, looks):
+    """The next cards are drawn, looked at and cleaned, with one packet for all."""
+    return OUTPUT + looks * (3 + 16 * scan(cells) + 4) + searching(cells) + 3
 
 
 def paying(cells):
-    """A payment scans 32 roots of two sections, passes at most 1,024 cards early in a cycle, traces at most 1,024 objects and looks at as many cards."""
+    """A payment scans 32 roots of two sections, passes at most 1,024 cards early in a cycle, traces at most 1,024 objects and looks at as many cards, in eight rounds."""
     section = OUTPUT + INPUT + 32 * follow(cells) + searching(cells) + 3
-    return 2 * section + cleaning(cells, 1024) + tracing(cells, 1024) + 1024 * (card(cells) + tracing(cells, 0)) + 5
+    rounds = passing(cells, 1024) + 7 * passing(cells, 0) + 8 * tracing(cells, 0)
+    return 2 * section + cleaning(cells, 1024) + tracing(cells, 1024) + rounds + 5
 
 
 def refilling(cells, most):
@@ -99,7 +100,7 @@ def making(cells, _most):
 
 def turning(cells, most):
     """A turn traces 64 objects and passes 1,024 cards, whatever the heap's size, and takes five steps besides."""
-    return tracing(cells, 64) + 3 + 1024 * card(cells) + 5
+    return tracing(cells, 64) + 3 + passing(cells, 1024) + 5
 
 
 # What is proved of a call: a number of steps, or one by the cells and by what a step does at most.
